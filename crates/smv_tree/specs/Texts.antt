@@ -1,0 +1,26 @@
+-- How places, rules and refusals are printed: an own choice of this project.
+use Rattle.std.specs.Prelude.{ℕ, List, [], ◌∷◌, ◌++◌, codes, Option, None, Some}
+use Rattle.std.specs.Fmt.{decimal}
+use Rattle.smv_tree.specs.declared.place.Place.{Place}
+use Rattle.smv_tree.specs.declared.refusal.Rule.{Rule}
+use Rattle.smv_tree.specs.declared.refusal.Rule.TheVariants.{SourceTooLarge, Unsupported}
+use Rattle.smv_tree.specs.declared.refusal.Refusal.{Refusal}
+
+-- a line of a report ends with this byte
+abbrev pub line_end : List ℕ
+line_end = 10 ∷ []
+
+abbrev pub place_text : Place → List ℕ
+place_text p = decimal p.line ++ codes ":" ++ decimal p.column
+
+abbrev pub rule_text : Rule → List ℕ
+rule_text SourceTooLarge = codes "105 SourceTooLarge"
+rule_text Unsupported = codes "203 Unsupported"
+
+-- a detail stands behind a colon
+abbrev pub detail_text : Option (List ℕ) → List ℕ
+detail_text None = []
+detail_text (Some detail) = codes ": " ++ detail
+
+abbrev pub refusal_text : Refusal → List ℕ
+refusal_text r = codes "-- refused " ++ rule_text r.rule ++ codes " at " ++ place_text r.place ++ detail_text r.detail ++ line_end

@@ -1,0 +1,15 @@
+//! The tokens and the syntax tree of a model, with the place of each, and the refusals that a text may meet.
+#![tactic(auto)]
+
+mod place;
+mod refusal;
+mod token;
+mod tree;
+
+pub use place::Place;
+pub use refusal::{Refusal, Rule};
+pub use token::{Token, TokenKind};
+pub use tree::{
+    Assignment, AssignmentKind, Expr, Module, Program, Section, Specification, SpecificationKind,
+    TypeExpr, Variable,
+};

@@ -1,0 +1,85 @@
+//! The syntax tree of a model: NuSMV 2.6 User Manual, chapter 2, as far as the language goes today.
+//! Lists and boxes are those that contracts see as plain data, so that two trees can be said to be equal.
+
+use crate::Place;
+use plain_text::Text;
+use sqlite_items::{Boxed, Items};
+
+/// A whole source: its modules in order.
+#[derive(Debug, Drop)]
+pub struct Program {
+    pub modules: Items<Module>,
+}
+
+/// A module with its sections in order (manual 2.3.1, Module Declarations).
+#[derive(Debug, Drop)]
+pub struct Module {
+    /// The place of the keyword.
+    pub place: Place,
+    pub name: Text,
+    pub sections: Items<Section>,
+}
+
+/// A section of a module.
+#[derive(Debug, Drop)]
+pub enum Section {
+    /// `VAR` and its declarations (manual 2.3.1, State Variables).
+    Variables(Items<Variable>),
+    /// `ASSIGN` and its assignments (manual 2.3.8).
+    Assignments(Items<Assignment>),
+    /// A specification (manual 2.4).
+    Specification(Specification),
+}
+
+/// A declared variable; its place is that of its name.
+#[derive(Debug, Drop)]
+pub struct Variable {
+    pub place: Place,
+    pub name: Text,
+    pub declared: TypeExpr,
+}
+
+/// A type as it is written (manual 2.1, Types Overview).
+#[derive(Clone, Copy, Debug, PartialEq, Eq)]
+pub enum TypeExpr {
+    Boolean(Place),
+}
+
+/// What an assignment speaks of: the first value, or the next one.
+#[derive(Clone, Copy, Debug, PartialEq, Eq)]
+pub enum AssignmentKind {
+    Init,
+    Next,
+}
+
+/// An assignment; its place is that of its first token.
+#[derive(Debug, Drop)]
+pub struct Assignment {
+    pub place: Place,
+    pub kind: AssignmentKind,
+    pub variable: Text,
+    pub value: Expr,
+}
+
+/// Which temporal claim a specification makes.
+#[derive(Clone, Copy, Debug, PartialEq, Eq)]
+pub enum SpecificationKind {
+    /// `INVARSPEC`: the formula holds in each reachable state (manual 2.4.2, Invariant Specifications).
+    Invariant,
+}
+
+/// A specification; its place is that of its keyword.
+#[derive(Debug, Drop)]
+pub struct Specification {
+    pub place: Place,
+    pub kind: SpecificationKind,
+    pub formula: Expr,
+}
+
+/// An expression (manual 2.2). A node's place is that of its operator, or of its first token.
+#[derive(Debug, Drop)]
+pub enum Expr {
+    Bool(Place, bool),
+    Name(Place, Text),
+    Not(Place, Boxed<Expr>),
+}
