@@ -1,3 +1,4 @@
 pub mod Programs
 pub mod Evaluation
 pub mod Runs
+pub mod Texts

@@ -2,10 +2,10 @@
 
 ghost use Rattle.std.specs.Prelude.{◌≡◌, ◌++◌, map, IfOk, OnOk, codes};
 ghost use Rattle.std.specs.List.{flat_map};
-ghost use Rattle.smv_meaning.specs.Programs.{assignments_in, main_sections, sections_named, slot_of, slots_of, type_of, variables_in};
+ghost use Rattle.smv_meaning.specs.Programs.{assignments_in, main_sections, sections_named, slot_of, slots_of, specifications_of, type_of, variables_in};
 
 use crate::{Slot, Typed, ValueType};
-use smv_tree::{Assignment, Module, Program, Section, TypeExpr, Variable};
+use smv_tree::{Assignment, Program, Section, Specification, TypeExpr, Variable};
 use sqlite_items::Items;
 use std::alloc::{AllocError, Global};
 
@@ -24,8 +24,8 @@ pub fn slots(typed: &Typed) -> &[Slot]
     typed.slots.as_slice()
 }
 
-// The sections of the module `main`.
-pub(crate) fn main_sections(program: &Program) -> &[Section]
+/// The sections of the module `main`.
+pub fn main_sections(program: &Program) -> &[Section]
     ensures { result.now ≡ main_sections program.now }
 {
     for m in program.modules.as_slice() {
@@ -62,6 +62,19 @@ fn type_of(written: TypeExpr) -> ValueType
     match written {
         TypeExpr::Boolean(_) => ValueType::Boolean,
     }
+}
+
+/// The specifications of a program, in the order of the source.
+pub fn specifications(alloc: Global, program: &Program) -> Result<Vec<&Specification>, AllocError>
+    ensures { IfOk result (λ specs. map (λ s. s.now) specs.items ≡ specifications_of program.now) }
+{
+    let mut specifications = Vec::new(alloc);
+    for section in main_sections(program) {
+        if let Section::Specification(specification) = section {
+            specifications.push(specification)?;
+        }
+    }
+    Ok(specifications)
 }
 
 // The slots of the variables that the sections declare.

@@ -9,7 +9,7 @@ mod typed;
 mod value;
 
 pub use evaluation::eval;
-pub use layout::{make_typed, slots};
+pub use layout::{main_sections, make_typed, slots, specifications};
 pub use meets::{meets_init, meets_step};
 pub use typed::Typed;
 pub use value::{Outcome, Slot, State, Value, ValueType};

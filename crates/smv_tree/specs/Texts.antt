@@ -5,6 +5,8 @@ use Rattle.smv_tree.specs.declared.place.Place.{Place}
 use Rattle.smv_tree.specs.declared.refusal.Rule.{Rule}
 use Rattle.smv_tree.specs.declared.refusal.Rule.TheVariants.{SourceTooLarge, Unsupported}
 use Rattle.smv_tree.specs.declared.refusal.Refusal.{Refusal}
+use Rattle.smv_tree.specs.declared.tree.SpecificationKind.{SpecificationKind}
+use Rattle.smv_tree.specs.declared.tree.SpecificationKind.TheVariants.{Invariant}
 
 -- a line of a report ends with this byte
 abbrev pub line_end : List ℕ
@@ -16,6 +18,9 @@ place_text p = decimal p.line ++ codes ":" ++ decimal p.column
 abbrev pub rule_text : Rule → List ℕ
 rule_text SourceTooLarge = codes "105 SourceTooLarge"
 rule_text Unsupported = codes "203 Unsupported"
+
+abbrev pub kind_text : SpecificationKind → List ℕ
+kind_text Invariant = codes "INVARSPEC"
 
 -- a detail stands behind a colon
 abbrev pub detail_text : Option (List ℕ) → List ℕ

@@ -1,9 +1,13 @@
 //! The syntax tree of a model: NuSMV 2.6 User Manual, chapter 2, as far as the language goes today.
 //! Lists and boxes are those that contracts see as plain data, so that two trees can be said to be equal.
 
+ghost use Rattle.std.specs.Prelude.{Some};
+ghost use Rattle.smv_tree.specs.Texts.{kind_text};
+
 use crate::Place;
 use plain_text::Text;
 use sqlite_items::{Boxed, Items};
+use std::fmt;
 
 /// A whole source: its modules in order.
 #[derive(Debug, Drop)]
@@ -66,6 +70,16 @@ pub struct Assignment {
 pub enum SpecificationKind {
     /// `INVARSPEC`: the formula holds in each reachable state (manual 2.4.2, Invariant Specifications).
     Invariant,
+}
+
+impl fmt::Display for SpecificationKind {
+    ghost output = { λ k. Some (kind_text k) };
+
+    fn fmt<W: fmt::Write>(&self, f: &mut fmt::Formatter<W>) -> fmt::Result {
+        match self {
+            SpecificationKind::Invariant => write!(f, "INVARSPEC"),
+        }
+    }
 }
 
 /// A specification; its place is that of its keyword.
