@@ -17,7 +17,7 @@ use Rattle.smv_meaning.specs.declared.value.Slot.{Slot}
 -- the sections of the first module of this name (manual 2.3.12, The main Module)
 abbrev pub sections_named : List ℕ → List Module → List Section
 sections_named name [] = []
-sections_named name (m ∷ ms) = cond (bytes_eq m.name name) m.sections (sections_named name ms)
+sections_named name (m ∷ ms) = cond (bytes_eq name m.name) m.sections (sections_named name ms)
 
 abbrev pub main_sections : Program → List Section
 main_sections p = sections_named (codes "main") p.modules

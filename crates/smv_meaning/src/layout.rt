@@ -29,7 +29,7 @@ pub fn main_sections(program: &Program) -> &[Section]
     ensures { result.now ≡ main_sections program.now }
 {
     for m in program.modules.as_slice() {
-        if m.name.as_str() == "main" {
+        if "main" == m.name.as_str() {
             return m.sections.as_slice();
         }
     }

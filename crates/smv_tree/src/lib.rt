@@ -1,11 +1,13 @@
 //! The tokens and the syntax tree of a model, with the place of each, and the refusals that a text may meet.
 #![tactic(auto)]
 
+mod laws;
 mod place;
 mod refusal;
 mod token;
 mod tree;
 
+pub use laws::is_spelled_once;
 pub use place::Place;
 pub use refusal::{Refusal, Rule};
 pub use token::{Token, TokenKind};

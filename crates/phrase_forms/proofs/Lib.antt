@@ -1,0 +1,16 @@
+pub mod Lists
+pub mod Lawful
+pub mod OfToken
+pub mod OfThen
+pub mod OfOr
+pub mod OfMaybe
+pub mod OfTo
+pub mod OfMany
+pub mod OfBind
+pub mod OfAfter
+pub mod OfNamed
+pub mod Level
+pub mod OfLanguage
+pub mod Alike
+pub mod Loops
+pub mod OfLevels

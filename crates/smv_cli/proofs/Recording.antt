@@ -1,0 +1,88 @@
+-- One more record.
+use Rattle.std.proofs.Common.{◌≡◌, ℕ, ◌+◌, ◌≤◌, suc, List, [], ◌∷◌, ◌++◌, length, take, drop, sym, ap, subst, ◌∙◌, arith, refl, append_assoc, append-nil, get_or, take-append-drop, length-take, length-append, take_all, ◌<◌}
+use Rattle.std.proofs.lemmas.List.{take_more}
+use Rattle.std.specs.Prelude.{fold}
+use Rattle.std.specs.declared.option.Option.{Option}
+use Rattle.std.specs.List.{flat_map}
+use Rattle.std.proofs.Math.Seq.{take-append-add}
+use Rattle.std.proofs.KnownBytes.{Appends-trans}
+use Rattle.std.specs.Io.KnownBytes.{Appends}
+use Rattle.smv_tree.specs.declared.tree.Program.{Program}
+use Rattle.smv_tree.specs.declared.tree.Specification.{Specification}
+use Rattle.smv_cli.specs.declared.record.Verdict.{Verdict}
+use Rattle.smv_cli.specs.declared.record.Record.{Record}
+use Rattle.smv_cli.specs.Streams.{AppendsFront}
+use Rattle.smv_cli.specs.Records.{IsRight, RightFrom, Recorded, RecordedPart, status_with, status_of}
+use Rattle.smv_cli.specs.Texts.{record_text}
+
+-- what was taken in one call, and a front of what came in the next
+pub AppendsFront-after : (old mid new : Option (List ℕ)) (first second : List ℕ) → Appends old mid first → AppendsFront mid new second → AppendsFront old new (first ++ second)
+AppendsFront-after old mid new first second p (n, q) =
+    (length first + n, subst (Appends old new) (sym (take-append-add first second n)) (Appends-trans old mid new first (take n second) p q))
+
+pub AppendsFront-whole : (old new : Option (List ℕ)) (piece : List ℕ) → Appends old new piece → AppendsFront old new piece
+AppendsFront-whole old new piece took = (length piece, subst (Appends old new) (sym (take_all (length piece) piece (omega arith))) took)
+
+module _ (p : Program) where
+  RightFrom-more : (i : ℕ) (xs ys : List Specification) (rs : List Record) → RightFrom p i xs rs → RightFrom p i (xs ++ ys) rs
+  RightFrom-more i xs ys [] h = tt
+  RightFrom-more i [] ys (r ∷ rs) h = absurd h
+  RightFrom-more i (x ∷ xs) ys (r ∷ rs) (h, k) = (h, RightFrom-more (i + 1) xs ys rs k)
+
+  RightFrom-push : (i : ℕ) (xs : List Specification) (x : Specification) (rs : List Record) (r : Record) → RightFrom p i xs rs → length rs ≡ length xs
+      → IsRight p (i + length xs) x r → RightFrom p i (xs ++ x ∷ []) (rs ++ r ∷ [])
+  RightFrom-push i [] x [] r h e k = (subst (λ (n : ℕ). IsRight p n x r) (omega arith) k, tt)
+  RightFrom-push i [] x (q ∷ rs) r h e k = absurd h
+  RightFrom-push i (y ∷ xs) x [] r h e k = absurd (omega (arith, e))
+  RightFrom-push i (y ∷ xs) x (q ∷ rs) r (h, k) e m = (h, RightFrom-push (i + 1) xs x rs r k (omega (arith, e)) (subst (λ (n : ℕ). IsRight p n x r) (omega arith) m))
+
+flat_map-push : (rs : List Record) (r : Record) → flat_map record_text (rs ++ r ∷ []) ≡ flat_map record_text rs ++ record_text r
+flat_map-push [] r = append-nil (record_text r)
+flat_map-push (q ∷ rs) r = ap (λ (l : List ℕ). record_text q ++ l) (flat_map-push rs r) ∙ sym (append_assoc (record_text q) (flat_map record_text rs) (record_text r))
+
+abbrev with_record : ℕ → Record → ℕ
+with_record status r = status_with status r.verdict
+
+status-push : (a : ℕ) (rs : List Record) (r : Record) → fold with_record a (rs ++ r ∷ []) ≡ with_record (fold with_record a rs) r
+status-push a [] r = refl
+status-push a (q ∷ rs) r = status-push (with_record a q) rs r
+
+module _ (p : Program) (specs : List Specification) (i : ℕ) where
+  right-whole : (rs : List Record) → RightFrom p 1 (take i specs) rs → RightFrom p 1 specs rs
+  right-whole rs right = subst (λ (xs : List Specification). RightFrom p 1 xs rs) (take-append-drop i specs) (RightFrom-more p 1 (take i specs) (drop i specs) rs right)
+
+  -- right records of the first i specifications and one more
+  right-push : (rs : List Record) (spec : Specification) (r : Record) → i < length specs → IsRight p (i + 1) (get_or specs i spec) r
+      → RightFrom p 1 (take i specs) rs → length rs ≡ length (take i specs) → RightFrom p 1 (take (i + 1) specs) (rs ++ r ∷ [])
+  right-push rs spec r h k right each =
+      let front : take (i + 1) specs ≡ take i specs ++ get_or specs i spec ∷ [] = take_more specs i spec h in
+      let n : i + 1 ≡ 1 + length (take i specs) = omega (arith, length-take i specs) in
+      subst (λ (xs : List Specification). RightFrom p 1 xs (rs ++ r ∷ [])) (sym front)
+      (RightFrom-push p 1 (take i specs) (get_or specs i spec) rs r right each (subst (λ (m : ℕ). IsRight p m (get_or specs i spec) r) n k))
+
+  pub Recorded-push : (spec : Specification) (r : Record) (old mid new : Option (List ℕ)) (status next : ℕ) → i < length specs
+      → IsRight p (i + 1) (get_or specs i spec) r → Recorded p (take i specs) old mid status → Appends mid new (record_text r)
+      → next ≡ status_with status r.verdict → Recorded p (take (i + 1) specs) old new next
+  Recorded-push spec r old mid new status next h k so_far took e = record {
+    records = so_far.records ++ r ∷ [];
+    right = right-push so_far.records spec r h k so_far.right so_far.each;
+    each = omega (arith, so_far.each, length-append so_far.records (r ∷ []), length-take i specs, length-take (i + 1) specs);
+    took = subst (Appends old new) (sym (flat_map-push so_far.records r)) (Appends-trans old mid new _ _ so_far.took took);
+    worst = e ∙ ap (λ (a : ℕ). with_record a r) so_far.worst ∙ sym (status-push 0 so_far.records r);
+  }
+
+  pub RecordedPart-whole : (old new : Option (List ℕ)) (status : ℕ) → Recorded p (take i specs) old new status → RecordedPart p specs old new
+  RecordedPart-whole old new status so_far = record {
+    records = so_far.records;
+    right = right-whole so_far.records so_far.right;
+    took = AppendsFront-whole old new (flat_map record_text so_far.records) so_far.took;
+  }
+
+pub RecordedPart-push : (p : Program) (specs : List Specification) (i : ℕ) (spec : Specification) (r : Record) (old mid new : Option (List ℕ)) (status : ℕ) → i < length specs
+    → IsRight p (i + 1) (get_or specs i spec) r → Recorded p (take i specs) old mid status → AppendsFront mid new (record_text r)
+    → RecordedPart p specs old new
+RecordedPart-push p specs i spec r old mid new status h k so_far took = record {
+  records = so_far.records ++ r ∷ [];
+  right = right-whole p specs (i + 1) (so_far.records ++ r ∷ []) (right-push p specs i so_far.records spec r h k so_far.right so_far.each);
+  took = subst (AppendsFront old new) (sym (flat_map-push so_far.records r)) (AppendsFront-after old mid new (flat_map record_text so_far.records) (record_text r) so_far.took took);
+}

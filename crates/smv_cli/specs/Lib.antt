@@ -1,0 +1,6 @@
+pub mod Judging
+pub mod Reading
+pub mod Records
+pub mod Report
+pub mod Streams
+pub mod Texts

@@ -1,0 +1,15 @@
+//! The command `smvcheck`: its words, its reading of a model, its report and its status.
+#![tactic(auto)]
+
+mod judging;
+mod print;
+mod record;
+mod source;
+mod streams;
+mod top;
+
+#[cfg(test)]
+mod tests;
+
+pub use record::{Record, Trace, Verdict};
+pub use top::{SOURCE_LIMIT, run, run_over_bytes};

@@ -1,0 +1,66 @@
+//! Parts of a report, each written when it is made.
+ghost use Rattle.std.specs.Prelude.{◌≡◌, ◌≤◌, length, map, IfSome, IfOk, OnOk, IsErrOf};
+ghost use Rattle.std.specs.Io.KnownBytes.{Appends};
+ghost use Rattle.smv_meaning.specs.Programs.{slots_of};
+ghost use Rattle.outside.specs.Causes.{Rose};
+ghost use Rattle.smv_cli.specs.Streams.{AppendsFront};
+ghost use Rattle.smv_cli.specs.Records.{Recorded, RecordedPart, status_with};
+
+use crate::judging::judge;
+use crate::record::Verdict;
+use crate::streams::write_all;
+use outside::{Sink, Stop};
+use smv_meaning::Typed;
+use smv_tree::Specification;
+use std::alloc::Global;
+use std::fmt;
+
+/// Writes one part.
+pub fn put<K: Sink, D: fmt::Display>(alloc: Global, sink: &mut K, part: &D) -> Result<(), Stop>
+    ensures ok { OnOk result (IfSome (D.output part.now) (λ text. Appends (K.taken sink.old) (K.taken sink.new) text)) }
+    ensures front { IfSome (D.output part.now) (λ text. AppendsFront (K.taken sink.old) (K.taken sink.new) text) }
+    ensures later { K.faults sink.old ≤ K.faults sink.new }
+    ensures failed { IsErrOf result Stop.Failed → Rose (K.faults sink.old) (K.faults sink.new) }
+{
+    let Ok(text) = part.to_string(alloc) else {
+        return Err(Stop::NoMemory);
+    };
+    write_all(sink, text.as_bytes())
+}
+
+// The status after one more verdict.
+fn status_with(status: u8, verdict: &Verdict) -> u8
+    ensures value { result ≡ status_with status verdict.now }
+    ensures small { status ≤ 1 → result ≤ 1 }
+{
+    match verdict {
+        Verdict::True => status,
+        Verdict::False(_) => 1,
+    }
+}
+
+/// Writes the record of each specification of a program with one slot, one by one, each when it is made. The answer is
+/// 1 where one is false, else 0.
+pub fn put_records<K: Sink>(
+    alloc: Global,
+    sink: &mut K,
+    typed: &Typed,
+    specs: &[&Specification],
+) -> Result<u8, Stop>
+    requires { length (slots_of typed.now.program) ≡ 1 }
+    ensures ok { IfOk result (λ status. Recorded typed.now.program (map (λ s. s.now) specs.now) (K.taken sink.old) (K.taken sink.new) status) }
+    ensures small { IfOk result (λ status. status ≤ 1) }
+    ensures part { RecordedPart typed.now.program (map (λ s. s.now) specs.now) (K.taken sink.old) (K.taken sink.new) }
+    ensures later { K.faults sink.old ≤ K.faults sink.new }
+    ensures failed { IsErrOf result Stop.Failed → Rose (K.faults sink.old) (K.faults sink.new) }
+{
+    let mut status = 0;
+    'specs: for i in 0..specs.len() {
+        let Ok(made) = judge(alloc, typed, i + 1, specs[i]) else {
+            return Err(Stop::NoMemory);
+        };
+        put(alloc, sink, &made)?;
+        status = status_with(status, &made.verdict);
+    }
+    Ok(status)
+}

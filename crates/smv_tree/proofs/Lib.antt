@@ -1,0 +1,3 @@
+pub mod OfSource
+pub mod OfSpelling
+pub mod OfReading
