@@ -1,0 +1,6 @@
+pub mod Counting
+pub mod Lanes
+pub mod Lengths
+pub mod Past
+pub mod Steps
+pub mod Totals

@@ -1,0 +1,9 @@
+use Rattle.std.proofs.Common.{arith}
+use Rattle.effort_purse.proofs.Steps.{counts}
+use Rattle.effort_purse.proofs.shared.SharedPurse.count.Goals as goal
+
+pub load-requires : goal.load-requires
+load-requires g c =
+    let purse = c.args.self.now in
+    let seat = c.args.seat.now in
+    (c.requires.own, omega (arith, purse.words), counts _ g.L.Limited.limits _ seat.id seat.me c.requires.limits)
