@@ -37,4 +37,4 @@ pub record IsCut {Shape Place Token : Type 0} (words : Lexicon Shape Place Token
 abbrev pub IsCutOnce : {Shape Place Token : Type 0} → Lexicon Shape Place Token → Type 0
 IsCutOnce {Shape} {Place} {Token} words =
     (place end stop : Place) (bytes rest left : List ℕ) (tokens others : List Token) → IsCut words place bytes tokens end rest → IsCut words place bytes others stop left
-      → (tokens ≡ others) × (end ≡ stop) × (rest ≡ left)
+    → (tokens ≡ others) × (end ≡ stop) × (rest ≡ left)

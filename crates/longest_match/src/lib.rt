@@ -7,5 +7,4 @@ ghost use Rattle.longest_match.specs.Lexemes.{Lexicon, IsCutOnce};
 /// begins no lexeme.
 pub fn is_cut_once<Shape, Place, Token>()
     ensures { (words : Lexicon Shape Place Token) → IsCutOnce words }
-{
-}
+{}

@@ -1,7 +1,7 @@
 -- What is read does not depend on what stands under a level that may not be opened.
-use Rattle.std.proofs.Common.{◌≡◌, ℕ, zero, suc, ◌+◌, Bool, true, false, cond, List, [], ◌∷◌, ◌++◌, length, Option, Some, None, Result, Ok, Err, refl, sym, ap, ◌∙◌, inl, inr, subst}
+use Rattle.std.proofs.Common.{◌≡◌, ℕ, zero, suc, Bool, true, false, cond, List, [], ◌∷◌, length, Ok, Err, refl, ap}
 use Rattle.phrase_forms.specs.declared.fault.Fault.TheVariants.{Unexpected, TooDeep}
-use Rattle.phrase_forms.specs.Forms.{Form, Read, head, token, one, then, or, maybe, many, many_at, to, named, ◌>>=◌}
+use Rattle.phrase_forms.specs.Forms.{Form, Read, head, token, then, or, maybe, many, many_at, to, named, ◌>>=◌}
 
 pub record Alike {T A : Type 0} (F G : Form T A) : Type 0 where
   pub parse : (ts : List T) → F.parse ts ≡ G.parse ts
@@ -65,8 +65,8 @@ module _ {T A : Type 0} (a a' : Form T A) (la : Alike a a') where
   unfolding many_at
   many_same zero ts = refl
   many_same (suc n) ts =
-    let ih : (x : A × List T) → rest n a x ≡ rest n a' x = λ x. rw (many_same n x.1) refl in
-    rw (la.parse ts, head_same a.first a'.first ts la.first) (ap (λ (r : Read T (List A)). cond (head a'.first ts) r (Ok ([], ts))) (bind_same (a'.parse ts) (rest n a) (rest n a') ih))
+      let ih : (x : A × List T) → rest n a x ≡ rest n a' x = λ x. rw (many_same n x.1) refl in
+      rw (la.parse ts, head_same a.first a'.first ts la.first) (ap (λ (r : Read T (List A)). cond (head a'.first ts) r (Ok ([], ts))) (bind_same (a'.parse ts) (rest n a) (rest n a') ih))
 
   pub many_alike : Alike (many a) (many a')
   many_alike = record { parse = λ ts. many_same (length ts) ts; first = la.first }

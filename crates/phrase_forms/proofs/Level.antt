@@ -1,5 +1,5 @@
 -- Forms that open no level: nothing in them is too deep.
-use Rattle.std.proofs.Common.{◌≡◌, ℕ, Bool, true, false, cond, List, [], ◌∷◌, ◌++◌, Result, Ok, Err, refl, ap, inl, inr}
+use Rattle.std.proofs.Common.{◌≡◌, Bool, true, false, cond, List, [], ◌∷◌, Ok, Err, ap, inl, inr}
 use Rattle.phrase_forms.specs.declared.fault.Fault.{Fault}
 use Rattle.phrase_forms.specs.declared.fault.Fault.TheVariants.{Unexpected, TooDeep}
 use Rattle.phrase_forms.specs.Forms.{Form, Read, head, token, one, then, or, to, bind, named, ◌>>=◌}

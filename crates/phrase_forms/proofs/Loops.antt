@@ -1,5 +1,5 @@
 -- A loop that reads a phrase as often as it stands.
-use Rattle.std.proofs.Common.{◌≡◌, ℕ, zero, suc, Bool, true, false, List, [], ◌∷◌, ◌++◌, length, Result, Ok, Err, refl, sym, ap, ◌∙◌, append_assoc}
+use Rattle.std.proofs.Common.{◌≡◌, true, false, List, [], ◌∷◌, ◌++◌, Ok, Err, refl, sym, ap, ◌∙◌, append_assoc}
 use Rattle.std.proofs.lemmas.List.{append-nil}
 use Rattle.phrase_forms.specs.declared.fault.Fault.{Fault}
 use Rattle.phrase_forms.specs.Forms.{Form, Read, head, many, many_at, ◌>>=◌}

@@ -1,12 +1,11 @@
 -- A form, and then one that depends on its value.
-use Rattle.std.proofs.Common.{◌≡◌, ℕ, Bool, true, false, cond, List, [], ◌∷◌, ◌++◌, Result, Ok, Err, refl, sym, ap, subst, ◌∙◌, append_assoc, inl, inr, length, ◌≤◌, ◌<◌, ◌+◌, arith}
+use Rattle.std.proofs.Common.{◌≡◌, ℕ, Bool, true, false, List, [], ◌++◌, Ok, Err, refl, sym, ap, subst, ◌∙◌, append_assoc, inl, inr, arith}
 use Rattle.std.proofs.lemmas.List.{length-append}
-use Rattle.std.specs.Prelude.{◌⊎◌, ◌&&◌, ◌||◌}
+use Rattle.std.specs.Prelude.{◌⊎◌, ◌&&◌}
 use Rattle.phrase_forms.specs.declared.fault.Fault.{Fault}
-use Rattle.phrase_forms.specs.declared.fault.Fault.TheVariants.{Unexpected, TooDeep}
 use Rattle.phrase_forms.specs.Forms.{Form, head, after, pure, ◌>>=◌}
-use Rattle.phrase_forms.proofs.Lists.{bind_ok, bind_err, ok_is, SameHead, same_after, head_or, head_and, head_apart, head_left, head_right, head_never, head_within}
-use Rattle.phrase_forms.proofs.Lawful.{Took, Front, Failed, Reaches, Lawful}
+use Rattle.phrase_forms.proofs.Lists.{bind_ok, bind_err, ok_is, same_after, head_or, head_and, head_apart, head_left, head_right, head_never, head_within}
+use Rattle.phrase_forms.proofs.Lawful.{Took, Failed, Reaches, Lawful}
 
 pub record Bounded {T A : Type 0} (f m : T → Bool) (n : Bool) (F : Form T A) : Type 0 where
   pub lawful : Lawful F

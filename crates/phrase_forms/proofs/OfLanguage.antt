@@ -1,13 +1,13 @@
 -- What a lawful form that opens no level reads from a whole list of tokens.
-use Rattle.std.proofs.Common.{◌≡◌, ℕ, List, [], ◌∷◌, ◌++◌, length, Result, Ok, Err, refl, sym, ap, subst, ◌∙◌, inl, inr, append_assoc, arith}
+use Rattle.std.proofs.Common.{◌≡◌, List, [], ◌∷◌, ◌++◌, length, Ok, Err, refl, sym, ap, subst, ◌∙◌, inl, inr, append_assoc, arith}
 use Rattle.std.specs.Prelude.{◌⊎◌}
 use Rattle.std.proofs.lemmas.List.{append-nil, length-append}
 use Rattle.phrase_forms.specs.declared.fault.Fault.{Fault}
 use Rattle.phrase_forms.specs.declared.fault.Fault.TheVariants.{Unexpected, TooDeep}
 use Rattle.phrase_forms.specs.Forms.{Form, Read}
 use Rattle.phrase_forms.specs.Language.{Spells, Begins, IsUnexpected, ended, read_all}
-use Rattle.phrase_forms.proofs.Lists.{SameHead, same_self, ok_is, err_is}
-use Rattle.phrase_forms.proofs.Lawful.{Took, Front, Failed, Reaches, Lawful}
+use Rattle.phrase_forms.proofs.Lists.{ok_is, err_is}
+use Rattle.phrase_forms.proofs.Lawful.{Took, Failed, Lawful}
 use Rattle.phrase_forms.proofs.Level.{Level}
 
 -- the first of two cuts of a list is within the front of the second

@@ -1,10 +1,9 @@
 -- A form, as often as it stands.
-use Rattle.std.proofs.Common.{◌≡◌, ℕ, zero, suc, ◌≤◌, ◌<◌, ◌+◌, Bool, true, false, cond, List, [], ◌∷◌, ◌++◌, length, Option, Some, None, Result, Ok, Err, refl, sym, ap, subst, ◌∙◌, append_assoc, inl, inr, arith}
+use Rattle.std.proofs.Common.{◌≡◌, ℕ, zero, suc, ◌≤◌, ◌<◌, Bool, true, false, cond, List, [], ◌∷◌, ◌++◌, length, Ok, Err, refl, sym, ap, subst, ◌∙◌, append_assoc, inl, inr, arith}
 use Rattle.std.proofs.lemmas.List.{length-append}
-use Rattle.std.specs.Prelude.{◌⊎◌, ◌&&◌, ◌||◌}
+use Rattle.std.specs.Prelude.{◌⊎◌}
 use Rattle.phrase_forms.specs.declared.fault.Fault.{Fault}
-use Rattle.phrase_forms.specs.declared.fault.Fault.TheVariants.{Unexpected, TooDeep}
-use Rattle.phrase_forms.proofs.Lists.{bind_ok, bind_err, ok_is, err_is, SameHead, same_self, same_after, same_head, head_or, head_and, head_apart, head_left, head_right, head_second}
+use Rattle.phrase_forms.proofs.Lists.{bind_ok, bind_err, ok_is, SameHead, same_self, same_after, same_head, head_or, head_apart}
 use Rattle.phrase_forms.proofs.Lawful.{Took, Front, Failed, Reaches, Lawful}
 use Rattle.phrase_forms.specs.Forms.{Form, Read, head, many, many_at, many_yields, ◌>>=◌}
 

@@ -1,5 +1,5 @@
 -- A form under other sets of tokens that it begins with, and that go on it.
-use Rattle.std.proofs.Common.{◌≡◌, Bool, true, false, inl, inr, List, refl}
+use Rattle.std.proofs.Common.{◌≡◌, Bool, true, false, inl, inr, refl}
 use Rattle.phrase_forms.specs.Forms.{Form, named}
 use Rattle.phrase_forms.proofs.Lists.{head_never, head_within}
 use Rattle.phrase_forms.proofs.Lawful.{Lawful}

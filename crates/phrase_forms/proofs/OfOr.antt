@@ -1,12 +1,10 @@
 -- One of two forms, by the first token.
-use Rattle.std.proofs.Common.{◌≡◌, ℕ, zero, suc, ◌≤◌, ◌<◌, ◌+◌, Bool, true, false, cond, List, [], ◌∷◌, ◌++◌, length, Option, Some, None, Result, Ok, Err, refl, sym, ap, subst, ◌∙◌, append_assoc, inl, inr, arith}
-use Rattle.std.proofs.lemmas.List.{length-append}
-use Rattle.std.specs.Prelude.{◌⊎◌, ◌&&◌, ◌||◌}
+use Rattle.std.proofs.Common.{◌≡◌, ℕ, Bool, true, false, cond, List, ◌++◌, Ok, Err, refl, sym, ap, ◌∙◌, inl, inr}
+use Rattle.std.specs.Prelude.{◌⊎◌}
 use Rattle.phrase_forms.specs.declared.fault.Fault.{Fault}
-use Rattle.phrase_forms.specs.declared.fault.Fault.TheVariants.{Unexpected, TooDeep}
-use Rattle.phrase_forms.proofs.Lists.{bind_ok, bind_err, ok_is, err_is, SameHead, same_after, same_head, head_or, head_and, head_apart, head_left, head_right, head_second}
-use Rattle.phrase_forms.proofs.Lawful.{Took, Front, Failed, Reaches, Lawful}
-use Rattle.phrase_forms.specs.Forms.{Form, Read, head, or, ◌>>=◌}
+use Rattle.phrase_forms.proofs.Lists.{SameHead, same_after, same_head, head_or, head_apart, head_left, head_second}
+use Rattle.phrase_forms.proofs.Lawful.{Took, Failed, Reaches, Lawful}
+use Rattle.phrase_forms.specs.Forms.{Form, head, or}
 
 module _ {T A : Type 0} (a b : Form T A) (la : Lawful a) (lb : Lawful b) (na : a.nullable ≡ false) (nb : b.nullable ≡ false) (apart : (t : T) → b.first t ≡ true → a.first t ≡ false) where
   at_same : (ts pre u r : List T) (k : Bool) → ts ≡ pre ++ u → SameHead u r → head a.first ts ≡ k → head a.first (pre ++ r) ≡ k

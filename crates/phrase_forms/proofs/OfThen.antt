@@ -1,12 +1,11 @@
 -- A form and then a form.
-use Rattle.std.proofs.Common.{◌≡◌, ℕ, Bool, true, false, cond, List, [], ◌∷◌, ◌++◌, Result, Ok, Err, refl, sym, ap, subst, ◌∙◌, append_assoc, inl, inr, length, ◌≤◌, ◌<◌, ◌+◌, arith}
+use Rattle.std.proofs.Common.{◌≡◌, ℕ, Bool, true, false, List, ◌++◌, Ok, Err, refl, sym, ap, subst, ◌∙◌, append_assoc, inl, inr, arith}
 use Rattle.std.proofs.lemmas.List.{length-append}
-use Rattle.std.specs.Prelude.{◌⊎◌, ◌&&◌, ◌||◌}
+use Rattle.std.specs.Prelude.{◌⊎◌, ◌&&◌}
 use Rattle.phrase_forms.specs.declared.fault.Fault.{Fault}
-use Rattle.phrase_forms.specs.declared.fault.Fault.TheVariants.{Unexpected, TooDeep}
 use Rattle.phrase_forms.specs.Forms.{Form, head, then, ◌>>=◌}
-use Rattle.phrase_forms.proofs.Lists.{bind_ok, bind_err, ok_is, SameHead, same_after, head_or, head_and, head_apart, head_left, head_right}
-use Rattle.phrase_forms.proofs.Lawful.{Took, Front, Failed, Reaches, Lawful}
+use Rattle.phrase_forms.proofs.Lists.{bind_ok, bind_err, ok_is, same_after, head_or, head_and, head_apart, head_left, head_right}
+use Rattle.phrase_forms.proofs.Lawful.{Took, Failed, Reaches, Lawful}
 
 module _ {T A B : Type 0} (a : Form T A) (b : Form T B) (la : Lawful a) (lb : Lawful b) (apart : (t : T) → b.first t ≡ true → a.more t ≡ false) where
   both_took : (ts : List T) (x : A) (mid : List T) (y : B) (rest : List T) → Took a ts x mid → Took b mid y rest → Took (then a b) ts (x, y) rest

@@ -1,12 +1,9 @@
 -- A form whose value is another.
-use Rattle.std.proofs.Common.{◌≡◌, ℕ, zero, suc, ◌≤◌, ◌<◌, ◌+◌, Bool, true, false, cond, List, [], ◌∷◌, ◌++◌, length, Option, Some, None, Result, Ok, Err, refl, sym, ap, subst, ◌∙◌, append_assoc, inl, inr, arith}
-use Rattle.std.proofs.lemmas.List.{length-append}
-use Rattle.std.specs.Prelude.{◌⊎◌, ◌&&◌, ◌||◌}
+use Rattle.std.proofs.Common.{◌≡◌, ℕ, false, List, Ok, Err, refl, subst, inl, inr}
 use Rattle.phrase_forms.specs.declared.fault.Fault.{Fault}
-use Rattle.phrase_forms.specs.declared.fault.Fault.TheVariants.{Unexpected, TooDeep}
-use Rattle.phrase_forms.proofs.Lists.{bind_ok, bind_err, ok_is, err_is, SameHead, same_after, same_head, head_or, head_and, head_apart, head_left, head_right, head_second}
-use Rattle.phrase_forms.proofs.Lawful.{Took, Front, Failed, Reaches, Lawful}
-use Rattle.phrase_forms.specs.Forms.{Form, Read, head, to, ◌>>=◌}
+use Rattle.phrase_forms.proofs.Lists.{bind_ok, bind_err, ok_is}
+use Rattle.phrase_forms.proofs.Lawful.{Took, Failed, Reaches, Lawful}
+use Rattle.phrase_forms.specs.Forms.{Form, head, to}
 
 module _ {T A B : Type 0} (f : A → B) (a : Form T A) (la : Lawful a) where
   to_ok : (ts : List T) (v : B) (rest : List T) → (to f a).parse ts ≡ Ok (v, rest) → Took (to f a) ts v rest

@@ -1,11 +1,10 @@
 -- One token is a form.
-use Rattle.std.proofs.Common.{◌≡◌, ℕ, Bool, true, false, cond, List, [], ◌∷◌, ◌++◌, Result, Ok, Err, refl, sym, ap, subst, ◌∙◌, append_assoc, inl, inr, length, ◌≤◌, ◌<◌, arith}
-use Rattle.std.specs.Prelude.{◌⊎◌}
+use Rattle.std.proofs.Common.{◌≡◌, ℕ, Bool, true, false, cond, List, [], ◌∷◌, Ok, Err, refl, subst, inl, inr, length, ◌≤◌, arith}
 use Rattle.phrase_forms.specs.declared.fault.Fault.{Fault}
 use Rattle.phrase_forms.specs.declared.fault.Fault.TheVariants.{Unexpected, TooDeep}
-use Rattle.phrase_forms.specs.Forms.{Form, Read, head, token, one}
+use Rattle.phrase_forms.specs.Forms.{Read, token, one}
 use Rattle.phrase_forms.proofs.Lists.{SameHead, ok_is, err_is}
-use Rattle.phrase_forms.proofs.Lawful.{Took, Front, Failed, Reaches, Lawful}
+use Rattle.phrase_forms.proofs.Lawful.{Took, Failed, Reaches, Lawful}
 
 abbrev step : {T : Type 0} → Bool → Bool → T → List T → Read T T
 step b k t ts = cond b (cond k (Err (TooDeep, t ∷ ts)) (Ok (t, ts))) (Err (Unexpected, t ∷ ts))

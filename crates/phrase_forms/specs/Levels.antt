@@ -1,6 +1,6 @@
 -- Languages whose phrases open levels: brackets, operators before an operand and the like. Such a language is a family of
 -- forms: the n-th reads as the first does, and spells phrases that go up to n levels past the limit too.
-use Rattle.std.specs.Prelude.{◌≡◌, ℕ, ◌+◌, List, [], ◌∷◌, ◌++◌, length, Result}
+use Rattle.std.specs.Prelude.{ℕ, ◌+◌, List, [], ◌∷◌, ◌++◌, length}
 use Rattle.phrase_forms.specs.declared.fault.Fault.{Fault}
 use Rattle.phrase_forms.specs.declared.fault.Fault.TheVariants.{Unexpected, TooDeep}
 use Rattle.phrase_forms.specs.Forms.{Form}

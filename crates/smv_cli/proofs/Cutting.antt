@@ -1,5 +1,5 @@
 -- One more lexeme is cut from a text.
-use Rattle.std.proofs.Common.{◌≡◌, ℕ, List, [], ◌++◌, take, drop, length, sym, subst, eqb-true}
+use Rattle.std.proofs.Common.{◌≡◌, ℕ, List, [], ◌++◌, take, drop, sym, subst}
 use Rattle.longest_match.specs.Lexemes.{IsLongest, Lexed, done}
 use Rattle.longest_match.proofs.OfLexemes.{lexed_more}
 use Rattle.smv_tree.specs.declared.place.Place.{Place}

@@ -1,6 +1,6 @@
 -- The longest lexeme at the front of some bytes.
 use Rattle.std.proofs.Common.{◌≡◌, ◌≢◌, ℕ, zero, suc, ◌+◌, ◌<◌, ◌≤◌, Bool, true, false, cond, List, [], ◌∷◌, length, take, Option, Some, None, refl, sym, ap, subst, ◌∙◌, arith, drop}
-use Rattle.std.specs.Prelude.{◌&&◌, ◌||◌, ◌==◌, ◌⊎◌, ◌-◌, slice_index}
+use Rattle.std.specs.Prelude.{◌&&◌, ◌==◌, ◌-◌, slice_index}
 use Rattle.std.specs.List.{prefix_len, list_all}
 use Rattle.std.specs.Str.{IsAscii}
 use Rattle.std.proofs.Common.{one-add, add-one}
@@ -8,9 +8,9 @@ use Rattle.std.proofs.lemmas.List.{take_all}
 use Rattle.std.proofs.lemmas.Bool.Decides.{nat_tests}
 use Rattle.longest_match.specs.Lexemes.{IsLongest}
 use Rattle.smv_tree.specs.declared.token.TokenKind.{TokenKind}
-use Rattle.smv_tree.specs.declared.token.TokenKind.TheVariants.{Becomes, Unknown, LeftParen, RightParen, Semicolon, Colon, Not}
+use Rattle.smv_tree.specs.declared.token.TokenKind.TheVariants.{Becomes, Unknown}
 use Rattle.smv_tree.specs.Words.{kind_of_word}
-use Rattle.smv_tree.specs.Tokens.{begins_word, in_word, is_white, Shape, shape_of_byte, shape_of_symbol, shape_of}
+use Rattle.smv_tree.specs.Tokens.{begins_word, in_word, shape_of_byte, shape_of_symbol, shape_of}
 use Rattle.smv_cli.specs.Reading.{begins_becomes}
 
 some_is : {A : Type 0} (x y : A) → ◌≡◌ {A = Option A} (Some x) (Some y) → x ≡ y

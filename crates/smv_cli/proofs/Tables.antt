@@ -1,5 +1,5 @@
 -- The tables of the code are the lists of the language's words.
-use Rattle.std.proofs.Common.{◌≡◌, ℕ, List, ◌++◌, map, refl}
+use Rattle.std.proofs.Common.{◌≡◌, ◌++◌, map, refl}
 use Rattle.smv_tree.specs.Words.{words_in_use, later_words, unsupported_words}
 use Rattle.smv_cli.specs.declared.source.words.TheConstants.{WORDS_IN_USE, OTHER_WORDS}
 

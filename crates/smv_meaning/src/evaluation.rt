@@ -18,8 +18,8 @@ pub fn eval(typed: &Typed, e: &Expr, s: &State) -> Outcome
     outcome_within(typed.slots.as_slice(), s.as_slice(), DEPTH_LIMIT, e)
 }
 
-// The number of the slot of this name.
-fn slot_named(slots: &[Slot], name: &Text) -> Option<usize>
+/// The number of the slot of this name, if there is one.
+pub fn slot_named(slots: &[Slot], name: &Text) -> Option<usize>
     ensures { result ≡ slot_named slots.now name.now }
 {
     slots.iter().position(|slot| slot.name.is(name))

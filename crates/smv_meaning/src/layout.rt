@@ -36,7 +36,8 @@ pub fn main_sections(program: &Program) -> &[Section]
     &[]
 }
 
-pub(crate) fn assignments_in(section: &Section) -> &[Assignment]
+/// The assignments of a section.
+pub fn assignments_in(section: &Section) -> &[Assignment]
     ensures { result.now ≡ assignments_in section.now }
 {
     match section {

@@ -8,8 +8,8 @@ mod meets;
 mod typed;
 mod value;
 
-pub use evaluation::eval;
-pub use layout::{main_sections, make_typed, slots, specifications};
+pub use evaluation::{eval, slot_named};
+pub use layout::{assignments_in, main_sections, make_typed, slots, specifications};
 pub use meets::{meets_init, meets_step};
 pub use typed::Typed;
 pub use value::{Outcome, Slot, State, Value, ValueType};

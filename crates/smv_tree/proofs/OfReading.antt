@@ -1,5 +1,5 @@
 -- What is read from the tokens of some bytes is what the bytes spell.
-use Rattle.std.proofs.Common.{◌≡◌, ℕ, List, ◌++◌, Result, Ok, Err, refl, sym, ap, ◌∙◌, subst}
+use Rattle.std.proofs.Common.{◌≡◌, ℕ, List, Ok, Err, sym, ap, ◌∙◌, subst}
 use Rattle.phrase_forms.specs.declared.fault.Fault.{Fault}
 use Rattle.phrase_forms.specs.Language.{read_all}
 use Rattle.phrase_forms.proofs.OfLanguage.{all_spelt, all_refused}

@@ -1,10 +1,10 @@
 -- The form of a source keeps the laws of forms.
-use Rattle.std.proofs.Common.{◌≡◌, ℕ, zero, suc, Bool, true, false, List, [], ◌∷◌, Result, Ok, Err, refl, sym, ap, subst, ◌∙◌, codes, length, inl, inr}
+use Rattle.std.proofs.Common.{◌≡◌, ℕ, zero, suc, Bool, true, false, List, [], refl, subst, codes, inl, inr}
 use Rattle.std.specs.Prelude.{◌||◌, ◌&&◌, ◌==◌, ◌⊎◌}
 use Rattle.std.proofs.lemmas.Bool.{eqb-true}
 use Rattle.std.specs.Str.{bytes_eq}
 use Rattle.std.proofs.lemmas.Slice.Eq.{bytes_eq-Decides}
-use Rattle.phrase_forms.specs.Forms.{Form, token, then, or, to, bind, named, no_token, ◌▹◌, ◌◃◌}
+use Rattle.phrase_forms.specs.Forms.{Form, token, then, bind, no_token, ◌▹◌, ◌◃◌}
 use Rattle.phrase_forms.proofs.Lawful.{Lawful}
 use Rattle.phrase_forms.proofs.OfToken.{token_lawful}
 use Rattle.phrase_forms.proofs.OfThen.{then_lawful}
@@ -13,14 +13,13 @@ use Rattle.phrase_forms.proofs.OfTo.{to_lawful}
 use Rattle.phrase_forms.proofs.OfBind.{bind_lawful}
 use Rattle.phrase_forms.proofs.OfNamed.{Fine, named_lawful}
 use Rattle.phrase_forms.proofs.Level.{Level, token_level, then_level, or_level, to_level, bind_level, named_level}
-use Rattle.smv_tree.specs.declared.place.Place.{Place}
 use Rattle.smv_tree.specs.declared.token.Token.{Token}
 use Rattle.smv_tree.specs.declared.token.TokenKind.{TokenKind}
 use Rattle.smv_tree.specs.declared.token.TokenKind.TheVariants as kind
 use Rattle.smv_tree.specs.declared.tree.AssignmentKind.{AssignmentKind}
 use Rattle.smv_tree.specs.declared.tree.AssignmentKind.TheVariants as side
 use Rattle.smv_tree.specs.Tokens.{start}
-use Rattle.smv_tree.specs.Grammar.{number_of, is_kind, just, is_name, is_constant, is_value, leaf_of, not_of, begins_value, value, most_nots, expression, declared_type, becomes, left_side, right_side, assignment, assignments, specification, rest_of, program_of, source}
+use Rattle.smv_tree.specs.Grammar.{number_of, is_kind, just, is_name, is_constant, is_value, begins_value, value, most_nots, expression, declared_type, becomes, left_side, right_side, assignment, assignments, specification, rest_of, source}
 
 -- a token of this kind and text
 abbrev pub token_at : TokenKind → List ℕ → Token

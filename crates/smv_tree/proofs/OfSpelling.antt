@@ -1,6 +1,5 @@
 -- Bytes spell one program at most, or are unsupported at one place, and never both.
-use Rattle.std.proofs.Common.{◌≡◌, ℕ, List, [], ◌∷◌, ◌++◌, sym, ap, ◌∙◌, subst}
-use Rattle.longest_match.specs.Lexemes.{Lexed}
+use Rattle.std.proofs.Common.{◌≡◌, ℕ, List, [], ◌++◌, sym, ap, ◌∙◌, subst}
 use Rattle.longest_match.proofs.OfLexemes.{none_at_end, lexed_once}
 use Rattle.phrase_forms.specs.Language as phrases
 use Rattle.phrase_forms.proofs.OfLanguage.{only, spelt_not_refused, refused_once}

@@ -1,8 +1,8 @@
 -- The form of a source as far as the language goes today: one boolean variable with its first value, its next value and
 -- what is to hold. (NuSMV 2.6 User Manual, chapter 2; which part of it is an own choice of this project.)
-use Rattle.std.specs.Prelude.{ℕ, zero, suc, Bool, true, false, ◌==◌, ◌&&◌, ◌||◌, if◌then◌else◌, List, [], ◌∷◌, codes}
+use Rattle.std.specs.Prelude.{ℕ, zero, suc, Bool, false, ◌==◌, ◌&&◌, ◌||◌, if◌then◌else◌, List, [], ◌∷◌, codes}
 use Rattle.std.specs.Str.{bytes_eq}
-use Rattle.phrase_forms.specs.Forms.{Form, token, then, or, to, bind, named, no_token, ◌⨾◌, ◌▹◌, ◌◃◌}
+use Rattle.phrase_forms.specs.Forms.{Form, token, or, to, bind, named, no_token, ◌⨾◌, ◌▹◌, ◌◃◌}
 use Rattle.smv_tree.specs.declared.token.Token.{Token}
 use Rattle.smv_tree.specs.declared.token.TokenKind.{TokenKind}
 use Rattle.smv_tree.specs.declared.token.TokenKind.TheVariants as kind

@@ -1,6 +1,6 @@
 -- The tokens of a source: which words they are, and where they stand (NuSMV 2.6 User Manual, 2.1, Lexical Structure).
 -- White space is space, tab, line feed, vertical tab, form feed and carriage return: the set is an own choice of this project.
-use Rattle.std.specs.Prelude.{◌≡◌, ℕ, ◌+◌, ◌==◌, nat_le, Bool, true, false, cond, ◌&&◌, ◌||◌, if◌then◌else◌, List, [], ◌∷◌, Option, None, Some}
+use Rattle.std.specs.Prelude.{ℕ, ◌+◌, ◌==◌, nat_le, Bool, ◌&&◌, ◌||◌, if◌then◌else◌, List, [], ◌∷◌, Option, None, Some}
 use Rattle.std.specs.Char.{is_ascii_alphabetic, is_ascii_alphanumeric}
 use Rattle.std.specs.List.{list_all}
 use Rattle.longest_match.specs.Lexemes.{Lexicon, Lexed}

@@ -1,5 +1,5 @@
 -- The words of the language (NuSMV 2.6 User Manual, 2.1, Lexical Structure).
-use Rattle.std.specs.Prelude.{ℕ, Bool, true, false, cond, if◌then◌else◌, List, [], ◌∷◌, ◌++◌, codes}
+use Rattle.std.specs.Prelude.{ℕ, Bool, true, false, if◌then◌else◌, List, [], ◌∷◌, ◌++◌, codes}
 use Rattle.std.specs.Str.{bytes_eq}
 use Rattle.smv_tree.specs.declared.token.TokenKind.{TokenKind}
 use Rattle.smv_tree.specs.declared.token.TokenKind.TheVariants.{Module, Var, Assign, Invarspec, Boolean, Init, Next, True, False, OtherWord, Identifier}

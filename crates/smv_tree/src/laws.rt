@@ -10,5 +10,4 @@ pub fn is_spelled_once()
     ensures program { (bytes : List ℕ) (first second : Program) → Spells bytes first → Spells bytes second → first ≡ second }
     ensures place { (bytes : List ℕ) (first second : Place) → IsUnsupportedAt bytes first → IsUnsupportedAt bytes second → first ≡ second }
     ensures apart { (bytes : List ℕ) (program : Program) (place : Place) → Spells bytes program → IsUnsupportedAt bytes place → ⊥ }
-{
-}
+{}

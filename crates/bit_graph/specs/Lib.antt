@@ -1,0 +1,4 @@
+pub mod Meaning
+pub mod Values
+pub mod Growth
+pub mod Sharing

@@ -1,0 +1,4 @@
+pub mod Fitting
+pub mod MoreFrames
+pub mod MoreSteps
+pub mod Truths

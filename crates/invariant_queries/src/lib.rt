@@ -1,0 +1,9 @@
+//! Invariants decided by queries to a solver: of first states, of one step (induction), and of runs of each length
+//! up to a bound (Sheeran, Singh, Stålmarck 2000; Biere and others 1999).
+#![tactic(auto)]
+
+mod edges;
+mod frames;
+
+pub use edges::{Truth, first_edge, step_edge, truth_of};
+pub use frames::make_frames;
