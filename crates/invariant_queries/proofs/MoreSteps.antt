@@ -1,8 +1,10 @@
 -- One more step of a run.
 use Rattle.std.proofs.Common.{◌≡◌, ◌∙◌, ℕ, suc, ◌+◌, Bool, ◌&&◌, List, [], map, get_or, refl, sym, ap, arith}
 use Rattle.std.proofs.Math.ListN.{get_or-map}
-use Rattle.std.proofs.lemmas.Bool.{and_assoc}
+use Rattle.std.proofs.Math.Bool.{and_assoc}
 use Rattle.bit_graph.specs.declared.edge.Edge.{Edge}
+use Rattle.bit_graph.specs.declared.edge.Node.{Node}
+use Rattle.bit_graph.specs.Growth.{Extends}
 use Rattle.smv_tree.specs.declared.tree.Program.{Program}
 use Rattle.smv_meaning.specs.declared.value.Value.{Value}
 use Rattle.smv_meaning.specs.Runs.{is_first_state, is_step, state_at}
@@ -30,3 +32,11 @@ module _ (p : Program) (frames : List (List Edge)) (v : ℕ → Bool) where
     both_is ∙ ap (λ (x : Bool). x && step) run_is ∙ ap (λ (x : Bool). (first && so_far) && x) here
     ∙ and_assoc first so_far (is_step p (state_at states i) (state_at states (suc i)))
     ∙ ap (λ n. first && steps_hold p states n) (sym next)
+
+pub Extends-trans : (f g h : List Node) → Extends f g → Extends g h → Extends f h
+Extends-trans f g h first second = record {
+  longer = omega (arith, first.longer, second.longer);
+  kept = λ v c. first.kept v (second.kept v c);
+  values = λ a e b x. second.values a e b (first.values a e b x);
+  inputs = λ n x. second.inputs n (first.inputs n x);
+}

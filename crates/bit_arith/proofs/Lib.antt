@@ -1,0 +1,5 @@
+pub mod Numbers
+pub mod Horner
+pub mod Digits
+pub mod Moves
+pub mod TwosComplement

@@ -1,0 +1,5 @@
+pub mod Definitions
+pub mod Lists
+pub mod Live
+mod Pieces
+pub mod Sound

@@ -1,0 +1,239 @@
+use Rattle.std.proofs.Common.{◌≡◌, ℕ, ◌<◌, ◌+◌, ◌⊎◌, ◌↔◌, Bool, true, false, not, ◌&&◌, cond, List, [], ◌∷◌, length, get_or, refl, sym, ◌∙◌, ap, subst, arith, zero, suc, inl, inr}
+use Rattle.std.specs.List.{All, Any, Contains}
+use Rattle.std.proofs.lemmas.Bool.{not-true, not-false, cases_Bool}
+use Rattle.std.proofs.lemmas.List.Elements.{All-nil, All-cons, All-append, All-contains, Contains-append_left, Contains-append_right, Contains-get_or}
+use Rattle.bit_graph.specs.declared.edge.Edge.{Edge}
+use Rattle.bit_graph.specs.declared.edge.Node.{Node}
+use Rattle.bit_graph.specs.declared.edge.Node.TheVariants.{False, Input, And}
+use Rattle.bit_graph.specs.Meaning.{edge_value, exclusive_or, NodeHolds}
+use Rattle.clause_core.specs.declared.literal.Lit.{Lit}
+use Rattle.clause_core.specs.Literals.{negate}
+use Rattle.clause_core.specs.Assignments.{ClauseTrue}
+use Rattle.clause_core.specs.Propagation.{UnitIn, Closed}
+use Rattle.cnf_build.specs.Encoding.{lit, node_lit, down, up, clauses_of, cnf_from, HoldsLive, NodeSet, SetLive}
+
+module _ {X : Type 0} (P : X → Type 0) where
+  pub any_head : (x : X) (xs : List X) → P x → Any P (x ∷ xs)
+  any_head x xs p = (0, x, omega arith, refl, p)
+
+  pub any_tail : (x : X) (xs : List X) → Any P xs → Any P (x ∷ xs)
+  any_tail x xs h = (suc h.0, h.1, omega arith, h.3, h.4)
+
+  split_at : (k : ℕ) (x : X) (xs : List X) (y : X) → k < length (x ∷ xs) → get_or (x ∷ xs) k y ≡ y → P y → P x ⊎ Any P xs
+  split_at zero x xs y l e p = inl (subst P (sym e) p)
+  split_at (suc k) x xs y l e p = inr (k, y, omega arith, e, p)
+
+  pub any_split : (x : X) (xs : List X) → Any P (x ∷ xs) → P x ⊎ Any P xs
+  any_split x xs h = split_at h.0 x xs h.1 h.2 h.3 h.4
+
+  pub any_one : (x : X) → Any P (x ∷ []) → P x
+  any_one x h = elim (any_split x [] h) [ inl p ↦ p | inr q ↦ absurd (omega (arith, q.2)) ]
+
+  pub any_two : (x y : X) → Any P (x ∷ y ∷ []) → P x ⊎ P y
+  any_two x y h = elim (any_split x (y ∷ []) h) [ inl p ↦ inl p | inr q ↦ inr (any_one y q) ]
+
+  pub any_three : (x y z : X) → Any P (x ∷ y ∷ z ∷ []) → P x ⊎ (P y ⊎ P z)
+  any_three x y z h = elim (any_split x (y ∷ z ∷ []) h) [ inl p ↦ inl p | inr q ↦ inr (any_two y z q) ]
+
+pub first_in : {X : Type 0} (x : X) (xs : List X) → Contains (x ∷ xs) x
+first_in x xs = (0, omega arith, refl)
+
+pub later_in : {X : Type 0} (x : X) (xs : List X) (y : X) → Contains xs y → Contains (x ∷ xs) y
+later_in x xs y h = (suc h.0, omega arith, h.2)
+
+-- a literal against its edge
+pub on_true : (p y : Bool) → y ≡ not p → exclusive_or p y ≡ true
+on_true true y h = ap not h
+on_true false y h = h
+
+pub true_on : (p y : Bool) → exclusive_or p y ≡ true → y ≡ not p
+true_on true y h = not-true y h
+true_on false y h = h
+
+pub on_false : (p y : Bool) → y ≡ not (not p) → exclusive_or p y ≡ false
+on_false true y h = ap not h
+on_false false y h = h
+
+pub false_on : (p y : Bool) → exclusive_or p y ≡ false → y ≡ not (not p)
+false_on true y h = not-false y h
+false_on false y h = h
+
+and_from_clauses : (x y z : Bool) → (x ≡ false) ⊎ (y ≡ true) → (x ≡ false) ⊎ (z ≡ true) → (x ≡ true) ⊎ ((y ≡ false) ⊎ (z ≡ false)) → x ≡ (y && z)
+and_from_clauses x y z p q r = grind arith
+
+first_clause : (x y z : Bool) → x ≡ (y && z) → (x ≡ false) ⊎ (y ≡ true)
+first_clause x true z h = inr refl
+first_clause x false z h = inl h
+
+second_clause : (x y z : Bool) → x ≡ (y && z) → (x ≡ false) ⊎ (z ≡ true)
+second_clause x true true h = inr refl
+second_clause x true false h = inl h
+second_clause x false z h = inl h
+
+third_clause : (x y z : Bool) → x ≡ (y && z) → (x ≡ true) ⊎ ((y ≡ false) ⊎ (z ≡ false))
+third_clause x true true h = inl h
+third_clause x true false h = inr (inr refl)
+third_clause x false z h = inr (inl refl)
+
+module _ (v : ℕ → Bool) where
+  abbrev True : Lit → Type 0
+  True l = v l.var ≡ l.positive
+
+  abbrev Met : List Lit → Type 0
+  Met c = ClauseTrue v c
+
+  -- the clauses of a node hold exactly where its value is right
+  pub node_from : (k : ℕ) (n : Node) → All (ClauseTrue v) (clauses_of k n) → NodeHolds v k n
+  node_from k False h = any_one True (node_lit k false) (h 0 [] (omega arith))
+  node_from k Input h = tt
+  node_from k (And a b) h =
+      let m1 : Met (down k a) = h 0 [] (omega arith) in
+      let m2 : Met (down k b) = h 1 [] (omega arith) in
+      let m3 : Met (up k a b) = h 2 [] (omega arith) in
+      and_from_clauses (v k) (edge_value v a) (edge_value v b)
+      (elim (any_two True (node_lit k false) (lit a) m1) [ inl p ↦ inl p | inr p ↦ inr (on_true a.negated (v a.node) p) ])
+      (elim (any_two True (node_lit k false) (lit b) m2) [ inl p ↦ inl p | inr p ↦ inr (on_true b.negated (v b.node) p) ])
+      (elim (any_three True (node_lit k true) (negate (lit a)) (negate (lit b)) m3) [
+        | inl p ↦ inl p
+        | inr q ↦ inr (elim q [ inl p ↦ inl (on_false a.negated (v a.node) p) | inr p ↦ inr (on_false b.negated (v b.node) p) ])
+      ])
+
+  down_met : (k : ℕ) (a : Edge) → (v k ≡ false) ⊎ (edge_value v a ≡ true) → Met (down k a)
+  down_met k a h =
+      elim h [
+        | inl p ↦ any_head True (node_lit k false) (lit a ∷ []) p
+        | inr p ↦ any_tail True (node_lit k false) (lit a ∷ []) (any_head True (lit a) [] (true_on a.negated (v a.node) p))
+      ]
+
+  up_met : (k : ℕ) (a b : Edge) → (v k ≡ true) ⊎ ((edge_value v a ≡ false) ⊎ (edge_value v b ≡ false)) → Met (up k a b)
+  up_met k a b h =
+      elim h [
+        | inl p ↦ any_head True (node_lit k true) (negate (lit a) ∷ negate (lit b) ∷ []) p
+        | inr q ↦ any_tail True (node_lit k true) (negate (lit a) ∷ negate (lit b) ∷ [])
+            (elim q [
+              | inl p ↦ any_head True (negate (lit a)) (negate (lit b) ∷ []) (false_on a.negated (v a.node) p)
+              | inr p ↦ any_tail True (negate (lit a)) (negate (lit b) ∷ []) (any_head True (negate (lit b)) [] (false_on b.negated (v b.node) p))
+            ])
+      ]
+
+  pub node_to : (k : ℕ) (n : Node) → NodeHolds v k n → All (ClauseTrue v) (clauses_of k n)
+  node_to k False h = All-cons Met (node_lit k false ∷ []) [] (any_head True (node_lit k false) [] h) (All-nil Met)
+  node_to k Input h = All-nil Met
+  node_to k (And a b) h =
+      All-cons Met (down k a) (down k b ∷ up k a b ∷ []) (down_met k a (first_clause (v k) (edge_value v a) (edge_value v b) h))
+      (All-cons Met (down k b) (up k a b ∷ []) (down_met k b (second_clause (v k) (edge_value v a) (edge_value v b) h))
+      (All-cons Met (up k a b) [] (up_met k a b (third_clause (v k) (edge_value v a) (edge_value v b) h)) (All-nil Met)))
+
+-- the clauses of a live node are among the clauses
+pub node_in : (live : ℕ → Bool) (j : ℕ) (g : List Node) (k : ℕ) (c : List Lit) → k < length g → live (j + k) ≡ true →
+    Contains (clauses_of (j + k) (get_or g k Input)) c → Contains (cnf_from live j g) c
+node_in live j [] k c l on h = absurd (omega arith)
+node_in live j (n ∷ ns) zero c l on h =
+    let e : j + 0 ≡ j = omega arith in
+    let P : ℕ → Type 0 = λ m. live m ≡ true in
+    let Q : ℕ → Type 0 = λ m. Contains (clauses_of m n) c in
+    let at : live j ≡ true = subst P e on in
+    let in_n : Contains (clauses_of j n) c = subst Q e h in
+    let f : cond (live j) (clauses_of j n) [] ≡ clauses_of j n = ap (λ b. cond b (clauses_of j n) []) at in
+    let R : List (List Lit) → Type 0 = λ cs. Contains cs c in
+    Contains-append_left (cond (live j) (clauses_of j n) []) (cnf_from live (suc j) ns) c (subst R (sym f) in_n)
+node_in live j (n ∷ ns) (suc k) c l on h =
+    let e : j + suc k ≡ suc j + k = omega arith in
+    let P : ℕ → Type 0 = λ m. live m ≡ true in
+    let Q : ℕ → Type 0 = λ m. Contains (clauses_of m (get_or ns k Input)) c in
+    Contains-append_right (cond (live j) (clauses_of j n) []) (cnf_from live (suc j) ns) c
+    (node_in live (suc j) ns k c (omega arith) (subst P e on) (subst Q e h))
+
+-- what each live node's clauses meet, all clauses meet
+pub all_nodes : (P : List Lit → Type 0) (live : ℕ → Bool) (j : ℕ) (g : List Node) →
+    ((k : ℕ) → k < length g → live (j + k) ≡ true → All P (clauses_of (j + k) (get_or g k Input))) → All P (cnf_from live j g)
+all_nodes P live j [] h = All-nil P
+all_nodes P live j (n ∷ ns) h =
+    let e : j + 0 ≡ j = omega arith in
+    let here : live j ≡ true → All P (clauses_of j n) =
+    λ on. (let Q : ℕ → Type 0 = λ m. All P (clauses_of m n) in subst Q e (h 0 (omega arith) (let R : ℕ → Type 0 = λ m. live m ≡ true in subst R (sym e) on))) in
+    let first : All P (cond (live j) (clauses_of j n) []) =
+    elim (cases_Bool (live j)) [
+      | inl on ↦ rw on (here on)
+      | inr off ↦ rw off (All-nil P)
+    ] in
+    All-append P (cond (live j) (clauses_of j n) []) (cnf_from live (suc j) ns) first
+    (all_nodes P live (suc j) ns (λ k l on.
+    let f : j + suc k ≡ suc j + k = omega arith in
+    let R : ℕ → Type 0 = λ m. live m ≡ true in
+    let Q : ℕ → Type 0 = λ m. All P (clauses_of m (get_or ns k Input)) in
+    subst Q f (h (suc k) (omega arith) (subst R (sym f) on))))
+
+-- P of each clause of each live node
+at_node : (P : List Lit → Type 0) (live : ℕ → Bool) (g : List Node) → All P (cnf_from live 0 g) →
+    (k : ℕ) → k < length g → live k ≡ true → (c : List Lit) → Contains (clauses_of k (get_or g k Input)) c → P c
+at_node P live g h k l on c in_c =
+    let e : 0 + k ≡ k = omega arith in
+    let R : ℕ → Type 0 = λ m. live m ≡ true in
+    let Q : ℕ → Type 0 = λ m. Contains (clauses_of m (get_or g k Input)) c in
+    All-contains P (cnf_from live 0 g) c h (node_in live 0 g k c l (subst R (sym e) on) (subst Q (sym e) in_c))
+
+pub clauses_hold : (live : ℕ → Bool) (g : List Node) (v : ℕ → Bool) → All (ClauseTrue v) (cnf_from live 0 g) ↔ HoldsLive live v g
+clauses_hold live g v = (
+  λ h k l on. node_from v k (get_or g k Input)
+      (λ i d m. at_node (ClauseTrue v) live g h k l on (get_or (clauses_of k (get_or g k Input)) i d) (Contains-get_or (clauses_of k (get_or g k Input)) i d m)),
+  λ h. all_nodes (ClauseTrue v) live 0 g (λ k l on.
+      let e : 0 + k ≡ k = omega arith in
+      let R : ℕ → Type 0 = λ m. live m ≡ true in
+      let Q : ℕ → Type 0 = λ m. All (ClauseTrue v) (clauses_of m (get_or g k Input)) in
+      subst Q (sym e) (node_to v k (get_or g k Input) (h k l (subst R e on)))),
+)
+
+not-not : (b : Bool) → not (not b) ≡ b
+not-not true = refl
+not-not false = refl
+
+negate-negate : (l : Lit) → negate (negate l) ≡ l
+negate-negate l = λ i. record { var = l.var; positive = not-not l.positive i }
+
+module _ (t : Lit → Bool) where
+  abbrev Unit_rule : List Lit → Type 0
+  Unit_rule c = (l : Lit) → UnitIn t c l → t l ≡ true
+
+  abbrev Off : Lit → Lit → Type 0
+  Off l m = (m ≡ l → ⊥) → t (negate m) ≡ true
+
+  down_sets : (k : ℕ) (a : Edge) → Unit_rule (down k a) → t (negate (lit a)) ≡ true → t (node_lit k false) ≡ true
+  down_sets k a rule off =
+      let l = node_lit k false in
+      rule l (
+        first_in l (lit a ∷ []),
+        All-cons (Off l) l (lit a ∷ []) (λ ne. absurd (ne refl)) (All-cons (Off l) (lit a) [] (λ ne. off) (All-nil (Off l))),
+      )
+
+  up_sets : (k : ℕ) (a b : Edge) → Unit_rule (up k a b) → t (lit a) ≡ true → t (lit b) ≡ true → t (node_lit k true) ≡ true
+  up_sets k a b rule on_a on_b =
+      let l = node_lit k true in
+      let na = negate (lit a) in
+      let nb = negate (lit b) in
+      rule l (
+        first_in l (na ∷ nb ∷ []),
+        All-cons (Off l) l (na ∷ nb ∷ []) (λ ne. absurd (ne refl))
+            (All-cons (Off l) na (nb ∷ []) (λ ne. ap t (negate-negate (lit a)) ∙ on_a)
+            (All-cons (Off l) nb [] (λ ne. ap t (negate-negate (lit b)) ∙ on_b) (All-nil (Off l)))),
+      )
+
+  false_sets : (k : ℕ) → Unit_rule (node_lit k false ∷ []) → t (node_lit k false) ≡ true
+  false_sets k rule =
+      let l = node_lit k false in
+      rule l (first_in l [], All-cons (Off l) l [] (λ ne. absurd (ne refl)) (All-nil (Off l)))
+
+  node_set : (k : ℕ) (n : Node) → ((c : List Lit) → Contains (clauses_of k n) c → Unit_rule c) → NodeSet t k n
+  node_set k False h = false_sets k (h (node_lit k false ∷ []) (first_in (node_lit k false ∷ []) []))
+  node_set k Input h = tt
+  node_set k (And a b) h =
+      let one : Unit_rule (down k a) = h (down k a) (first_in (down k a) (down k b ∷ up k a b ∷ [])) in
+      let two : Unit_rule (down k b) = h (down k b) (later_in (down k a) (down k b ∷ up k a b ∷ []) (down k b) (first_in (down k b) (up k a b ∷ []))) in
+      let three : Unit_rule (up k a b) =
+      h (up k a b) (later_in (down k a) (down k b ∷ up k a b ∷ []) (up k a b) (later_in (down k b) (up k a b ∷ []) (up k a b) (first_in (up k a b) []))) in
+      (up_sets k a b three, down_sets k a one, down_sets k b two)
+
+-- a closed set holds a node's literal once it holds those of the operands
+pub sets_live : (live : ℕ → Bool) (g : List Node) (t : Lit → Bool) → Closed t (cnf_from live 0 g) → SetLive live t g
+sets_live live g t closed k l on =
+    node_set t k (get_or g k Input) (at_node (λ c. (l : Lit) → UnitIn t c l → t l ≡ true) live g closed k l on)

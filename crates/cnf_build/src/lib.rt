@@ -1,0 +1,10 @@
+//! Clauses that say what the edges of a graph say, by a variable for each node that the edges stand
+//! on (Tseitin 1968).
+#![tactic(auto)]
+
+mod tseitin;
+
+pub use tseitin::{Cnf, clauses};
+
+#[cfg(test)]
+mod tests;

@@ -1,0 +1,6 @@
+pub mod Chains
+pub mod Period
+pub mod Unfolding
+pub mod Decide
+pub mod Walk
+pub mod Duality

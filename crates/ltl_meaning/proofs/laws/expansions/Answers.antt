@@ -1,0 +1,12 @@
+use Rattle.ltl_meaning.specs.Truth.{Satisfies}
+use Rattle.ltl_meaning.specs.Lasso.{on}
+use Rattle.ltl_meaning.proofs.Decide.{decide_on, releases_unfolds_decided, triggered_unfolds_decided}
+use Rattle.ltl_meaning.proofs.laws.expansions.Goals as goal
+
+pub returns-clause-releases_unfolds : goal.returns-clause-releases_unfolds
+returns-clause-releases_unfolds c = λ f g w t.
+    releases_unfolds_decided (Satisfies (on w) f) (Satisfies (on w) g) (decide_on w f) t
+
+pub returns-clause-triggered_unfolds : goal.returns-clause-triggered_unfolds
+returns-clause-triggered_unfolds c = λ f g w t.
+    triggered_unfolds_decided (Satisfies (on w) f) (Satisfies (on w) g) (decide_on w f) t

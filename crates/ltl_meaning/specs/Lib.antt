@@ -1,0 +1,4 @@
+pub mod Ltl
+pub mod Truth
+pub mod Lasso
+pub mod Equivalent

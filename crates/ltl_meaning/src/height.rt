@@ -1,0 +1,59 @@
+ghost use Rattle.std.specs.Prelude.{◌≡◌, min, ◌≤◌};
+ghost use Rattle.ltl_meaning.specs.Ltl.{formula_of, past_height, past_unary, past_binary};
+
+use crate::node::{BinaryOperator, Node, UnaryOperator};
+
+// The least past height that is too large.
+pub const LIMIT: u64 = 1 << 32;
+
+fn past_unary(operator: UnaryOperator) -> u64
+    ensures { result ≡ past_unary operator }
+{
+    match operator {
+        UnaryOperator::Not
+        | UnaryOperator::Next
+        | UnaryOperator::Finally
+        | UnaryOperator::Globally => 0,
+        UnaryOperator::Yesterday
+        | UnaryOperator::WeakYesterday
+        | UnaryOperator::Once
+        | UnaryOperator::Historically => 1,
+    }
+}
+
+fn past_binary(operator: BinaryOperator) -> u64
+    ensures { result ≡ past_binary operator }
+{
+    match operator {
+        BinaryOperator::Since | BinaryOperator::Triggered => 1,
+        BinaryOperator::And
+        | BinaryOperator::Or
+        | BinaryOperator::Xor
+        | BinaryOperator::Xnor
+        | BinaryOperator::Implies
+        | BinaryOperator::Iff
+        | BinaryOperator::Until
+        | BinaryOperator::Releases => 0,
+    }
+}
+
+// The past height, or the limit where it is no less.
+pub fn capped_height(node: &Node) -> u64
+    ensures { result ≡ min (past_height (formula_of node.now)) LIMIT }
+{
+    match node {
+        Node::Constant(_) | Node::Atom(_) => 0,
+        Node::Unary(operator, operand) => {
+            LIMIT.min(past_unary(*operator) + capped_height(operand.get()))
+        }
+        Node::Implies(left, right) => capped_height(left.get()).max(capped_height(right.get())),
+        Node::Chain(first, links) => {
+            let mut height = capped_height(first.get());
+            for link in links.as_slice() {
+                let inner = height.max(capped_height(&link.operand));
+                height = LIMIT.min(past_binary(link.operator) + inner);
+            }
+            height
+        }
+    }
+}

@@ -1,0 +1,11 @@
+//! Linear temporal logic with past, over words that end in a loop: formulas, their truth at each
+//! time, and its laws.
+#![tactic(auto)]
+
+pub mod formula;
+mod height;
+pub mod laws;
+pub mod node;
+#[cfg(test)]
+mod tests;
+pub mod word;

@@ -1,0 +1,4 @@
+pub mod Monitor
+pub mod Signal
+pub mod FairLasso
+pub mod Counter

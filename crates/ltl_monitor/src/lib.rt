@@ -1,0 +1,4 @@
+//! The monitor of a formula of linear temporal logic: bits beside a run that tell its truth.
+#![tactic(auto)]
+
+pub mod law;

@@ -1,0 +1,76 @@
+ghost use Rattle.std.specs.Prelude.{◌≡◌, ◌+◌, ◌*◌, ◌≤◌, IfOk, IsTrue};
+ghost use Rattle.ltl_meaning.specs.Ltl.{formula_of, past_height};
+ghost use Rattle.ltl_meaning.specs.Truth.{Satisfies};
+ghost use Rattle.ltl_meaning.specs.Lasso.{on, period};
+ghost use Rattle.ltl_table.specs.Columns.{Tells};
+
+use crate::constant::constant;
+use crate::operators::{binary, unary};
+use ltl_meaning::node::{BinaryOperator, Node};
+use ltl_meaning::word::Word;
+use std::alloc::{AllocError, Global};
+
+// When an atom is true, at the first `n` times.
+fn atom(alloc: Global, word: &Word, n: usize, number: usize) -> Result<Vec<bool>, AllocError>
+    ensures { IfOk result (λ c. Tells c.items n (on word.now number)) }
+{
+    let mut column = Vec::new(alloc);
+    for i in 0..n {
+        let value = word.holds(number, i);
+        column.push(value)?;
+    }
+    Ok(column)
+}
+
+// A node's truth at the first `n` times, which end with one pass of the loop, from `start` on, after
+// `passes` others.
+pub fn column(
+    alloc: Global,
+    word: &Word,
+    passes: usize,
+    start: usize,
+    n: usize,
+    node: &Node,
+) -> Result<Vec<bool>, AllocError>
+    requires deep { past_height (formula_of node.now) ≤ passes }
+    requires low { start ≡ word.now.start + passes * period word.now }
+    requires high { n ≡ start + period word.now }
+    ensures { IfOk result (λ c. Tells c.items n (Satisfies (on word.now) (formula_of node.now))) }
+{
+    match node {
+        Node::Constant(value) => constant(alloc, *value, n),
+        Node::Atom(number) => atom(alloc, word, n, *number),
+        Node::Unary(operator, operand) => {
+            let of = column(alloc, word, passes, start, n, operand.get())?;
+            let whole = unary(alloc, *operator, of.as_slice(), start)?;
+            Ok(whole)
+        }
+        Node::Implies(left, right) => {
+            let from = column(alloc, word, passes, start, n, left.get())?;
+            let to = column(alloc, word, passes, start, n, right.get())?;
+            let whole = binary(
+                alloc,
+                BinaryOperator::Implies,
+                from.as_slice(),
+                to.as_slice(),
+                start,
+            )?;
+            Ok(whole)
+        }
+        Node::Chain(first, links) => {
+            let mut so_far = column(alloc, word, passes, start, n, first.get())?;
+            for link in links.as_slice() {
+                let right = column(alloc, word, passes, start, n, &link.operand)?;
+                let joined = binary(
+                    alloc,
+                    link.operator,
+                    so_far.as_slice(),
+                    right.as_slice(),
+                    start,
+                )?;
+                so_far = joined;
+            }
+            Ok(so_far)
+        }
+    }
+}

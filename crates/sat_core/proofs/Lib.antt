@@ -1,0 +1,9 @@
+pub mod Counts
+pub mod Finals
+pub mod Learns
+pub mod Levels
+pub mod Marked
+pub mod Marking
+pub mod Origins
+pub mod Reasons
+pub mod Results

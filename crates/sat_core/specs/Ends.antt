@@ -1,0 +1,22 @@
+-- What the steps of the search say.
+use Rattle.std.specs.Prelude.{◌≡◌, ℕ, Bool, true, false, List, Contains, All}
+use Rattle.clause_core.specs.declared.literal.Lit.{Lit}
+use Rattle.clause_core.specs.Literals.{negate}
+use Rattle.sat_prop.specs.Trails.{among, AtRest}
+use Rattle.sat_core.specs.declared.search.Next.{Next}
+use Rattle.sat_core.specs.declared.search.Next.TheVariants.{AllTrue, Decide, Fails}
+use Rattle.sat_core.specs.declared.search.Outcome.{Outcome}
+use Rattle.sat_core.specs.declared.search.Outcome.TheVariants.{Sat, Unsat, Spent}
+use Rattle.sat_core.specs.Searching.{Refutes, AllSet}
+
+-- what is to be decided next: all assumptions are true; or this one is unset; or this one is false
+abbrev pub NextSays : List Lit → List Lit → Next → Type 0
+NextSays literals assumptions AllTrue = All (λ a. among literals a ≡ true) assumptions
+NextSays literals assumptions (Decide l) = Contains assumptions l × (among literals l ≡ false) × (among literals (negate l) ≡ false)
+NextSays literals assumptions (Fails a) = Contains assumptions a × (among literals (negate a) ≡ true)
+
+-- how a search ended: with all set and nothing left to do; with a core of the assumptions; or with a spent purse
+abbrev pub OutcomeSays : ℕ → List Lit → ℕ → Bool → List (List Lit) → List Lit → Outcome → Type 0
+OutcomeSays vars assumptions budget over cs literals Sat = AtRest cs literals × All (λ a. among literals a ≡ true) assumptions × AllSet vars literals
+OutcomeSays vars assumptions budget over cs literals (Unsat core) = All (Contains assumptions) core.items × Refutes cs core.items
+OutcomeSays vars assumptions budget over cs literals (Spent d b) = (d ≡ budget) × (b ≡ budget) × (over ≡ true)

@@ -1,0 +1,4 @@
+pub mod Ends
+pub mod Positions
+pub mod Queries
+pub mod Searching

@@ -1,0 +1,112 @@
+-- What the search keeps, and what it does to the clauses.
+use Rattle.std.specs.Prelude.{◌≡◌, ℕ, ◌+◌, ◌<◌, ◌≤◌, ◌⊎◌, Bool, true, false, List, [], ◌∷◌, ◌++◌, length, take, map, suc, slice_index, slice_index_or, Contains, All}
+use Rattle.clause_core.specs.declared.literal.Lit.{Lit}
+use Rattle.clause_core.specs.Literals.{negate, at, Within}
+use Rattle.clause_core.specs.Propagation.{AllFalse, Closed, HasConflict, Follows, Settled}
+use Rattle.sat_core.specs.Positions.{Marked}
+use Rattle.clause_core.specs.Propagation.{Holds, Reaches, Conflicting, DecisionsOpen}
+use Rattle.clause_core.specs.Learning.{Asserting}
+use Rattle.sat_prop.specs.Trails.{is_literal, among, AtRest}
+use Rattle.sat_core.specs.Queries.{IsLearned, IsSound, given_of, learned_of, state_of}
+
+-- the decisions of the trail
+abbrev pub decided : List Lit → List ℕ → List Lit
+decided literals starts = map (λ s. at literals s) starts
+
+-- the clause was learned from the conflict of these decisions
+abbrev pub LearnedFrom : List (List Lit) → List Lit → List Lit → Type 0
+LearnedFrom live ds c =
+    (n : ℕ)
+    × (length ds ≡ suc n)
+    × DecisionsOpen live ds
+    × Conflicting live ds
+    × Follows live c
+    × All (λ m. Reaches live ds (negate m)) c
+    × Asserting live (take n ds) c
+
+-- the clauses after are those before and then learned ones, each learned from all clauses before it
+abbrev pub GrowsByLearning : ℕ → List Lit → List (List Lit) → List (List Lit) → Type 0
+GrowsByLearning vars assumptions old new =
+    (learned : List (List Lit))
+    × (new ≡ old ++ learned)
+    × ((k : ℕ) → k < length learned → IsLearned vars assumptions (old ++ take k learned) (slice_index_or learned k []))
+
+-- Q holds of each level: of the literals before its decision, and the decision
+abbrev pub PerLevel : (List Lit → Lit → Type 0) → List Lit → List ℕ → Type 0
+PerLevel Q literals starts = (i : ℕ) → i < length starts → Q (take (slice_index starts i) literals) (at literals (slice_index starts i))
+
+-- what holds of each level: nothing was left to do before its decision, which is an assumption or came after all
+-- assumptions
+abbrev pub Level : List (List Lit) → List Lit → List Lit → Lit → Type 0
+Level cs assumptions low l =
+    AtRest cs low × (Contains assumptions l ⊎ All (λ a. among low a ≡ true) assumptions)
+
+-- the marked literals of the trail propagate to make the clause false
+abbrev pub MarksFalse : List Lit → List (List Lit) → List Bool → List Lit → Type 0
+MarksFalse trail cs marks c =
+    (t : Lit → Bool) → Closed t cs → ((q : ℕ) → q < length trail → Marked marks q → t (at trail q) ≡ true) → AllFalse t c
+
+-- low lists the marked places below floor
+abbrev pub LowListed : List Bool → ℕ → List ℕ → Type 0
+LowListed marks floor low =
+    ((q : ℕ) → q < floor → Marked marks q → Contains low q) × All (λ q. (q < floor) × Marked marks q) low
+
+-- what is newly marked is the place of one of the clause's first n literals
+abbrev pub OnlyNew : List ℕ → List Lit → ℕ → ℕ → List Bool → List Bool → Type 0
+OnlyNew places c n skip old new =
+    (q : ℕ) → Marked new q → Marked old q ⊎ ((j : ℕ) × (j < n) × (slice_index places (at c j).var ≡ q) × (q ≡ skip → ⊥))
+
+-- no place from n on is marked
+abbrev pub NoneFrom : List Bool → ℕ → Type 0
+NoneFrom marks n = (q : ℕ) → n ≤ q → Marked marks q → ⊥
+
+-- the negation of the literal at p, and then of those at the places in low
+abbrev pub learned_clause : List Lit → ℕ → List ℕ → List Lit
+learned_clause trail p low = negate (at trail p) ∷ map (λ q. negate (at trail q)) low
+
+-- unit propagation from the clauses and the core meets a conflict
+abbrev pub Refutes : List (List Lit) → List Lit → Type 0
+Refutes cs core = (t : Lit → Bool) → Closed t cs → Holds t core → HasConflict t cs
+
+-- what one step of learning does to clauses, trail and levels
+abbrev pub LearnSays : ℕ → List (List Lit) → List Lit → List ℕ → List (List Lit) → List Lit → List ℕ → Type 0
+LearnSays vars cs literals starts cs' literals' starts' =
+    (c : List Lit)
+    × (cs' ≡ cs ++ c ∷ [])
+    × Within vars c
+    × LearnedFrom cs (decided literals starts) c
+    × ((n : ℕ)
+    × (n < length starts)
+    × (literals' ≡ take (slice_index starts n) literals)
+    × (starts' ≡ take n starts)
+    × PerLevel (λ low _. AtRest cs' low) literals' starts')
+
+-- before each decision below level n the clause is settled
+abbrev pub SettledBelow : List Lit → List ℕ → ℕ → List Lit → Type 0
+SettledBelow literals starts n c = (i : ℕ) → i < n → Settled (among (take (slice_index starts i) literals)) c
+
+-- before no decision below level n the clause's first literal or that at w is false, and the two differ
+abbrev pub WatchBelow : List Lit → List ℕ → ℕ → List Lit → ℕ → Type 0
+WatchBelow literals starts n c w =
+    (i : ℕ) → i < n →
+    (w < length c)
+    × (is_literal (at c 0) (at c w) ≡ false)
+    × (among (take (slice_index starts i) literals) (negate (at c 0)) ≡ false)
+    × (among (take (slice_index starts i) literals) (negate (at c w)) ≡ false)
+
+-- each variable has a value
+abbrev pub AllSet : ℕ → List Lit → Type 0
+AllSet vars literals = (l : Lit) → l.var < vars → among literals l ≡ true ⊎ among literals (negate l) ≡ true
+
+-- a ticket was drawn for each clause that was learned
+abbrev pub PaidFor : List ℕ → List ℕ → List (List Lit) → List (List Lit) → Type 0
+PaidFor before after cs cs' = (drawn : List ℕ) × (after ≡ before ++ drawn) × (length cs' ≡ length cs + length drawn)
+
+-- what a solver keeps of the marks that tell which of its clauses were given
+pub record Keeps (vars : ℕ) (marks : List Bool) (cs : List (List Lit)) : Type 0 where
+  pub known : length marks ≤ length cs
+  pub sound : IsSound (state_of vars marks cs)
+
+-- more marks that say the same of the clauses
+abbrev pub SameMarks : List Bool → List Bool → List (List Lit) → Type 0
+SameMarks old new cs = (given_of new cs ≡ given_of old cs) × (learned_of new cs ≡ learned_of old cs)

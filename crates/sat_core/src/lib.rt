@@ -1,0 +1,16 @@
+//! A solver for clauses that learns from conflicts, answers queries under assumptions, and shows each
+//! answer: by a model, or by a core of the assumptions and a log that derives the empty clause.
+#![tactic(auto)]
+
+mod answer;
+mod learn;
+mod marks;
+mod order;
+mod query;
+mod search;
+mod solver;
+#[cfg(test)]
+mod tests;
+
+pub use answer::Answer;
+pub use solver::Solver;

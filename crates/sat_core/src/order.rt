@@ -1,0 +1,229 @@
+use clause_core::Lit;
+use sat_prop::Trail;
+use std::alloc::{AllocError, Global};
+
+// The order in which variables are decided: those first that came up in late conflicts (Moskewicz and others
+// 2001), by a binary heap; and the sign that each had last (Pipatsrisawat, Darwiche 2007). Nothing is promised
+// of it: a variable that it names is tested before it is decided.
+#[derive(Drop)]
+pub struct Order {
+    // The variables, the most active first: each is at most as active as the one at half its place.
+    heap: Vec<usize>,
+    // One more than the place of each variable in the heap, 0 for one that is not in it.
+    slot: Vec<usize>,
+    activity: Vec<u64>,
+    phase: Vec<bool>,
+    // What a variable's activity gains.
+    step: u64,
+    // Which restart comes next, and after how many conflicts.
+    round: u64,
+    left: u64,
+}
+
+// The entry, 0 past the end.
+fn entry(v: &[usize], i: usize) -> usize {
+    if i < v.len() { v[i] } else { 0 }
+}
+
+// Writes the entry, if there is one.
+fn put(v: &mut [usize], i: usize, x: usize) {
+    if i < v.len() {
+        v[i] = x;
+    }
+}
+
+// A variable's activity, 0 for one that is not there.
+fn activity_of(v: &[u64], i: usize) -> u64 {
+    if i < v.len() { v[i] } else { 0 }
+}
+
+// Writes a variable's activity, if it is there.
+fn put_activity(v: &mut [u64], i: usize, x: u64) {
+    if i < v.len() {
+        v[i] = x;
+    }
+}
+
+// Number n of the sequence 1, 1, 2, 1, 1, 2, 4, .. (Luby, Sinclair, Zuckerman 1993).
+fn luby(n: u64) -> u64 {
+    let mut i = n;
+    for _ in 0..64 {
+        let mut size: u64 = 0;
+        for _ in 0..62 {
+            if size >= i {
+                break;
+            }
+            size = size.wrapping_mul(2).wrapping_add(1);
+        }
+        if size == i {
+            return size.wrapping_add(1) / 2;
+        }
+        i = i.wrapping_sub(size / 2);
+    }
+    1
+}
+
+impl Order {
+    // Each variable once, none more active than another.
+    pub fn new(alloc: Global, vars: usize) -> Result<Order, AllocError> {
+        let mut heap = Vec::new(alloc);
+        let mut slot = Vec::new(alloc);
+        for v in 0..vars {
+            heap.push(v)?;
+            slot.push(v.wrapping_add(1))?;
+        }
+        let activity = vec![in alloc; 0; vars]?;
+        let phase = vec![in alloc; false; vars]?;
+        Ok(Order {
+            heap,
+            slot,
+            activity,
+            phase,
+            step: 1,
+            round: 1,
+            left: 64,
+        })
+    }
+
+    // Moves the variable at a place towards the front, past the less active ones.
+    fn sift_up(&mut self, from: usize) {
+        let v = entry(&self.heap, from);
+        let a = activity_of(&self.activity, v);
+        let mut i = from;
+        for _ in 0..64 {
+            if i == 0 {
+                break;
+            }
+            let parent = (i - 1) / 2;
+            let u = entry(&self.heap, parent);
+            if activity_of(&self.activity, u) >= a {
+                break;
+            }
+            put(&mut self.heap, i, u);
+            put(&mut self.slot, u, i.wrapping_add(1));
+            i = parent;
+        }
+        put(&mut self.heap, i, v);
+        put(&mut self.slot, v, i.wrapping_add(1));
+    }
+
+    // Moves the first variable towards the end, past the more active ones.
+    fn sift_down(&mut self) {
+        let v = entry(&self.heap, 0);
+        let a = activity_of(&self.activity, v);
+        let n = self.heap.len();
+        let mut i: usize = 0;
+        for _ in 0..64 {
+            let mut child = i.wrapping_mul(2).wrapping_add(1);
+            if child >= n {
+                break;
+            }
+            let other = child.wrapping_add(1);
+            if other < n
+                && activity_of(&self.activity, entry(&self.heap, other))
+                    > activity_of(&self.activity, entry(&self.heap, child))
+            {
+                child = other;
+            }
+            let u = entry(&self.heap, child);
+            if activity_of(&self.activity, u) <= a {
+                break;
+            }
+            put(&mut self.heap, i, u);
+            put(&mut self.slot, u, i.wrapping_add(1));
+            i = child;
+        }
+        put(&mut self.heap, i, v);
+        put(&mut self.slot, v, i.wrapping_add(1));
+    }
+
+    // Takes the most active variable out of the heap.
+    pub fn pop(&mut self) -> Option<usize> {
+        let top = entry(&self.heap, 0);
+        match self.heap.pop() {
+            None => None,
+            Some(last) => {
+                put(&mut self.slot, top, 0);
+                if self.heap.len() > 0 {
+                    put(&mut self.heap, 0, last);
+                    put(&mut self.slot, last, 1);
+                    self.sift_down();
+                }
+                Some(top)
+            }
+        }
+    }
+
+    // Makes a variable more active; where numbers grow large, all are made smaller.
+    fn bump(&mut self, v: usize) {
+        let a = activity_of(&self.activity, v).wrapping_add(self.step);
+        put_activity(&mut self.activity, v, a);
+        if a > 1 << 60 {
+            for x in self.activity.iter_mut() {
+                *x = *x >> 40;
+            }
+            self.step = self.step >> 40;
+            if self.step == 0 {
+                self.step = 1;
+            }
+        }
+        let s = entry(&self.slot, v);
+        if s > 0 {
+            self.sift_up(s - 1);
+        }
+    }
+
+    // Makes a clause's variables more active.
+    pub fn bump_all(&mut self, c: &[Lit]) {
+        for x in c {
+            self.bump(x.var);
+        }
+    }
+
+    // The steps grow, so that what was bumped long ago counts less.
+    pub fn decay(&mut self) {
+        let more = self.step / 16;
+        self.step = self.step.wrapping_add(more).wrapping_add(1);
+    }
+
+    // Whether this conflict goes back to before all decisions.
+    pub fn restarts(&mut self) -> bool {
+        if self.left == 0 {
+            self.round = self.round.wrapping_add(1);
+            self.left = luby(self.round).wrapping_mul(64);
+            true
+        } else {
+            self.left -= 1;
+            false
+        }
+    }
+
+    // The sign that a variable had last.
+    pub fn sign(&self, v: usize) -> bool {
+        if v < self.phase.len() {
+            self.phase[v]
+        } else {
+            false
+        }
+    }
+
+    // Notes the signs of the literals from a level on, which are about to be unset, and puts their variables back
+    // into the heap.
+    pub fn keep(&mut self, trail: &Trail, level: usize) -> Result<(), AllocError> {
+        if level < trail.starts.len() {
+            for p in trail.starts[level]..trail.literals.len() {
+                let l = trail.literals[p];
+                if l.var < self.phase.len() {
+                    self.phase[l.var] = l.positive;
+                    if entry(&self.slot, l.var) == 0 {
+                        let n = self.heap.len();
+                        self.heap.push(l.var)?;
+                        put(&mut self.slot, l.var, n.wrapping_add(1));
+                        self.sift_up(n);
+                    }
+                }
+            }
+        }
+        Ok(())
+    }
+}

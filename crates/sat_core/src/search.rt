@@ -1,0 +1,224 @@
+ghost use Rattle.std.specs.Prelude.{Bool, ◌⊎◌, [], ◌≡◌, ◌<◌, ℕ, true, IfOk, OnOk, MatchOption, length, All, Contains, slice_index};
+ghost use Rattle.clause_core.specs.declared.literal.Lit.{Lit};
+ghost use Rattle.clause_core.specs.Literals.{Within, negate, at};
+ghost use Rattle.unit_propagation.specs.Values.{unset};
+ghost use Rattle.sat_core.specs.Positions.{Marked};
+ghost use Rattle.sat_prop.specs.Trails.{FalseOn, among, AtRest};
+ghost use Rattle.sat_core.specs.Searching.{MarksFalse, decided, PerLevel, Level, GrowsByLearning, PaidFor, Refutes, AllSet};
+ghost use Rattle.sat_core.specs.Ends.{NextSays, OutcomeSays};
+
+use crate::learn::learn_from;
+use crate::marks::mark;
+use crate::order::Order;
+use clause_core::Lit;
+use effort_purse::{Draw, Purse};
+use sat_prop::{Propagator, Trail};
+use std::alloc::{AllocError, Global};
+use unit_propagation::{is_false, is_set};
+
+// What the assumptions ask for.
+#[derive(Clone, Copy, Drop)]
+pub enum Next {
+    // Nothing more: each is true.
+    AllTrue,
+    // This one is unset.
+    Decide(Lit),
+    // This one is false.
+    Fails(Lit),
+}
+
+// How a search ends.
+#[derive(Drop)]
+pub enum Outcome {
+    // All is set, and nothing is left to do.
+    Sat,
+    // The clauses and this part of the assumptions propagate to a conflict.
+    Unsat(Vec<Lit>),
+    Spent { drawn: u64, budget: u64 },
+}
+
+// The first assumption that is not true.
+fn next_of(trail: &Trail, assumptions: &[Lit]) -> Next
+    requires { Within (length trail.now.values.items) assumptions.now }
+    ensures { NextSays trail.now.literals.items assumptions.now result }
+{
+    for x in assumptions {
+        let a = *x;
+        if !is_set(&trail.values, a) {
+            if is_false(&trail.values, a) {
+                return Next::Fails(a);
+            }
+            return Next::Decide(a);
+        }
+    }
+    Next::AllTrue
+}
+
+// A variable that is not set.
+fn free_var(trail: &Trail) -> Option<usize>
+    ensures some { MatchOption result (AllSet (length trail.now.values.items) trail.now.literals.items) (λ v. (v < length trail.now.values.items) × ((slice_index trail.now.values.items v ≡ 1 → ⊥) × (slice_index trail.now.values.items v ≡ 2 → ⊥))) }
+{
+    for v in 0..trail.values.len() {
+        let x = trail.values[v];
+        if x != 1 && x != 2 {
+            return Some(v);
+        }
+    }
+    None
+}
+
+// The most active variable that is not set.
+fn pick(order: &mut Order, trail: &Trail) -> Option<usize>
+    ensures some { MatchOption result (AllSet (length trail.now.values.items) trail.now.literals.items) (λ v. (v < length trail.now.values.items) × ((slice_index trail.now.values.items v ≡ 1 → ⊥) × (slice_index trail.now.values.items v ≡ 2 → ⊥))) }
+{
+    for _ in 0..trail.values.len() {
+        match order.pop() {
+            None => break,
+            Some(v) => {
+                if v < trail.values.len() {
+                    let x = trail.values[v];
+                    if x != 1 && x != 2 {
+                        return Some(v);
+                    }
+                }
+            }
+        }
+    }
+    free_var(trail)
+}
+
+// Resolves a clause that is false on the trail back to decisions, which go to the core.
+fn trace<P: Propagator>(
+    inner: &P,
+    start: &[Lit],
+    marks: &mut [bool],
+    low: &mut Vec<usize>,
+    core: &mut Vec<Lit>,
+) -> Result<(), AllocError>
+    requires false_on { FalseOn (P.trail inner.now).literals.items start.now }
+    requires marks_len { length marks.old ≡ length (P.trail inner.now).literals.items }
+    requires marks_none { (q : ℕ) → Marked marks.old q → ⊥ }
+    requires low_none { low.old.items ≡ [] }
+    ensures marks { IfOk result (λ _. MarksFalse (P.trail inner.now).literals.items (P.clauses inner.now) marks.new start.now) }
+    ensures done { IfOk result (λ _. (q : ℕ) → Marked marks.new q → Contains core.new.items (at (P.trail inner.now).literals.items q)) }
+    ensures kept { IfOk result (λ _. (x : Lit) → Contains core.old.items x → Contains core.new.items x) }
+    ensures parts { IfOk result (λ _. All (λ x. Contains core.old.items x ⊎ Contains (decided (P.trail inner.now).literals.items (P.trail inner.now).starts.items) x) core.new.items) }
+{
+    let trail = inner.assignment();
+    let n = trail.literals.len();
+    let _ = mark(start, n, &trail.places, marks, 0, low)?;
+    for p in (0..n).rev() {
+        if marks[p] {
+            let reasons = trail.reasons[trail.literals[p].var];
+            if reasons == 0 {
+                core.push(trail.literals[p])?;
+            } else {
+                marks[p] = false;
+                let c = inner.clause(reasons - 1);
+                let _ = mark(c, p, &trail.places, marks, 0, low)?;
+            }
+        }
+    }
+    Ok(())
+}
+
+// The assumptions that propagate to make this one false, and it.
+fn core_of<P: Propagator>(alloc: Global, inner: &P, a: Lit) -> Result<Vec<Lit>, AllocError>
+    requires off { among (P.trail inner.now).literals.items (negate a) ≡ true }
+    ensures refuted { IfOk result (λ core. Refutes (P.clauses inner.now) core.items) }
+    ensures parts { IfOk result (λ core. All (λ l. (a ≡ l) ⊎ Contains (decided (P.trail inner.now).literals.items (P.trail inner.now).starts.items) l) core.items) }
+{
+    let n = inner.assignment().literals.len();
+    let mut low = Vec::new(alloc);
+    let mut marks = vec![in alloc; false; n]?;
+    let mut core = Vec::new(alloc);
+    core.push(a)?;
+    trace(inner, &[a], &mut marks, &mut low, &mut core)?;
+    Ok(core)
+}
+
+// Goes back to before all decisions.
+pub fn restart<P: Propagator>(inner: &mut P, order: &mut Order) -> Result<(), AllocError>
+    ensures clauses { P.clauses inner.new ≡ P.clauses inner.old }
+    ensures starts { OnOk result (length (P.trail inner.new).starts.items ≡ 0) }
+    ensures vars { length (P.trail inner.new).values.items ≡ length (P.trail inner.old).values.items }
+{
+    if inner.assignment().starts.len() > 0 {
+        order.keep(inner.assignment(), 0)?;
+        inner.undo(0);
+    }
+    Ok(())
+}
+
+// What is to be done where nothing is left to propagate.
+fn choose<P: Propagator>(
+    alloc: Global,
+    inner: &mut P,
+    assumptions: &[Lit],
+    order: &mut Order,
+) -> Result<Option<Outcome>, AllocError>
+    requires within { Within (length (P.trail inner.old).values.items) assumptions.now }
+    requires rest { AtRest (P.clauses inner.old) (P.trail inner.old).literals.items }
+    requires rested { P.rested inner.old }
+    requires levels { PerLevel (Level (P.clauses inner.old) assumptions.now) (P.trail inner.old).literals.items (P.trail inner.old).starts.items }
+    ensures clauses { P.clauses inner.new ≡ P.clauses inner.old }
+    ensures vars { length (P.trail inner.new).values.items ≡ length (P.trail inner.old).values.items }
+    ensures levels { IfOk result (λ _. PerLevel (Level (P.clauses inner.new) assumptions.now) (P.trail inner.new).literals.items (P.trail inner.new).starts.items) }
+    ensures says { IfOk result (λ o. MatchOption o (unset (P.trail inner.new).values.items < unset (P.trail inner.old).values.items) (λ e. (budget : ℕ) (over : Bool) → OutcomeSays (length (P.trail inner.old).values.items) assumptions.now budget over (P.clauses inner.new) (P.trail inner.new).literals.items e)) }
+{
+    match next_of(inner.assignment(), assumptions) {
+        Next::Fails(a) => Ok(Some(Outcome::Unsat(core_of(alloc, inner, a)?))),
+        Next::Decide(l) => {
+            inner.decide(l)?;
+            Ok(None)
+        }
+        Next::AllTrue => match pick(order, inner.assignment()) {
+            None => Ok(Some(Outcome::Sat)),
+            Some(var) => {
+                let positive = order.sign(var);
+                inner.decide(Lit { var, positive })?;
+                Ok(None)
+            }
+        },
+    }
+}
+
+// Decides and propagates, learns from each conflict and goes back, until all is set, or an assumption is
+// false, or a conflict comes with no decision. Each clause that is learned is paid for before.
+pub fn search<P: Propagator, Q: Purse>(
+    alloc: Global,
+    inner: &mut P,
+    assumptions: &[Lit],
+    purse: &mut Q,
+    order: &mut Order,
+) -> Result<Outcome, AllocError>
+    requires within { Within (length (P.trail inner.old).values.items) assumptions.now }
+    requires ready { Q.ready purse.old }
+    ensures learned { GrowsByLearning (length (P.trail inner.old).values.items) assumptions.now (P.clauses inner.old) (P.clauses inner.new) }
+    ensures vars { length (P.trail inner.new).values.items ≡ length (P.trail inner.old).values.items }
+    ensures kept { Q.kept purse.old purse.new }
+    ensures ready { Q.ready purse.new }
+    ensures budget { Q.budget purse.new ≡ Q.budget purse.old }
+    ensures paid { IfOk result (λ _. PaidFor (Q.tickets purse.old) (Q.tickets purse.new) (P.clauses inner.old) (P.clauses inner.new)) }
+    ensures says { IfOk result (OutcomeSays (length (P.trail inner.old).values.items) assumptions.now (Q.budget purse.old) (Q.spent purse.new) (P.clauses inner.new) (P.trail inner.new).literals.items) }
+{
+    restart(inner, order)?;
+    'search: loop {
+        match inner.propagate()? {
+            Some(k) => {
+                if inner.assignment().starts.len() == 0 {
+                    return Ok(Outcome::Unsat(Vec::new(alloc)));
+                }
+                if let Draw::Spent { drawn, budget } = purse.draw() {
+                    return Ok(Outcome::Spent { drawn, budget });
+                }
+                learn_from(alloc, inner, k, order)?;
+            }
+            None => {
+                if let Some(e) = choose(alloc, inner, assumptions, order)? {
+                    return Ok(e);
+                }
+            }
+        }
+    }
+}

@@ -1,0 +1,104 @@
+ghost use Rattle.std.specs.Prelude.{◌≡◌, ◌-◌, ◌++◌, [], ◌∷◌, IfOk, OnOk, OnErr, length};
+ghost use Rattle.clause_core.specs.Literals.{Within};
+ghost use Rattle.sat_core.specs.Queries.{State, Learns, IsSound, AnswerSays, IsPaid};
+
+use crate::answer::Answer;
+use crate::order::Order;
+use crate::query::{add_on, ask};
+use clause_core::{Clause, Lit};
+use effort_purse::Purse;
+use sat_prop::Propagator;
+use std::alloc::{AllocError, Global};
+use std::marker::Model;
+
+/// Clauses, and what was learned of them: it answers whether an assignment makes them true.
+///
+/// It learns a clause from each conflict, at the first unique implication point, and goes back as far as
+/// that clause allows (Marques-Silva, Sakallah 1996; Moskewicz and others 2001). Contracts see the number
+/// of variables, the clauses that were given, and those that were learned.
+#[derive(Drop)]
+pub struct Solver<P: Propagator + Drop> {
+    inner: P,
+    marks: Vec<bool>,
+    order: Order,
+}
+
+impl<P: Propagator + Drop> Model for Solver<P> {
+    ghost use Rattle.std.specs.Prelude.{length};
+    ghost use Rattle.sat_core.specs.Queries.{State, state_of};
+    ghost use Rattle.sat_core.specs.Searching.{Keeps};
+
+    ghost Value = { State };
+
+    ghost view = { λ s. state_of (length (P.trail s.inner).values.items) s.marks.items (P.clauses s.inner) };
+
+    ghost invariant = { λ s. Keeps (length (P.trail s.inner).values.items) s.marks.items (P.clauses s.inner) };
+}
+
+impl<P: Propagator + Drop> Solver<P> {
+    /// A solver over `vars` variables, with no clauses. Where so many variables can't be numbered, it
+    /// answers want of memory.
+    pub fn new(alloc: Global, vars: usize) -> Result<Solver<P>, AllocError>
+        ensures { IfOk result (λ s. s ≡ record { vars = vars; given = []; learned = [] }) }
+    {
+        let inner = P::new(alloc, vars)?;
+        let order = Order::new(alloc, vars)?;
+        Ok(Solver {
+            inner,
+            marks: Vec::new(alloc),
+            order,
+        })
+    }
+
+    /// How many variables there are.
+    pub fn vars(&self) -> usize
+        ensures { result ≡ self.now.vars }
+    {
+        self.inner.assignment().values.as_slice().len()
+    }
+
+    /// Adds a clause. After want of memory all is as before.
+    pub fn add(&mut self, c: &Clause) -> Result<(), AllocError>
+        requires { Within self.old.vars c.now }
+        ensures done { OnOk result (self.new ≡ record self.old { given = self.old.given ++ c.now ∷ [] }) }
+        ensures failed { OnErr result (self.new ≡ self.old) }
+    {
+        add_on(
+            &mut self.inner,
+            &mut self.marks,
+            &mut self.order,
+            c.as_slice(),
+        )
+    }
+
+    /// Whether the clauses and the assumptions can all be true.
+    ///
+    /// It draws one ticket for the query and one for each clause that it learns; `Spent` comes only where the
+    /// purse refused one. After each answer, and after want of memory too, the given clauses are as before
+    /// and the learned ones follow from them.
+    pub fn solve<Q: Purse>(
+        &mut self,
+        alloc: Global,
+        assumptions: &[Lit],
+        purse: &mut Q,
+    ) -> Result<Answer, AllocError>
+        requires within { Within self.old.vars assumptions.now }
+        requires ready { Q.ready purse.old }
+        ensures answer { IfOk result (AnswerSays self.old.vars self.old.given assumptions.now (Q.budget purse.old) (Q.spent purse.new)) }
+        ensures learned { Learns assumptions.now self.old self.new }
+        ensures sound { IsSound self.new }
+        ensures tickets { IfOk result (IsPaid (Q.tickets purse.old) (Q.tickets purse.new) (length self.new.learned - length self.old.learned)) }
+        ensures kept { Q.kept purse.old purse.new }
+        ensures ready { Q.ready purse.new }
+        ensures budget { Q.budget purse.new ≡ Q.budget purse.old }
+    {
+        ask(
+            alloc,
+            &mut self.inner,
+            &self.marks,
+            &mut self.order,
+            assumptions,
+            purse,
+        )
+    }
+}

@@ -1,0 +1,233 @@
+use Rattle.std.proofs.Common.{◌≡◌, ℕ, ◌<◌, ◌+◌, ◌-◌, ◌*◌, Bool, true, false, eqb, List, [], ◌∷◌, ◌++◌, length, take, get_or, refl, sym, subst, ap, ◌∙◌, inl, inr, ◌⊎◌, arith, set, eqb-true, eq-eqb, get_or-set_other, get_or-set_same, length-append, length-set}
+use Rattle.std.specs.List.{Contains, list_any}
+use Rattle.std.proofs.Math.Seq.{get_or-append_seam}
+use Rattle.std.proofs.lemmas.Bool.{cases_Bool, cases_eq, cases_lt, both_ways}
+use Rattle.std.proofs.lemmas.List.{get_or_default, get_or_append_left, get_or-take, length-take-le}
+use Rattle.std.proofs.lemmas.List.Folds.{Any-from_list_any, list_any_at}
+use Rattle.std.proofs.lemmas.List.Elements.{All-contains, All-from_get_or}
+use Rattle.clause_core.specs.declared.literal.Lit.{Lit}
+use Rattle.clause_core.specs.Literals.{negate, at}
+use Rattle.sat_prop.specs.Watches.{one}
+use Rattle.clause_core.specs.Propagation.{Settled}
+use Rattle.clause_core.proofs.Lists.{lit_same}
+use Rattle.clause_core.proofs.Lists.{negate_negate}
+use Rattle.sat_prop.specs.declared.watch.Watches.{Watches}
+use Rattle.sat_prop.specs.Trails.{is_literal, among, AtRest}
+use Rattle.sat_prop.specs.Watches.{none_watches, watches_at, TrueIn, Guarded, HasTwo, WatchesIn, AllWatchesIn, AllGuarded, Listed, AllListed, cell, DoneWith, swap_out}
+use Rattle.sat_prop.proofs.Ways.{lit_is_same, lit_is_itself, among_take_where, among_take_here}
+use Rattle.sat_prop.proofs.Sweeps.{contains_among}
+
+pub true_has : (u c : List Lit) → TrueIn u c → (l : Lit) × Contains c l × (among u l ≡ true)
+true_has u c e = let h = Any-from_list_any (among u) c e in (h.1, (h.0, h.2, h.3), h.4)
+
+pub true_from : (u c : List Lit) (l : Lit) → Contains c l → among u l ≡ true → TrueIn u c
+true_from u c l h on =
+    let P : Lit → Type 0 = λ x. among u x ≡ true in
+    list_any_at (among u) c h.0 l h.1 (subst P (sym h.2) on)
+
+-- a true literal settles a clause
+pub true_settled : (tr c : List Lit) → ((l : Lit) → among tr l ≡ true → among tr (negate l) ≡ true → ⊥) → TrueIn tr c → Settled (among tr) c
+true_settled tr c one e =
+    let h = true_has tr c e in (
+      λ all. one h.0 h.2 (All-contains (λ m. among tr (negate m) ≡ true) c h.0 all h.1),
+      λ l u.
+          elim (cases_Bool (is_literal h.0 l)) [
+            | inl on ↦ let P : Lit → Type 0 = λ x. among tr x ≡ true in subst P (lit_is_same h.0 l on) h.2
+            | inr off ↦
+                let ne : h.0 ≡ l → ⊥ = λ s. both_ways _ off (rw s (lit_is_itself l)) in
+                absurd (one h.0 h.2 (All-contains (λ m. (m ≡ l → ⊥) → among tr (negate m) ≡ true) c h.0 u.1 h.1 ne))
+          ],
+    )
+
+pub two_settled : (t : Lit → Bool) (c : List Lit) (m k : Lit) → Contains c m → Contains c k → t (negate m) ≡ false → t (negate k) ≡ false →
+    (m ≡ k → ⊥) → Settled t c
+two_settled t c m k hm hk fm fk ne = (
+  λ all. both_ways _ fm (All-contains (λ l. t (negate l) ≡ true) c m all hm),
+  λ l u.
+      elim (cases_Bool (is_literal m l)) [
+        | inl on ↦
+            let same : m ≡ l = lit_is_same m l on in
+            let nk : k ≡ l → ⊥ = λ e. ne (same ∙ sym e) in
+            absurd (both_ways _ fk (All-contains (λ x. (x ≡ l → ⊥) → t (negate x) ≡ true) c k u.1 hk nk))
+        | inr off ↦
+            let nm : m ≡ l → ⊥ = λ e. both_ways _ off (rw e (lit_is_itself l)) in
+            absurd (both_ways _ fm (All-contains (λ x. (x ≡ l → ⊥) → t (negate x) ≡ true) c m u.1 hm nm))
+      ],
+)
+
+-- a clause that is guarded by the whole trail is settled in it
+pub guard_settled : (tr c : List Lit) (h : Watches) → ((l : Lit) → among tr l ≡ true → among tr (negate l) ≡ true → ⊥) → HasTwo h → WatchesIn h c → Guarded tr tr h c →
+    Settled (among tr) c
+guard_settled tr c h one big ok guard =
+    elim (cases_Bool (among tr (negate h.a))) [
+      | inl fa ↦ true_settled tr c one (guard.0 fa)
+      | inr na ↦ elim (cases_Bool (among tr (negate h.b))) [
+        | inl fb ↦ true_settled tr c one (guard.1 fb)
+        | inr nb ↦ two_settled (among tr) c h.a h.b (contains_among c h.a ok.0) (contains_among c h.b ok.1) na nb
+            (λ e. both_ways _ big (rw e (lit_is_itself h.b)))
+      ]
+    ]
+
+pub watched_rest : (cs : List (List Lit)) (watches : List Watches) (tr : List Lit) → ((l : Lit) → among tr l ≡ true → among tr (negate l) ≡ true → ⊥) →
+    AllWatchesIn cs watches → AllGuarded cs watches tr tr →
+    ((k : ℕ) → k < length cs → is_literal (watches_at watches k).a (watches_at watches k).b ≡ true → Settled (among tr) (get_or cs k [])) → AtRest cs tr
+watched_rest cs watches tr one ok watch short =
+    All-from_get_or (Settled (among tr)) cs [] (λ k lk.
+    elim (cases_Bool (is_literal (watches_at watches k).a (watches_at watches k).b)) [
+      | inl s ↦ short k lk s
+      | inr big ↦ guard_settled tr (get_or cs k []) (watches_at watches k) one big (ok k lk big) (watch k lk big)
+    ])
+
+-- the trail grows
+pub true_grows : (u w c : List Lit) → ((l : Lit) → among u l ≡ true → among w l ≡ true) → TrueIn u c → TrueIn w c
+true_grows u w c g e = let h = true_has u c e in true_from w c h.0 h.1 (g h.0 h.2)
+
+pub watch_grows : (cs : List (List Lit)) (watches : List Watches) (s u w : List Lit) → ((l : Lit) → among u l ≡ true → among w l ≡ true) →
+    AllGuarded cs watches s u → AllGuarded cs watches s w
+watch_grows cs watches s u w g h k lk big =
+    let c = get_or cs k [] in
+    let f = h k lk big in
+    (λ e. true_grows u w c g (f.0 e), λ e. true_grows u w c g (f.1 e))
+
+-- a watch moves from f to a literal that is not false; s is any part of the trail
+pub watch_moves : (cs : List (List Lit)) (watches : List Watches) (k : ℕ) (g : Lit) (s u : List Lit) → k < length watches → HasTwo (watches_at watches k) →
+    among s (negate g) ≡ false → AllGuarded cs watches s u →
+    AllGuarded cs (set watches k (record { a = g; b = (watches_at watches k).b })) s u
+watch_moves cs watches k g s u lh big off h j lj bigj =
+    let new : Watches = record { a = g; b = (watches_at watches k).b } in
+    let c = get_or cs j [] in
+    elim (cases_eq j k) [
+      | inl same ↦
+          let e : watches_at (set watches k new) j ≡ new = rw same (get_or-set_same watches k new none_watches lh) in
+          let P : ℕ → Type 0 = λ x. HasTwo (watches_at watches x) in
+          let old = h j lj (subst P (sym same) big) in
+          let Q : ℕ → Type 0 = λ x. among s (negate (watches_at watches x).b) ≡ true → TrueIn u c in
+          let right : Q k = subst Q same old.1 in
+          let G : Watches → Type 0 = λ x. Guarded s u x c in
+          let here : G new = (λ on. absurd (both_ways _ off on), right) in
+          subst G (sym e) here
+      | inr ne ↦
+          let e : watches_at (set watches k new) j ≡ watches_at watches j = (rw get_or-set_other refl) in
+          let G : Watches → Type 0 = λ x. Guarded s u x c in
+          let B : Watches → Type 0 = HasTwo in
+          subst G (sym e) (h j lj (subst B e bigj))
+    ]
+
+pub last_or_before : (tr : List Lit) (n : ℕ) (l : Lit) → n < length tr → among (take (n + 1) tr) l ≡ true → (among (take n tr) l ≡ true) ⊎ (at tr n ≡ l)
+last_or_before tr n l lt e =
+    let h = among_take_where tr (n + 1) l (omega arith) e in
+    elim (cases_eq h.0 n) [
+      | inl same ↦ let P : ℕ → Type 0 = λ x. at tr x ≡ l in inr (subst P same h.2)
+      | inr ne ↦ inl (among_take_here tr n h.0 l (omega arith) (omega (arith, h.1, ne)) h.2)
+    ]
+
+-- the head of the queue goes on past f, once each clause that watches f is done
+pub watch_advances : (cs : List (List Lit)) (watches : List Watches) (tr : List Lit) (n : ℕ) → n < length tr → AllGuarded cs watches (take n tr) tr →
+    ((k : ℕ) → DoneWith cs watches tr (negate (at tr n)) k) → AllGuarded cs watches (take (n + 1) tr) tr
+watch_advances cs watches tr n lt h done k lk big =
+    let c = get_or cs k [] in
+    let w = watches_at watches k in
+    let old = h k lk big in
+    let d = done k lk big in (
+      λ e. elim (last_or_before tr n (negate w.a) lt e) [
+        | inl before ↦ old.0 before
+        | inr last ↦ d.0 (sym (negate_negate w.a) ∙ ap negate (sym last))
+      ],
+      λ e. elim (last_or_before tr n (negate w.b) lt e) [
+        | inl before ↦ old.1 before
+        | inr last ↦ d.1 (sym (negate_negate w.b) ∙ ap negate (sym last))
+      ],
+    )
+
+-- a new clause whose watches are not false in s
+pub watch_learns : (cs : List (List Lit)) (watches : List Watches) (c : List Lit) (h : Watches) (s u : List Lit) → length watches ≡ length cs →
+    among s (negate h.a) ≡ false → among s (negate h.b) ≡ false → AllGuarded cs watches s u → AllGuarded (cs ++ c ∷ []) (watches ++ h ∷ []) s u
+watch_learns cs watches c h s u len fa fb old k lk big =
+    elim (cases_lt k (length cs)) [
+      | inl lt ↦
+          let lh : k < length watches = omega arith in
+          let e : watches_at (watches ++ h ∷ []) k ≡ watches_at watches k = get_or_append_left watches (h ∷ []) none_watches k lh in
+          let f : get_or (cs ++ c ∷ []) k [] ≡ get_or cs k [] = get_or_append_left cs (c ∷ []) [] k lt in
+          let G : Watches → Type 0 = λ x. Guarded s u x (get_or (cs ++ c ∷ []) k []) in
+          let H : List Lit → Type 0 = λ x. Guarded s u (watches_at watches k) x in
+          let B : Watches → Type 0 = HasTwo in
+          subst G (sym e) (subst H (sym f) (old k lt (subst B e big)))
+      | inr ge ↦
+          let last : k ≡ length watches = omega (arith, lk, len, length-append cs (c ∷ [])) in
+          let e : watches_at (watches ++ h ∷ []) k ≡ h = rw last (get_or-append_seam watches h [] none_watches) in
+          let G : Watches → Type 0 = λ x. Guarded s u x (get_or (cs ++ c ∷ []) k []) in
+          let here : G h = (λ on. absurd (both_ways _ fa on), λ on. absurd (both_ways _ fb on)) in
+          subst G (sym e) here
+    ]
+
+pub list_at : (xs : List ℕ) (k j : ℕ) → j < length xs → get_or xs j 0 ≡ k → list_any (λ x. eqb x k) xs ≡ true
+list_at xs k j lt e = list_any_at (λ x. eqb x k) xs j 0 lt (eq-eqb _ _ e)
+
+pub list_where : (xs : List ℕ) (k : ℕ) → list_any (λ x. eqb x k) xs ≡ true → (j : ℕ) × (j < length xs) × (get_or xs j 0 ≡ k)
+list_where xs k e =
+    let h = Any-from_list_any (λ x. eqb x k) xs e in
+    (h.0, h.2, get_or_default xs h.0 0 h.1 h.2 ∙ h.3 ∙ eqb-true _ _ h.4)
+
+-- what stood elsewhere still stands
+pub swap_keeps : (xs : List ℕ) (i k : ℕ) → i < length xs → (get_or xs i 0 ≡ k → ⊥) → list_any (λ x. eqb x k) xs ≡ true → list_any (λ x. eqb x k) (swap_out xs i) ≡ true
+swap_keeps xs i k lt ne e =
+    let h = list_where xs k e in
+    let n = length xs - 1 in
+    let w = set xs i (get_or xs n 0) in
+    let lw : length w ≡ length xs = length-set xs i (get_or xs n 0) in
+    let ls : length (swap_out xs i) ≡ n = length-take-le n w (omega (arith, lw)) in
+    elim (cases_eq h.0 i) [
+      | inl same ↦ let P : ℕ → Type 0 = λ j. get_or xs j 0 ≡ k in absurd (ne (subst P same h.2))
+      | inr other ↦ elim (cases_lt h.0 n) [
+        | inl l ↦
+            let a : get_or (swap_out xs i) h.0 0 ≡ get_or w h.0 0 = get_or-take n w h.0 0 l in
+            let b : get_or w h.0 0 ≡ get_or xs h.0 0 = rw get_or-set_other refl in
+            list_at (swap_out xs i) k h.0 (omega arith) (a ∙ b ∙ h.2)
+        | inr g ↦
+            let last : h.0 ≡ n = omega (arith, h.1) in
+            let li : i < n = omega (arith, lt, other, last) in
+            let a : get_or (swap_out xs i) i 0 ≡ get_or w i 0 = get_or-take n w i 0 li in
+            let b : get_or w i 0 ≡ get_or xs n 0 = get_or-set_same xs i (get_or xs n 0) 0 lt in
+            let P : ℕ → Type 0 = λ j. get_or xs j 0 ≡ k in
+            list_at (swap_out xs i) k i (omega arith) (a ∙ b ∙ subst P last h.2)
+      ]
+    ]
+
+-- the entries below i stay
+pub swap_below : (xs : List ℕ) (i j : ℕ) → i < length xs → j < i → get_or (swap_out xs i) j 0 ≡ get_or xs j 0
+swap_below xs i j lt lj =
+    let n = length xs - 1 in
+    let w = set xs i (get_or xs n 0) in
+    let ne : j ≡ i → ⊥ = λ e. omega arith in
+    get_or-take n w j 0 (omega arith) ∙ (rw get_or-set_other refl)
+
+pub cell_by : (a b : Lit) (x y : Bool) → a.positive ≡ x → b.positive ≡ y → 2 * a.var + one a.positive ≡ 2 * b.var + one b.positive → a ≡ b
+cell_by a b true true e f g = lit_same a b (omega (arith, ap one e, ap one f, g)) (e ∙ sym f)
+cell_by a b true false e f g = absurd (omega (arith, ap one e, ap one f, g))
+cell_by a b false true e f g = absurd (omega (arith, ap one e, ap one f, g))
+cell_by a b false false e f g = lit_same a b (omega (arith, ap one e, ap one f, g)) (e ∙ sym f)
+
+pub cell_same : (a b : Lit) → cell a ≡ cell b → a ≡ b
+cell_same a b e = cell_by a b a.positive b.positive refl refl e
+
+-- the entry of k leaves list n: each other clause keeps its entries, and k those in the lists of its new watches
+pub lists_remove : (watches : List Watches) (lists : List (List ℕ)) (n i k : ℕ) → n < length lists → i < length (get_or lists n []) → get_or (get_or lists n []) i 0 ≡ k →
+    (HasTwo (watches_at watches k) → (cell (watches_at watches k).a ≡ n → ⊥) × (cell (watches_at watches k).b ≡ n → ⊥)) → AllListed watches lists → AllListed watches (set lists n (swap_out (get_or lists n []) i))
+lists_remove watches lists n i k ln li ek apart ok j lj big =
+    let h = watches_at watches j in
+    let old = ok j lj big in
+    let P : ℕ → Type 0 = λ x. HasTwo (watches_at watches x) → (cell (watches_at watches x).a ≡ n → ⊥) × (cell (watches_at watches x).b ≡ n → ⊥) in
+    let one : (m : ℕ) → (m ≡ n → j ≡ k → ⊥) → Listed lists m j → Listed (set lists n (swap_out (get_or lists n []) i)) m j = λ m far l.
+    elim (cases_eq m n) [
+      | inl same ↦
+          let ne : get_or (get_or lists n []) i 0 ≡ j → ⊥ = λ e. far same (sym e ∙ ek) in
+          let L : ℕ → Type 0 = λ x. Listed lists x j in
+          let M : ℕ → Type 0 = λ x. Listed (set lists n (swap_out (get_or lists n []) i)) x j in
+          let Q : List ℕ → Type 0 = λ x. list_any (λ y. eqb y j) x ≡ true in
+          subst M (sym same) (subst Q (sym (get_or-set_same lists n (swap_out (get_or lists n []) i) [] ln)) (swap_keeps (get_or lists n []) i j li ne (subst L same l)))
+      | inr other ↦
+          let e : get_or (set lists n (swap_out (get_or lists n []) i)) m [] ≡ get_or lists m [] = rw get_or-set_other refl in
+          let Q : List ℕ → Type 0 = λ x. list_any (λ y. eqb y j) x ≡ true in
+          subst Q (sym e) l
+    ] in
+    (one (cell h.a) (λ s e. let q : P j = subst P (sym e) apart in (q big).0 s) old.0, one (cell h.b) (λ s e. let q : P j = subst P (sym e) apart in (q big).1 s) old.1)

@@ -1,0 +1,76 @@
+use Rattle.std.proofs.Common.{◌≡◌, ℕ, ◌<◌, ◌-◌, ◌∷◌, ◌++◌, List, [], length, get_or, arith, subst, sym}
+use Rattle.clause_core.specs.declared.literal.Lit.{Lit}
+use Rattle.sat_prop.specs.declared.watch.Watches.{Watches}
+use Rattle.sat_prop.specs.Trails.{Based}
+use Rattle.sat_prop.specs.Watches.{LevelsGuarded}
+use Rattle.sat_prop.proofs.Ways.{reasoned_more}
+use Rattle.sat_prop.proofs.Sweeps.{based_from, reasoned_from}
+use Rattle.sat_prop.proofs.Visits.{cell_in}
+use Rattle.sat_prop.proofs.Attaching.{levels_new, bottom_queue, head_cell}
+use Rattle.sat_prop.proofs.acts.learn_on.Goals as goal
+
+pub attach-requires-clause-a_in : goal.attach-requires-clause-a_in
+attach-requires-clause-a_in c big =
+    let v = head_cell (length c.args.trail.now.values.items) c.args.c.now c.watches_of-h.result.a c.requires.within (c.watches_of-h.ensures.0 big).0 in
+    omega (arith, v, c.requires.room)
+
+pub attach-requires-clause-b_in : goal.attach-requires-clause-b_in
+attach-requires-clause-b_in c big =
+    let v = head_cell (length c.args.trail.now.values.items) c.args.c.now c.watches_of-h.result.b c.requires.within (c.watches_of-h.ensures.0 big).1 in
+    omega (arith, v, c.requires.room)
+
+pub attach-requires-clause-a_cell : goal.attach-requires-clause-a_cell
+attach-requires-clause-a_cell c big =
+    let v = head_cell (length c.args.trail.now.values.items) c.args.c.now c.watches_of-h.result.a c.requires.within (c.watches_of-h.ensures.0 big).0 in
+    omega (arith, cell_in c.watches_of-h.result.a (length c.args.trail.now.values.items) v, c.requires.cells)
+
+pub attach-requires-clause-b_cell : goal.attach-requires-clause-b_cell
+attach-requires-clause-b_cell c big =
+    let v = head_cell (length c.args.trail.now.values.items) c.args.c.now c.watches_of-h.result.b c.requires.within (c.watches_of-h.ensures.0 big).1 in
+    omega (arith, cell_in c.watches_of-h.result.b (length c.args.trail.now.values.items) v, c.requires.cells)
+
+pub returns-in_err-attach-clause-levels : goal.returns-in_err-attach-clause-levels
+returns-in_err-attach-clause-levels c =
+    let t = c.args.trail.now in
+    let said = c.in_err-attach.ensures in
+    let P : List (List Lit) → Type 0 = λ x. LevelsGuarded x c.attach.new.watches.items t.literals.items t.starts.items in
+    let Q : List Watches → Type 0 = λ x. LevelsGuarded c.args.clauses.now x t.literals.items t.starts.items in
+    subst P (sym said.failed) (subst Q (sym said.failed_watches) c.requires.levels)
+
+pub returns-clause-based_in : goal.returns-clause-based_in
+returns-clause-based_in c =
+    let t = c.args.trail.now in
+    let cs = c.args.clauses.now in
+    let P : List (List Lit) → Type 0 = Based t.literals.items t.reasons.items in
+    subst P (sym c.in_ok-attach.ensures.done)
+    (based_from t.literals.items t.reasons.items (cs ++ c.args.c.now ∷ []) (reasoned_more t.reasons.items t.literals.items cs (c.args.c.now ∷ []) (reasoned_from t.literals.items t.reasons.items cs c.requires.based_in)))
+
+pub returns-clause-levels : goal.returns-clause-levels
+returns-clause-levels c =
+    let t = c.args.trail.now in
+    let said = c.in_ok-attach.ensures in
+    let new = levels_new c.args.clauses.now c.args.watches.now.items c.args.c.now c.args.w c.watches_of-h.result t.literals.items t.starts.items c.requires.watches_len c.watches_of-h.ensures c.requires.watch c.requires.levels in
+    let P : List (List Lit) → Type 0 = λ x. LevelsGuarded x c.attach.new.watches.items t.literals.items t.starts.items in
+    let Q : List Watches → Type 0 = λ x. LevelsGuarded (c.args.clauses.now ++ c.args.c.now ∷ []) x t.literals.items t.starts.items in
+    subst P (sym said.done) (subst Q (sym said.done_watches) new)
+
+pub returns-clause-queue : goal.returns-clause-queue
+returns-clause-queue c =
+    let t = c.args.trail.now in
+    let said = c.in_ok-attach.ensures in
+    let new = levels_new c.args.clauses.now c.args.watches.now.items c.args.c.now c.args.w c.watches_of-h.result t.literals.items t.starts.items c.requires.watches_len c.watches_of-h.ensures c.requires.watch c.requires.levels in
+    let P : List (List Lit) → Type 0 = λ x. LevelsGuarded x c.attach.new.watches.items t.literals.items t.starts.items in
+    let Q : List Watches → Type 0 = λ x. LevelsGuarded (c.args.clauses.now ++ c.args.c.now ∷ []) x t.literals.items t.starts.items in
+    let now : P c.attach.new.clauses = subst P (sym said.done) (subst Q (sym said.done_watches) new) in
+    let n = c.bottom-n.result in
+    let N : List ℕ → Type 0 = λ xs. length xs ≡ 0 → n ≡ 0 in
+    let S : List ℕ → Type 0 = λ xs. 0 < length xs → n ≡ get_or xs (length xs - 1) 0 in
+    (bottom_queue c.attach.new.clauses c.attach.new.watches.items t n (subst N c.deref.ensures.value c.bottom-n.ensures.none) (subst S c.deref.ensures.value c.bottom-n.ensures.some) now).1
+
+pub returns-clause-low : goal.returns-clause-low
+returns-clause-low c =
+    let t = c.args.trail.now in
+    let n = c.bottom-n.result in
+    let N : List ℕ → Type 0 = λ xs. length xs ≡ 0 → n ≡ 0 in
+    let S : List ℕ → Type 0 = λ xs. 0 < length xs → n ≡ get_or xs (length xs - 1) 0 in
+    (bottom_queue c.args.clauses.now c.args.watches.now.items t n (subst N c.deref.ensures.value c.bottom-n.ensures.none) (subst S c.deref.ensures.value c.bottom-n.ensures.some) c.requires.levels).0

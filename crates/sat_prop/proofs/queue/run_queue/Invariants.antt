@@ -1,0 +1,24 @@
+use Rattle.std.proofs.Common.{◌≡◌, ◌≤◌, ◌+◌, ◌-◌, length, take}
+use Rattle.unit_propagation.specs.Values.{unset}
+use Rattle.sat_prop.specs.Trails.{Based}
+use Rattle.sat_prop.specs.Moves.{Extends}
+use Rattle.sat_prop.specs.Watches.{AllWatchesIn, AllListed, Kept, KeepsTwo, AllGuarded}
+use Rattle.sat_prop.proofs.queue.run_queue.Given as goal
+
+abbrev pub invariant-queue : goal.invariant-queue
+invariant-queue l =
+    record {
+      based : Based l.trail.literals.items l.trail.reasons.items l.clauses;
+      extends : Extends l.fn.trail l.trail;
+      watches_len : length l.watches.items ≡ length l.clauses;
+      watches_in : AllWatchesIn l.clauses l.watches.items;
+      all_listed : AllListed l.watches.items l.lists;
+      cells : length l.lists ≡ length l.fn.lists;
+      kept : Kept l.clauses l.fn.watches.items l.watches.items l.fn.trail.literals.items;
+      two_kept : KeepsTwo l.fn.watches.items l.watches.items;
+      low : l.head ≤ length l.trail.literals.items;
+      queue : AllGuarded l.clauses l.watches.items (take l.head l.trail.literals.items) l.trail.literals.items;
+    }
+
+abbrev pub decreases-queue : goal.decreases-queue
+decreases-queue l = length l.trail.literals.items + unset l.trail.values.items - l.head

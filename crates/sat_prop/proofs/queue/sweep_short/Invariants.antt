@@ -1,0 +1,13 @@
+use Rattle.std.proofs.Common.{◌<◌, ℕ, get_or}
+use Rattle.sat_prop.specs.Trails.{Based}
+use Rattle.sat_prop.specs.Moves.{Extends}
+use Rattle.sat_prop.specs.Watches.{ShortDone}
+use Rattle.sat_prop.proofs.queue.sweep_short.Given as goal
+
+abbrev pub invariant-short : goal.invariant-short
+invariant-short l =
+    record {
+      based : Based l.trail.literals.items l.trail.reasons.items l.clauses;
+      extends : Extends l.fn.trail l.trail;
+      done : (i : ℕ) → i < l.j → ShortDone l.clauses l.trail.literals.items (get_or l.short i 0);
+    }

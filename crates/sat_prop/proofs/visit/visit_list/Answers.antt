@@ -1,0 +1,296 @@
+use Rattle.std.proofs.Common.{◌≡◌, ℕ, ◌<◌, ◌≤◌, ◌∷◌, ◌⊎◌, true, false, List, [], length, get_or, sym, subst, ap, ◌∙◌, inl, inr, arith, set, length-set, length-append}
+use Rattle.std.specs.List.{Contains}
+use Rattle.std.proofs.lemmas.Bool.{both_ways}
+use Rattle.std.proofs.lemmas.List.{get_or_read}
+use Rattle.std.proofs.lemmas.List.Elements.{All-contains}
+use Rattle.clause_core.specs.declared.literal.Lit.{Lit}
+use Rattle.clause_core.specs.Literals.{negate, at}
+use Rattle.unit_propagation.specs.Values.{holds}
+use Rattle.clause_core.specs.Propagation.{UnitIn, AllFalse}
+use Rattle.sat_prop.specs.declared.trail.Trail.{Trail}
+use Rattle.sat_prop.specs.declared.watch.Watches.{Watches}
+use Rattle.sat_prop.specs.Trails.{among, Based}
+use Rattle.sat_prop.specs.Watches.{none_watches, watches_at, HasTwo, AllWatchesIn, cell, DoneWithBelow, Kept}
+use Rattle.sat_prop.proofs.Ways.{lit_is_itself, among_here, at_end}
+use Rattle.sat_prop.proofs.Sweeps.{false_on, went_push, went_none, based_push, contains_among}
+use Rattle.sat_prop.proofs.Watching.{true_from}
+use Rattle.sat_prop.proofs.Visits.{removed, apart_from, none_not_big, cell_in, done_more, done_true, done_grows, done_all, heads_move, bigs_move, kept_move, went_grows, move_facts, moved}
+use Rattle.sat_prop.proofs.visit.visit_list.Goals as goal
+
+pub visit-preserved-in-None : goal.visit-preserved-in-None
+visit-preserved-in-None c =
+    let H = c.visit.watches.items in
+    let k = c.get-k.result in
+    let n = c.cell_of-c.result in
+    let f = c.args.f in
+    let hd = c.index.result.now in
+    let lk : k < length H = omega (arith, c.if-k-len.true, c.len.ensures, c.visit.watches.ok.0) in
+    let he : hd ≡ watches_at H k = get_or_read H k hd lk c.index.ensures none_watches in
+    let F : Watches → Type 0 = λ h. HasTwo h → (h.a ≡ f → ⊥) × (h.b ≡ f → ⊥) in
+    let far : F (watches_at H k) = subst F he c.in-None.ensures in
+    let inv = c.visit.invariant in
+    let ln : n < length c.visit.lists = omega (arith, inv.cells, c.requires.cells, c.cell_of-c.ensures, cell_in f (length c.args.trail.now.values.items) c.requires.f_in) in
+    let li : c.visit.i < length (get_or c.visit.lists n []) = omega (arith, c.visit-test.true, c.size.ensures) in
+    let r = removed c.args.clauses.now H c.visit.lists c.remove.new.self c.visit.trail.literals.items f n c.visit.i k ln li c.get-k.ensures (apart_from (watches_at H k) f n c.cell_of-c.ensures far) inv.all_listed inv.done c.remove.ensures in
+    record {
+      based = inv.based;
+      extends = inv.extends;
+      watches_len = inv.watches_len;
+      watches_in = inv.watches_in;
+      all_listed = r.0;
+      cells = r.1 ∙ inv.cells;
+      kept = inv.kept;
+      two_kept = inv.two_kept;
+      done = r.2;
+      upper = omega (arith, r.3, li);
+    }
+
+pub visit-preserved : goal.visit-preserved
+visit-preserved c =
+    let H = c.visit.watches.items in
+    let k = c.get-k.result in
+    let n = c.cell_of-c.result in
+    let f = c.args.f in
+    let past : length H ≤ k = omega (arith, c.if-k-len.false, c.len.ensures, c.visit.watches.ok.0) in
+    let inv = c.visit.invariant in
+    let ln : n < length c.visit.lists = omega (arith, inv.cells, c.requires.cells, c.cell_of-c.ensures, cell_in f (length c.args.trail.now.values.items) c.requires.f_in) in
+    let li : c.visit.i < length (get_or c.visit.lists n []) = omega (arith, c.visit-test.true, c.size.ensures) in
+    let r = removed c.args.clauses.now H c.visit.lists c.remove-else-k-len.new.self c.visit.trail.literals.items f n c.visit.i k ln li c.get-k.ensures (λ big. absurd (none_not_big H k past big)) inv.all_listed inv.done c.remove-else-k-len.ensures in
+    record {
+      based = inv.based;
+      extends = inv.extends;
+      watches_len = inv.watches_len;
+      watches_in = inv.watches_in;
+      all_listed = r.0;
+      cells = r.1 ∙ inv.cells;
+      kept = inv.kept;
+      two_kept = inv.two_kept;
+      done = r.2;
+      upper = omega (arith, r.3, li);
+    }
+
+pub returns-clause-says : goal.returns-clause-says
+returns-clause-says c =
+    let inv = c.visit.invariant in
+    let f = c.args.f in
+    let D : ℕ → Type 0 = λ n. DoneWithBelow c.args.clauses.now c.visit.watches.items c.visit.trail.literals.items f (get_or c.visit.lists n []) c.visit.i in
+    let le : length (get_or c.visit.lists (cell f) []) ≤ c.visit.i = omega (arith, c.visit-test.false, c.size.ensures, ap (λ n. length (get_or c.visit.lists n [])) c.cell_of-c.ensures) in
+    done_all c.args.clauses.now c.visit.watches.items c.visit.lists c.visit.trail.literals.items f c.visit.i inv.watches_len inv.all_listed le (subst D c.cell_of-c.ensures inv.done)
+
+pub returns-in-False-clause-says : goal.returns-in-False-clause-says
+returns-in-False-clause-says c =
+    let cs = c.args.clauses.now in
+    let t = c.visit.trail in
+    let k = c.get-k.result in
+    let inv = c.visit.invariant in
+    let lk : k < length cs = omega (arith, c.if-k-len.true, c.len.ensures, c.visit.watches.ok.0, inv.watches_len) in
+    let P : List Lit → Type 0 = AllFalse (holds c.deref.result.now) in
+    let Q : List ℕ → Type 0 = λ v. AllFalse (holds v) (get_or cs k []) in
+    (lk, false_on t.values.items t.literals.items (get_or cs k []) t.values_ok (subst Q c.deref.ensures.value (subst P c.get.ensures c.in-False.ensures)))
+
+-- the two watches of the clause in hand
+other_in : (cs : List (List Lit)) (H : List Watches) (k : ℕ) (hd : Watches) (f o : Lit) → hd ≡ watches_at H k → k < length cs → AllWatchesIn cs H →
+    HasTwo hd × ((hd.a ≡ f) × (o ≡ hd.b) ⊎ (hd.b ≡ f) × (o ≡ hd.a)) →
+    HasTwo (watches_at H k) × (among (get_or cs k []) o ≡ true) × ((o ≡ (watches_at H k).b) ⊎ (o ≡ (watches_at H k).a)) × (o ≡ f → ⊥)
+other_in cs H k hd f o e lk ok said =
+    let W : Watches → Type 0 = λ h. HasTwo h × ((h.a ≡ f) × (o ≡ h.b) ⊎ (h.b ≡ f) × (o ≡ h.a)) in
+    let w : W (watches_at H k) = subst W e said in
+    let h = watches_at H k in
+    let two : h.a ≡ h.b → ⊥ = λ s. both_ways _ w.0 (rw s (lit_is_itself h.b)) in
+    let both = ok k lk w.0 in
+    let A : Lit → Type 0 = λ x. among (get_or cs k []) x ≡ true in
+    elim w.1 [
+      | inl u ↦ (w.0, subst A (sym u.1) both.1, inl u.1, λ q. two (u.0 ∙ sym q ∙ u.1))
+      | inr u ↦ (w.0, subst A (sym u.1) both.0, inr u.1, λ q. two (sym u.1 ∙ q ∙ sym u.0))
+    ]
+
+pub look_at-requires-clause-has : goal.look_at-requires-clause-has
+look_at-requires-clause-has c =
+    let cs = c.args.clauses.now in
+    let H = c.visit.watches.items in
+    let k = c.get-k.result in
+    let hd = c.index.result.now in
+    let inv = c.visit.invariant in
+    let lk : k < length H = omega (arith, c.if-k-len.true, c.len.ensures, c.visit.watches.ok.0) in
+    let lc : k < length cs = omega (arith, lk, inv.watches_len) in
+    let he : hd ≡ watches_at H k = get_or_read H k hd lk c.index.ensures none_watches in
+    let w = other_in cs H k hd c.args.f c.in-Some.o he lc inv.watches_in c.in-Some.ensures in
+    let P : List Lit → Type 0 = λ x. Contains x c.in-Some.o in
+    subst P (sym c.get.ensures) (contains_among (get_or cs k []) c.in-Some.o w.1)
+
+pub visit-preserved-in-Hit : goal.visit-preserved-in-Hit
+visit-preserved-in-Hit c =
+    let cs = c.args.clauses.now in
+    let t = c.visit.trail in
+    let H = c.visit.watches.items in
+    let k = c.get-k.result in
+    let hd = c.index.result.now in
+    let o = c.in-Some.o in
+    let inv = c.visit.invariant in
+    let lk : k < length H = omega (arith, c.if-k-len.true, c.len.ensures, c.visit.watches.ok.0) in
+    let lc : k < length cs = omega (arith, lk, inv.watches_len) in
+    let he : hd ≡ watches_at H k = get_or_read H k hd lk c.index.ensures none_watches in
+    let w = other_in cs H k hd c.args.f o he lc inv.watches_in c.in-Some.ensures in
+    let Q : List ℕ → Type 0 = λ v. holds v o ≡ true in
+    let on : among t.literals.items o ≡ true = t.values_ok o ∙ subst Q c.deref.ensures.value c.in-Hit.ensures in
+    let hit = true_from t.literals.items (get_or cs k []) o (contains_among (get_or cs k []) o w.1) on in
+    record {
+      based = inv.based;
+      extends = inv.extends;
+      watches_len = inv.watches_len;
+      watches_in = inv.watches_in;
+      all_listed = inv.all_listed;
+      cells = inv.cells;
+      kept = inv.kept;
+      two_kept = inv.two_kept;
+      done = done_more cs H t.literals.items c.args.f (get_or c.visit.lists c.cell_of-c.result []) c.visit.i k c.get-k.ensures inv.done (done_true cs H t.literals.items c.args.f k hit);
+      upper = omega (arith, c.visit-test.true, c.size.ensures);
+    }
+
+pub cell_of-requires : goal.cell_of-requires
+cell_of-requires c =
+    let cs = c.args.clauses.now in
+    let t = c.visit.trail in
+    let H = c.visit.watches.items in
+    let k = c.get-k.result in
+    let hd = c.index.result.now in
+    let f = c.args.f in
+    let o = c.in-Some.o in
+    let inv = c.visit.invariant in
+    let lk : k < length H = omega (arith, c.if-k-len.true, c.len.ensures, c.visit.watches.ok.0) in
+    let lc : k < length cs = omega (arith, lk, inv.watches_len) in
+    let he : hd ≡ watches_at H k = get_or_read H k hd lk c.index.ensures none_watches in
+    let w = other_in cs H k hd f o he lc inv.watches_in c.in-Some.ensures in
+    let g = c.in-Move.g in
+    let m = move_facts cs t k g o c.get.result.now c.deref.result.now c.get.ensures c.deref.ensures.value c.in-Move.ensures in
+    let gv : g.var < length c.args.trail.now.values.items = All-contains (λ x. x.var < length c.args.trail.now.values.items) (get_or cs k []) g (c.requires.within k [] lc) (contains_among (get_or cs k []) g m.0) in
+    omega (arith, gv, c.requires.short)
+
+pub push-requires : goal.push-requires
+push-requires c =
+    let cs = c.args.clauses.now in
+    let t = c.visit.trail in
+    let H = c.visit.watches.items in
+    let k = c.get-k.result in
+    let hd = c.index.result.now in
+    let f = c.args.f in
+    let o = c.in-Some.o in
+    let inv = c.visit.invariant in
+    let lk : k < length H = omega (arith, c.if-k-len.true, c.len.ensures, c.visit.watches.ok.0) in
+    let lc : k < length cs = omega (arith, lk, inv.watches_len) in
+    let he : hd ≡ watches_at H k = get_or_read H k hd lk c.index.ensures none_watches in
+    let w = other_in cs H k hd f o he lc inv.watches_in c.in-Some.ensures in
+    let g = c.in-Move.g in
+    let m = move_facts cs t k g o c.get.result.now c.deref.result.now c.get.ensures c.deref.ensures.value c.in-Move.ensures in
+    let gv : g.var < length c.args.trail.now.values.items = All-contains (λ x. x.var < length c.args.trail.now.values.items) (get_or cs k []) g (c.requires.within k [] lc) (contains_among (get_or cs k []) g m.0) in
+    omega (arith, inv.cells, c.requires.cells, c.cell_of.ensures, cell_in g (length c.args.trail.now.values.items) gv)
+
+pub visit-smaller-in-Move : goal.visit-smaller-in-Move
+visit-smaller-in-Move c =
+    let cs = c.args.clauses.now in
+    let t = c.visit.trail in
+    let H = c.visit.watches.items in
+    let k = c.get-k.result in
+    let hd = c.index.result.now in
+    let f = c.args.f in
+    let o = c.in-Some.o in
+    let inv = c.visit.invariant in
+    let lk : k < length H = omega (arith, c.if-k-len.true, c.len.ensures, c.visit.watches.ok.0) in
+    let lc : k < length cs = omega (arith, lk, inv.watches_len) in
+    let he : hd ≡ watches_at H k = get_or_read H k hd lk c.index.ensures none_watches in
+    let w = other_in cs H k hd f o he lc inv.watches_in c.in-Some.ensures in
+    let g = c.in-Move.g in
+    let m = move_facts cs t k g o c.get.result.now c.deref.result.now c.get.ensures c.deref.ensures.value c.in-Move.ensures in
+    let gv : g.var < length c.args.trail.now.values.items = All-contains (λ x. x.var < length c.args.trail.now.values.items) (get_or cs k []) g (c.requires.within k [] lc) (contains_among (get_or cs k []) g m.0) in
+    let n = c.cell_of-c.result in
+    let off : among t.literals.items (negate f) ≡ true = went_grows c.args.trail.now t inv.extends (negate f) c.requires.off in
+    let ng : g ≡ f → ⊥ = λ e. let N : Lit → Type 0 = λ x. among t.literals.items (negate x) ≡ false in both_ways _ (subst N e m.1) off in
+    let ln : n < length c.visit.lists = omega (arith, inv.cells, c.requires.cells, c.cell_of-c.ensures, cell_in f (length c.args.trail.now.values.items) c.requires.f_in) in
+    let lm : c.cell_of.result < length c.visit.lists = omega (arith, inv.cells, c.requires.cells, c.cell_of.ensures, cell_in g (length c.args.trail.now.values.items) gv) in
+    let li : c.visit.i < length (get_or c.visit.lists n []) = omega (arith, c.visit-test.true, c.size.ensures) in
+    let r = moved cs H c.visit.lists c.push.new.self c.remove-in-Move.new.self t.literals.items f g o k n c.cell_of.result c.visit.i c.cell_of.ensures c.cell_of-c.ensures ng w.3 lk lm ln w.0 m.2 w.2 li c.get-k.ensures
+    inv.all_listed inv.done c.in_ok-push-in-Move.ensures.done c.remove-in-Move.ensures in
+    omega (arith, r.3, li)
+
+pub visit-preserved-in-Move : goal.visit-preserved-in-Move
+visit-preserved-in-Move c =
+    let cs = c.args.clauses.now in
+    let t = c.visit.trail in
+    let H = c.visit.watches.items in
+    let k = c.get-k.result in
+    let hd = c.index.result.now in
+    let f = c.args.f in
+    let o = c.in-Some.o in
+    let inv = c.visit.invariant in
+    let lk : k < length H = omega (arith, c.if-k-len.true, c.len.ensures, c.visit.watches.ok.0) in
+    let lc : k < length cs = omega (arith, lk, inv.watches_len) in
+    let he : hd ≡ watches_at H k = get_or_read H k hd lk c.index.ensures none_watches in
+    let w = other_in cs H k hd f o he lc inv.watches_in c.in-Some.ensures in
+    let g = c.in-Move.g in
+    let m = move_facts cs t k g o c.get.result.now c.deref.result.now c.get.ensures c.deref.ensures.value c.in-Move.ensures in
+    let gv : g.var < length c.args.trail.now.values.items = All-contains (λ x. x.var < length c.args.trail.now.values.items) (get_or cs k []) g (c.requires.within k [] lc) (contains_among (get_or cs k []) g m.0) in
+    let n = c.cell_of-c.result in
+    let off : among t.literals.items (negate f) ≡ true = went_grows c.args.trail.now t inv.extends (negate f) c.requires.off in
+    let ng : g ≡ f → ⊥ = λ e. let N : Lit → Type 0 = λ x. among t.literals.items (negate x) ≡ false in both_ways _ (subst N e m.1) off in
+    let ln : n < length c.visit.lists = omega (arith, inv.cells, c.requires.cells, c.cell_of-c.ensures, cell_in f (length c.args.trail.now.values.items) c.requires.f_in) in
+    let lm : c.cell_of.result < length c.visit.lists = omega (arith, inv.cells, c.requires.cells, c.cell_of.ensures, cell_in g (length c.args.trail.now.values.items) gv) in
+    let li : c.visit.i < length (get_or c.visit.lists n []) = omega (arith, c.visit-test.true, c.size.ensures) in
+    let r = moved cs H c.visit.lists c.push.new.self c.remove-in-Move.new.self t.literals.items f g o k n c.cell_of.result c.visit.i c.cell_of.ensures c.cell_of-c.ensures ng w.3 lk lm ln w.0 m.2 w.2 li c.get-k.ensures
+    inv.all_listed inv.done c.in_ok-push-in-Move.ensures.done c.remove-in-Move.ensures in
+    let moves : Kept cs H (set H k (record { a = g; b = o })) t.literals.items = kept_move cs H k g o t.literals.items lk w.0 w.2 m.1 in
+    record {
+      based = inv.based;
+      extends = inv.extends;
+      watches_len = length-set H k (record { a = g; b = o }) ∙ inv.watches_len;
+      watches_in = heads_move cs H k g o lk m.0 w.1 inv.watches_in;
+      all_listed = r.0;
+      cells = r.1 ∙ inv.cells;
+      kept = λ s u part old. moves s u (λ l on. went_grows c.args.trail.now t inv.extends l (part l on)) (inv.kept s u part old);
+      two_kept = λ j big. bigs_move H k g o lk m.2 j (inv.two_kept j big);
+      done = r.2;
+      upper = omega (arith, r.3, li);
+    }
+
+pub visit-preserved-in-Force : goal.visit-preserved-in-Force
+visit-preserved-in-Force c =
+    let cs = c.args.clauses.now in
+    let t = c.visit.trail in
+    let H = c.visit.watches.items in
+    let k = c.get-k.result in
+    let hd = c.index.result.now in
+    let f = c.args.f in
+    let o = c.in-Some.o in
+    let inv = c.visit.invariant in
+    let lk : k < length H = omega (arith, c.if-k-len.true, c.len.ensures, c.visit.watches.ok.0) in
+    let lc : k < length cs = omega (arith, lk, inv.watches_len) in
+    let he : hd ≡ watches_at H k = get_or_read H k hd lk c.index.ensures none_watches in
+    let w = other_in cs H k hd f o he lc inv.watches_in c.in-Some.ensures in
+    let P : List Lit → Type 0 = λ x. UnitIn (holds c.deref.result.now) x o × (holds c.deref.result.now o ≡ false) × (holds c.deref.result.now (negate o) ≡ false) in
+    let Q : List ℕ → Type 0 = λ v. UnitIn (holds v) (get_or cs k []) o × (holds v o ≡ false) × (holds v (negate o) ≡ false) in
+    let u : Q t.values.items = subst Q c.deref.ensures.value (subst P c.get.ensures c.in-Force.ensures) in
+    let ov : o.var < length c.args.trail.now.values.items = All-contains (λ x. x.var < length c.args.trail.now.values.items) (get_or cs k []) o (c.requires.within k [] lc) u.0.0 in
+    let in_now : o.var < length t.values.items = omega (arith, ov, inv.extends.vars) in
+    let in_why : o.var < length t.reasons.items = omega (arith, in_now, t.reasons_len) in
+    let done = c.in_ok-imply-in-Force.ensures in
+    let new = c.imply.new.self in
+    let step = went_push c.args.trail.now t new o inv.extends in_now u.1 u.2 done.literals done.values done.starts in
+    let one = went_push t t new o (went_none t) in_now u.1 u.2 done.literals done.values done.starts in
+    let B : Trail → Type 0 = λ x. Based x.literals.items x.reasons.items cs in
+    let based' : B new = rw (done.literals, done.reasons) (based_push t.values.items t.reasons.items t.literals.items cs o k in_why t.values_ok u.1 u.2 lc u.0 inv.based) in
+    let on : among new.literals.items o ≡ true =
+    among_here new.literals.items (length t.literals.items) o (omega (arith, ap length done.literals, length-append t.literals.items (o ∷ []))) (ap (λ xs. at xs (length t.literals.items)) done.literals ∙ at_end t.literals.items o) in
+    let hit = true_from new.literals.items (get_or cs k []) o (contains_among (get_or cs k []) o w.1) on in
+    let E = get_or c.visit.lists c.cell_of-c.result [] in
+    let below : DoneWithBelow cs H new.literals.items f E c.visit.i = λ j lj. done_grows cs H t.literals.items new.literals.items f (get_or E j 0) (λ l. went_grows t new one.0 l) (inv.done j lj) in
+    record {
+      based = based';
+      extends = step.0;
+      watches_len = inv.watches_len;
+      watches_in = inv.watches_in;
+      all_listed = inv.all_listed;
+      cells = inv.cells;
+      kept = inv.kept;
+      two_kept = inv.two_kept;
+      done = done_more cs H new.literals.items f E c.visit.i k c.get-k.ensures below (done_true cs H new.literals.items f k hit);
+      upper = omega (arith, c.visit-test.true, c.size.ensures);
+    }

@@ -1,0 +1,23 @@
+//! Trails of literals, and propagators: what keeps clauses and does unit propagation. `Scan` looks at
+//! every clause each time; `Watched` watches two literals of each.
+#![tactic(auto)]
+
+mod acts;
+mod attach;
+mod lists;
+mod propagator;
+mod queue;
+mod scan;
+mod settle;
+mod sweep;
+#[cfg(test)]
+mod tests;
+mod trail;
+mod visit;
+mod watch;
+mod watched;
+
+pub use propagator::Propagator;
+pub use scan::Scan;
+pub use trail::Trail;
+pub use watched::Watched;

@@ -1,0 +1,78 @@
+ghost use Rattle.std.specs.Prelude.{◌+◌, ◌-◌, ◌*◌, ◌^◌, [], ◌∷◌, ◌≡◌, ◌<◌, ◌≤◌, ℕ, ◌++◌, true, false, IfOk, length, take, All, List, slice_set, slice_index, slice_index_or, MatchOption};
+ghost use Rattle.clause_core.specs.declared.literal.Lit.{Lit};
+ghost use Rattle.clause_core.specs.Literals.{Within, negate};
+ghost use Rattle.sat_prop.specs.Trails.{Based, AtRest, among};
+ghost use Rattle.sat_prop.specs.Moves.{Extends, FalseClause};
+ghost use Rattle.sat_prop.specs.Watches.{AllWatchesIn, AllListed, Kept, KeepsTwo, AllGuarded, ShortDone, ShortListed, ShortTrue, LevelsGuarded};
+
+use crate::lists::WatchLists;
+use crate::trail::Trail;
+use crate::visit::visit_list;
+use crate::watch::Watches;
+use clause_core::{Clauses, Lit};
+use std::alloc::AllocError;
+use unit_propagation::{Scan, scan_clause};
+
+// Visits the watch lists of the literals of the trail from `head` on.
+pub fn run_queue(
+    clauses: &Clauses,
+    trail: &mut Trail,
+    watches: &mut Vec<Watches>,
+    lists: &mut WatchLists,
+    head: &mut usize,
+) -> Result<Option<usize>, AllocError>
+    requires short { 2 * length trail.old.values.items < 2 ^ 64 }
+    requires within { All (Within (length trail.old.values.items)) clauses.now }
+    requires based { Based trail.old.literals.items trail.old.reasons.items clauses.now }
+    requires watches_len { length watches.old.items ≡ length clauses.now }
+    requires watches_in { AllWatchesIn clauses.now watches.old.items }
+    requires all_listed { AllListed watches.old.items lists.old }
+    requires cells { length lists.old ≡ 2 * length trail.old.values.items }
+    requires low { head.old ≤ length trail.old.literals.items }
+    requires queue { AllGuarded clauses.now watches.old.items (take head.old trail.old.literals.items) trail.old.literals.items }
+    ensures based { Based trail.new.literals.items trail.new.reasons.items clauses.now }
+    ensures extends { Extends trail.old trail.new }
+    ensures watches_len { length watches.new.items ≡ length clauses.now }
+    ensures watches_in { AllWatchesIn clauses.now watches.new.items }
+    ensures all_listed { AllListed watches.new.items lists.new }
+    ensures cells { length lists.new ≡ length lists.old }
+    ensures kept { Kept clauses.now watches.old.items watches.new.items trail.old.literals.items }
+    ensures two_kept { KeepsTwo watches.old.items watches.new.items }
+    ensures low { head.new ≤ length trail.new.literals.items }
+    ensures queue { AllGuarded clauses.now watches.new.items (take head.new trail.new.literals.items) trail.new.literals.items }
+    ensures says { IfOk result (λ o. MatchOption o (head.new ≡ length trail.new.literals.items) (FalseClause clauses.now trail.new)) }
+{
+    'queue: while *head < trail.literals.len() {
+        let f = trail.literals[*head].negated();
+        match visit_list(clauses, trail, watches, lists, f)? {
+            Some(k) => return Ok(Some(k)),
+            None => *head += 1,
+        }
+    }
+    Ok(None)
+}
+
+// Sets what clauses of one literal force.
+pub fn sweep_short(
+    clauses: &Clauses,
+    trail: &mut Trail,
+    short: &[usize],
+) -> Result<Option<usize>, AllocError>
+    requires within { All (Within (length trail.old.values.items)) clauses.now }
+    requires based { Based trail.old.literals.items trail.old.reasons.items clauses.now }
+    ensures based { Based trail.new.literals.items trail.new.reasons.items clauses.now }
+    ensures extends { Extends trail.old trail.new }
+    ensures says { IfOk result (λ o. MatchOption o ((j : ℕ) → j < length short.now → ShortDone clauses.now trail.new.literals.items (slice_index short.now j)) (FalseClause clauses.now trail.new)) }
+{
+    'short: for j in 0..short.len() {
+        let k = short[j];
+        if k < clauses.len() {
+            match scan_clause(&trail.values, clauses.get(k)) {
+                Scan::False => return Ok(Some(k)),
+                Scan::UnitOn(l) => trail.imply(l, k + 1)?,
+                Scan::Rest => {}
+            }
+        }
+    }
+    Ok(None)
+}

@@ -1,0 +1,78 @@
+ghost use Rattle.std.specs.Prelude.{◌+◌, ◌-◌, ◌*◌, ◌^◌, [], ◌∷◌, ◌≡◌, ◌<◌, ◌≤◌, ℕ, ◌++◌, true, false, IfOk, length, take, All, List, slice_set, slice_index, slice_index_or, MatchOption};
+ghost use Rattle.clause_core.specs.Literals.{Within, negate};
+ghost use Rattle.sat_prop.specs.Trails.{Based, AtRest, among};
+ghost use Rattle.sat_prop.specs.Moves.{Extends, FalseClause};
+ghost use Rattle.sat_prop.specs.Watches.{AllWatchesIn, AllListed, AllGuarded, ShortListed, ShortTrue, LevelsGuarded};
+
+use crate::lists::WatchLists;
+use crate::queue::{run_queue, sweep_short};
+use crate::trail::Trail;
+use crate::watch::Watches;
+use clause_core::Clauses;
+use std::alloc::AllocError;
+
+// The clauses of one literal; above level 0 they are true already.
+fn settle_short(
+    clauses: &Clauses,
+    trail: &mut Trail,
+    watches: &[Watches],
+    short: &[usize],
+) -> Result<Option<usize>, AllocError>
+    requires within { All (Within (length trail.old.values.items)) clauses.now }
+    requires based { Based trail.old.literals.items trail.old.reasons.items clauses.now }
+    requires short_listed { ShortListed clauses.now watches.now short.now }
+    requires levels { LevelsGuarded clauses.now watches.now trail.old.literals.items trail.old.starts.items }
+    ensures based { Based trail.new.literals.items trail.new.reasons.items clauses.now }
+    ensures extends { Extends trail.old trail.new }
+    ensures says { IfOk result (λ o. MatchOption o (ShortTrue clauses.now watches.now trail.new.literals.items) (FalseClause clauses.now trail.new)) }
+{
+    if trail.starts.len() == 0 {
+        match sweep_short(clauses, trail, short)? {
+            Some(k) => Ok(Some(k)),
+            None => Ok(None),
+        }
+    } else {
+        Ok(None)
+    }
+}
+
+// Propagates until nothing is left to set.
+pub fn settle(
+    clauses: &Clauses,
+    trail: &mut Trail,
+    watches: &mut Vec<Watches>,
+    lists: &mut WatchLists,
+    short: &[usize],
+    head: &mut usize,
+) -> Result<Option<usize>, AllocError>
+    requires room { 2 * length trail.old.values.items < 2 ^ 64 }
+    requires within { All (Within (length trail.old.values.items)) clauses.now }
+    requires based { Based trail.old.literals.items trail.old.reasons.items clauses.now }
+    requires watches_len { length watches.old.items ≡ length clauses.now }
+    requires watches_in { AllWatchesIn clauses.now watches.old.items }
+    requires all_listed { AllListed watches.old.items lists.old }
+    requires cells { length lists.old ≡ 2 * length trail.old.values.items }
+    requires short_listed { ShortListed clauses.now watches.old.items short.now }
+    requires low { head.old ≤ length trail.old.literals.items }
+    requires queue { AllGuarded clauses.now watches.old.items (take head.old trail.old.literals.items) trail.old.literals.items }
+    requires levels { LevelsGuarded clauses.now watches.old.items trail.old.literals.items trail.old.starts.items }
+    ensures based { Based trail.new.literals.items trail.new.reasons.items clauses.now }
+    ensures extends { Extends trail.old trail.new }
+    ensures watches_len { length watches.new.items ≡ length clauses.now }
+    ensures watches_in { AllWatchesIn clauses.now watches.new.items }
+    ensures all_listed { AllListed watches.new.items lists.new }
+    ensures cells { length lists.new ≡ length lists.old }
+    ensures short_listed { ShortListed clauses.now watches.new.items short.now }
+    ensures low { head.new ≤ length trail.new.literals.items }
+    ensures queue { AllGuarded clauses.now watches.new.items (take head.new trail.new.literals.items) trail.new.literals.items }
+    ensures levels { LevelsGuarded clauses.now watches.new.items trail.new.literals.items trail.new.starts.items }
+    ensures says { IfOk result (λ o. MatchOption o (AtRest clauses.now trail.new.literals.items × ((head.new ≡ length trail.new.literals.items) × ShortTrue clauses.now watches.new.items trail.new.literals.items)) (FalseClause clauses.now trail.new)) }
+{
+    match settle_short(clauses, trail, watches, short)? {
+        Some(k) => Ok(Some(k)),
+        None => match run_queue(clauses, trail, watches, lists, head)? {
+            Some(k) => Ok(Some(k)),
+            None => Ok(None),
+        },
+    }
+}

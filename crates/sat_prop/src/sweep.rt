@@ -1,0 +1,61 @@
+ghost use Rattle.std.specs.Prelude.{◌+◌, ◌-◌, ◌*◌, ◌^◌, [], ◌∷◌, ◌≡◌, ◌<◌, ◌≤◌, ℕ, ◌++◌, true, false, IfOk, OnOk, OnErr, length, take, All, List, slice_set, slice_index, MatchBool, MatchOption};
+ghost use Rattle.unit_propagation.specs.Values.{holds, code, unset};
+ghost use Rattle.clause_core.specs.Literals.{negate, Within, at};
+ghost use Rattle.sat_prop.specs.Trails.{Based, AtRest};
+ghost use Rattle.sat_prop.specs.Moves.{Extends, SweptSays, FalseClause};
+
+use crate::trail::Trail;
+use clause_core::{Clauses, Lit};
+use std::alloc::{AllocError, Global};
+use unit_propagation::{Scan, scan_clause};
+
+// What one pass over the clauses found: a false clause, something to set, or nothing left to do.
+#[derive(Clone, Copy, Drop)]
+pub enum Swept {
+    False(usize),
+    Changed,
+    Still,
+}
+
+// One pass over the clauses: sets each literal that a clause is unit on.
+fn sweep(clauses: &Clauses, trail: &mut Trail) -> Result<Swept, AllocError>
+    requires within { All (Within (length trail.old.values.items)) clauses.now }
+    requires based { Based trail.old.literals.items trail.old.reasons.items clauses.now }
+    ensures based { Based trail.new.literals.items trail.new.reasons.items clauses.now }
+    ensures extends { Extends trail.old trail.new }
+    ensures says { IfOk result (SweptSays clauses.now trail.old trail.new) }
+{
+    let mut changed = false;
+    for k in 0..clauses.len() {
+        match scan_clause(&trail.values, clauses.get(k)) {
+            Scan::False => return Ok(Swept::False(k)),
+            Scan::UnitOn(l) => {
+                trail.imply(l, k + 1)?;
+                changed = true;
+            }
+            Scan::Rest => {}
+        }
+    }
+    if changed {
+        Ok(Swept::Changed)
+    } else {
+        Ok(Swept::Still)
+    }
+}
+
+// Passes until nothing is left to set.
+pub fn sweep_all(clauses: &Clauses, trail: &mut Trail) -> Result<Option<usize>, AllocError>
+    requires within { All (Within (length trail.old.values.items)) clauses.now }
+    requires based { Based trail.old.literals.items trail.old.reasons.items clauses.now }
+    ensures based { Based trail.new.literals.items trail.new.reasons.items clauses.now }
+    ensures extends { Extends trail.old trail.new }
+    ensures says { IfOk result (λ o. MatchOption o (AtRest clauses.now trail.new.literals.items) (FalseClause clauses.now trail.new)) }
+{
+    'rounds: loop {
+        match sweep(clauses, trail)? {
+            Swept::False(k) => return Ok(Some(k)),
+            Swept::Changed => {}
+            Swept::Still => return Ok(None),
+        }
+    }
+}

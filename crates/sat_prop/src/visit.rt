@@ -1,0 +1,67 @@
+ghost use Rattle.std.specs.Prelude.{◌+◌, ◌-◌, ◌*◌, ◌^◌, [], ◌∷◌, ◌≡◌, ◌<◌, ◌≤◌, ℕ, ◌++◌, true, false, IfOk, length, take, All, List, slice_set, slice_index, slice_index_or, MatchOption};
+ghost use Rattle.clause_core.specs.declared.literal.Lit.{Lit};
+ghost use Rattle.clause_core.specs.Literals.{Within, negate};
+ghost use Rattle.sat_prop.specs.Trails.{Based, among};
+ghost use Rattle.sat_prop.specs.Moves.{Extends, FalseClause};
+ghost use Rattle.sat_prop.specs.Watches.{AllWatchesIn, AllListed, Kept, DoneWith, KeepsTwo};
+
+use crate::lists::WatchLists;
+use crate::trail::Trail;
+use crate::watch::{Finding, Watches, cell_of, look_at, other_of};
+use clause_core::{Clauses, Lit};
+use std::alloc::AllocError;
+
+// Visits each clause that watches f, which became false.
+pub fn visit_list(
+    clauses: &Clauses,
+    trail: &mut Trail,
+    watches: &mut Vec<Watches>,
+    lists: &mut WatchLists,
+    f: Lit,
+) -> Result<Option<usize>, AllocError>
+    requires short { 2 * length trail.old.values.items < 2 ^ 64 }
+    requires within { All (Within (length trail.old.values.items)) clauses.now }
+    requires based { Based trail.old.literals.items trail.old.reasons.items clauses.now }
+    requires watches_len { length watches.old.items ≡ length clauses.now }
+    requires watches_in { AllWatchesIn clauses.now watches.old.items }
+    requires all_listed { AllListed watches.old.items lists.old }
+    requires cells { length lists.old ≡ 2 * length trail.old.values.items }
+    requires f_in { f.var < length trail.old.values.items }
+    requires off { among trail.old.literals.items (negate f) ≡ true }
+    ensures based { Based trail.new.literals.items trail.new.reasons.items clauses.now }
+    ensures extends { Extends trail.old trail.new }
+    ensures watches_len { length watches.new.items ≡ length clauses.now }
+    ensures watches_in { AllWatchesIn clauses.now watches.new.items }
+    ensures all_listed { AllListed watches.new.items lists.new }
+    ensures cells { length lists.new ≡ length lists.old }
+    ensures kept { Kept clauses.now watches.old.items watches.new.items trail.old.literals.items }
+    ensures two_kept { KeepsTwo watches.old.items watches.new.items }
+    ensures says { IfOk result (λ o. MatchOption o ((k : ℕ) → DoneWith clauses.now watches.new.items trail.new.literals.items f k) (FalseClause clauses.now trail.new)) }
+{
+    let c = cell_of(f);
+    let mut i = 0;
+    'visit: while i < lists.size(c) {
+        let k = lists.get(c, i);
+        if k < watches.len() {
+            match other_of(watches[k], f) {
+                None => lists.remove(c, i),
+                Some(o) => match look_at(&trail.values, clauses.get(k), o) {
+                    Finding::Hit => i += 1,
+                    Finding::Move(g) => {
+                        lists.push(cell_of(g), k)?;
+                        watches[k] = Watches { a: g, b: o };
+                        lists.remove(c, i);
+                    }
+                    Finding::Force => {
+                        trail.imply(o, k + 1)?;
+                        i += 1;
+                    }
+                    Finding::False => return Ok(Some(k)),
+                },
+            }
+        } else {
+            lists.remove(c, i);
+        }
+    }
+    Ok(None)
+}

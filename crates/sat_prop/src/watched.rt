@@ -1,0 +1,118 @@
+ghost use Rattle.std.specs.Prelude.{◌+◌, ◌-◌, ◌*◌, ◌^◌, [], ◌∷◌, ◌≡◌, ◌<◌, ◌≤◌, ℕ, ◌++◌, true, false, IfOk, OnOk, OnErr, length, take, All, List, slice_index, slice_index_or, MatchOption};
+ghost use Rattle.clause_core.specs.Literals.{Within};
+ghost use Rattle.sat_prop.specs.Trails.{Based};
+ghost use Rattle.sat_prop.specs.Watches.{AllWatchesIn, AllListed, AllGuarded, ShortListed, ShortTrue, LevelsGuarded};
+
+use crate::acts::{decide_on, learn_on, undo_on};
+use crate::lists::WatchLists;
+use crate::propagator::Propagator;
+use crate::settle::settle;
+use crate::trail::Trail;
+use crate::watch::Watches;
+use clause_core::{Clauses, Lit};
+use std::alloc::{AllocError, Global};
+
+/// The propagator that watches two literals of each clause (Moskewicz and others 2001): a clause is looked
+/// at only where one of these becomes false.
+#[derive(Drop)]
+pub struct Watched {
+    clauses: Clauses,
+    trail: Trail,
+    watches: Vec<Watches>,
+    lists: WatchLists,
+    short: Vec<usize>,
+    head: usize,
+    ghost based_in: { Based trail.literals.items trail.reasons.items clauses },
+    ghost within_in: { All (Within (length trail.values.items)) clauses },
+    ghost room: { 2 * length trail.values.items < 2 ^ 64 },
+    ghost watches_len: { length watches.items ≡ length clauses },
+    ghost watches_in: { AllWatchesIn clauses watches.items },
+    ghost all_listed: { AllListed watches.items lists },
+    ghost cells: { length lists ≡ 2 * length trail.values.items },
+    ghost short_listed: { ShortListed clauses watches.items short.items },
+    ghost low: { head ≤ length trail.literals.items },
+    ghost queue: { AllGuarded clauses watches.items (take head trail.literals.items) trail.literals.items },
+    ghost levels: { LevelsGuarded clauses watches.items trail.literals.items trail.starts.items },
+}
+
+impl Propagator for Watched {
+    ghost clauses = { λ s. s.clauses };
+
+    ghost trail = { λ s. s.trail };
+
+    ghost rested = { λ s. (s.head ≡ length s.trail.literals.items) × ShortTrue s.clauses s.watches.items s.trail.literals.items };
+
+    fn new(alloc: Global, vars: usize) -> Result<Watched, AllocError> {
+        if vars > usize::MAX / 2 {
+            return Err(AllocError);
+        }
+        let trail = Trail::new(alloc, vars)?;
+        let lists = WatchLists::new(alloc, 2 * vars)?;
+        Ok(Watched {
+            clauses: Clauses::new(alloc),
+            trail,
+            watches: Vec::new(alloc),
+            lists,
+            short: Vec::new(alloc),
+            head: 0,
+        })
+    }
+
+    fn assignment(&self) -> &Trail {
+        &self.trail
+    }
+
+    fn clause_count(&self) -> usize {
+        self.clauses.len()
+    }
+
+    fn clause(&self, k: usize) -> &[Lit] {
+        self.clauses.get(k)
+    }
+
+    fn add(&mut self, c: &[Lit]) -> Result<(), AllocError> {
+        self.learn(c, 0)
+    }
+
+    fn learn(&mut self, c: &[Lit], w: usize) -> Result<(), AllocError> {
+        learn_on(
+            &mut self.clauses,
+            &self.trail,
+            &mut self.watches,
+            &mut self.lists,
+            &mut self.short,
+            &mut self.head,
+            c,
+            w,
+        )
+    }
+
+    fn decide(&mut self, l: Lit) -> Result<(), AllocError> {
+        decide_on(&self.clauses, &self.watches, self.head, &mut self.trail, l)
+    }
+
+    fn undo(&mut self, level: usize) {
+        undo_on(
+            &self.clauses,
+            &self.watches,
+            &mut self.head,
+            &mut self.trail,
+            level,
+        )
+    }
+
+    fn propagate(&mut self) -> Result<Option<usize>, AllocError> {
+        settle(
+            &self.clauses,
+            &mut self.trail,
+            &mut self.watches,
+            &mut self.lists,
+            &self.short,
+            &mut self.head,
+        )
+    }
+
+    ghost based = { λ s. s.based_in };
+
+    ghost within = { λ s. s.within_in };
+}
