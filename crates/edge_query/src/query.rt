@@ -19,7 +19,7 @@ type Engine = Solver<Watched>;
 ///
 /// `inputs` is the number of the graph's inputs, which are its first nodes. With no roots any values
 /// do. The query costs a ticket of the purse, and each clause that the solver learns for it another;
-/// `Spent` comes only where the purse refused one. The graph's other roots and nodes do not matter, and
+/// `Spent` comes only where the purse refused one. An input on which no root stands gets any value, and
 /// nothing is kept from one query to the next. The only error is want of memory.
 ///
 /// The edges become clauses by a variable for each node (Tseitin 1968), and a solver that learns from

@@ -1,8 +1,11 @@
 -- One more state of inputs.
-use Rattle.std.proofs.Common.{◌≡◌, ◌∙◌, ℕ, zero, suc, ◌+◌, ◌*◌, List, [], ◌∷◌, ◌++◌, ap, sym, refl, arith, map}
+use Rattle.std.proofs.Common.{◌≡◌, ◌∙◌, ℕ, zero, suc, ◌+◌, ◌*◌, List, [], ◌∷◌, ◌++◌, ap, sym, refl, arith, map, length, get_or, ◌<◌, ◌≤◌}
 use Rattle.std.specs.List.{range_with_len}
-use Rattle.std.proofs.lemmas.List.FromFn.{map-range_with_len_more}
+use Rattle.std.proofs.lemmas.List.FromFn.{map-range_with_len_more, length-map-range_with_len}
 use Rattle.bit_graph.specs.declared.edge.Edge.{Edge}
+use Rattle.bit_graph.specs.declared.edge.Node.{Node}
+use Rattle.bit_graph.specs.Meaning.{Stands}
+use Rattle.invariant_queries.specs.Edges.{AllStand}
 use Rattle.invariant_queries.specs.Frames.{input, frame_from, frames_from}
 
 pub frames_from-more : (k s n : ℕ) → frames_from k s (suc n) ≡ frames_from k s n ++ frame_from k (s + n * k) ∷ []
@@ -24,3 +27,28 @@ pub frame_more : (start n : ℕ) (made : List Edge) (e : Edge) → made ≡ map 
 frame_more start n made e made_is e_is =
     ap (λ (l : List Edge). l ++ e ∷ []) made_is ∙ ap (λ (x : Edge). map input (range_with_len start n) ++ x ∷ []) e_is
     ∙ sym (map-range_with_len_more input start n (start + n) refl)
+
+module _ (g : List Node) where
+  frame_stands : (k start : ℕ) → start + k ≤ length g → (j : ℕ) (e : Edge) → j < length (frame_from k start) → Stands g (get_or (frame_from k start) j e)
+  frame_stands zero start h j e lt = absurd (let no : ⊥ = omega (arith, lt) in no)
+  frame_stands (suc k) start h zero e lt = omega (arith, h)
+  frame_stands (suc k) start h (suc j) e lt = frame_stands k (start + 1) (omega (arith, h)) j e (omega (arith, lt))
+
+  -- the edges of the states lead to nodes of a graph that is large enough
+  pub frames_stand : (k n start : ℕ) → start + n * k ≤ length g → (i : ℕ) (d : List Edge) → i < length (frames_from k start n) → AllStand g (get_or (frames_from k start n) i d)
+  frames_stand k zero start h i d lt = absurd (let no : ⊥ = omega (arith, lt) in no)
+  frames_stand k (suc n) start h zero d lt = frame_stands k start (omega (arith, h))
+  frames_stand k (suc n) start h (suc i) d lt = frames_stand k n (start + k) (omega (arith, h)) i d (omega (arith, lt))
+
+length_frame : (k start : ℕ) → length (frame_from k start) ≡ k
+length_frame k start = length-map-range_with_len input start k
+
+-- each state has k edges
+pub frames_each : (k n start : ℕ) (i : ℕ) (d : List Edge) → i < length (frames_from k start n) → length (get_or (frames_from k start n) i d) ≡ k
+frames_each k zero start i d lt = absurd (let no : ⊥ = omega (arith, lt) in no)
+frames_each k (suc n) start zero d lt = length_frame k start
+frames_each k (suc n) start (suc i) d lt = frames_each k n (start + k) i d (omega (arith, lt))
+
+pub length_frames : (k n start : ℕ) → length (frames_from k start n) ≡ n
+length_frames k zero start = refl
+length_frames k (suc n) start = ap (λ m. suc m) (length_frames k n (start + k))

@@ -42,3 +42,7 @@ is_broken_run p e states =
 -- a step leads from a state in which the expression is TRUE to one in which it is FALSE
 abbrev pub is_broken_step : Program → Expr → List Value → List Value → Bool
 is_broken_step p e s t = is_one true (evaluation_of p s e) && is_step p s t && is_one false (evaluation_of p t e)
+
+-- the same of the first two of these states
+abbrev pub breaks_in_two : Program → Expr → List (List Value) → Bool
+breaks_in_two p e states = is_broken_step p e (state_at states 0) (state_at states 1)

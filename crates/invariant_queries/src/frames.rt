@@ -7,7 +7,7 @@ ghost use Rattle.smv_meaning.specs.Evaluation.{evaluation_of};
 ghost use Rattle.smv_meaning.specs.Programs.{slots_of};
 ghost use Rattle.smv_meaning.specs.Runs.{is_first_state, is_step, state_at};
 ghost use Rattle.invariant_queries.specs.Edges.{AllStand, is_one, state_under};
-ghost use Rattle.invariant_queries.specs.Frames.{frame_from, frames_from, is_broken_run, is_broken_step, steps_hold};
+ghost use Rattle.invariant_queries.specs.Frames.{frame_from, frames_from, breaks_in_two, is_broken_run, is_broken_step, steps_hold};
 
 use crate::edges::{first_edge, step_edge, truth_of};
 use bit_graph::{Edge, Graph};
@@ -139,4 +139,22 @@ pub fn broken_step_edge(
     let before = truth_of(graph, typed, bits, e);
     let step = and_step(graph, typed, before.is_true, bits, next)?;
     and_false(graph, typed, step, next, e)
+}
+
+/// The edge that is true where a step leads from the first of these states, in which the expression is TRUE, to the
+/// second, in which it is FALSE.
+pub fn two_states_edge(
+    graph: &mut Graph,
+    typed: &Typed,
+    e: &Expr,
+    frames: &[Items<Edge>],
+) -> Result<Edge, AllocError>
+    requires stand { All (λ frame. AllStand graph.old frame) frames.now }
+    requires each { All (λ frame. length frame ≡ length (slots_of typed.now.program)) frames.now }
+    requires two { length frames.now ≡ 2 }
+    ensures extends { Extends graph.old graph.new }
+    ensures stands { IfOk result (λ edge. Stands graph.new edge) }
+    ensures value { IfOk result (λ edge. Denotes graph.new edge (λ v. breaks_in_two typed.now.program e.now (map (state_under v) frames.now))) }
+{
+    broken_step_edge(graph, typed, e, frames[0].as_slice(), frames[1].as_slice())
 }

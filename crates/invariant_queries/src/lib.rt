@@ -4,6 +4,8 @@
 
 mod edges;
 mod frames;
+mod unrolling;
 
 pub use edges::{Truth, first_edge, step_edge, truth_of};
 pub use frames::make_frames;
+pub use unrolling::{Induction, Unrolled, is_inductive, unroll};

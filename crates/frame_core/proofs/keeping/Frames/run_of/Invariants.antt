@@ -1,0 +1,14 @@
+use Rattle.std.proofs.Common.{◌<◌, [], ◌∷◌, ◌++◌, length}
+use Rattle.frame_core.specs.Law.{obligation_at}
+use Rattle.frame_core.specs.Runs.{IsBitRun}
+use Rattle.frame_core.proofs.keeping.Frames.run_of.Given as goal
+
+abbrev pub invariant-rows : goal.invariant-rows
+invariant-rows l =
+    record {
+      within : l.at < length l.self.obligations;
+      run : IsBitRun l.self.system (l.rows.items ++ (obligation_at l.self.obligations l.at).values ∷ []);
+    }
+
+abbrev pub decreases-rows : goal.decreases-rows
+decreases-rows l = l.at

@@ -1,0 +1,51 @@
+-- What queries show of a system (Bradley 2011, sections 3 and 4).
+use Rattle.std.specs.Prelude.{◌≡◌, ℕ, ◌<◌, Bool, true, false, List, length, All}
+use Rattle.clause_core.specs.declared.literal.Lit.{Lit}
+use Rattle.clause_core.specs.Literals.{Within}
+use Rattle.clause_core.specs.Assignments.{ClauseTrue, assignment_of}
+use Rattle.clause_core.specs.Systems.{TransitionSystem, FirstBits, StepBits, BadBits}
+use Rattle.frame_core.specs.declared.lemmas.Parent.{Parent}
+
+-- x meets the clause of each parent
+abbrev pub MeetsParents : List Parent → (ℕ → Bool) → Type 0
+MeetsParents parents x = All (λ (p : Parent). ClauseTrue x p.clause) parents
+
+-- what a query was asked: a clause over state bits, a level, and the lemmas that it used
+pub record ProvedClause : Type 0 where
+  pub system : TransitionSystem
+  pub clause : List Lit
+  pub level : ℕ
+  pub parents : List Parent
+
+-- first states meet the clause, and a step from a state that meets the parents and the clause, at level 1 from a first state, ends in it
+pub record IsProved (p : ProvedClause) : Type 0 where
+  pub above : 0 < p.level
+  pub within : Within p.system.state_bits p.clause
+  pub first : (x : ℕ → Bool) → FirstBits p.system x → ClauseTrue x p.clause
+  pub step : (x y : ℕ → Bool) → (p.level ≡ 1 → FirstBits p.system x) → (1 < p.level → ClauseTrue x p.clause × MeetsParents p.parents x) →
+      StepBits p.system x y → ClauseTrue y p.clause
+
+-- a level without bad states, and the lemmas that show it
+pub record ClearLevel : Type 0 where
+  pub system : TransitionSystem
+  pub level : ℕ
+  pub parents : List Parent
+
+-- no state that meets the parents is bad; at level 0 no first state is
+pub record IsClear (c : ClearLevel) : Type 0 where
+  pub safe : (x : ℕ → Bool) → (c.level ≡ 0 → FirstBits c.system x) → (0 < c.level → MeetsParents c.parents x) → BadBits c.system x → ⊥
+
+-- a state that leads to a bad one: values of all bits, whether they are of a step, and whether the state is a first one
+pub record FoundState : Type 0 where
+  pub system : TransitionSystem
+  pub values : List Bool
+  pub is_step : Bool
+  pub first : Bool
+
+-- the values are of a step, or of a bad state, and `first` says whether the state is a first one
+pub record IsFound (f : FoundState) : Type 0 where
+  pub whole : length f.values ≡ f.system.all_bits
+  pub step : f.is_step ≡ true → All (ClauseTrue (assignment_of f.values)) f.system.step
+  pub bad : f.is_step ≡ false → All (ClauseTrue (assignment_of f.values)) f.system.bad
+  pub is_first : f.first ≡ true → FirstBits f.system (assignment_of f.values)
+  pub not_first : f.first ≡ false → FirstBits f.system (assignment_of f.values) → ⊥

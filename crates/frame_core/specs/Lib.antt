@@ -1,0 +1,6 @@
+pub mod Changes
+pub mod Differences
+pub mod Facts
+pub mod Law
+pub mod Looking
+pub mod Runs

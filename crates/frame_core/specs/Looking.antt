@@ -1,0 +1,33 @@
+-- Lemmas that are looked up.
+use Rattle.std.specs.Prelude.{◌≡◌, ◌⊎◌, ℕ, ◌<◌, ◌≤◌, List, [], length, slice_index_or}
+use Rattle.clause_core.specs.declared.literal.Lit.{Lit}
+use Rattle.frame_core.specs.declared.lemmas.Lemma.{Lemma}
+use Rattle.frame_core.specs.declared.lemmas.Parent.{Parent}
+use Rattle.frame_core.specs.Law.{lemma_at, IsPart}
+
+-- for numbers past the last parent
+abbrev pub no_parent : Parent
+no_parent = record { number = 0; clause = [] }
+
+-- parent number k
+abbrev pub parent_at : List Parent → ℕ → Parent
+parent_at parents k = slice_index_or parents k no_parent
+
+-- a lemma here has the parent's number and clause
+abbrev pub IsHere : List Lemma → Parent → Type 0
+IsHere lemmas p = (p.number < length lemmas) × ((lemma_at lemmas p.number).clause ≡ p.clause)
+
+-- the level that a parent has here, 0 where no lemma has its number and clause
+abbrev pub IsKeptLevel : List Lemma → Parent → ℕ → Type 0
+IsKeptLevel lemmas p level =
+    (IsHere lemmas p × (level ≡ (lemma_at lemmas p.number).level)) ⊎ ((IsHere lemmas p → ⊥) × (level ≡ 0))
+
+-- parent k has this level here, which is below the least
+abbrev pub IsBehind : List Lemma → ℕ → List Parent → ℕ → ℕ → Type 0
+IsBehind lemmas least parents k level =
+    (k < length parents) × IsKeptLevel lemmas (parent_at parents k) level × (level < least)
+
+-- lemma n has a part of the literals and at least the level
+abbrev pub IsHeldBy : List Lemma → List Lit → ℕ → ℕ → Type 0
+IsHeldBy lemmas clause level n =
+    (n < length lemmas) × IsPart (lemma_at lemmas n).clause clause × (level ≤ (lemma_at lemmas n).level)

@@ -1,0 +1,221 @@
+use crate::lemmas::Parent;
+use clause_core::{Bits, Clause, Lit, System};
+use std::marker::Model;
+
+/// A clause that a query showed to hold one step on: first states meet it, and a step from a state that
+/// meets the parents and the clause (at level 1: from a first state) ends in it.
+#[derive(Drop)]
+pub struct Proved<'a> {
+    system: &'a System,
+    clause: Clause,
+    level: u64,
+    parents: Vec<Parent>,
+}
+
+impl<'a> Model for Proved<'a> {
+    ghost use Rattle.frame_core.specs.Facts.{ProvedClause, IsProved};
+
+    ghost Value = { ProvedClause };
+
+    ghost view = { λ p. record { system = p.system.now; clause = p.clause; level = p.level; parents = p.parents.items } };
+
+    ghost invariant = { λ p. IsProved record { system = p.system.now; clause = p.clause; level = p.level; parents = p.parents.items } };
+}
+
+impl<'a> Proved<'a> {
+    ghost use Rattle.std.specs.Prelude.{◌≡◌};
+    ghost use Rattle.frame_core.specs.Facts.{ProvedClause, IsProved};
+
+    /// The fact, of which the caller has a proof.
+    pub fn new(system: &'a System, clause: Clause, level: u64, parents: Vec<Parent>) -> Proved<'a>
+        requires { IsProved record { system = system.now; clause = clause; level = level; parents = parents.items } }
+        ensures { result ≡ record { system = system.now; clause = clause; level = level; parents = parents.items } }
+    {
+        Proved {
+            system,
+            clause,
+            level,
+            parents,
+        }
+    }
+
+    /// The system that it speaks of.
+    pub fn system(&self) -> &'a System
+        ensures value { result.now ≡ self.now.system }
+        ensures shown { IsProved self.now }
+    {
+        self.system
+    }
+
+    /// The clause's literals.
+    pub fn clause(&self) -> &[Lit]
+        ensures { result.now ≡ self.now.clause }
+    {
+        self.clause.as_slice()
+    }
+
+    /// The clause; takes no memory.
+    pub fn into_clause(self) -> Clause
+        ensures { result ≡ self.entry.clause }
+    {
+        let Proved {
+            system: _,
+            clause,
+            level: _,
+            parents: _,
+        } = self;
+        clause
+    }
+
+    /// The level at which it was shown.
+    pub fn level(&self) -> u64
+        ensures { result ≡ self.now.level }
+    {
+        self.level
+    }
+
+    /// The lemmas that the query used.
+    pub fn parents(&self) -> &[Parent]
+        ensures { result.now ≡ self.now.parents }
+    {
+        &self.parents
+    }
+}
+
+/// A level that a query showed to have no bad state: none that meets the parents is bad, and at level 0
+/// no first state is.
+#[derive(Drop)]
+pub struct Clear<'a> {
+    system: &'a System,
+    level: u64,
+    parents: Vec<Parent>,
+}
+
+impl<'a> Model for Clear<'a> {
+    ghost use Rattle.frame_core.specs.Facts.{ClearLevel, IsClear};
+
+    ghost Value = { ClearLevel };
+
+    ghost view = { λ c. record { system = c.system.now; level = c.level; parents = c.parents.items } };
+
+    ghost invariant = { λ c. IsClear record { system = c.system.now; level = c.level; parents = c.parents.items } };
+}
+
+impl<'a> Clear<'a> {
+    ghost use Rattle.std.specs.Prelude.{◌≡◌};
+    ghost use Rattle.frame_core.specs.Facts.{ClearLevel, IsClear};
+
+    /// The fact, of which the caller has a proof.
+    pub fn new(system: &'a System, level: u64, parents: Vec<Parent>) -> Clear<'a>
+        requires { IsClear record { system = system.now; level = level; parents = parents.items } }
+        ensures { result ≡ record { system = system.now; level = level; parents = parents.items } }
+    {
+        Clear {
+            system,
+            level,
+            parents,
+        }
+    }
+
+    /// The system that it speaks of.
+    pub fn system(&self) -> &'a System
+        ensures value { result.now ≡ self.now.system }
+        ensures shown { IsClear self.now }
+    {
+        self.system
+    }
+
+    /// The level without bad states.
+    pub fn level(&self) -> u64
+        ensures { result ≡ self.now.level }
+    {
+        self.level
+    }
+
+    /// The lemmas that the query used.
+    pub fn parents(&self) -> &[Parent]
+        ensures { result.now ≡ self.now.parents }
+    {
+        &self.parents
+    }
+}
+
+/// A state that a query found: a bad one, or one with a step to another, with values of all bits that
+/// show it; and whether the state is a first one.
+#[derive(Drop)]
+pub struct Found<'a> {
+    system: &'a System,
+    values: Bits,
+    is_step: bool,
+    first: bool,
+}
+
+impl<'a> Model for Found<'a> {
+    ghost use Rattle.frame_core.specs.Facts.{FoundState, IsFound};
+
+    ghost Value = { FoundState };
+
+    ghost view = { λ f. record { system = f.system.now; values = f.values; is_step = f.is_step; first = f.first } };
+
+    ghost invariant = { λ f. IsFound record { system = f.system.now; values = f.values; is_step = f.is_step; first = f.first } };
+}
+
+impl<'a> Found<'a> {
+    ghost use Rattle.std.specs.Prelude.{◌≡◌};
+    ghost use Rattle.frame_core.specs.Facts.{FoundState, IsFound};
+
+    /// The fact, of which the caller has a proof.
+    pub fn new(system: &'a System, values: Bits, is_step: bool, first: bool) -> Found<'a>
+        requires { IsFound record { system = system.now; values = values; is_step = is_step; first = first } }
+        ensures { result ≡ record { system = system.now; values = values; is_step = is_step; first = first } }
+    {
+        Found {
+            system,
+            values,
+            is_step,
+            first,
+        }
+    }
+
+    /// The system that it speaks of.
+    pub fn system(&self) -> &'a System
+        ensures value { result.now ≡ self.now.system }
+        ensures shown { IsFound self.now }
+    {
+        self.system
+    }
+
+    /// Values of all bits; the state is the first of them.
+    pub fn values(&self) -> &Bits
+        ensures { result.now ≡ self.now.values }
+    {
+        &self.values
+    }
+
+    /// The values; takes no memory.
+    pub fn into_values(self) -> Bits
+        ensures { result ≡ self.entry.values }
+    {
+        let Found {
+            system: _,
+            values,
+            is_step: _,
+            first: _,
+        } = self;
+        values
+    }
+
+    /// Whether the values are those of a step, and not of a bad state.
+    pub fn is_step(&self) -> bool
+        ensures { result ≡ self.now.is_step }
+    {
+        self.is_step
+    }
+
+    /// Whether the state is a first one.
+    pub fn is_first(&self) -> bool
+        ensures { result ≡ self.now.first }
+    {
+        self.first
+    }
+}

@@ -1,0 +1,83 @@
+-- The states that values of inputs give, and values that give states.
+use Rattle.std.proofs.Common.{◌≡◌, ◌∙◌, ℕ, zero, suc, ◌+◌, ◌-◌, ◌*◌, ◌<◌, ◌≤◌, Bool, true, false, List, [], ◌∷◌, ◌++◌, length, map, take, drop, get_or, refl, sym, ap, subst, arith, add-one, length-append}
+use Rattle.std.proofs.Math.Seq.{drop-cons, take-append_seam}
+use Rattle.std.proofs.lemmas.List.{length-map, drop-drop}
+use Rattle.bit_graph.specs.declared.edge.Edge.{Edge}
+use Rattle.bit_graph.specs.declared.edge.Node.{Node}
+use Rattle.bit_graph.specs.declared.edge.Node.TheVariants.{Input}
+use Rattle.bit_graph.specs.Meaning.{HasInputs, Stands}
+use Rattle.bit_graph.specs.Values.{OneWay, assigned, values}
+use Rattle.smv_meaning.specs.declared.value.Value.{Value}
+use Rattle.smv_meaning.specs.declared.value.Value.TheVariants as value
+use Rattle.invariant_queries.specs.Edges.{state_under, AllStand}
+use Rattle.invariant_queries.specs.Frames.{input, frame_from, frames_from, states_of}
+
+-- each state has k values
+abbrev pub Each : ℕ → List (List Value) → Type 0
+Each k [] = Unit {0}
+Each k (s ∷ ss) = (length s ≡ k) × Each k ss
+
+module _ (g : List Node) (law : OneWay g) (inputs : ℕ) (are : HasInputs inputs g) (flat : List Bool) (long : length flat ≡ inputs) where
+  input_value : (k : ℕ) → k < inputs → values (assigned flat) g k ≡ assigned flat k
+  input_value k h = (law.some (assigned flat)).1 k (are.at k h).0 (are.at k h).1
+
+  frame_value : (k start : ℕ) → start + k ≤ inputs → state_under (values (assigned flat) g) (frame_from k start) ≡ map value.Bool (take k (drop start flat))
+  frame_value zero start h = refl
+  frame_value (suc k) start h =
+    let within : start < inputs = omega (arith, h) in
+    let here : start < length flat = omega (arith, within, long) in
+    let next : start + 1 ≡ suc start = omega arith in
+    let rest : state_under (values (assigned flat) g) (frame_from k (start + 1)) ≡ map value.Bool (take k (drop (suc start) flat)) =
+      frame_value k (start + 1) (omega (arith, h)) ∙ ap (λ n. map value.Bool (take k (drop n flat))) next in
+    let cons : drop start flat ≡ assigned flat start ∷ drop (suc start) flat = drop-cons flat start false here in
+    ap (λ (b : Bool). value.Bool b ∷ state_under (values (assigned flat) g) (frame_from k (start + 1))) (input_value start within)
+    ∙ ap (λ (s : List Value). value.Bool (assigned flat start) ∷ s) rest
+    ∙ ap (λ (l : List Bool). map value.Bool (take (suc k) l)) (sym cons)
+
+  frames_value : (k n start : ℕ) → start + n * k ≤ inputs → map (state_under (values (assigned flat) g)) (frames_from k start n) ≡ states_of k n (drop start flat)
+  frames_value k zero start h = refl
+  frames_value k (suc n) start h =
+    let rest : map (state_under (values (assigned flat) g)) (frames_from k (start + k) n) ≡ states_of k n (drop k (drop start flat)) =
+      frames_value k n (start + k) (omega (arith, h)) ∙ ap (states_of k n) (sym (drop-drop k start flat)) in
+    ap (λ (s : List Value). s ∷ map (state_under (values (assigned flat) g)) (frames_from k (start + k) n)) (frame_value k start (omega (arith, h)))
+    ∙ ap (λ (ss : List (List Value)). map value.Bool (take k (drop start flat)) ∷ ss) rest
+
+  pub decoded : (k n : ℕ) → n * k ≡ inputs → map (state_under (values (assigned flat) g)) (frames_from k 0 n) ≡ states_of k n flat
+  decoded k n e = frames_value k n 0 (omega (arith, e))
+
+bool_of : Value → Bool
+bool_of (value.Bool b) = b
+
+-- the values of the states, one after another
+pub flat_of : List (List Value) → List Bool
+flat_of [] = []
+flat_of (s ∷ ss) = map bool_of s ++ flat_of ss
+
+bools_back : (s : List Value) → map value.Bool (map bool_of s) ≡ s
+unfolding bool_of
+bools_back [] = refl
+bools_back (value.Bool b ∷ s) = ap (λ (l : List Value). value.Bool b ∷ l) (bools_back s)
+
+take_front : {A : Type 0} (k : ℕ) (xs ys : List A) → length xs ≡ k → take k (xs ++ ys) ≡ xs
+take_front k xs ys e = ap (λ n. take n (xs ++ ys)) (sym e) ∙ take-append_seam xs ys
+
+drop_front : {A : Type 0} (xs ys : List A) → drop (length xs) (xs ++ ys) ≡ ys
+drop_front [] ys = refl
+drop_front (x ∷ xs) ys = drop_front xs ys
+
+pub flat_back : (k : ℕ) (ss : List (List Value)) → Each k ss → states_of k (length ss) (flat_of ss) ≡ ss
+unfolding flat_of
+flat_back k [] each = refl
+flat_back k (s ∷ ss) (e, each) =
+    let long : length (map bool_of s) ≡ k = length-map s bool_of ∙ e in
+    let front : take k (map bool_of s ++ flat_of ss) ≡ map bool_of s = take_front k (map bool_of s) (flat_of ss) long in
+    let back : drop k (map bool_of s ++ flat_of ss) ≡ flat_of ss = ap (λ n. drop n (map bool_of s ++ flat_of ss)) (sym long) ∙ drop_front (map bool_of s) (flat_of ss) in
+    ap (λ (l : List Bool). map value.Bool l ∷ states_of k (length ss) (drop k (map bool_of s ++ flat_of ss))) front
+    ∙ ap (λ (l : List Value). l ∷ states_of k (length ss) (drop k (map bool_of s ++ flat_of ss))) (bools_back s)
+    ∙ ap (λ (l : List Bool). s ∷ states_of k (length ss) l) back
+    ∙ ap (λ (l : List (List Value)). s ∷ l) (flat_back k ss each)
+
+pub length_flat : (k : ℕ) (ss : List (List Value)) → Each k ss → length (flat_of ss) ≡ length ss * k
+unfolding flat_of
+length_flat k [] each = let e : 0 ≡ 0 * k = omega arith in e
+length_flat k (s ∷ ss) (e, each) = omega (arith, length-append (map bool_of s) (flat_of ss), length-map s bool_of, e, length_flat k ss each)
