@@ -15,15 +15,15 @@ use Rattle.invariant_queries.specs.Edges.{is_one}
 use Rattle.invariant_queries.specs.Frames.{is_broken_run, is_broken_step, steps_hold}
 use Rattle.invariant_queries.proofs.Encoding.{Each}
 
-left : (a b : Bool) → (a && b) ≡ true → a ≡ true
+pub left : (a b : Bool) → (a && b) ≡ true → a ≡ true
 left true b e = refl
 left false b e = e
 
-right : (a b : Bool) → (a && b) ≡ true → b ≡ true
+pub right : (a b : Bool) → (a && b) ≡ true → b ≡ true
 right true b e = e
 right false b e = let no : ⊥ = cc in absurd no
 
-both : (a b : Bool) → a ≡ true → b ≡ true → (a && b) ≡ true
+pub both : (a b : Bool) → a ≡ true → b ≡ true → (a && b) ≡ true
 both a b e f = rw (e, f) refl
 
 eq_or_lt : (j n : ℕ) → j < suc n → (j ≡ n) ⊎ (j < n)
@@ -39,7 +39,7 @@ pub false_is : (o : Outcome) → o ≡ One (value.Bool false) → is_one false o
 false_is o e = rw e refl
 
 module _ (p : Program) (states : List (List Value)) where
-  step_at : (m j : ℕ) → steps_hold p states m ≡ true → j < m → is_step p (state_at states j) (state_at states (suc j)) ≡ true
+  pub step_at : (m j : ℕ) → steps_hold p states m ≡ true → j < m → is_step p (state_at states j) (state_at states (suc j)) ≡ true
   step_at zero j holds h = absurd (let no : ⊥ = omega (arith, h) in no)
   step_at (suc n) j holds h = elim (eq_or_lt j n h) [
     | inl e ↦ subst (λ i. is_step p (state_at states i) (state_at states (suc i)) ≡ true) (sym e) (right (steps_hold p states n) (is_step p (state_at states n) (state_at states (suc n))) holds)
@@ -54,16 +54,16 @@ module _ (p : Program) (states : List (List Value)) where
   fits_width s e = sym (eqb-true (length (slots_of p)) (length s) (left _ _ e))
 
   module _ (e : Expr) (broken : is_broken_run p e states ≡ true) where
-    first_holds : is_first_state p (state_at states 0) ≡ true
+    pub first_holds : is_first_state p (state_at states 0) ≡ true
     first_holds = left _ _ (left _ _ broken)
 
-    steps : steps_hold p states (length states - 1) ≡ true
+    pub steps : steps_hold p states (length states - 1) ≡ true
     steps = right _ _ (left _ _ broken)
 
-    last_false : is_one false (evaluation_of p (state_at states (length states - 1)) e) ≡ true
+    pub last_false : is_one false (evaluation_of p (state_at states (length states - 1)) e) ≡ true
     last_false = right _ _ broken
 
-    width_at : (i : ℕ) → i < length states → length (state_at states i) ≡ length (slots_of p)
+    pub width_at : (i : ℕ) → i < length states → length (state_at states i) ≡ length (slots_of p)
     width_at zero h = fits_width (state_at states 0) (left _ _ first_holds)
     width_at (suc j) h =
       fits_width (state_at states (suc j)) (right _ _ (left _ _ (step_at (length states - 1) j steps (omega (arith, h)))))

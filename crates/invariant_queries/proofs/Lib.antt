@@ -3,6 +3,7 @@ pub mod BrokenRuns
 pub mod Decoding
 pub mod Encoding
 pub mod Fitting
+pub mod InductionLaws
 pub mod MoreFrames
 pub mod MoreSteps
 pub mod Truths

@@ -1,3 +1,5 @@
+pub mod Deciding
 pub mod Edges
 pub mod Frames
+pub mod Texts
 pub mod Unrolling

@@ -1,0 +1,135 @@
+-- From what the queries find to what is said of a specification.
+use Rattle.std.proofs.Common.{◌≡◌, ◌∙◌, ◌⊎◌, inl, inr, ℕ, zero, suc, ◌+◌, ◌-◌, ◌<◌, ◌≤◌, Bool, true, false, ◌&&◌, List, [], ◌∷◌, length, Option, None, Some, refl, sym, ap, subst, arith}
+use Rattle.std.specs.Prelude.{IsTrue, slice_get}
+use Rattle.smv_tree.specs.declared.tree.Program.{Program}
+use Rattle.smv_tree.specs.declared.tree.Expr.{Expr, Expr-F, out-Expr}
+use Rattle.smv_tree.specs.declared.tree.Specification.{Specification}
+use Rattle.smv_meaning.specs.declared.value.Value.{Value}
+use Rattle.smv_meaning.specs.declared.value.Value.TheVariants as value
+use Rattle.smv_meaning.specs.declared.value.Outcome.{Outcome}
+use Rattle.smv_meaning.specs.declared.value.Outcome.TheVariants.{One, Nothing}
+use Rattle.smv_meaning.specs.declared.value.Slot.{Slot}
+use Rattle.smv_meaning.specs.Evaluation.{depth_limit, evaluation_of, negation, one_or_nothing, outcome_of_node, outcome_within, slot_named, value_at}
+use Rattle.smv_meaning.specs.Programs.{slots_of}
+use Rattle.smv_meaning.specs.Runs.{Breaks, is_first_state, is_step, state_at}
+use Rattle.invariant_queries.specs.Deciding.{IsUnbroken, IsUnbrokenWithin}
+use Rattle.invariant_queries.specs.Edges.{is_one}
+use Rattle.invariant_queries.specs.Frames.{is_broken_run, is_broken_step, steps_hold}
+use Rattle.invariant_queries.proofs.BrokenRuns.{both, breaks, broken_from, first_holds, last_false, step_at, steps, width_at}
+
+-- the outcome is a value
+abbrev known : Outcome → Bool
+known (One v) = true
+known Nothing = false
+
+known_negation : (o : Outcome) → known (negation o) ≡ known o
+known_negation (One (value.Bool b)) = refl
+known_negation Nothing = refl
+
+known_get : (s t : List Value) → length s ≡ length t → (i : ℕ) → known (one_or_nothing (slice_get s i)) ≡ known (one_or_nothing (slice_get t i))
+known_get [] [] e i = refl
+known_get [] (y ∷ t) e i = absurd (let no : ⊥ = omega (arith, e) in no)
+known_get (x ∷ s) [] e i = absurd (let no : ⊥ = omega (arith, e) in no)
+known_get (x ∷ s) (y ∷ t) e zero = refl
+known_get (x ∷ s) (y ∷ t) e (suc i) = known_get s t (let less : length s ≡ length t = omega (arith, e) in less) i
+
+known_at : (s t : List Value) → length s ≡ length t → (slot : Option ℕ) → known (value_at s slot) ≡ known (value_at t slot)
+known_at s t e None = refl
+known_at s t e (Some i) = known_get s t e i
+
+module _ (slots : List Slot) (s t : List Value) (same : length s ≡ length t) where
+  known_node : (here there : Expr → Outcome) → ((e : Expr) → known (here e) ≡ known (there e)) → (node : Expr-F Expr)
+      → known (outcome_of_node slots s here node) ≡ known (outcome_of_node slots t there node)
+  known_node here there below (Expr-F.Bool place b) = refl
+  known_node here there below (Expr-F.Name place name) = known_at s t same (slot_named slots name)
+  known_node here there below (Expr-F.Not place e) = known_negation (here e) ∙ below e ∙ sym (known_negation (there e))
+
+  -- whether an expression has a value is the same in states of one length
+  known_within : (depth : ℕ) (e : Expr) → known (outcome_within slots s depth e) ≡ known (outcome_within slots t depth e)
+  unfolding outcome_within
+  known_within zero e = refl
+  known_within (suc depth) e = known_node (outcome_within slots s depth) (outcome_within slots t depth) (known_within depth) (out-Expr e)
+
+known_false : (o : Outcome) → is_one false o ≡ true → known o ≡ true
+known_false (One v) e = refl
+known_false Nothing e = let no : ⊥ = cc in absurd no
+
+true_else : (o : Outcome) → known o ≡ true → is_one false o ≡ false → is_one true o ≡ true
+true_else (One (value.Bool true)) k e = refl
+true_else (One (value.Bool false)) k e = let no : ⊥ = cc in absurd no
+true_else Nothing k e = let no : ⊥ = cc in absurd no
+
+not_both : (o : Outcome) → is_one true o ≡ true → is_one false o ≡ true → ⊥
+not_both (One (value.Bool true)) e f = let no : ⊥ = cc in no
+not_both (One (value.Bool false)) e f = let no : ⊥ = cc in no
+not_both Nothing e f = let no : ⊥ = cc in no
+
+not_true : (b : Bool) → (b ≡ true → ⊥) → b ≡ false
+not_true true never = absurd (never refl)
+not_true false never = refl
+
+module _ (p : Program) (spec : Specification) where
+  abbrev value_in : List Value → Bool → Bool
+  value_in s b = is_one b (evaluation_of p s spec.formula)
+
+  -- a state that begins no broken run and follows no broken step
+  module _ (within : IsUnbrokenWithin p spec 1) (holds : (s t : List Value) → IsTrue (is_broken_step p spec.formula s t) → ⊥)
+      (states : List (List Value)) (some : 0 < length states) (broken : is_broken_run p spec.formula states ≡ true) where
+    known_each : (i : ℕ) → i < length states → known (evaluation_of p (state_at states i) spec.formula) ≡ true
+    known_each i lt =
+      known_within (slots_of p) (state_at states i) (state_at states (length states - 1))
+        (width_at p states spec.formula broken i lt ∙ sym (width_at p states spec.formula broken (length states - 1) (omega (arith, some))))
+        depth_limit spec.formula
+      ∙ known_false (evaluation_of p (state_at states (length states - 1)) spec.formula) (last_false p states spec.formula broken)
+
+    not_false_first : value_in (state_at states 0) false ≡ true → ⊥
+    not_false_first f =
+      within (state_at states 0 ∷ []) (omega arith)
+        (breaks p (state_at states 0 ∷ []) spec.formula
+          (both (is_first_state p (state_at states 0) && true) (value_in (state_at states 0) false)
+            (both (is_first_state p (state_at states 0)) true (first_holds p states spec.formula broken) refl) f)
+          spec refl (omega arith))
+
+    not_false_next : (i : ℕ) → suc i < length states → value_in (state_at states i) true ≡ true → value_in (state_at states (suc i)) false ≡ true → ⊥
+    not_false_next i lt t f =
+      let step : is_step p (state_at states i) (state_at states (suc i)) ≡ true =
+        step_at p states (length states - 1) i (steps p states spec.formula broken) (omega (arith, lt)) in
+      holds (state_at states i) (state_at states (suc i))
+        (both (value_in (state_at states i) true && is_step p (state_at states i) (state_at states (suc i))) (value_in (state_at states (suc i)) false)
+          (both (value_in (state_at states i) true) (is_step p (state_at states i) (state_at states (suc i))) t step) f)
+
+    true_each : (i : ℕ) → i < length states → value_in (state_at states i) true ≡ true
+    true_each zero lt =
+      true_else (evaluation_of p (state_at states 0) spec.formula) (known_each 0 lt) (not_true (value_in (state_at states 0) false) not_false_first)
+    true_each (suc i) lt =
+      true_else (evaluation_of p (state_at states (suc i)) spec.formula) (known_each (suc i) lt)
+        (not_true (value_in (state_at states (suc i)) false) (not_false_next i lt (true_each i (omega (arith, lt)))))
+
+    none : ⊥
+    none =
+      not_both (evaluation_of p (state_at states (length states - 1)) spec.formula) (true_each (length states - 1) (omega (arith, some)))
+        (last_false p states spec.formula broken)
+
+  -- induction over one step
+  pub unbroken : IsUnbrokenWithin p spec 1 → ((s t : List Value) → IsTrue (is_broken_step p spec.formula s t) → ⊥) → IsUnbroken p spec
+  unbroken within holds states b = none within holds states b.run.some (broken_from p states spec b)
+
+  -- a broken run of so many states, one at least
+  pub broken : (states : List (List Value)) (n : ℕ) → 0 < n → length states ≡ n → IsTrue (is_broken_run p spec.formula states) → Breaks p spec states
+  broken states n some long holds = breaks p states spec.formula holds spec refl (omega (arith, some, long))
+
+  -- where no run of one state breaks it
+  pub within_one : ((states : List (List Value)) → length states ≡ 1 → IsTrue (is_broken_run p spec.formula states) → ⊥) → IsUnbrokenWithin p spec 1
+  within_one never states most b = never states (omega (arith, most, b.run.some)) (broken_from p states spec b)
+
+  one_more : (m n : ℕ) → m ≤ suc n → (m ≤ n) ⊎ (m ≡ suc n)
+  one_more m n h = grind (arith, h)
+
+  -- where no run of one state more breaks it
+  pub within_more : (i : ℕ) → IsUnbrokenWithin p spec (i + 1)
+      → ((states : List (List Value)) → length states ≡ i + 2 → IsTrue (is_broken_run p spec.formula states) → ⊥) → IsUnbrokenWithin p spec ((i + 1) + 1)
+  within_more i so_far never states most b =
+    elim (one_more (length states) (i + 1) (omega (arith, most))) [
+    | inl le ↦ so_far states le b
+    | inr e ↦ never states (omega (arith, e)) (broken_from p states spec b)
+    ]

@@ -1,0 +1,8 @@
+-- No run of the lengths so far breaks the specification.
+use Rattle.std.proofs.Common.{◌≡◌, ◌+◌}
+use Rattle.invariant_queries.specs.Deciding.{IsUnbrokenWithin}
+use Rattle.invariant_queries.proofs.deciding.unroll_to.Given as goal
+
+abbrev pub invariant-loop-steps : goal.invariant-loop-steps
+invariant-loop-steps g l =
+    g.Q.Purse.ready l.purse × (g.Q.Purse.budget l.purse ≡ l.effort.conflicts) × IsUnbrokenWithin l.typed.program l.spec (l.steps + 1)

@@ -1,0 +1,36 @@
+-- What is said of a specification, and why nothing is.
+use Rattle.std.specs.Prelude.{◌≡◌, ℕ, ◌+◌, ◌≤◌, List, length, IsTrue}
+use Rattle.smv_tree.specs.declared.tree.Program.{Program}
+use Rattle.smv_tree.specs.declared.tree.Specification.{Specification}
+use Rattle.smv_meaning.specs.declared.value.Value.{Value}
+use Rattle.smv_meaning.specs.Runs.{Breaks}
+use Rattle.invariant_queries.specs.declared.effort.Effort.{Effort}
+use Rattle.invariant_queries.specs.declared.effort.Cause.{Cause}
+use Rattle.invariant_queries.specs.declared.effort.Cause.TheVariants.{Conflicts, Bound}
+use Rattle.invariant_queries.specs.declared.deciding.Decision.{Decision}
+use Rattle.invariant_queries.specs.declared.deciding.Decision.TheVariants.{True, False, Unknown}
+use Rattle.invariant_queries.specs.Frames.{is_broken_step}
+
+-- no run breaks the specification
+abbrev pub IsUnbroken : Program → Specification → Type 0
+IsUnbroken p spec = (states : List (List Value)) → Breaks p spec states → ⊥
+
+-- no run of at most this many states breaks the specification
+abbrev pub IsUnbrokenWithin : Program → Specification → ℕ → Type 0
+IsUnbrokenWithin p spec most = (states : List (List Value)) → length states ≤ most → Breaks p spec states → ⊥
+
+-- some step leads from a state in which the specification is TRUE to one in which it is FALSE
+abbrev pub IsNotInductive : Program → Specification → Type 0
+IsNotInductive p spec = (s : List Value) × (t : List Value) × IsTrue (is_broken_step p spec.formula s t)
+
+-- Why a specification is unknown. All tickets were drawn; or no run of at most so many steps breaks it, and induction
+-- over one step does not show it.
+abbrev pub IsCause : Program → Specification → Effort → Cause → Type 0
+IsCause p spec effort (Conflicts drawn budget) = (drawn ≡ budget) × (budget ≡ effort.conflicts)
+IsCause p spec effort (Bound bound) = (bound ≡ effort.bound) × IsUnbrokenWithin p spec (bound + 1) × IsNotInductive p spec
+
+-- a right decision: no run breaks the specification; or this one does; or there is a cause why it is not known
+abbrev pub IsDecided : Program → Specification → Effort → Decision → Type 0
+IsDecided p spec effort True = IsUnbroken p spec
+IsDecided p spec effort (False states) = Breaks p spec states
+IsDecided p spec effort (Unknown cause) = IsCause p spec effort cause

@@ -1,0 +1,82 @@
+//! What is said of a specification.
+
+ghost use Rattle.std.specs.Prelude.{◌≡◌, ◌<◌, ◌^◌, IfOk};
+ghost use Rattle.invariant_queries.specs.Deciding.{IsDecided, IsNotInductive, IsUnbrokenWithin};
+
+use crate::effort::{Cause, Effort};
+use crate::unrolling::{Induction, Unrolled, is_inductive, unroll};
+use effort_purse::{PlainPurse, Purse};
+use smv_meaning::{State, Typed};
+use smv_tree::Specification;
+use sqlite_items::Items;
+use std::alloc::{AllocError, Global};
+
+/// What is said of a specification.
+#[derive(Debug, Drop)]
+pub enum Decision {
+    /// No run breaks it.
+    True,
+    /// This run breaks it.
+    False(Items<State>),
+    /// It is not known, for this cause.
+    Unknown(Cause),
+}
+
+/// Decides an invariant by queries, in this order: is it broken in a first state; does a step lead from a state in
+/// which it is true to one in which it is false, else no run breaks it; do runs of 1, 2, .. steps break it, up to the
+/// bound of the effort.
+#[tactic(auto, using(crate::proofs::InductionLaws::broken, crate::proofs::InductionLaws::within_one, crate::proofs::InductionLaws::unbroken))]
+pub fn decide(
+    alloc: Global,
+    typed: &Typed,
+    spec: &Specification,
+    effort: Effort,
+) -> Result<Decision, AllocError>
+    requires { effort.bound < 2 ^ 32 }
+    ensures { IfOk result (IsDecided typed.now.program spec.now effort) }
+{
+    let mut purse = PlainPurse::new(effort.conflicts);
+    match unroll(alloc, typed, &spec.formula, 1, &mut purse)? {
+        Unrolled::Run(states) => return Ok(Decision::False(states)),
+        Unrolled::Spent { drawn, budget } => return Ok(spent(drawn, budget)),
+        Unrolled::Nothing => {}
+    }
+    match is_inductive(alloc, typed, &spec.formula, &mut purse)? {
+        Induction::Holds => Ok(Decision::True),
+        Induction::Spent { drawn, budget } => Ok(spent(drawn, budget)),
+        Induction::Fails => unroll_to(alloc, typed, spec, effort, &mut purse),
+    }
+}
+
+// Looks for runs of two states, three, and so on, up to the bound.
+fn unroll_to<Q: Purse>(
+    alloc: Global,
+    typed: &Typed,
+    spec: &Specification,
+    effort: Effort,
+    purse: &mut Q,
+) -> Result<Decision, AllocError>
+    requires ready { Q.ready purse.old }
+    requires budget { Q.budget purse.old ≡ effort.conflicts }
+    requires bound { effort.bound < 2 ^ 32 }
+    requires within { IsUnbrokenWithin typed.now.program spec.now 1 }
+    requires not_inductive { IsNotInductive typed.now.program spec.now }
+    ensures { IfOk result (IsDecided typed.now.program spec.now effort) }
+{
+    for steps in 0..effort.bound {
+        match unroll(alloc, typed, &spec.formula, steps + 2, purse)? {
+            Unrolled::Run(states) => return Ok(Decision::False(states)),
+            Unrolled::Spent { drawn, budget } => return Ok(spent(drawn, budget)),
+            Unrolled::Nothing => {}
+        }
+    }
+    Ok(Decision::Unknown(Cause::Bound {
+        bound: effort.bound,
+    }))
+}
+
+fn spent(drawn: u64, budget: u64) -> Decision
+    ensures { result ≡ Decision.Unknown (Cause.Conflicts drawn budget) }
+{
+    Decision::Unknown(Cause::Conflicts { drawn, budget })
+}
