@@ -27,11 +27,11 @@ module _ (g : List Node) (law : OneWay g) (k n inputs : ℕ) (are : HasInputs in
   -- where no values make the edge true, the test holds of no such states
   pub no_states : ((a : ℕ → Bool) → AreTrue a g (root ∷ []) → ⊥) → (states : List (List Value)) → length states ≡ n → Each k states → test states ≡ true → ⊥
   no_states never states count each holds =
-    let flat = flat_of states in
-    let long : length flat ≡ inputs = length_flat k states each ∙ ap (λ m. m * k) count ∙ size in
-    let back : states_of k n flat ≡ states = ap (λ m. states_of k m flat) (sym count) ∙ flat_back k states each in
-    let there : value_under (assigned flat) g root ≡ true = value_is flat long ∙ ap test back ∙ holds in
-    never (assigned flat) (only_true (assigned flat) g root there)
+      let flat = flat_of states in
+      let long : length flat ≡ inputs = length_flat k states each ∙ ap (λ m. m * k) count ∙ size in
+      let back : states_of k n flat ≡ states = ap (λ m. states_of k m flat) (sym count) ∙ flat_back k states each in
+      let there : value_under (assigned flat) g root ≡ true = value_is flat long ∙ ap test back ∙ holds in
+      never (assigned flat) (only_true (assigned flat) g root there)
 
 pub length_states : (k n : ℕ) (flat : List Bool) → length (states_of k n flat) ≡ n
 length_states k zero flat = refl

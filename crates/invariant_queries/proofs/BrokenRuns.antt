@@ -66,7 +66,7 @@ module _ (p : Program) (states : List (List Value)) where
     pub width_at : (i : ℕ) → i < length states → length (state_at states i) ≡ length (slots_of p)
     width_at zero h = fits_width (state_at states 0) (left _ _ first_holds)
     width_at (suc j) h =
-      fits_width (state_at states (suc j)) (right _ _ (left _ _ (step_at (length states - 1) j steps (omega (arith, h)))))
+        fits_width (state_at states (suc j)) (right _ _ (left _ _ (step_at (length states - 1) j steps (omega (arith, h)))))
 
     pub breaks : (spec : Specification) → spec.formula ≡ e → 0 < length states → Breaks p spec states
     breaks spec same some = record {
@@ -80,9 +80,9 @@ module _ (p : Program) (states : List (List Value)) where
 
   pub broken_from : (spec : Specification) → Breaks p spec states → is_broken_run p spec.formula states ≡ true
   broken_from spec b =
-    both (is_first_state p (state_at states 0) && steps_hold p states (length states - 1)) (is_one false (evaluation_of p (state_at states (length states - 1)) spec.formula))
+      both (is_first_state p (state_at states 0) && steps_hold p states (length states - 1)) (is_one false (evaluation_of p (state_at states (length states - 1)) spec.formula))
       (both (is_first_state p (state_at states 0)) (steps_hold p states (length states - 1)) b.run.first
-        (steps_from (length states - 1) (λ j h. subst (λ i. IsStep p (state_at states j) (state_at states i)) (add-one j) (b.run.steps j (omega (arith, h))))))
+      (steps_from (length states - 1) (λ j h. subst (λ i. IsStep p (state_at states j) (state_at states i)) (add-one j) (b.run.steps j (omega (arith, h))))))
       (false_is (evaluation_of p (state_at states (length states - 1)) spec.formula) b.broken)
 
 each_from : (k : ℕ) (ss : List (List Value)) → ((i : ℕ) → i < length ss → length (state_at ss i) ≡ k) → Each k ss

@@ -12,6 +12,6 @@ states_more k n i made whole rest here after state within so_far front back is =
     let first : state ≡ map value.Bool (take k rest) = is ∙ ap (map value.Bool) front in
     append_assoc made (state ∷ []) (states_of k (n - (i + 1)) after)
     ∙ ap (λ (l : List (List Value)). made ++ l)
-        (ap (λ (s : List Value). s ∷ states_of k (n - (i + 1)) after) first ∙ ap (λ (r : List Bool). map value.Bool (take k rest) ∷ states_of k (n - (i + 1)) r) back
-         ∙ ap (λ m. states_of k m rest) (sym left))
+    (ap (λ (s : List Value). s ∷ states_of k (n - (i + 1)) after) first ∙ ap (λ (r : List Bool). map value.Bool (take k rest) ∷ states_of k (n - (i + 1)) r) back
+    ∙ ap (λ m. states_of k m rest) (sym left))
     ∙ so_far

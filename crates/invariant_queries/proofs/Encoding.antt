@@ -24,23 +24,23 @@ module _ (g : List Node) (law : OneWay g) (inputs : ℕ) (are : HasInputs inputs
   frame_value : (k start : ℕ) → start + k ≤ inputs → state_under (values (assigned flat) g) (frame_from k start) ≡ map value.Bool (take k (drop start flat))
   frame_value zero start h = refl
   frame_value (suc k) start h =
-    let within : start < inputs = omega (arith, h) in
-    let here : start < length flat = omega (arith, within, long) in
-    let next : start + 1 ≡ suc start = omega arith in
-    let rest : state_under (values (assigned flat) g) (frame_from k (start + 1)) ≡ map value.Bool (take k (drop (suc start) flat)) =
+      let within : start < inputs = omega (arith, h) in
+      let here : start < length flat = omega (arith, within, long) in
+      let next : start + 1 ≡ suc start = omega arith in
+      let rest : state_under (values (assigned flat) g) (frame_from k (start + 1)) ≡ map value.Bool (take k (drop (suc start) flat)) =
       frame_value k (start + 1) (omega (arith, h)) ∙ ap (λ n. map value.Bool (take k (drop n flat))) next in
-    let cons : drop start flat ≡ assigned flat start ∷ drop (suc start) flat = drop-cons flat start false here in
-    ap (λ (b : Bool). value.Bool b ∷ state_under (values (assigned flat) g) (frame_from k (start + 1))) (input_value start within)
-    ∙ ap (λ (s : List Value). value.Bool (assigned flat start) ∷ s) rest
-    ∙ ap (λ (l : List Bool). map value.Bool (take (suc k) l)) (sym cons)
+      let cons : drop start flat ≡ assigned flat start ∷ drop (suc start) flat = drop-cons flat start false here in
+      ap (λ (b : Bool). value.Bool b ∷ state_under (values (assigned flat) g) (frame_from k (start + 1))) (input_value start within)
+      ∙ ap (λ (s : List Value). value.Bool (assigned flat start) ∷ s) rest
+      ∙ ap (λ (l : List Bool). map value.Bool (take (suc k) l)) (sym cons)
 
   frames_value : (k n start : ℕ) → start + n * k ≤ inputs → map (state_under (values (assigned flat) g)) (frames_from k start n) ≡ states_of k n (drop start flat)
   frames_value k zero start h = refl
   frames_value k (suc n) start h =
-    let rest : map (state_under (values (assigned flat) g)) (frames_from k (start + k) n) ≡ states_of k n (drop k (drop start flat)) =
+      let rest : map (state_under (values (assigned flat) g)) (frames_from k (start + k) n) ≡ states_of k n (drop k (drop start flat)) =
       frames_value k n (start + k) (omega (arith, h)) ∙ ap (states_of k n) (sym (drop-drop k start flat)) in
-    ap (λ (s : List Value). s ∷ map (state_under (values (assigned flat) g)) (frames_from k (start + k) n)) (frame_value k start (omega (arith, h)))
-    ∙ ap (λ (ss : List (List Value)). map value.Bool (take k (drop start flat)) ∷ ss) rest
+      ap (λ (s : List Value). s ∷ map (state_under (values (assigned flat) g)) (frames_from k (start + k) n)) (frame_value k start (omega (arith, h)))
+      ∙ ap (λ (ss : List (List Value)). map value.Bool (take k (drop start flat)) ∷ ss) rest
 
   pub decoded : (k n : ℕ) → n * k ≡ inputs → map (state_under (values (assigned flat) g)) (frames_from k 0 n) ≡ states_of k n flat
   decoded k n e = frames_value k n 0 (omega (arith, e))

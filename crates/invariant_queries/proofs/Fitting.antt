@@ -34,9 +34,9 @@ module _ {A : Type 0} (f : A → Bool) where
   -- booleans, one for each slot, are a state
   pub booleans_fit : (slots : List Slot) (xs : List A) → length xs ≡ length slots → fits slots (map (λ x. value.Bool (f x)) xs) ≡ true
   booleans_fit slots xs e =
-    let long : length slots ≡ length (map (λ x. value.Bool (f x)) xs) = sym e ∙ sym (length-map xs (λ x. value.Bool (f x))) in
-    let same : (length slots == length (map (λ x. value.Bool (f x)) xs)) ≡ true = eq-eqb (length slots) (length (map (λ x. value.Bool (f x)) xs)) long in
-    rw same (all_fit slots xs)
+      let long : length slots ≡ length (map (λ x. value.Bool (f x)) xs) = sym e ∙ sym (length-map xs (λ x. value.Bool (f x))) in
+      let same : (length slots == length (map (λ x. value.Bool (f x)) xs)) ≡ true = eq-eqb (length slots) (length (map (λ x. value.Bool (f x)) xs)) long in
+      rw same (all_fit slots xs)
 
 module _ (p : Program) (g : List Node) (e : Edge) (bits : List Edge) (each : length bits ≡ length (slots_of p)) where
   pub tells_first : Denotes g e (λ v. all_assignments (meets_asked_first p v bits) p) → Denotes g e (λ v. is_first_state p (state_under v bits))

@@ -77,37 +77,37 @@ module _ (p : Program) (spec : Specification) where
       (states : List (List Value)) (some : 0 < length states) (broken : is_broken_run p spec.formula states ≡ true) where
     known_each : (i : ℕ) → i < length states → known (evaluation_of p (state_at states i) spec.formula) ≡ true
     known_each i lt =
-      known_within (slots_of p) (state_at states i) (state_at states (length states - 1))
+        known_within (slots_of p) (state_at states i) (state_at states (length states - 1))
         (width_at p states spec.formula broken i lt ∙ sym (width_at p states spec.formula broken (length states - 1) (omega (arith, some))))
         depth_limit spec.formula
-      ∙ known_false (evaluation_of p (state_at states (length states - 1)) spec.formula) (last_false p states spec.formula broken)
+        ∙ known_false (evaluation_of p (state_at states (length states - 1)) spec.formula) (last_false p states spec.formula broken)
 
     not_false_first : value_in (state_at states 0) false ≡ true → ⊥
     not_false_first f =
-      within (state_at states 0 ∷ []) (omega arith)
+        within (state_at states 0 ∷ []) (omega arith)
         (breaks p (state_at states 0 ∷ []) spec.formula
-          (both (is_first_state p (state_at states 0) && true) (value_in (state_at states 0) false)
-            (both (is_first_state p (state_at states 0)) true (first_holds p states spec.formula broken) refl) f)
-          spec refl (omega arith))
+        (both (is_first_state p (state_at states 0) && true) (value_in (state_at states 0) false)
+        (both (is_first_state p (state_at states 0)) true (first_holds p states spec.formula broken) refl) f)
+        spec refl (omega arith))
 
     not_false_next : (i : ℕ) → suc i < length states → value_in (state_at states i) true ≡ true → value_in (state_at states (suc i)) false ≡ true → ⊥
     not_false_next i lt t f =
-      let step : is_step p (state_at states i) (state_at states (suc i)) ≡ true =
+        let step : is_step p (state_at states i) (state_at states (suc i)) ≡ true =
         step_at p states (length states - 1) i (steps p states spec.formula broken) (omega (arith, lt)) in
-      holds (state_at states i) (state_at states (suc i))
+        holds (state_at states i) (state_at states (suc i))
         (both (value_in (state_at states i) true && is_step p (state_at states i) (state_at states (suc i))) (value_in (state_at states (suc i)) false)
-          (both (value_in (state_at states i) true) (is_step p (state_at states i) (state_at states (suc i))) t step) f)
+        (both (value_in (state_at states i) true) (is_step p (state_at states i) (state_at states (suc i))) t step) f)
 
     true_each : (i : ℕ) → i < length states → value_in (state_at states i) true ≡ true
     true_each zero lt =
-      true_else (evaluation_of p (state_at states 0) spec.formula) (known_each 0 lt) (not_true (value_in (state_at states 0) false) not_false_first)
+        true_else (evaluation_of p (state_at states 0) spec.formula) (known_each 0 lt) (not_true (value_in (state_at states 0) false) not_false_first)
     true_each (suc i) lt =
-      true_else (evaluation_of p (state_at states (suc i)) spec.formula) (known_each (suc i) lt)
+        true_else (evaluation_of p (state_at states (suc i)) spec.formula) (known_each (suc i) lt)
         (not_true (value_in (state_at states (suc i)) false) (not_false_next i lt (true_each i (omega (arith, lt)))))
 
     none : ⊥
     none =
-      not_both (evaluation_of p (state_at states (length states - 1)) spec.formula) (true_each (length states - 1) (omega (arith, some)))
+        not_both (evaluation_of p (state_at states (length states - 1)) spec.formula) (true_each (length states - 1) (omega (arith, some)))
         (last_false p states spec.formula broken)
 
   -- induction over one step
@@ -129,7 +129,7 @@ module _ (p : Program) (spec : Specification) where
   pub within_more : (i : ℕ) → IsUnbrokenWithin p spec (i + 1)
       → ((states : List (List Value)) → length states ≡ i + 2 → IsTrue (is_broken_run p spec.formula states) → ⊥) → IsUnbrokenWithin p spec ((i + 1) + 1)
   within_more i so_far never states most b =
-    elim (one_more (length states) (i + 1) (omega (arith, most))) [
-    | inl le ↦ so_far states le b
-    | inr e ↦ never states (omega (arith, e)) (broken_from p states spec b)
-    ]
+      elim (one_more (length states) (i + 1) (omega (arith, most))) [
+        | inl le ↦ so_far states le b
+        | inr e ↦ never states (omega (arith, e)) (broken_from p states spec b)
+      ]

@@ -12,7 +12,7 @@ pub frames_from-more : (k s n : ℕ) → frames_from k s (suc n) ≡ frames_from
 frames_from-more k s zero = ap (λ (m : ℕ). frame_from k m ∷ []) (let e : s ≡ s + zero * k = omega arith in e)
 frames_from-more k s (suc n) =
     ap (λ (l : List (List Edge)). frame_from k s ∷ l)
-      (frames_from-more k (s + k) n ∙ ap (λ (m : ℕ). frames_from k (s + k) n ++ frame_from k m ∷ []) (let e : (s + k) + n * k ≡ s + suc n * k = omega arith in e))
+    (frames_from-more k (s + k) n ∙ ap (λ (m : ℕ). frames_from k (s + k) n ++ frame_from k m ∷ []) (let e : (s + k) + n * k ≡ s + suc n * k = omega arith in e))
 
 pub frames_more : (k n s : ℕ) (made : List (List Edge)) (frame : List Edge) → made ≡ frames_from k 0 n → s ≡ n * k → frame ≡ frame_from k s
     → made ++ frame ∷ [] ≡ frames_from k 0 (n + 1)

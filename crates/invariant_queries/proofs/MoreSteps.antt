@@ -22,16 +22,16 @@ module _ (p : Program) (frames : List (List Edge)) (v : ℕ → Bool) where
       → run ≡ (is_first_state p (state_at states 0) && steps_hold p states i) → step ≡ is_step p (state_under v a) (state_under v b)
       → both ≡ (run && step) → both ≡ (is_first_state p (state_at states 0) && steps_hold p states (i + 1))
   run_more i run step both a b a_is b_is run_is step_is both_is =
-    let first = is_first_state p (state_at states 0) in
-    let so_far = steps_hold p states i in
-    let next : i + 1 ≡ suc i = omega arith in
-    let from : state_under v a ≡ state_at states i = ap (state_under v) a_is ∙ sym (state_at_frame i) in
-    let to : state_under v b ≡ state_at states (suc i) = ap (state_under v) b_is ∙ sym (state_at_frame (i + 1)) ∙ ap (state_at states) next in
-    let here : step ≡ is_step p (state_at states i) (state_at states (suc i)) =
+      let first = is_first_state p (state_at states 0) in
+      let so_far = steps_hold p states i in
+      let next : i + 1 ≡ suc i = omega arith in
+      let from : state_under v a ≡ state_at states i = ap (state_under v) a_is ∙ sym (state_at_frame i) in
+      let to : state_under v b ≡ state_at states (suc i) = ap (state_under v) b_is ∙ sym (state_at_frame (i + 1)) ∙ ap (state_at states) next in
+      let here : step ≡ is_step p (state_at states i) (state_at states (suc i)) =
       step_is ∙ ap (λ s. is_step p s (state_under v b)) from ∙ ap (is_step p (state_at states i)) to in
-    both_is ∙ ap (λ (x : Bool). x && step) run_is ∙ ap (λ (x : Bool). (first && so_far) && x) here
-    ∙ and_assoc first so_far (is_step p (state_at states i) (state_at states (suc i)))
-    ∙ ap (λ n. first && steps_hold p states n) (sym next)
+      both_is ∙ ap (λ (x : Bool). x && step) run_is ∙ ap (λ (x : Bool). (first && so_far) && x) here
+      ∙ and_assoc first so_far (is_step p (state_at states i) (state_at states (suc i)))
+      ∙ ap (λ n. first && steps_hold p states n) (sym next)
 
 pub Extends-trans : (f g h : List Node) → Extends f g → Extends g h → Extends f h
 Extends-trans f g h first second = record {

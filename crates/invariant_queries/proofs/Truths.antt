@@ -26,7 +26,7 @@ module _ (g : List Node) (t : Truth) where
         → Denotes g t.is_true (λ v. false) × Denotes g t.is_false (λ v. false)
         → TellsTruth g t (λ v. outcome_within slots (state_under v bits) depth e)
     tells_nothing zero stands told =
-      tells_along (λ v. Nothing) (λ v. outcome_within slots (state_under v bits) depth e)
+        tells_along (λ v. Nothing) (λ v. outcome_within slots (state_under v bits) depth e)
         (λ v. outcome_within-zero slots (state_under v bits) e ∙ ap (λ d. outcome_within slots (state_under v bits) d e) (sym zero))
         (record { true_stands = stands.0; false_stands = stands.1; true_told = told.0; false_told = told.1 })
 
@@ -34,6 +34,6 @@ module _ (g : List Node) (t : Truth) where
         → TellsTruth g t (λ v. outcome_of_node slots (state_under v bits) (outcome_within slots (state_under v bits) (depth - 1)) (out-Expr e))
         → TellsTruth g t (λ v. outcome_within slots (state_under v bits) depth e)
     tells_deeper some tells =
-      tells_along (λ v. outcome_of_node slots (state_under v bits) (outcome_within slots (state_under v bits) (depth - 1)) (out-Expr e))
+        tells_along (λ v. outcome_of_node slots (state_under v bits) (outcome_within slots (state_under v bits) (depth - 1)) (out-Expr e))
         (λ v. outcome_within slots (state_under v bits) depth e)
         (λ v. outcome_within-pos slots (state_under v bits) e depth some) tells

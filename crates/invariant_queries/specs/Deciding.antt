@@ -1,15 +1,15 @@
 -- What is said of a specification, and why nothing is.
-use Rattle.std.specs.Prelude.{◌≡◌, ℕ, ◌+◌, ◌≤◌, List, length, IsTrue}
+use Rattle.std.specs.Prelude.{◌≡◌, ℕ, ◌+◌, ◌≤◌, Bool, List, length, IsTrue}
 use Rattle.smv_tree.specs.declared.tree.Program.{Program}
 use Rattle.smv_tree.specs.declared.tree.Specification.{Specification}
 use Rattle.smv_meaning.specs.declared.value.Value.{Value}
 use Rattle.smv_meaning.specs.Runs.{Breaks}
-use Rattle.invariant_queries.specs.declared.effort.Effort.{Effort}
-use Rattle.invariant_queries.specs.declared.effort.Cause.{Cause}
-use Rattle.invariant_queries.specs.declared.effort.Cause.TheVariants.{Conflicts, Bound}
+use Rattle.invariant_queries.specs.declared.cause.Cause.{Cause}
+use Rattle.invariant_queries.specs.declared.cause.Cause.TheVariants.{Conflicts, Bound}
 use Rattle.invariant_queries.specs.declared.deciding.Decision.{Decision}
 use Rattle.invariant_queries.specs.declared.deciding.Decision.TheVariants.{True, False, Unknown}
 use Rattle.invariant_queries.specs.Frames.{is_broken_step}
+use Rattle.invariant_queries.specs.Unrolling.{WasSpent}
 
 -- no run breaks the specification
 abbrev pub IsUnbroken : Program → Specification → Type 0
@@ -23,14 +23,14 @@ IsUnbrokenWithin p spec most = (states : List (List Value)) → length states �
 abbrev pub IsNotInductive : Program → Specification → Type 0
 IsNotInductive p spec = (s : List Value) × (t : List Value) × IsTrue (is_broken_step p spec.formula s t)
 
--- Why a specification is unknown. All tickets were drawn; or no run of at most so many steps breaks it, and induction
--- over one step does not show it.
-abbrev pub IsCause : Program → Specification → Effort → Cause → Type 0
-IsCause p spec effort (Conflicts drawn budget) = (drawn ≡ budget) × (budget ≡ effort.conflicts)
-IsCause p spec effort (Bound bound) = (bound ≡ effort.bound) × IsUnbrokenWithin p spec (bound + 1) × IsNotInductive p spec
+-- Why a specification is unknown: the purse, whose budget this is, was spent; or no run of at most so many steps breaks
+-- it, and induction over one step does not show it.
+abbrev pub IsCause : Program → Specification → ℕ → ℕ → Bool → Cause → Type 0
+IsCause p spec budget most over (Conflicts drawn b) = WasSpent budget over drawn b
+IsCause p spec budget most over (Bound bound) = (bound ≡ most) × IsUnbrokenWithin p spec (bound + 1) × IsNotInductive p spec
 
 -- a right decision: no run breaks the specification; or this one does; or there is a cause why it is not known
-abbrev pub IsDecided : Program → Specification → Effort → Decision → Type 0
-IsDecided p spec effort True = IsUnbroken p spec
-IsDecided p spec effort (False states) = Breaks p spec states
-IsDecided p spec effort (Unknown cause) = IsCause p spec effort cause
+abbrev pub IsDecided : Program → Specification → ℕ → ℕ → Bool → Decision → Type 0
+IsDecided p spec budget most over True = IsUnbroken p spec
+IsDecided p spec budget most over (False states) = Breaks p spec states
+IsDecided p spec budget most over (Unknown cause) = IsCause p spec budget most over cause

@@ -3,9 +3,9 @@
 ghost use Rattle.std.specs.Prelude.{◌≡◌, ◌<◌, ◌^◌, IfOk};
 ghost use Rattle.invariant_queries.specs.Deciding.{IsDecided, IsNotInductive, IsUnbrokenWithin};
 
-use crate::effort::{Cause, Effort};
+use crate::cause::Cause;
 use crate::unrolling::{Induction, Unrolled, is_inductive, unroll};
-use effort_purse::{PlainPurse, Purse};
+use effort_purse::Purse;
 use smv_meaning::{State, Typed};
 use smv_tree::Specification;
 use sqlite_items::Items;
@@ -22,29 +22,32 @@ pub enum Decision {
     Unknown(Cause),
 }
 
-/// Decides an invariant by queries, in this order: is it broken in a first state; does a step lead from a state in
-/// which it is true to one in which it is false, else no run breaks it; do runs of 1, 2, .. steps break it, up to the
-/// bound of the effort.
+/// Decides an invariant by queries that the purse pays, in this order: is it broken in a first state; does a step lead
+/// from a state in which it is true to one in which it is false, else no run breaks it; do runs of 1, 2, .. steps
+/// break it, up to the bound.
 #[tactic(auto, using(crate::proofs::InductionLaws::broken, crate::proofs::InductionLaws::within_one, crate::proofs::InductionLaws::unbroken))]
-pub fn decide(
+pub fn decide<Q: Purse>(
     alloc: Global,
     typed: &Typed,
     spec: &Specification,
-    effort: Effort,
+    bound: usize,
+    purse: &mut Q,
 ) -> Result<Decision, AllocError>
-    requires { effort.bound < 2 ^ 32 }
-    ensures { IfOk result (IsDecided typed.now.program spec.now effort) }
+    requires bound { bound < 2 ^ 32 }
+    requires ready { Q.ready purse.old }
+    ensures found { IfOk result (IsDecided typed.now.program spec.now (Q.budget purse.old) bound (Q.spent purse.new)) }
+    ensures ready { Q.ready purse.new }
+    ensures budget { Q.budget purse.new ≡ Q.budget purse.old }
 {
-    let mut purse = PlainPurse::new(effort.conflicts);
-    match unroll(alloc, typed, &spec.formula, 1, &mut purse)? {
+    match unroll(alloc, typed, &spec.formula, 1, purse)? {
         Unrolled::Run(states) => return Ok(Decision::False(states)),
         Unrolled::Spent { drawn, budget } => return Ok(spent(drawn, budget)),
         Unrolled::Nothing => {}
     }
-    match is_inductive(alloc, typed, &spec.formula, &mut purse)? {
+    match is_inductive(alloc, typed, &spec.formula, purse)? {
         Induction::Holds => Ok(Decision::True),
         Induction::Spent { drawn, budget } => Ok(spent(drawn, budget)),
-        Induction::Fails => unroll_to(alloc, typed, spec, effort, &mut purse),
+        Induction::Fails => unroll_to(alloc, typed, spec, bound, purse),
     }
 }
 
@@ -53,26 +56,25 @@ fn unroll_to<Q: Purse>(
     alloc: Global,
     typed: &Typed,
     spec: &Specification,
-    effort: Effort,
+    bound: usize,
     purse: &mut Q,
 ) -> Result<Decision, AllocError>
+    requires bound { bound < 2 ^ 32 }
     requires ready { Q.ready purse.old }
-    requires budget { Q.budget purse.old ≡ effort.conflicts }
-    requires bound { effort.bound < 2 ^ 32 }
     requires within { IsUnbrokenWithin typed.now.program spec.now 1 }
     requires not_inductive { IsNotInductive typed.now.program spec.now }
-    ensures { IfOk result (IsDecided typed.now.program spec.now effort) }
+    ensures found { IfOk result (IsDecided typed.now.program spec.now (Q.budget purse.old) bound (Q.spent purse.new)) }
+    ensures ready { Q.ready purse.new }
+    ensures budget { Q.budget purse.new ≡ Q.budget purse.old }
 {
-    for steps in 0..effort.bound {
+    for steps in 0..bound {
         match unroll(alloc, typed, &spec.formula, steps + 2, purse)? {
             Unrolled::Run(states) => return Ok(Decision::False(states)),
             Unrolled::Spent { drawn, budget } => return Ok(spent(drawn, budget)),
             Unrolled::Nothing => {}
         }
     }
-    Ok(Decision::Unknown(Cause::Bound {
-        bound: effort.bound,
-    }))
+    Ok(Decision::Unknown(Cause::Bound { bound }))
 }
 
 fn spent(drawn: u64, budget: u64) -> Decision

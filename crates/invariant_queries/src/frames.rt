@@ -19,7 +19,11 @@ use std::alloc::{AllocError, Global};
 /// The edges of `count` states of `width` inputs each: the first inputs of a graph, in their order. More inputs than
 /// there are numbers count as want of memory.
 #[tactic(auto, using(crate::proofs::MoreFrames::frames_more))]
-pub fn make_frames(alloc: Global, width: usize, count: usize) -> Result<Items<Items<Edge>>, AllocError>
+pub fn make_frames(
+    alloc: Global,
+    width: usize,
+    count: usize,
+) -> Result<Items<Items<Edge>>, AllocError>
     ensures { IfOk result (λ frames. frames ≡ frames_from width 0 count) }
 {
     let mut frames = Vec::new(alloc);
@@ -79,7 +83,13 @@ fn run_edge(graph: &mut Graph, typed: &Typed, frames: &[Items<Edge>]) -> Result<
 {
     let mut run = first_edge(graph, typed, frames[0].as_slice())?;
     for i in 0..frames.len() - 1 {
-        run = and_step(graph, typed, run, frames[i].as_slice(), frames[i + 1].as_slice())?;
+        run = and_step(
+            graph,
+            typed,
+            run,
+            frames[i].as_slice(),
+            frames[i + 1].as_slice(),
+        )?;
     }
     Ok(run)
 }

@@ -1,10 +1,9 @@
+pub mod Causes
 pub mod Complete
 pub mod Cutting
 pub mod Known
 pub mod Longest
-pub mod OneSlot
 pub mod Recording
 pub mod Reports
 pub mod Tables
-pub mod Unbroken
 pub mod Writing

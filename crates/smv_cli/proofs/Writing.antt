@@ -40,7 +40,7 @@ states_text-push : (names : List (List ℕ)) (k : ℕ) (ss : List (List Value)) 
 states_text-push names k [] s = append-nil (state_line names k s) ∙ ap (λ n. state_line names n s) (let e : k ≡ k + 0 = omega arith in e)
 states_text-push names k (t ∷ ss) s =
     ap (λ (l : List ℕ). state_line names k t ++ l)
-      (states_text-push names (k + 1) ss s ∙ ap (λ n. states_text names (k + 1) ss ++ state_line names n s) (let e : (k + 1) + length ss ≡ k + suc (length ss) = omega arith in e))
+    (states_text-push names (k + 1) ss s ∙ ap (λ n. states_text names (k + 1) ss ++ state_line names n s) (let e : (k + 1) + length ss ≡ k + suc (length ss) = omega arith in e))
     ∙ sym (append_assoc (state_line names k t) (states_text names (k + 1) ss) (state_line names (k + suc (length ss)) s))
 
 pub states_more : (names : List (List ℕ)) (ss : List (List Value)) (i : ℕ) (s : List Value) → i < length ss

@@ -1,23 +1,33 @@
 -- Right records of the specifications of a program, and the status that they give.
-use Rattle.std.specs.Prelude.{◌≡◌, ℕ, ◌+◌, List, [], ◌∷◌, length, map, Option, fold}
+use Rattle.std.specs.Prelude.{◌≡◌, ℕ, zero, suc, ◌+◌, true, List, [], ◌∷◌, length, map, Option, fold}
 use Rattle.std.specs.List.{flat_map}
 use Rattle.std.specs.Io.KnownBytes.{Appends}
 use Rattle.smv_tree.specs.declared.tree.Program.{Program}
 use Rattle.smv_tree.specs.declared.tree.Specification.{Specification}
-use Rattle.smv_meaning.specs.declared.value.Value.{Value}
 use Rattle.smv_meaning.specs.declared.value.Slot.{Slot}
 use Rattle.smv_meaning.specs.Programs.{slots_of}
 use Rattle.smv_meaning.specs.Runs.{Breaks}
+use Rattle.invariant_queries.specs.Deciding.{IsCause, IsUnbroken}
 use Rattle.smv_cli.specs.declared.record.Verdict.{Verdict}
-use Rattle.smv_cli.specs.declared.record.Verdict.TheVariants.{True, False}
+use Rattle.smv_cli.specs.declared.record.Verdict.TheVariants.{True, False, Unknown}
 use Rattle.smv_cli.specs.declared.record.Record.{Record}
 use Rattle.smv_cli.specs.Streams.{AppendsFront}
 use Rattle.smv_cli.specs.Texts.{record_text}
 
--- true: no run of any length breaks the specification; false: the trace is a run that breaks it
+-- how many tickets a specification may cost, one for each query and one for each clause that the solver learns
+abbrev pub check_budget : ℕ
+check_budget = 1000000
+
+-- how many steps the runs have at most that are looked for
+abbrev pub check_bound : ℕ
+check_bound = 30
+
+-- true: no run of any length breaks the specification; false: the trace is a run that breaks it; unknown: the budget
+-- was spent, or no run of so many steps at most breaks it and induction over one step does not show it
 abbrev pub IsRightVerdict : Program → Specification → Verdict → Type 0
-IsRightVerdict p spec True = (states : List (List Value)) → Breaks p spec states → ⊥
+IsRightVerdict p spec True = IsUnbroken p spec
 IsRightVerdict p spec (False trace) = (trace.names ≡ map (λ (slot : Slot). slot.name) (slots_of p)) × Breaks p spec trace.states
+IsRightVerdict p spec (Unknown cause) = IsCause p spec check_budget check_bound true cause
 
 -- a right record of the specification of this number
 pub record IsRight (p : Program) (number : ℕ) (spec : Specification) (r : Record) : Type 0 where
@@ -31,12 +41,19 @@ RightFrom p i specs [] = Unit {0}
 RightFrom p i [] (r ∷ rs) = ⊥
 RightFrom p i (spec ∷ specs) (r ∷ rs) = IsRight p i spec r × RightFrom p (i + 1) specs rs
 
--- the status after one more verdict: 1 from the first false one on
+-- 1 where it is 1 already, else 2
+abbrev pub at_least_unknown : ℕ → ℕ
+at_least_unknown zero = 2
+at_least_unknown (suc zero) = 1
+at_least_unknown (suc (suc status)) = 2
+
+-- the status after one more verdict: 1 from the first false one on, else 2 from the first unknown one on
 abbrev pub status_with : ℕ → Verdict → ℕ
 status_with status True = status
 status_with status (False trace) = 1
+status_with status (Unknown cause) = at_least_unknown status
 
--- 1 where some specification is false, else 0
+-- 1 where some specification is false, else 2 where some is unknown, else 0
 abbrev pub status_of : List Record → ℕ
 status_of records = fold (λ status (r : Record). status_with status r.verdict) 0 records
 

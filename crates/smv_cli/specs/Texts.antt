@@ -6,9 +6,10 @@ use Rattle.smv_tree.specs.declared.tree.SpecificationKind.{SpecificationKind}
 use Rattle.smv_tree.specs.Texts.{kind_text, line_end}
 use Rattle.smv_meaning.specs.declared.value.Value.{Value}
 use Rattle.smv_meaning.specs.Texts.{value_text}
+use Rattle.invariant_queries.specs.Texts.{cause_text}
 use Rattle.smv_cli.specs.declared.record.Trace.{Trace}
 use Rattle.smv_cli.specs.declared.record.Verdict.{Verdict}
-use Rattle.smv_cli.specs.declared.record.Verdict.TheVariants.{True, False}
+use Rattle.smv_cli.specs.declared.record.Verdict.TheVariants.{True, False, Unknown}
 use Rattle.smv_cli.specs.declared.record.Record.{Record}
 
 -- NAME = VALUE
@@ -41,6 +42,7 @@ trace_text number trace = codes "--@ spec " ++ decimal number ++ line_end ++ sta
 abbrev pub verdict_text : ℕ → Verdict → List ℕ
 verdict_text number True = codes "true" ++ line_end
 verdict_text number (False trace) = codes "false" ++ line_end ++ trace_text number trace
+verdict_text number (Unknown cause) = codes "unknown: " ++ cause_text cause ++ line_end
 
 abbrev pub record_text : Record → List ℕ
 record_text r = codes "-- spec " ++ decimal r.number ++ codes " " ++ kind_text r.kind ++ codes " is " ++ verdict_text r.number r.verdict

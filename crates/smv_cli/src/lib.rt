@@ -6,10 +6,9 @@ mod print;
 mod record;
 mod source;
 mod streams;
-mod top;
-
 #[cfg(test)]
 mod tests;
+mod top;
 
 pub use record::{Record, Trace, Verdict};
 pub use top::{SOURCE_LIMIT, run, run_over_bytes};

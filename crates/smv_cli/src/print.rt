@@ -1,7 +1,6 @@
 //! Parts of a report, each written when it is made.
-ghost use Rattle.std.specs.Prelude.{◌≡◌, ◌≤◌, length, map, IfSome, IfOk, OnOk, IsErrOf};
+ghost use Rattle.std.specs.Prelude.{◌≡◌, ◌≤◌, map, IfSome, IfOk, OnOk, IsErrOf};
 ghost use Rattle.std.specs.Io.KnownBytes.{Appends};
-ghost use Rattle.smv_meaning.specs.Programs.{slots_of};
 ghost use Rattle.outside.specs.Causes.{Rose};
 ghost use Rattle.smv_cli.specs.Streams.{AppendsFront};
 ghost use Rattle.smv_cli.specs.Records.{Recorded, RecordedPart, status_with};
@@ -31,25 +30,26 @@ pub fn put<K: Sink, D: fmt::Display>(alloc: Global, sink: &mut K, part: &D) -> R
 // The status after one more verdict.
 fn status_with(status: u8, verdict: &Verdict) -> u8
     ensures value { result ≡ status_with status verdict.now }
-    ensures small { status ≤ 1 → result ≤ 1 }
+    ensures small { status ≤ 2 → result ≤ 2 }
 {
     match verdict {
         Verdict::True => status,
         Verdict::False(_) => 1,
+        Verdict::Unknown(_) if status == 1 => 1,
+        Verdict::Unknown(_) => 2,
     }
 }
 
-/// Writes the record of each specification of a program with one slot, one by one, each when it is made. The answer is
-/// 1 where one is false, else 0.
+/// Writes the record of each specification of a program, one by one, each when it is made. The answer is 1 where one
+/// is false, else 2 where one is unknown, else 0.
 pub fn put_records<K: Sink>(
     alloc: Global,
     sink: &mut K,
     typed: &Typed,
     specs: &[&Specification],
 ) -> Result<u8, Stop>
-    requires { length (slots_of typed.now.program) ≡ 1 }
     ensures ok { IfOk result (λ status. Recorded typed.now.program (map (λ s. s.now) specs.now) (K.taken sink.old) (K.taken sink.new) status) }
-    ensures small { IfOk result (λ status. status ≤ 1) }
+    ensures small { IfOk result (λ status. status ≤ 2) }
     ensures part { RecordedPart typed.now.program (map (λ s. s.now) specs.now) (K.taken sink.old) (K.taken sink.new) }
     ensures later { K.faults sink.old ≤ K.faults sink.new }
     ensures failed { IsErrOf result Stop.Failed → Rose (K.faults sink.old) (K.faults sink.new) }

@@ -5,6 +5,7 @@ ghost use Rattle.std.specs.Fmt.{WritesOnOk};
 ghost use Rattle.std.specs.List.{zip};
 ghost use Rattle.smv_cli.specs.Texts.{bindings_text, more_bindings, record_text, state_line, trace_text};
 
+use invariant_queries::Cause;
 use plain_text::Text;
 use smv_meaning::{State, Value};
 use smv_tree::SpecificationKind;
@@ -25,6 +26,8 @@ pub enum Verdict {
     True,
     /// This run breaks it.
     False(Trace),
+    /// It is not known, for this cause.
+    Unknown(Cause),
 }
 
 /// What is said of the specification of this number, counted from 1.
@@ -101,7 +104,11 @@ impl fmt::Display for TraceLines<'_> {
         writeln!(f, "--@ spec {number}")?;
         for (number, state) in self.trace.states.as_slice().iter().enumerate() {
             let names = self.trace.names.as_slice();
-            let line = StateLine { number, names, state };
+            let line = StateLine {
+                number,
+                names,
+                state,
+            };
             write!(f, "{line}")?;
         }
         Ok(())
@@ -120,6 +127,7 @@ impl fmt::Display for Record {
                 let lines = TraceLines { number, trace };
                 write!(f, "false\n{lines}")
             }
+            Verdict::Unknown(cause) => writeln!(f, "unknown: {cause}"),
         }
     }
 }

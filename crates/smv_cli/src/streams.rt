@@ -17,7 +17,11 @@ pub enum SourceStop {
 }
 
 /// Reads to the end, or the first `limit` bytes: at least one byte a turn, and no more than `limit` in all.
-pub fn read_all<S: Source>(alloc: Global, source: &mut S, limit: usize) -> Result<Vec<u8>, SourceStop>
+pub fn read_all<S: Source>(
+    alloc: Global,
+    source: &mut S,
+    limit: usize,
+) -> Result<Vec<u8>, SourceStop>
     ensures bytes { IfOk result (λ text. ReadsFirst limit (S.left source.old) text.items) }
     ensures bound { IfOk result (λ text. vec_len text ≤ limit) }
     ensures later { S.faults source.old ≤ S.faults source.new }

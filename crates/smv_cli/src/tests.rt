@@ -1,6 +1,8 @@
 // The top call over sources and sinks in memory.
-use crate::run;
+use crate::{Record, Verdict, run};
+use invariant_queries::Cause;
 use outside::{MemSink, MemSource, OpenGate};
+use smv_tree::SpecificationKind;
 use std::alloc::{AllocError, Global};
 use std::sync::Wait;
 use std::test::Fail;
@@ -39,7 +41,8 @@ const TOGGLING: &str =
 
 const TRUE: &str = "-- spec 1 INVARSPEC is true\n";
 
-const BROKEN: &str = "-- spec 1 INVARSPEC is false\n--@ spec 1\n--@ state 0: x = FALSE\n--@ state 1: x = TRUE\n";
+const BROKEN: &str =
+    "-- spec 1 INVARSPEC is false\n--@ spec 1\n--@ state 0: x = FALSE\n--@ state 1: x = TRUE\n";
 
 const USAGE: &str = "-- usage: smvcheck check | recheck | flat | self N SEED\n";
 
@@ -79,6 +82,33 @@ fn reports(rt: HostRuntime) -> Result<(), Fail> {
             assert_eq!(rt; sink.bytes(), want.as_bytes(), "{line} on {text:?}");
             assert_eq!(rt; status, want_status, "{line} on {text:?}");
         }
+    }
+    Ok(())
+}
+
+#[test]
+fn unknown_records(rt: HostRuntime) -> Result<(), Fail> {
+    let cases = [
+        (
+            Cause::Bound { bound: 30 },
+            "-- spec 2 INVARSPEC is unknown: bound 30\n",
+        ),
+        (
+            Cause::Conflicts {
+                drawn: 7,
+                budget: 7,
+            },
+            "-- spec 2 INVARSPEC is unknown: conflicts 7 of 7\n",
+        ),
+    ];
+    for (cause, want) in cases {
+        let record = Record {
+            number: 2,
+            kind: SpecificationKind::Invariant,
+            verdict: Verdict::Unknown(cause),
+        };
+        let text = record.to_string(rt.alloc())?;
+        assert_eq!(rt; text.as_str(), want);
     }
     Ok(())
 }
@@ -129,10 +159,16 @@ fn a_source_over_the_limit(rt: HostRuntime) -> Result<(), Fail> {
     let text = vec![in alloc; b' '; 16_777_217]?;
     let (status, sink) = over(&rt, alloc, &["check"], &text, 1_000_000, None, None)?;
     assert_eq!(rt; status, 3);
-    assert_eq!(rt; sink.bytes(), b"-- refused 105 SourceTooLarge at 1:1\n".as_slice());
+    assert_eq!(rt;
+        sink.bytes(),
+        b"-- refused 105 SourceTooLarge at 1:1\n".as_slice()
+    );
     let fitting = text.get(1..).ok_or("no text")?;
     let (status, sink) = over(&rt, alloc, &["check"], fitting, 1_000_000, None, None)?;
     assert_eq!(rt; status, 3);
-    assert_eq!(rt; sink.bytes(), b"-- refused 203 Unsupported at 1:16777217\n".as_slice());
+    assert_eq!(rt;
+        sink.bytes(),
+        b"-- refused 203 Unsupported at 1:16777217\n".as_slice()
+    );
     Ok(())
 }

@@ -3,7 +3,7 @@ ghost use Rattle.std.specs.Prelude.{◌≡◌, ◌<◌, ◌≤◌, ◌^◌, leng
 ghost use Rattle.std.specs.Io.KnownBytes.{Appends, Keeps};
 ghost use Rattle.outside.specs.Causes.{Rose};
 ghost use Rattle.smv_tree.specs.Texts.{refusal_text};
-ghost use Rattle.smv_meaning.specs.Programs.{slots_of, specifications_of};
+ghost use Rattle.smv_meaning.specs.Programs.{specifications_of};
 ghost use Rattle.smv_cli.specs.Records.{Recorded, RecordedPart};
 ghost use Rattle.smv_cli.specs.Report.{Answered, Begun, CheckDone, CheckPart, IsCheck, IsModel, Stage, refusal_of};
 ghost use Rattle.smv_cli.specs.Streams.{AppendsFront};
@@ -46,11 +46,10 @@ fn refuse<K: Sink>(alloc: Global, sink: &mut K, rule: Rule, place: Place) -> Res
     Ok(3)
 }
 
-// Writes the records of a program with one slot.
+// Writes the records of a program.
 fn report_program<K: Sink>(alloc: Global, sink: &mut K, program: Program) -> Result<u8, Stop>
-    requires { length (slots_of program) ≡ 1 }
     ensures ok { IfOk result (λ status. Recorded program (specifications_of program) (K.taken sink.old) (K.taken sink.new) status) }
-    ensures small { IfOk result (λ status. status ≤ 1) }
+    ensures small { IfOk result (λ status. status ≤ 2) }
     ensures part { RecordedPart program (specifications_of program) (K.taken sink.old) (K.taken sink.new) }
     ensures later { K.faults sink.old ≤ K.faults sink.new }
     ensures failed { IsErrOf result Stop.Failed → Rose (K.faults sink.old) (K.faults sink.new) }
@@ -144,7 +143,7 @@ pub fn run<'a, R: Threads + Wait + Sync, S: Source, K: Sink, G: Gate + Sync>(
     // A program gets its report, where nothing fails.
     ensures complete { IsCheck (map (λ w. w.now) words.now)
         → (Rose (S.faults source.old) (S.faults source.new) → ⊥) → (Rose (K.faults sink.old) (K.faults sink.new) → ⊥)
-        → IfSome (S.left source.old) (λ bytes. IsModel bytes → (result ≤ 1) ⊎ (result ≡ 7)) }
+        → IfSome (S.left source.old) (λ bytes. IsModel bytes → (result ≤ 2) ⊎ (result ≡ 7)) }
 {
     gate.enter(rt, 0);
     perform(alloc, words, source, sink)

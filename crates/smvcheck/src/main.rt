@@ -2,6 +2,7 @@
 #![tactic(auto)]
 
 use outside::{OpenGate, StdSink, StdSource};
+use smv_cli::run;
 use std::alloc::{AllocError, Global};
 use std::env;
 use std::io::ErrorKind;
@@ -9,7 +10,6 @@ use std::process::ExitCode;
 use std::rt::Env;
 use std::sync::Wait;
 use std::thread::Threads;
-use smv_cli::run;
 
 // The words after the program's name. Words that are no text count as no words.
 fn words<R: Env + AllocGlobal>(rt: &R) -> Result<Vec<String>, AllocError> {

@@ -4,5 +4,8 @@ use Rattle.invariant_queries.specs.Deciding.{IsUnbrokenWithin}
 use Rattle.invariant_queries.proofs.deciding.unroll_to.Given as goal
 
 abbrev pub invariant-loop-steps : goal.invariant-loop-steps
-invariant-loop-steps g l =
-    g.Q.Purse.ready l.purse × (g.Q.Purse.budget l.purse ≡ l.effort.conflicts) × IsUnbrokenWithin l.typed.program l.spec (l.steps + 1)
+invariant-loop-steps g l = record {
+  ready : g.Q.Purse.ready l.purse;
+  budget : g.Q.Purse.budget l.purse ≡ g.Q.Purse.budget l.initial.purse;
+  within : IsUnbrokenWithin l.typed.program l.spec (l.steps + 1);
+}

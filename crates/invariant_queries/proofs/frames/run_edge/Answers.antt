@@ -23,7 +23,7 @@ loop-i-preserved c =
       stand = λ k d h k' d' h'. omega (arith, before.stand k d h k' d' h', after.extends.longer);
       stands = after.stands;
       value = λ v consistent.
-        run_more c.args.typed.now.program frames v i (edge_value v c.loop-i.run)
+          run_more c.args.typed.now.program frames v i (edge_value v c.loop-i.run)
           (is_step c.args.typed.now.program (state_under v c.as_slice-in-loop-i.result.now) (state_under v c.as_slice-in-loop-i-2.result.now))
           (edge_value v c.in_ok-run-2.run') c.as_slice-in-loop-i.result.now c.as_slice-in-loop-i-2.result.now from to
           (before.value v (after.extends.kept v consistent)) refl (after.value v consistent);

@@ -21,8 +21,8 @@ loop-i-preserved g c = λ plain.
     let in_names : i < length names = omega (arith, c.loop-i-test.true, c.min-i-end.ensures) in
     let in_values : i < length values = omega (arith, c.loop-i-test.true, c.min-i-end.ensures) in
     put_two _ _ _ _ _ _ _ before wrote
-      (ap (λ (n : List ℕ). more_bindings (take i (zip names values)) ++ (codes ", " ++ (n ++ (codes " = " ++ value_text (get_or values i (Bool false)))))) c.index-names-i.is
-       ∙ bindings_more names values i name (Bool false) in_names in_values)
+    (ap (λ (n : List ℕ). more_bindings (take i (zip names values)) ++ (codes ", " ++ (n ++ (codes " = " ++ value_text (get_or values i (Bool false)))))) c.index-names-i.is
+    ∙ bindings_more names values i name (Bool false) in_names in_values)
 
 pub returns : goal.returns
 returns g c = λ plain ok.

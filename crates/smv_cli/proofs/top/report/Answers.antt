@@ -4,15 +4,11 @@ use Rattle.smv_tree.specs.declared.place.Place.{Place}
 use Rattle.smv_tree.specs.declared.refusal.Rule.TheVariants.{SourceTooLarge, Unsupported}
 use Rattle.smv_tree.specs.Spelling.{IsUnsupportedAt}
 use Rattle.smv_cli.specs.Report.{refusal_of}
-use Rattle.smv_cli.proofs.OneSlot.{one_slot}
 use Rattle.smv_cli.proofs.Reports.{refused-part, refused-result, judged-result, judged-part, nothing-part}
 use Rattle.smv_cli.proofs.top.report.Goals as goal
 
 abbrev beginning : Place
 beginning = record { line = 1; column = 1 }
-
-pub report_program-requires : goal.report_program-requires
-report_program-requires g c = one_slot c.args.text.now c.in-Ok.program c.in-Ok.ensures.spelled
 
 pub returns-then-text-gt-SOURCE_LIMIT-clause-ok : goal.returns-then-text-gt-SOURCE_LIMIT-clause-ok
 returns-then-text-gt-SOURCE_LIMIT-clause-ok g c = refused-result c.args.text.now (refusal_of SourceTooLarge beginning) (g.K.Sink.taken c.args.sink.now) (g.K.Sink.taken c.refuse.new.sink) c.refuse.result ((omega arith, refl), refl) c.refuse.ensures.ok

@@ -15,6 +15,6 @@ loop-number-preserved g c = λ plain.
     let states = c.as_slice-state-items.result.now in
     let state = c.state-item.result in
     put_two _ _ _ _ _ _ _ before wrote
-      (ap (λ (ns : List (List ℕ)). states_text names 0 (take i states) ++ state_line ns i state) c.as_slice-names.ensures
-       ∙ ap (λ (s : List Value). states_text names 0 (take i states) ++ state_line names i s) c.state-item.is
-       ∙ states_more names states i state (omega (arith, c.loop-number-test.true)))
+    (ap (λ (ns : List (List ℕ)). states_text names 0 (take i states) ++ state_line ns i state) c.as_slice-names.ensures
+    ∙ ap (λ (s : List Value). states_text names 0 (take i states) ++ state_line names i s) c.state-item.is
+    ∙ states_more names states i state (omega (arith, c.loop-number-test.true)))

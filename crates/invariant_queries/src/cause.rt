@@ -1,18 +1,9 @@
-//! How much a specification may cost, and why it stays unknown.
+//! Why a specification stays unknown.
 
 ghost use Rattle.std.specs.Prelude.{Some};
 ghost use Rattle.invariant_queries.specs.Texts.{cause_text};
 
 use std::fmt;
-
-/// How much a specification may cost.
-#[derive(Clone, Copy, Debug, PartialEq, Eq)]
-pub struct Effort {
-    /// How many tickets there are: one for each query, and one for each clause that the solver learns.
-    pub conflicts: u64,
-    /// How many steps the runs have at most that are looked for.
-    pub bound: usize,
-}
 
 /// Why a specification stays unknown.
 #[derive(Clone, Copy, Debug, PartialEq, Eq)]
