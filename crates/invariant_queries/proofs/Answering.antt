@@ -1,5 +1,5 @@
 -- What values of the inputs say of states, and what states say of values, where an edge tells of the states.
-use Rattle.std.proofs.Common.{◌≡◌, ◌∙◌, ℕ, ◌+◌, ◌*◌, ◌<◌, Bool, true, List, [], ◌∷◌, length, map, get_or, All, sym, ap, subst, refl, arith, zero, suc, drop}
+use Rattle.std.proofs.Common.{◌≡◌, ◌∙◌, ℕ, ◌*◌, Bool, true, List, [], ◌∷◌, length, map, sym, ap, refl, arith, zero, suc, drop}
 use Rattle.bit_graph.specs.declared.edge.Edge.{Edge}
 use Rattle.bit_graph.specs.declared.edge.Node.{Node}
 use Rattle.bit_graph.specs.Meaning.{Denotes, HasInputs}

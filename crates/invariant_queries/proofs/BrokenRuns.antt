@@ -1,5 +1,5 @@
 -- A broken run as a test of a list of states, and as a run that breaks a specification.
-use Rattle.std.proofs.Common.{◌≡◌, ◌∙◌, ◌⊎◌, inl, inr, ℕ, zero, suc, ◌+◌, ◌-◌, ◌<◌, ◌≤◌, Bool, true, false, ◌&&◌, ◌==◌, List, [], ◌∷◌, length, get_or, refl, sym, ap, subst, arith, add-one}
+use Rattle.std.proofs.Common.{◌≡◌, ◌∙◌, ◌⊎◌, inl, inr, ℕ, zero, suc, ◌-◌, ◌<◌, Bool, true, false, ◌&&◌, List, [], ◌∷◌, length, refl, sym, ap, subst, arith, add-one}
 use Rattle.std.proofs.lemmas.Bool.{eqb-true}
 use Rattle.smv_tree.specs.declared.tree.Program.{Program}
 use Rattle.smv_tree.specs.declared.tree.Expr.{Expr}
@@ -8,9 +8,9 @@ use Rattle.smv_meaning.specs.declared.value.Value.{Value}
 use Rattle.smv_meaning.specs.declared.value.Value.TheVariants as value
 use Rattle.smv_meaning.specs.declared.value.Outcome.{Outcome}
 use Rattle.smv_meaning.specs.declared.value.Outcome.TheVariants.{One, Nothing}
-use Rattle.smv_meaning.specs.Evaluation.{evaluation_of, IsFalseIn}
+use Rattle.smv_meaning.specs.Evaluation.{evaluation_of}
 use Rattle.smv_meaning.specs.Programs.{slots_of}
-use Rattle.smv_meaning.specs.Runs.{Breaks, IsRun, IsStep, fits, is_first_state, is_step, state_at}
+use Rattle.smv_meaning.specs.Runs.{Breaks, IsStep, fits, is_first_state, is_step, state_at}
 use Rattle.invariant_queries.specs.Edges.{is_one}
 use Rattle.invariant_queries.specs.Frames.{is_broken_run, is_broken_step, steps_hold}
 use Rattle.invariant_queries.proofs.Encoding.{Each}

@@ -1,16 +1,14 @@
 -- The states that values of inputs give, and values that give states.
-use Rattle.std.proofs.Common.{◌≡◌, ◌∙◌, ℕ, zero, suc, ◌+◌, ◌-◌, ◌*◌, ◌<◌, ◌≤◌, Bool, true, false, List, [], ◌∷◌, ◌++◌, length, map, take, drop, get_or, refl, sym, ap, subst, arith, add-one, length-append}
+use Rattle.std.proofs.Common.{◌≡◌, ◌∙◌, ℕ, zero, suc, ◌+◌, ◌*◌, ◌<◌, ◌≤◌, Bool, false, List, [], ◌∷◌, ◌++◌, length, map, take, drop, refl, sym, ap, arith, length-append}
 use Rattle.std.proofs.Math.Seq.{drop-cons, take-append_seam}
 use Rattle.std.proofs.lemmas.List.{length-map, drop-drop}
-use Rattle.bit_graph.specs.declared.edge.Edge.{Edge}
 use Rattle.bit_graph.specs.declared.edge.Node.{Node}
-use Rattle.bit_graph.specs.declared.edge.Node.TheVariants.{Input}
-use Rattle.bit_graph.specs.Meaning.{HasInputs, Stands}
+use Rattle.bit_graph.specs.Meaning.{HasInputs}
 use Rattle.bit_graph.specs.Values.{OneWay, assigned, values}
 use Rattle.smv_meaning.specs.declared.value.Value.{Value}
 use Rattle.smv_meaning.specs.declared.value.Value.TheVariants as value
-use Rattle.invariant_queries.specs.Edges.{state_under, AllStand}
-use Rattle.invariant_queries.specs.Frames.{input, frame_from, frames_from, states_of}
+use Rattle.invariant_queries.specs.Edges.{state_under}
+use Rattle.invariant_queries.specs.Frames.{frame_from, frames_from, states_of}
 
 -- each state has k values
 abbrev pub Each : ℕ → List (List Value) → Type 0

@@ -1,5 +1,5 @@
 -- A list of booleans, one for each slot, is a state.
-use Rattle.std.proofs.Common.{◌≡◌, ◌∙◌, ℕ, Bool, true, ◌&&◌, ◌==◌, List, [], ◌∷◌, length, map, refl, sym, ap, eq-eqb}
+use Rattle.std.proofs.Common.{◌≡◌, ◌∙◌, ℕ, Bool, true, ◌==◌, List, [], ◌∷◌, length, map, refl, sym, eq-eqb}
 use Rattle.std.specs.List.{list_all, zip}
 use Rattle.std.proofs.lemmas.List.{length-map}
 use Rattle.bit_graph.specs.declared.edge.Edge.{Edge}

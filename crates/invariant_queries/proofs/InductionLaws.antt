@@ -1,5 +1,5 @@
 -- From what the queries find to what is said of a specification.
-use Rattle.std.proofs.Common.{◌≡◌, ◌∙◌, ◌⊎◌, inl, inr, ℕ, zero, suc, ◌+◌, ◌-◌, ◌<◌, ◌≤◌, Bool, true, false, ◌&&◌, List, [], ◌∷◌, length, Option, None, Some, refl, sym, ap, subst, arith}
+use Rattle.std.proofs.Common.{◌≡◌, ◌∙◌, ◌⊎◌, inl, inr, ℕ, zero, suc, ◌+◌, ◌-◌, ◌<◌, ◌≤◌, Bool, true, false, ◌&&◌, List, [], ◌∷◌, length, Option, None, Some, refl, sym, arith}
 use Rattle.std.specs.Prelude.{IsTrue, slice_get}
 use Rattle.smv_tree.specs.declared.tree.Program.{Program}
 use Rattle.smv_tree.specs.declared.tree.Expr.{Expr, Expr-F, out-Expr}
@@ -14,7 +14,7 @@ use Rattle.smv_meaning.specs.Programs.{slots_of}
 use Rattle.smv_meaning.specs.Runs.{Breaks, is_first_state, is_step, state_at}
 use Rattle.invariant_queries.specs.Deciding.{IsUnbroken, IsUnbrokenWithin}
 use Rattle.invariant_queries.specs.Edges.{is_one}
-use Rattle.invariant_queries.specs.Frames.{is_broken_run, is_broken_step, steps_hold}
+use Rattle.invariant_queries.specs.Frames.{is_broken_run, is_broken_step}
 use Rattle.invariant_queries.proofs.BrokenRuns.{both, breaks, broken_from, first_holds, last_false, step_at, steps, width_at}
 
 -- the outcome is a value

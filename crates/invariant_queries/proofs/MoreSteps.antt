@@ -1,5 +1,5 @@
 -- One more step of a run.
-use Rattle.std.proofs.Common.{◌≡◌, ◌∙◌, ℕ, suc, ◌+◌, Bool, ◌&&◌, List, [], map, get_or, refl, sym, ap, arith}
+use Rattle.std.proofs.Common.{◌≡◌, ◌∙◌, ℕ, suc, ◌+◌, Bool, ◌&&◌, List, [], map, get_or, sym, ap, arith}
 use Rattle.std.proofs.Math.ListN.{get_or-map}
 use Rattle.std.proofs.Math.Bool.{and_assoc}
 use Rattle.bit_graph.specs.declared.edge.Edge.{Edge}

@@ -1,5 +1,5 @@
 -- What edges of a graph say of states: the value of each slot is that of an edge.
-use Rattle.std.specs.Prelude.{◌≡◌, ℕ, Bool, true, false, List, map, length, All}
+use Rattle.std.specs.Prelude.{ℕ, Bool, true, false, List, map, All}
 use Rattle.std.specs.Bool.{beq}
 use Rattle.bit_graph.specs.declared.edge.Edge.{Edge}
 use Rattle.bit_graph.specs.declared.edge.Node.{Node}

@@ -1,5 +1,5 @@
 -- The states of a run as values of inputs: so many inputs for each state, one after another.
-use Rattle.std.specs.Prelude.{◌≡◌, ℕ, zero, suc, ◌+◌, ◌-◌, Bool, true, false, ◌&&◌, List, [], ◌∷◌, length, map, take, drop}
+use Rattle.std.specs.Prelude.{ℕ, zero, suc, ◌+◌, ◌-◌, Bool, true, false, ◌&&◌, List, [], ◌∷◌, length, map, take, drop}
 use Rattle.std.specs.List.{range_with_len}
 use Rattle.bit_graph.specs.declared.edge.Edge.{Edge}
 use Rattle.smv_tree.specs.declared.tree.Program.{Program}

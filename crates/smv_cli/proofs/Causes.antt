@@ -1,5 +1,5 @@
 -- The cause of an unknown.
-use Rattle.std.proofs.Common.{◌≡◌, ℕ, Bool, true, refl}
+use Rattle.std.proofs.Common.{ℕ, Bool, true, refl}
 use Rattle.smv_tree.specs.declared.tree.Program.{Program}
 use Rattle.smv_tree.specs.declared.tree.Specification.{Specification}
 use Rattle.invariant_queries.specs.declared.cause.Cause.{Cause}

@@ -1,5 +1,5 @@
 -- One more record.
-use Rattle.std.proofs.Common.{◌≡◌, ℕ, ◌+◌, ◌≤◌, suc, List, [], ◌∷◌, ◌++◌, length, take, drop, sym, ap, subst, ◌∙◌, arith, refl, append_assoc, append-nil, get_or, take-append-drop, length-take, length-append, take_all, ◌<◌}
+use Rattle.std.proofs.Common.{◌≡◌, ℕ, ◌+◌, List, [], ◌∷◌, ◌++◌, length, take, drop, sym, ap, subst, ◌∙◌, arith, refl, append_assoc, append-nil, get_or, take-append-drop, length-take, length-append, take_all, ◌<◌}
 use Rattle.std.proofs.lemmas.List.{take_more}
 use Rattle.std.specs.Prelude.{fold}
 use Rattle.std.specs.declared.option.Option.{Option}
@@ -9,10 +9,9 @@ use Rattle.std.proofs.KnownBytes.{Appends-trans}
 use Rattle.std.specs.Io.KnownBytes.{Appends}
 use Rattle.smv_tree.specs.declared.tree.Program.{Program}
 use Rattle.smv_tree.specs.declared.tree.Specification.{Specification}
-use Rattle.smv_cli.specs.declared.record.Verdict.{Verdict}
 use Rattle.smv_cli.specs.declared.record.Record.{Record}
 use Rattle.smv_cli.specs.Streams.{AppendsFront}
-use Rattle.smv_cli.specs.Records.{IsRight, RightFrom, Recorded, RecordedPart, status_with, status_of}
+use Rattle.smv_cli.specs.Records.{IsRight, RightFrom, Recorded, RecordedPart, status_with}
 use Rattle.smv_cli.specs.Texts.{record_text}
 
 -- what was taken in one call, and a front of what came in the next

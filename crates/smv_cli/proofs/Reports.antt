@@ -1,5 +1,5 @@
 -- From what the calls below say to a report.
-use Rattle.std.proofs.Common.{◌≡◌, ◌⊎◌, inl, inr, ℕ, ◌+◌, ◌≤◌, ◌<◌, min, List, [], ◌∷◌, ◌++◌, length, take, sym, ap, subst, ◌∙◌, arith, refl, length-take, take_all, Some, None, IfSome, Result, Ok, Err, IfOk}
+use Rattle.std.proofs.Common.{◌≡◌, inl, inr, ℕ, ◌≤◌, ◌<◌, List, [], length, take, sym, ap, subst, ◌∙◌, arith, refl, length-take, take_all, Some, None, Result, Ok, Err, IfOk}
 use Rattle.outside.specs.declared.Stop.{Stop}
 use Rattle.std.specs.declared.option.Option.{Option}
 use Rattle.std.specs.List.{flat_map}
@@ -15,9 +15,9 @@ use Rattle.smv_tree.specs.Texts.{refusal_text}
 use Rattle.smv_meaning.specs.Programs.{specifications_of}
 use Rattle.smv_cli.specs.declared.record.Record.{Record}
 use Rattle.smv_cli.specs.Streams.{AppendsFront, ReadsFirst}
-use Rattle.smv_cli.specs.Records.{Recorded, RecordedPart, status_of}
+use Rattle.smv_cli.specs.Records.{Recorded, RecordedPart}
 use Rattle.smv_cli.specs.Texts.{record_text, usage_text}
-use Rattle.smv_cli.specs.Report.{IsCheck, IsBrokenAt, IsRefusedBy, IsJudged, CheckStage, nothing, refused, judging, judged, Stage, UsageStage, Held, Answered, Begun, CheckDone, CheckPart}
+use Rattle.smv_cli.specs.Report.{IsCheck, IsBrokenAt, IsRefusedBy, IsJudged, CheckStage, nothing, refused, judging, judged, Stage, Held, Answered, Begun, CheckDone, CheckPart}
 
 pub refused-done : (bytes : List ℕ) (r : Refusal) (old new : Option (List ℕ)) → IsRefusedBy bytes r → Appends old new (refusal_text r) → CheckDone bytes old new 3
 refused-done bytes r old new h took = record { text = refusal_text r; took = took; stage = refused r h refl refl }

@@ -1,7 +1,6 @@
 -- One more step.
-use Rattle.std.proofs.Common.{◌≡◌, ◌∙◌, ◌+◌, ◌<◌, ℕ, List, [], length, get_or, arith, refl}
+use Rattle.std.proofs.Common.{◌∙◌, ◌+◌, ◌<◌, [], length, arith, refl}
 use Rattle.std.proofs.lemmas.List.{get_or_read}
-use Rattle.bit_graph.specs.declared.edge.Edge.{Edge}
 use Rattle.bit_graph.specs.Meaning.{edge_value}
 use Rattle.smv_meaning.specs.Runs.{is_step}
 use Rattle.invariant_queries.specs.Edges.{state_under}

@@ -1,5 +1,5 @@
 -- The steps so far are steps.
-use Rattle.std.proofs.Common.{ℕ, ◌&&◌, map, All}
+use Rattle.std.proofs.Common.{◌&&◌, map, All}
 use Rattle.bit_graph.specs.Growth.{Extends}
 use Rattle.bit_graph.specs.Meaning.{Denotes, Stands}
 use Rattle.smv_meaning.specs.Runs.{is_first_state, state_at}

@@ -1,8 +1,7 @@
 -- The query is about two states.
-use Rattle.std.proofs.Common.{◌≡◌, ◌∙◌, ◌+◌, ◌*◌, ◌<◌, ◌≤◌, ℕ, Bool, true, List, [], ◌∷◌, length, map, get_or, All, sym, ap, subst, refl, arith}
+use Rattle.std.proofs.Common.{◌≡◌, ◌∙◌, ◌+◌, ◌*◌, ◌≤◌, ℕ, List, [], ◌∷◌, length, map, All, sym, ap, subst, refl, arith}
 use Rattle.bit_graph.specs.declared.edge.Edge.{Edge}
 use Rattle.bit_graph.specs.Meaning.{Denotes, HasInputs}
-use Rattle.smv_meaning.specs.declared.value.Value.{Value}
 use Rattle.smv_meaning.specs.Programs.{slots_of}
 use Rattle.smv_meaning.specs.Runs.{state_at}
 use Rattle.invariant_queries.specs.Edges.{AllStand, state_under}
@@ -10,9 +9,9 @@ use Rattle.invariant_queries.specs.Frames.{frames_from, breaks_in_two, states_of
 use Rattle.edge_query.specs.Findings.{Finds}
 use Rattle.edge_query.specs.declared.found.Found.TheVariants.{Values, Nothing}
 use Rattle.invariant_queries.proofs.Encoding.{Each}
-use Rattle.invariant_queries.proofs.Answering.{states_found, no_states, length_states}
+use Rattle.invariant_queries.proofs.Answering.{states_found, no_states}
 use Rattle.invariant_queries.proofs.BrokenRuns.{broken_step_each}
-use Rattle.invariant_queries.proofs.MoreFrames.{frames_stand, frames_each, length_frames}
+use Rattle.invariant_queries.proofs.MoreFrames.{frames_stand, frames_each}
 use Rattle.invariant_queries.proofs.unrolling.is_inductive.Goals as goal
 
 pub two_states_edge-requires-clause-stand : goal.two_states_edge-requires-clause-stand

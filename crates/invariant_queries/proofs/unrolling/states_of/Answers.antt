@@ -1,5 +1,5 @@
 -- One more state.
-use Rattle.std.proofs.Common.{rules, ◌≡◌, ◌++◌, ◌∷◌, [], ◌-◌, ◌+◌, ◌∙◌, ap, List, subst, sym}
+use Rattle.std.proofs.Common.{rules, ◌≡◌, ◌++◌, ◌∷◌, [], ◌-◌, ◌+◌, ◌∙◌, ap, List}
 use Rattle.smv_meaning.specs.declared.value.Value.{Value}
 use Rattle.invariant_queries.specs.Frames.{states_of}
 use Rattle.invariant_queries.proofs.Decoding.{states_more}

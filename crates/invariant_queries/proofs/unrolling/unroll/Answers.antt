@@ -1,8 +1,7 @@
 -- The query is about runs of this length.
-use Rattle.std.proofs.Common.{◌≡◌, ◌∙◌, ◌+◌, ◌*◌, ◌<◌, ◌≤◌, ℕ, Bool, true, List, [], ◌∷◌, length, map, get_or, All, sym, ap, subst, refl, arith}
+use Rattle.std.proofs.Common.{◌≡◌, ◌∙◌, ◌+◌, ◌*◌, ◌≤◌, List, [], ◌∷◌, length, map, All, sym, ap, subst, arith}
 use Rattle.bit_graph.specs.declared.edge.Edge.{Edge}
 use Rattle.bit_graph.specs.Meaning.{Denotes, HasInputs}
-use Rattle.smv_meaning.specs.declared.value.Value.{Value}
 use Rattle.smv_meaning.specs.Programs.{slots_of}
 use Rattle.invariant_queries.specs.Edges.{AllStand, state_under}
 use Rattle.invariant_queries.specs.Frames.{frames_from, is_broken_run, states_of}
@@ -11,7 +10,7 @@ use Rattle.edge_query.specs.declared.found.Found.TheVariants.{Values, Nothing}
 use Rattle.invariant_queries.proofs.Encoding.{Each}
 use Rattle.invariant_queries.proofs.Answering.{states_found, no_states, length_states}
 use Rattle.invariant_queries.proofs.BrokenRuns.{broken_each}
-use Rattle.invariant_queries.proofs.MoreFrames.{frames_stand, frames_each, length_frames}
+use Rattle.invariant_queries.proofs.MoreFrames.{frames_stand, frames_each}
 use Rattle.invariant_queries.proofs.unrolling.unroll.Goals as goal
 
 pub broken_run_edge-requires-clause-stand : goal.broken_run_edge-requires-clause-stand

@@ -1,5 +1,5 @@
 -- The run that was found, with the names of the slots, is a right verdict.
-use Rattle.std.proofs.Common.{◌≡◌, ◌∙◌, map, ap, sym, subst}
+use Rattle.std.proofs.Common.{◌∙◌, map, ap, sym, subst}
 use Rattle.smv_meaning.specs.declared.value.Slot.{Slot}
 use Rattle.smv_meaning.specs.Runs.{Breaks}
 use Rattle.smv_cli.specs.Records.{IsRightVerdict}

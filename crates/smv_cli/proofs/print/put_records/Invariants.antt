@@ -1,5 +1,5 @@
 -- The records so far are written.
-use Rattle.std.proofs.Common.{ℕ, ◌≤◌, map, take}
+use Rattle.std.proofs.Common.{◌≤◌, map, take}
 use Rattle.smv_cli.specs.Records.{Recorded}
 use Rattle.smv_cli.proofs.print.put_records.Given as goal
 

@@ -1,12 +1,11 @@
 -- One more binding is written, and then there are no more.
-use Rattle.std.proofs.Common.{◌≡◌, ◌∙◌, ◌++◌, ◌<◌, ◌≤◌, min, length, take, refl, sym, subst, ap, arith, codes, List, ℕ, false, get_or}
+use Rattle.std.proofs.Common.{◌∙◌, ◌++◌, ◌<◌, ◌≤◌, min, length, take, refl, subst, ap, arith, codes, List, ℕ, false, get_or}
 use Rattle.std.specs.Fmt.{HasWritten}
 use Rattle.std.specs.List.{zip}
 use Rattle.std.proofs.lemmas.Grind.{put_two}
-use Rattle.smv_meaning.specs.declared.value.Value.{Value}
 use Rattle.smv_meaning.specs.declared.value.Value.TheVariants.{Bool}
 use Rattle.smv_meaning.specs.Texts.{value_text}
-use Rattle.smv_cli.specs.Texts.{binding_text, more_bindings}
+use Rattle.smv_cli.specs.Texts.{more_bindings}
 use Rattle.smv_cli.proofs.Writing.{bindings_more, bindings_whole}
 use Rattle.smv_cli.proofs.record.write_more_bindings.Goals as goal
 

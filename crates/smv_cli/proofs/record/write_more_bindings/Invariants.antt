@@ -1,5 +1,5 @@
 -- The bindings so far are written.
-use Rattle.std.proofs.Common.{ℕ, take}
+use Rattle.std.proofs.Common.{take}
 use Rattle.std.specs.Fmt.{HasWritten, IsPlainFormatter}
 use Rattle.std.specs.List.{zip}
 use Rattle.smv_cli.specs.Texts.{more_bindings}

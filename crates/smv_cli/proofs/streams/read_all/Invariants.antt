@@ -1,4 +1,4 @@
-use Rattle.std.proofs.Common.{ℕ, ◌-◌, ◌≤◌, ◌≡◌, vec_len, length}
+use Rattle.std.proofs.Common.{◌-◌, ◌≤◌, ◌≡◌, vec_len, length}
 use Rattle.std.specs.Io.KnownBytes.{Consumes}
 use Rattle.smv_cli.proofs.streams.read_all.Given as goal
 

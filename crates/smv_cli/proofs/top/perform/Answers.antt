@@ -1,4 +1,4 @@
-use Rattle.std.proofs.Common.{arith, refl, ◌≡◌, subst, sym}
+use Rattle.std.proofs.Common.{subst, sym}
 use Rattle.smv_cli.specs.Streams.{ReadsFirst}
 use Rattle.smv_cli.proofs.Reports.{done-answered, part-begun, nothing-begun, usage-answered, usage-begun}
 use Rattle.smv_cli.proofs.top.perform.Goals as goal

@@ -1,5 +1,5 @@
 -- A report on each kind of text.
-use Rattle.std.proofs.Common.{arith, refl, ◌≡◌, ◌∙◌}
+use Rattle.std.proofs.Common.{arith, refl}
 use Rattle.smv_tree.specs.declared.place.Place.{Place}
 use Rattle.smv_tree.specs.declared.refusal.Rule.TheVariants.{SourceTooLarge, Unsupported}
 use Rattle.smv_tree.specs.Spelling.{IsUnsupportedAt}

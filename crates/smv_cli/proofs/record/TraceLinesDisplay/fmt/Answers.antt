@@ -1,5 +1,5 @@
 -- The line of one more state is written.
-use Rattle.std.proofs.Common.{◌≡◌, ◌∙◌, ◌++◌, ◌<◌, length, take, refl, ap, List, ℕ, arith}
+use Rattle.std.proofs.Common.{◌∙◌, ◌++◌, take, refl, ap, List, ℕ, arith}
 use Rattle.std.proofs.lemmas.Grind.{put_two}
 use Rattle.smv_meaning.specs.declared.value.Value.{Value}
 use Rattle.smv_cli.specs.Texts.{state_line, states_text}

@@ -1,5 +1,5 @@
 -- The lines of the states so far are written.
-use Rattle.std.proofs.Common.{ℕ, take}
+use Rattle.std.proofs.Common.{take}
 use Rattle.std.specs.Fmt.{HasWritten, IsPlainFormatter}
 use Rattle.smv_cli.specs.Texts.{states_text}
 use Rattle.smv_cli.proofs.record.TraceLinesDisplay.fmt.Given as goal
