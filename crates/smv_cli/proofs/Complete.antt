@@ -15,6 +15,7 @@ use Rattle.smv_cli.specs.Report.{IsCheck, IsBrokenAt, IsModel, CheckStage, nothi
 not_broken : (bytes : List ℕ) (rule : Rule) (place : Place) → IsModel bytes → IsBrokenAt bytes rule place → ⊥
 not_broken bytes SourceTooLarge place (fits, model) (h, k) = omega arith
 not_broken bytes Unsupported place (fits, (p, spelled)) (h, unsupported) = never_both bytes p place spelled unsupported
+not_broken bytes rule place m h = h
 
 at_least_unknown_small : (a : ℕ) → at_least_unknown a ≤ 2
 at_least_unknown_small zero = omega arith

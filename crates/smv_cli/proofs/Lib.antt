@@ -1,6 +1,7 @@
 pub mod Causes
 pub mod Complete
 pub mod Cutting
+pub mod KindNumbers
 pub mod Known
 pub mod Longest
 pub mod Recording

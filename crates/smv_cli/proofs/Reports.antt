@@ -55,6 +55,7 @@ longer text all e h = omega (arith, ap length e, length-take 16777217 all)
 broken-whole : (text all : List ℕ) (rule : Rule) (place : Place) → text ≡ take 16777217 all → IsBrokenAt text rule place → IsBrokenAt all rule place
 broken-whole text all SourceTooLarge place e (h, k) = (longer text all e h, k)
 broken-whole text all Unsupported place e (h, k) = subst (λ (t : List ℕ). IsBrokenAt t Unsupported place) (same_text text all e h) (h, k)
+broken-whole text all rule place e h = absurd h
 
 judged-whole : (text all : List ℕ) (p : Program) (records : List Record) → text ≡ take 16777217 all → IsJudged text p records → IsJudged all p records
 judged-whole text all p records e j = subst (λ (t : List ℕ). IsJudged t p records) (same_text text all e j.fits) j

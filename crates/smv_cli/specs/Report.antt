@@ -28,6 +28,8 @@ source_limit = 16777216
 abbrev pub IsBrokenAt : List ℕ → Rule → Place → Type 0
 IsBrokenAt bytes SourceTooLarge place = (source_limit < length bytes) × (place ≡ record { line = 1; column = 1 })
 IsBrokenAt bytes Unsupported place = (length bytes ≤ source_limit) × IsUnsupportedAt bytes place
+-- no other rule is in use today
+IsBrokenAt bytes rule place = ⊥
 
 -- a refusal without a detail
 abbrev pub refusal_of : Rule → Place → Refusal

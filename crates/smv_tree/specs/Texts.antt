@@ -3,7 +3,7 @@ use Rattle.std.specs.Prelude.{ℕ, List, [], ◌∷◌, ◌++◌, codes, Option,
 use Rattle.std.specs.Fmt.{decimal}
 use Rattle.smv_tree.specs.declared.place.Place.{Place}
 use Rattle.smv_tree.specs.declared.refusal.Rule.{Rule}
-use Rattle.smv_tree.specs.declared.refusal.Rule.TheVariants.{SourceTooLarge, Unsupported}
+use Rattle.smv_tree.specs.declared.refusal.Rule.TheVariants.{SourceTooLarge, BadByte, OpenComment, BadWordConstant, IntTooLarge, Unexpected, TooDeep, Unsupported}
 use Rattle.smv_tree.specs.declared.refusal.Refusal.{Refusal}
 use Rattle.smv_tree.specs.declared.tree.SpecificationKind.{SpecificationKind}
 use Rattle.smv_tree.specs.declared.tree.SpecificationKind.TheVariants.{Invariant}
@@ -17,6 +17,12 @@ place_text p = decimal p.line ++ codes ":" ++ decimal p.column
 
 abbrev pub rule_text : Rule → List ℕ
 rule_text SourceTooLarge = codes "105 SourceTooLarge"
+rule_text BadByte = codes "101 BadByte"
+rule_text OpenComment = codes "102 OpenComment"
+rule_text BadWordConstant = codes "103 BadWordConstant"
+rule_text IntTooLarge = codes "104 IntTooLarge"
+rule_text Unexpected = codes "201 Unexpected"
+rule_text TooDeep = codes "202 TooDeep"
 rule_text Unsupported = codes "203 Unsupported"
 
 abbrev pub kind_text : SpecificationKind → List ℕ

@@ -9,8 +9,8 @@ mod tree;
 
 pub use laws::is_spelled_once;
 pub use place::Place;
-pub use refusal::{Refusal, Rule};
-pub use token::{Token, TokenKind};
+pub use refusal::{Refusal, Rule, TextStop};
+pub use token::{Token, TokenKind, Tokens};
 pub use tree::{
     Assignment, AssignmentKind, Expr, Module, Program, Section, Specification, SpecificationKind,
     TypeExpr, Variable,

@@ -1,10 +1,12 @@
 //! Refusals: a source is refused by the first rule that it breaks, at that rule's first place.
 
-ghost use Rattle.std.specs.Prelude.{Some};
+ghost use Rattle.std.specs.Prelude.{◌≡◌, Some};
 ghost use Rattle.smv_tree.specs.Texts.{rule_text, refusal_text};
+ghost use Rattle.smv_tree.specs.declared.refusal.TextStop.TheVariants.{NoMemory};
 
 use crate::Place;
 use plain_text::Text;
+use std::alloc::AllocError;
 use std::fmt;
 
 /// A rule that a source may break. Each prints as its number and name.
@@ -12,8 +14,37 @@ use std::fmt;
 pub enum Rule {
     /// The source is longer than 16777216 bytes.
     SourceTooLarge,
+    /// A byte begins no token.
+    BadByte,
+    /// A comment that begins with `/--` is not closed.
+    OpenComment,
+    /// A word constant is out of form: its digits, its width, or its value.
+    BadWordConstant,
+    /// An integer is greater than 2147483647.
+    IntTooLarge,
+    /// A token has no place where it stands, or the source ends too early.
+    Unexpected,
+    /// A token opens the 257th level of nesting.
+    TooDeep,
     /// The source goes beyond the language.
     Unsupported,
+}
+
+/// Why a text is not read.
+#[derive(Debug, Drop)]
+pub enum TextStop {
+    /// It is refused.
+    Refused(Refusal),
+    /// Memory was refused, which may come at any time.
+    NoMemory,
+}
+
+impl From<AllocError> for TextStop {
+    ghost from_gives = { λ _ e. e ≡ NoMemory };
+
+    fn from(_error: AllocError) -> TextStop {
+        TextStop::NoMemory
+    }
 }
 
 /// Why a source is refused, and where; some rules name a detail.
@@ -30,6 +61,12 @@ impl fmt::Display for Rule {
     fn fmt<W: fmt::Write>(&self, f: &mut fmt::Formatter<W>) -> fmt::Result {
         match self {
             Rule::SourceTooLarge => write!(f, "105 SourceTooLarge"),
+            Rule::BadByte => write!(f, "101 BadByte"),
+            Rule::OpenComment => write!(f, "102 OpenComment"),
+            Rule::BadWordConstant => write!(f, "103 BadWordConstant"),
+            Rule::IntTooLarge => write!(f, "104 IntTooLarge"),
+            Rule::Unexpected => write!(f, "201 Unexpected"),
+            Rule::TooDeep => write!(f, "202 TooDeep"),
             Rule::Unsupported => write!(f, "203 Unsupported"),
         }
     }

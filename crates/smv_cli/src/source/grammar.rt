@@ -35,11 +35,18 @@ impl<'a> From<AllocError> for Stop<'a> {
     }
 }
 
+/// Whether the token is of this kind.
+fn is_kind(kind: TokenKind, token: &Token) -> bool
+    ensures { result ≡ is_kind kind token.now }
+{
+    kind == token.kind
+}
+
 fn just<'a>(kind: TokenKind, tokens: &'a [Token]) -> Result<(&'a Token, &'a [Token]), Stop<'a>>
     ensures { Gives (λ x. (x.0.now, x.1.now)) result ((just kind).parse tokens.now) }
 {
     match tokens {
-        [first, rest @ ..] if kind == first.kind => Ok((first, rest)),
+        [first, rest @ ..] if is_kind(kind, first) => Ok((first, rest)),
         _ => Err(Stop::Unexpected(tokens)),
     }
 }
@@ -95,7 +102,7 @@ fn value<'a>(
 {
     match tokens {
         [first, rest @ ..] => {
-            if most > 0 && first.kind == TokenKind::Not {
+            if most > 0 && is_kind(TokenKind::Not, first) {
                 let (operand, rest) = value(alloc, most - 1, name, rest)?;
                 let operand = Boxed::new(alloc, operand)?;
                 return Ok((Expr::Not(first.place, operand), rest));

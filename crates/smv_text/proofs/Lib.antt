@@ -1,0 +1,5 @@
+pub mod Ends
+pub mod Counting
+pub mod Longest
+pub mod Ascii
+pub mod Cuts

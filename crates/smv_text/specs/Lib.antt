@@ -1,0 +1,6 @@
+pub mod Words
+pub mod Numbers
+pub mod Comments
+pub mod Lexemes
+pub mod Texts
+pub mod Runs

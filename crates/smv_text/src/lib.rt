@@ -1,0 +1,18 @@
+//! The tokens of a text: each the longest word that stands where it stands, with its place; or why the text is refused.
+#![tactic(auto)]
+
+mod comments;
+mod front;
+mod laws;
+mod lexeme;
+mod numbers;
+mod runs;
+mod texts;
+mod words;
+
+pub use laws::are_tokens_once;
+pub use lexeme::Lexeme;
+pub use texts::tokens;
+
+#[cfg(test)]
+mod tests;
