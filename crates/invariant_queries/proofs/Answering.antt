@@ -5,7 +5,7 @@ use Rattle.bit_graph.specs.declared.edge.Node.{Node}
 use Rattle.bit_graph.specs.Meaning.{Denotes, HasInputs}
 use Rattle.bit_graph.specs.Values.{OneWay, assigned, values, value_under}
 use Rattle.edge_query.specs.Findings.{AreTrue}
-use Rattle.smv_meaning.specs.declared.value.Value.{Value}
+use Rattle.smv_value.specs.declared.value.Value.{Value}
 use Rattle.invariant_queries.specs.Edges.{state_under}
 use Rattle.invariant_queries.specs.Frames.{frames_from, states_of}
 use Rattle.invariant_queries.proofs.Encoding.{Each, decoded, flat_of, flat_back, length_flat}

@@ -1,7 +1,7 @@
 -- From values of inputs to states and back.
 use Rattle.std.proofs.Common.{◌≡◌, ◌∙◌, ℕ, suc, ◌+◌, ◌-◌, ◌<◌, Bool, List, [], ◌∷◌, ◌++◌, map, take, drop, sym, ap, arith, append_assoc}
-use Rattle.smv_meaning.specs.declared.value.Value.{Value}
-use Rattle.smv_meaning.specs.declared.value.Value.TheVariants as value
+use Rattle.smv_value.specs.declared.value.Value.{Value}
+use Rattle.smv_value.specs.declared.value.Value.TheVariants as value
 use Rattle.invariant_queries.specs.Frames.{states_of}
 
 pub states_more : (k n i : ℕ) (made whole : List (List Value)) (rest here after : List Bool) (state : List Value) → i < n

@@ -5,8 +5,8 @@ use Rattle.std.proofs.lemmas.List.{length-map, drop-drop}
 use Rattle.bit_graph.specs.declared.edge.Node.{Node}
 use Rattle.bit_graph.specs.Meaning.{HasInputs}
 use Rattle.bit_graph.specs.Values.{OneWay, assigned, values}
-use Rattle.smv_meaning.specs.declared.value.Value.{Value}
-use Rattle.smv_meaning.specs.declared.value.Value.TheVariants as value
+use Rattle.smv_value.specs.declared.value.Value.{Value}
+use Rattle.smv_value.specs.declared.value.Value.TheVariants as value
 use Rattle.invariant_queries.specs.Edges.{state_under}
 use Rattle.invariant_queries.specs.Frames.{frame_from, frames_from, states_of}
 

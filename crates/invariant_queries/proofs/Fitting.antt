@@ -1,26 +1,19 @@
 -- A list of booleans, one for each slot, is a state.
-use Rattle.std.proofs.Common.{◌≡◌, ◌∙◌, ℕ, Bool, true, ◌==◌, List, [], ◌∷◌, length, map, refl, sym, eq-eqb}
+use Rattle.std.proofs.Common.{◌≡◌, ◌∙◌, Bool, true, ◌==◌, List, [], ◌∷◌, length, map, refl, sym, eq-eqb}
 use Rattle.std.specs.List.{list_all, zip}
 use Rattle.std.proofs.lemmas.List.{length-map}
 use Rattle.bit_graph.specs.declared.edge.Edge.{Edge}
 use Rattle.bit_graph.specs.declared.edge.Node.{Node}
 use Rattle.bit_graph.specs.Meaning.{Denotes, edge_value}
 use Rattle.smv_tree.specs.declared.tree.Program.{Program}
-use Rattle.smv_meaning.specs.declared.value.Value.{Value}
-use Rattle.smv_meaning.specs.declared.value.Value.TheVariants as value
+use Rattle.smv_value.specs.declared.value.Value.{Value}
+use Rattle.smv_value.specs.declared.value.Value.TheVariants as value
 use Rattle.smv_meaning.specs.declared.value.ValueType.{ValueType}
 use Rattle.smv_meaning.specs.declared.value.ValueType.TheVariants.{Boolean}
 use Rattle.smv_meaning.specs.declared.value.Slot.{Slot}
-use Rattle.smv_meaning.specs.Programs.{slots_of, all_assignments}
-use Rattle.smv_meaning.specs.Runs.{fits, in_type, is_first_state, is_step, meets_at_first, meets_at_step}
-use Rattle.smv_tree.specs.declared.tree.Assignment.{Assignment}
+use Rattle.smv_meaning.specs.Programs.{slots_of}
+use Rattle.smv_meaning.specs.Runs.{fits, in_type, is_first_state, is_step, may_follow, may_start}
 use Rattle.invariant_queries.specs.Edges.{state_under}
-
-abbrev pub meets_asked_first : Program → (ℕ → Bool) → List Edge → Assignment → Bool
-meets_asked_first p v bits a = meets_at_first p (state_under v bits) a.kind a
-
-abbrev pub meets_asked_step : Program → (ℕ → Bool) → List Edge → List Edge → Assignment → Bool
-meets_asked_step p v bits next a = meets_at_step p (state_under v bits) (state_under v next) a.kind a
 
 boolean_fits : (b : Bool) (t : ValueType) → in_type (value.Bool b) t ≡ true
 boolean_fits b Boolean = refl
@@ -39,9 +32,9 @@ module _ {A : Type 0} (f : A → Bool) where
       rw same (all_fit slots xs)
 
 module _ (p : Program) (g : List Node) (e : Edge) (bits : List Edge) (each : length bits ≡ length (slots_of p)) where
-  pub tells_first : Denotes g e (λ v. all_assignments (meets_asked_first p v bits) p) → Denotes g e (λ v. is_first_state p (state_under v bits))
+  pub tells_first : Denotes g e (λ v. may_start p (state_under v bits)) → Denotes g e (λ v. is_first_state p (state_under v bits))
   tells_first told v c = rw (booleans_fit (edge_value v) (slots_of p) bits each) (told v c)
 
   pub tells_step : (next : List Edge) → length next ≡ length (slots_of p)
-      → Denotes g e (λ v. all_assignments (meets_asked_step p v bits next) p) → Denotes g e (λ v. is_step p (state_under v bits) (state_under v next))
+      → Denotes g e (λ v. may_follow p (state_under v bits) (state_under v next)) → Denotes g e (λ v. is_step p (state_under v bits) (state_under v next))
   tells_step next each_next told v c = rw (booleans_fit (edge_value v) (slots_of p) bits each, booleans_fit (edge_value v) (slots_of p) next each_next) (told v c)

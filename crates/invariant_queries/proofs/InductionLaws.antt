@@ -1,15 +1,18 @@
 -- From what the queries find to what is said of a specification.
-use Rattle.std.proofs.Common.{◌≡◌, ◌∙◌, ◌⊎◌, inl, inr, ℕ, zero, suc, ◌+◌, ◌-◌, ◌<◌, ◌≤◌, Bool, true, false, ◌&&◌, List, [], ◌∷◌, length, Option, None, Some, refl, sym, arith}
+use Rattle.std.proofs.Common.{◌≡◌, ◌∙◌, ◌⊎◌, inl, inr, ℕ, zero, suc, ◌+◌, ◌-◌, ◌<◌, ◌≤◌, Bool, true, false, ◌&&◌, List, [], ◌∷◌, length, Option, None, Some, refl, sym, ap, arith}
 use Rattle.std.specs.Prelude.{IsTrue, slice_get}
+use Rattle.smv_tree.specs.declared.place.Place.{Place}
+use Rattle.smv_tree.specs.declared.tree.ChainOperator.{ChainOperator}
 use Rattle.smv_tree.specs.declared.tree.Program.{Program}
 use Rattle.smv_tree.specs.declared.tree.Expr.{Expr, Expr-F, out-Expr}
 use Rattle.smv_tree.specs.declared.tree.Specification.{Specification}
-use Rattle.smv_meaning.specs.declared.value.Value.{Value}
-use Rattle.smv_meaning.specs.declared.value.Value.TheVariants as value
+use Rattle.smv_value.specs.declared.value.Value.{Value}
+use Rattle.smv_value.specs.declared.value.Value.TheVariants as value
+use Rattle.smv_value.specs.Operators.{implication, negation}
 use Rattle.smv_meaning.specs.declared.value.Outcome.{Outcome}
 use Rattle.smv_meaning.specs.declared.value.Outcome.TheVariants.{One, Nothing}
 use Rattle.smv_meaning.specs.declared.value.Slot.{Slot}
-use Rattle.smv_meaning.specs.Evaluation.{depth_limit, evaluation_of, negation, one_or_nothing, outcome_of_node, outcome_within, slot_named, value_at}
+use Rattle.smv_meaning.specs.Evaluation.{chained, depth_limit, evaluation_of, on_both, on_one, one_or_nothing, operation, outcome_of_node, outcome_within, slot_named, value_at}
 use Rattle.smv_meaning.specs.Programs.{slots_of}
 use Rattle.smv_meaning.specs.Runs.{Breaks, is_first_state, is_step, state_at}
 use Rattle.invariant_queries.specs.Deciding.{IsUnbroken, IsUnbrokenWithin}
@@ -22,9 +25,14 @@ abbrev known : Outcome → Bool
 known (One v) = true
 known Nothing = false
 
-known_negation : (o : Outcome) → known (negation o) ≡ known o
-known_negation (One (value.Bool b)) = refl
-known_negation Nothing = refl
+known_on_one : (f : Value → Value) (o : Outcome) → known (on_one f o) ≡ known o
+known_on_one f (One v) = refl
+known_on_one f Nothing = refl
+
+known_on_both : (f : Value → Value → Value) (a b : Outcome) → known (on_both f a b) ≡ (known a && known b)
+known_on_both f (One v) (One w) = refl
+known_on_both f (One v) Nothing = refl
+known_on_both f Nothing b = refl
 
 known_get : (s t : List Value) → length s ≡ length t → (i : ℕ) → known (one_or_nothing (slice_get s i)) ≡ known (one_or_nothing (slice_get t i))
 known_get [] [] e i = refl
@@ -37,18 +45,38 @@ known_at : (s t : List Value) → length s ≡ length t → (slot : Option ℕ) 
 known_at s t e None = refl
 known_at s t e (Some i) = known_get s t e i
 
-module _ (slots : List Slot) (s t : List Value) (same : length s ≡ length t) where
-  known_node : (here there : Expr → Outcome) → ((e : Expr) → known (here e) ≡ known (there e)) → (node : Expr-F Expr)
-      → known (outcome_of_node slots s here node) ≡ known (outcome_of_node slots t there node)
-  known_node here there below (Expr-F.Bool place b) = refl
-  known_node here there below (Expr-F.Name place name) = known_at s t same (slot_named slots name)
-  known_node here there below (Expr-F.Not place e) = known_negation (here e) ∙ below e ∙ sym (known_negation (there e))
+same_on_both : (f : Value → Value → Value) (a b c d : Outcome) → known a ≡ known c → known b ≡ known d → known (on_both f a b) ≡ known (on_both f c d)
+same_on_both f a b c d first second =
+    known_on_both f a b ∙ ap (λ (k : Bool). k && known b) first ∙ ap (λ (k : Bool). known c && k) second ∙ sym (known_on_both f c d)
 
-  -- whether an expression has a value is the same in states of one length
-  known_within : (depth : ℕ) (e : Expr) → known (outcome_within slots s depth e) ≡ known (outcome_within slots t depth e)
+module _ (here there : Expr → Outcome) (below : (e : Expr) → known (here e) ≡ known (there e)) where
+  known_chained : (a b : Outcome) (links : List (Place × ChainOperator × Expr)) → known a ≡ known b → known (chained here a links) ≡ known (chained there b links)
+  known_chained a b [] same = same
+  known_chained a b (link ∷ links) same =
+      known_chained (on_both (operation link.1) a (here link.2)) (on_both (operation link.1) b (there link.2)) links
+      (same_on_both (operation link.1) a (here link.2) b (there link.2) same (below link.2))
+
+-- whether an expression has a value is the same in states of one length
+abbrev SameKnown : (List Value → List Value → Expr → Outcome) → Type 0
+SameKnown outcome = (s t u w : List Value) → length s ≡ length u → length t ≡ length w → (e : Expr) → known (outcome s t e) ≡ known (outcome u w e)
+
+module _ (slots : List Slot) where
+  known_node : (outcome : List Value → List Value → Expr → Outcome) → SameKnown outcome → (s t u w : List Value) → length s ≡ length u → length t ≡ length w
+      → (node : Expr-F Expr) → known (outcome_of_node slots outcome s t node) ≡ known (outcome_of_node slots outcome u w node)
+  known_node outcome below s t u w here there (Expr-F.Bool place b) = refl
+  known_node outcome below s t u w here there (Expr-F.Name place name) = known_at s u here (slot_named slots name)
+  known_node outcome below s t u w here there (Expr-F.Not place e) =
+      known_on_one negation (outcome s t e) ∙ below s t u w here there e ∙ sym (known_on_one negation (outcome u w e))
+  known_node outcome below s t u w here there (Expr-F.Next place e) = below t [] w [] there refl e
+  known_node outcome below s t u w here there (Expr-F.Implies place a b) =
+      same_on_both implication (outcome s t a) (outcome s t b) (outcome u w a) (outcome u w b) (below s t u w here there a) (below s t u w here there b)
+  known_node outcome below s t u w here there (Expr-F.Chain first links) =
+      known_chained (outcome s t) (outcome u w) (below s t u w here there) (outcome s t first) (outcome u w first) links (below s t u w here there first)
+
+  known_within : (depth : ℕ) → SameKnown (outcome_within slots depth)
   unfolding outcome_within
-  known_within zero e = refl
-  known_within (suc depth) e = known_node (outcome_within slots s depth) (outcome_within slots t depth) (known_within depth) (out-Expr e)
+  known_within zero s t u w here there e = refl
+  known_within (suc depth) s t u w here there e = known_node (outcome_within slots depth) (known_within depth) s t u w here there (out-Expr e)
 
 known_false : (o : Outcome) → is_one false o ≡ true → known o ≡ true
 known_false (One v) e = refl
@@ -77,9 +105,9 @@ module _ (p : Program) (spec : Specification) where
       (states : List (List Value)) (some : 0 < length states) (broken : is_broken_run p spec.formula states ≡ true) where
     known_each : (i : ℕ) → i < length states → known (evaluation_of p (state_at states i) spec.formula) ≡ true
     known_each i lt =
-        known_within (slots_of p) (state_at states i) (state_at states (length states - 1))
+        known_within (slots_of p) depth_limit (state_at states i) [] (state_at states (length states - 1)) []
         (width_at p states spec.formula broken i lt ∙ sym (width_at p states spec.formula broken (length states - 1) (omega (arith, some))))
-        depth_limit spec.formula
+        refl spec.formula
         ∙ known_false (evaluation_of p (state_at states (length states - 1)) spec.formula) (last_false p states spec.formula broken)
 
     not_false_first : value_in (state_at states 0) false ≡ true → ⊥

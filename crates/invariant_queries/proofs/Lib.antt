@@ -6,4 +6,4 @@ pub mod Fitting
 pub mod InductionLaws
 pub mod MoreFrames
 pub mod MoreSteps
-pub mod Truths
+pub mod Telling

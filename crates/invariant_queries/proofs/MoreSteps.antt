@@ -6,7 +6,7 @@ use Rattle.bit_graph.specs.declared.edge.Edge.{Edge}
 use Rattle.bit_graph.specs.declared.edge.Node.{Node}
 use Rattle.bit_graph.specs.Growth.{Extends}
 use Rattle.smv_tree.specs.declared.tree.Program.{Program}
-use Rattle.smv_meaning.specs.declared.value.Value.{Value}
+use Rattle.smv_value.specs.declared.value.Value.{Value}
 use Rattle.smv_meaning.specs.Runs.{is_first_state, is_step, state_at}
 use Rattle.invariant_queries.specs.Edges.{state_under}
 use Rattle.invariant_queries.specs.Frames.{steps_hold}

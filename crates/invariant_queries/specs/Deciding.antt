@@ -2,7 +2,7 @@
 use Rattle.std.specs.Prelude.{◌≡◌, ℕ, ◌+◌, ◌≤◌, Bool, List, length, IsTrue}
 use Rattle.smv_tree.specs.declared.tree.Program.{Program}
 use Rattle.smv_tree.specs.declared.tree.Specification.{Specification}
-use Rattle.smv_meaning.specs.declared.value.Value.{Value}
+use Rattle.smv_value.specs.declared.value.Value.{Value}
 use Rattle.smv_meaning.specs.Runs.{Breaks}
 use Rattle.invariant_queries.specs.declared.cause.Cause.{Cause}
 use Rattle.invariant_queries.specs.declared.cause.Cause.TheVariants.{Conflicts, Bound}

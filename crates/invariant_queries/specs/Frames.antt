@@ -4,8 +4,8 @@ use Rattle.std.specs.List.{range_with_len}
 use Rattle.bit_graph.specs.declared.edge.Edge.{Edge}
 use Rattle.smv_tree.specs.declared.tree.Program.{Program}
 use Rattle.smv_tree.specs.declared.tree.Expr.{Expr}
-use Rattle.smv_meaning.specs.declared.value.Value.{Value}
-use Rattle.smv_meaning.specs.declared.value.Value.TheVariants as value
+use Rattle.smv_value.specs.declared.value.Value.{Value}
+use Rattle.smv_value.specs.declared.value.Value.TheVariants as value
 use Rattle.smv_meaning.specs.Evaluation.{evaluation_of}
 use Rattle.smv_meaning.specs.Runs.{is_first_state, is_step, state_at}
 use Rattle.invariant_queries.specs.Edges.{is_one}

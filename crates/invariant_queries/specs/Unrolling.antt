@@ -2,7 +2,7 @@
 use Rattle.std.specs.Prelude.{◌≡◌, ℕ, Bool, true, List, length, IsTrue}
 use Rattle.smv_tree.specs.declared.tree.Program.{Program}
 use Rattle.smv_tree.specs.declared.tree.Expr.{Expr}
-use Rattle.smv_meaning.specs.declared.value.Value.{Value}
+use Rattle.smv_value.specs.declared.value.Value.{Value}
 use Rattle.invariant_queries.specs.declared.unrolling.Unrolled.{Unrolled}
 use Rattle.invariant_queries.specs.declared.unrolling.Unrolled.TheVariants.{Run, Nothing, Spent}
 use Rattle.invariant_queries.specs.declared.unrolling.Induction.{Induction}

@@ -9,7 +9,8 @@ ghost use Rattle.smv_meaning.specs.Runs.{is_first_state, is_step, state_at};
 ghost use Rattle.invariant_queries.specs.Edges.{AllStand, is_one, state_under};
 ghost use Rattle.invariant_queries.specs.Frames.{frame_from, frames_from, breaks_in_two, is_broken_run, is_broken_step, steps_hold};
 
-use crate::edges::{first_edge, step_edge, truth_of};
+use crate::edges::{first_edge, step_edge};
+use crate::truths::truth_of;
 use bit_graph::{Edge, Graph};
 use smv_meaning::Typed;
 use smv_tree::Expr;
@@ -127,7 +128,7 @@ fn and_false(
     ensures stands { IfOk result (λ edge. Stands graph.new edge) }
     ensures value { IfOk result (λ edge. Denotes graph.new edge (λ v. edge_value v run && is_one false (evaluation_of typed.now.program (state_under v bits.now) e.now))) }
 {
-    let truth = truth_of(graph, typed, bits, e);
+    let truth = truth_of(graph, typed, bits, &[], e)?;
     graph.and(run, truth.is_false)
 }
 
@@ -146,7 +147,7 @@ pub fn broken_step_edge(
     ensures stands { IfOk result (λ edge. Stands graph.new edge) }
     ensures value { IfOk result (λ edge. Denotes graph.new edge (λ v. is_broken_step typed.now.program e.now (state_under v bits.now) (state_under v next.now))) }
 {
-    let before = truth_of(graph, typed, bits, e);
+    let before = truth_of(graph, typed, bits, &[], e)?;
     let step = and_step(graph, typed, before.is_true, bits, next)?;
     and_false(graph, typed, step, next, e)
 }

@@ -8,10 +8,12 @@ mod edges;
 mod frames;
 #[cfg(test)]
 mod tests;
+mod truths;
 mod unrolling;
 
 pub use cause::Cause;
 pub use deciding::{Decision, decide};
-pub use edges::{Truth, first_edge, step_edge, truth_of};
+pub use edges::{first_edge, step_edge};
 pub use frames::make_frames;
+pub use truths::{Truth, truth_of};
 pub use unrolling::{Induction, Unrolled, is_inductive, unroll};

@@ -1,7 +1,7 @@
 //! The queries: is there a run of so many states that breaks the expression, and does a step break it.
 
 ghost use Rattle.std.specs.Prelude.{◌≡◌, ◌<◌, drop, length, map, take, IfOk};
-ghost use Rattle.smv_meaning.specs.declared.value.Value.TheVariants.{Bool};
+ghost use Rattle.smv_value.specs.declared.value.Value.TheVariants.{Bool};
 ghost use Rattle.smv_meaning.specs.Programs.{slots_of};
 ghost use Rattle.invariant_queries.specs.Frames.{states_of};
 ghost use Rattle.invariant_queries.specs.Unrolling.{TellsInduction, Unrolls};
@@ -10,8 +10,9 @@ use crate::frames::{broken_run_edge, make_frames, two_states_edge};
 use bit_graph::Graph;
 use edge_query::{Found, satisfy};
 use effort_purse::Purse;
-use smv_meaning::{State, Typed, Value, slots};
+use smv_meaning::{State, Typed, slots};
 use smv_tree::Expr;
+use smv_value::Value;
 use sqlite_items::Items;
 use std::alloc::{AllocError, Global};
 

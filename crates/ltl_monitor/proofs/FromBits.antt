@@ -78,12 +78,12 @@ module _ (s : ℕ → Side) where
     from_bits (Ltl.Constant b) n row st z = λ i. (λ h. h, λ h. h)
     from_bits (Ltl.Atom a) n row st z = atoms a
     from_bits (Ltl.Unary o f) n row st z =
-        unary_from o (Satisfies m f) (λ t. t.bit n) (truth f (n + unary_bits o))
-        (from_bits f (n + unary_bits o) (λ j. (row j).1) st.1 (each_right _ (unary_sets o (λ t. t.bit n) (truth f (n + unary_bits o))) _ z))
-        (λ j. (row j).0) st.0 (each_left _ (unary_sets o (λ t. t.bit n) (truth f (n + unary_bits o))) _ z)
+        unary_from o (Satisfies m f) (λ t. t.bit (n + nodes f)) (truth f n)
+        (from_bits f n (λ j. (row j).1) st.1 (each_left _ (sets f n) _ z))
+        (λ j. (row j).0) st.0 (each_right _ (sets f n) _ z)
     from_bits (Ltl.Binary o f g) n row st z =
-        let rest = each_right Again (binary_sets o (λ t. t.bit n) (truth g (n + binary_bits o + nodes f))) _ z in
-        binary_from o (Satisfies m f) (Satisfies m g) (λ t. t.bit n) (truth f (n + binary_bits o)) (truth g (n + binary_bits o + nodes f))
-        (from_bits f (n + binary_bits o) (λ j. (row j).1) st.1 (each_left _ (sets f (n + binary_bits o)) _ rest))
-        (from_bits g (n + binary_bits o + nodes f) (λ j. (row j).2) st.2 (each_right _ (sets f (n + binary_bits o)) _ rest))
-        (λ j. (row j).0) st.0 (each_left _ (binary_sets o (λ t. t.bit n) (truth g (n + binary_bits o + nodes f))) _ z)
+        let rest = each_right Again (sets f n) _ z in
+        binary_from o (Satisfies m f) (Satisfies m g) (λ t. t.bit (n + nodes f + nodes g)) (truth f n) (truth g (n + nodes f))
+        (from_bits f n (λ j. (row j).1) st.1 (each_left _ (sets f n) _ z))
+        (from_bits g (n + nodes f) (λ j. (row j).2) st.2 (each_left _ (sets g (n + nodes f)) _ rest))
+        (λ j. (row j).0) st.0 (each_right _ (sets g (n + nodes f)) _ rest)

@@ -47,15 +47,15 @@ module _ (m : ℕ → Moment) (v : Ltl → ℕ → Bool) (tv : (f : Ltl) → Tel
   bits_repeat (Ltl.Constant b) h k = refl
   bits_repeat (Ltl.Atom a) h k = refl
   bits_repeat (Ltl.Unary o f) h k =
-      same_parts (λ j. v (Ltl.Unary o f) (l + p)) (bits v f (l + p)) (λ j. v (Ltl.Unary o f) l) (bits v f l) (unary_bits o) k
-      (λ j. v_repeats (Ltl.Unary o f) h) (bits_repeat f (lower (past_height f) (past_unary o + past_height f) (omega arith) h))
+      same_parts (bits v f (l + p)) (λ j. v (Ltl.Unary o f) (l + p)) (bits v f l) (λ j. v (Ltl.Unary o f) l) (nodes f) k
+      (bits_repeat f (lower (past_height f) (past_unary o + past_height f) (omega arith) h)) (λ j. v_repeats (Ltl.Unary o f) h)
   bits_repeat (Ltl.Binary o f g) h k =
-      same_parts (λ j. v (Ltl.Binary o f g) (l + p)) (λ j. if nat_lt j (nodes f) then bits v f (l + p) j else bits v g (l + p) (j - nodes f))
-      (λ j. v (Ltl.Binary o f g) l) (λ j. if nat_lt j (nodes f) then bits v f l j else bits v g l (j - nodes f)) (binary_bits o) k
-      (λ j. v_repeats (Ltl.Binary o f g) h)
-      (λ j. same_parts (bits v f (l + p)) (bits v g (l + p)) (bits v f l) (bits v g l) (nodes f) j
+      same_parts (bits v f (l + p)) (λ j. if nat_lt j (nodes g) then bits v g (l + p) j else v (Ltl.Binary o f g) (l + p))
+      (bits v f l) (λ j. if nat_lt j (nodes g) then bits v g l j else v (Ltl.Binary o f g) l) (nodes f) k
       (bits_repeat f (lower (past_height f) (past_binary o + max (past_height f) (past_height g)) (omega arith) h))
-      (bits_repeat g (lower (past_height g) (past_binary o + max (past_height f) (past_height g)) (omega arith) h)))
+      (λ j. same_parts (bits v g (l + p)) (λ i. v (Ltl.Binary o f g) (l + p)) (bits v g l) (λ i. v (Ltl.Binary o f g) l) (nodes g) j
+      (bits_repeat g (lower (past_height g) (past_binary o + max (past_height f) (past_height g)) (omega arith) h))
+      (λ i. v_repeats (Ltl.Binary o f g) h))
 
 module _ (x : Sequence) (l p : ℕ) (loops : Loops x l p) where
   pub loops_many : (c i a : ℕ) → l ≤ i → x (i + c * p) a ≡ x i a

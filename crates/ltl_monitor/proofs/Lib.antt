@@ -1,5 +1,13 @@
+pub mod Clauses
+pub mod Meaning
+pub mod Sound
+pub mod Near
+pub mod Placed
+pub mod Assembled
+pub mod Whole
+pub mod Counts
 pub mod FromBits
 pub mod ToBits
 pub mod Lassos
+pub mod BitLassos
 pub mod Signals
-pub mod Counter

@@ -221,16 +221,16 @@ module _ (v : Ltl → ℕ → Bool) where
   abbrev pub bits : Ltl → ℕ → ℕ → Bool
   bits (Ltl.Constant b) i k = false
   bits (Ltl.Atom a) i k = false
-  bits (Ltl.Unary o f) i k = joined (unary_bits o) (λ j. v (Ltl.Unary o f) i) (bits f i) k
-  bits (Ltl.Binary o f g) i k = joined (binary_bits o) (λ j. v (Ltl.Binary o f g) i) (joined (nodes f) (bits f i) (bits g i)) k
+  bits (Ltl.Unary o f) i k = joined (nodes f) (bits f i) (λ j. v (Ltl.Unary o f) i) k
+  bits (Ltl.Binary o f g) i k = joined (nodes f) (bits f i) (joined (nodes g) (bits g i) (λ j. v (Ltl.Binary o f g) i)) k
 
   -- each temporal node's bit is its value
   abbrev pub Carries : Ltl → ℕ → ℕ → (ℕ → Bool) → Type 0
   Carries (Ltl.Constant b) n i c = Unit {0}
   Carries (Ltl.Atom a) n i c = Unit {0}
-  Carries (Ltl.Unary o f) n i c = (0 < unary_bits o → c n ≡ v (Ltl.Unary o f) i) × Carries f (n + unary_bits o) i c
+  Carries (Ltl.Unary o f) n i c = (0 < unary_bits o → c (n + nodes f) ≡ v (Ltl.Unary o f) i) × Carries f n i c
   Carries (Ltl.Binary o f g) n i c =
-      (0 < binary_bits o → c n ≡ v (Ltl.Binary o f g) i) × Carries f (n + binary_bits o) i c × Carries g (n + binary_bits o + nodes f) i c
+      (0 < binary_bits o → c (n + nodes f + nodes g) ≡ v (Ltl.Binary o f g) i) × Carries f n i c × Carries g (n + nodes f) i c
 
   first_part : (c F G : ℕ → Bool) (n a b : ℕ) → ((k : ℕ) → k < a + b → c (n + k) ≡ joined a F G k) → (k : ℕ) → k < a → c (n + k) ≡ F k
   first_part c F G n a b h k lt = let e = h k (omega arith) in grind (arith, nat_tests)
@@ -244,21 +244,21 @@ module _ (v : Ltl → ℕ → Bool) where
       let w : c (n + a + k) ≡ c (n + (a + k)) = ap c s in
       grind (arith, nat_tests)
 
-  own_part : (c F G : ℕ → Bool) (n a b : ℕ) → ((k : ℕ) → k < a + b → c (n + k) ≡ joined a F G k) → 0 < a → c n ≡ F 0
-  own_part c F G n a b h some = let e : n ≡ n + 0 = omega arith in ap c e ∙ first_part c F G n a b h 0 some
+  own_part : (c F G : ℕ → Bool) (n a b : ℕ) → ((k : ℕ) → k < a + b → c (n + k) ≡ joined a F G k) → 0 < b → c (n + a) ≡ G 0
+  own_part c F G n a b h some = let e : n + a ≡ n + a + 0 = omega arith in ap c e ∙ second_part c F G n a b h 0 some
 
   pub carried : (f : Ltl) (n i : ℕ) (c : ℕ → Bool) → ((k : ℕ) → k < nodes f → c (n + k) ≡ bits f i k) → Carries f n i c
   carried (Ltl.Constant b) n i c h = tt
   carried (Ltl.Atom a) n i c h = tt
   carried (Ltl.Unary o f) n i c h = (
-    own_part c (λ j. v (Ltl.Unary o f) i) (bits f i) n (unary_bits o) (nodes f) h,
-    carried f (n + unary_bits o) i c (second_part c (λ j. v (Ltl.Unary o f) i) (bits f i) n (unary_bits o) (nodes f) h),
+    own_part c (bits f i) (λ j. v (Ltl.Unary o f) i) n (nodes f) (unary_bits o) h,
+    carried f n i c (first_part c (bits f i) (λ j. v (Ltl.Unary o f) i) n (nodes f) (unary_bits o) h),
   )
   carried (Ltl.Binary o f g) n i c h =
-      let rest = second_part c (λ j. v (Ltl.Binary o f g) i) (joined (nodes f) (bits f i) (bits g i)) n (binary_bits o) (nodes f + nodes g) h in (
-        own_part c (λ j. v (Ltl.Binary o f g) i) (joined (nodes f) (bits f i) (bits g i)) n (binary_bits o) (nodes f + nodes g) h,
-        carried f (n + binary_bits o) i c (first_part c (bits f i) (bits g i) (n + binary_bits o) (nodes f) (nodes g) rest),
-        carried g (n + binary_bits o + nodes f) i c (second_part c (bits f i) (bits g i) (n + binary_bits o) (nodes f) (nodes g) rest),
+      let rest = second_part c (bits f i) (joined (nodes g) (bits g i) (λ j. v (Ltl.Binary o f g) i)) n (nodes f) (nodes g + binary_bits o) h in (
+        own_part c (bits g i) (λ j. v (Ltl.Binary o f g) i) (n + nodes f) (nodes g) (binary_bits o) rest,
+        carried f n i c (first_part c (bits f i) (joined (nodes g) (bits g i) (λ j. v (Ltl.Binary o f g) i)) n (nodes f) (nodes g + binary_bits o) h),
+        carried g (n + nodes f) i c (first_part c (bits g i) (λ j. v (Ltl.Binary o f g) i) (n + nodes f) (nodes g) (binary_bits o) rest),
       )
 
   module _ (m : ℕ → Moment) (tv : (f : Ltl) → Tells (v f) (Satisfies m f)) (s : ℕ → Side) (atoms : (a i : ℕ) → Decides ((s i).atom a) (m a i)) where
@@ -270,43 +270,43 @@ module _ (v : Ltl → ℕ → Bool) where
     truth_tells (Ltl.Constant b) n c = λ i. (λ h. h, λ h. h)
     truth_tells (Ltl.Atom a) n c = atoms a
     truth_tells (Ltl.Unary o f) n c =
-        unary_told (Satisfies m f) (λ i. (s i).bit n) (λ i. truth f (n + unary_bits o) (s i)) (truth_tells f (n + unary_bits o) (λ j. (c j).1))
-        o (bit_tells (unary_bits o) (Ltl.Unary o f) n (λ j. (c j).0))
+        unary_told (Satisfies m f) (λ i. (s i).bit (n + nodes f)) (λ i. truth f n (s i)) (truth_tells f n (λ j. (c j).1))
+        o (bit_tells (unary_bits o) (Ltl.Unary o f) (n + nodes f) (λ j. (c j).0))
     truth_tells (Ltl.Binary o f g) n c =
-        binary_told (Satisfies m f) (Satisfies m g) (λ i. (s i).bit n) (λ i. truth f (n + binary_bits o) (s i)) (λ i. truth g (n + binary_bits o + nodes f) (s i))
-        (truth_tells f (n + binary_bits o) (λ j. (c j).1)) (truth_tells g (n + binary_bits o + nodes f) (λ j. (c j).2))
-        o (bit_tells (binary_bits o) (Ltl.Binary o f g) n (λ j. (c j).0))
+        binary_told (Satisfies m f) (Satisfies m g) (λ i. (s i).bit (n + nodes f + nodes g)) (λ i. truth f n (s i)) (λ i. truth g (n + nodes f) (s i))
+        (truth_tells f n (λ j. (c j).1)) (truth_tells g (n + nodes f) (λ j. (c j).2))
+        o (bit_tells (binary_bits o) (Ltl.Binary o f g) (n + nodes f + nodes g) (λ j. (c j).0))
 
     pub rows_hold : (f : Ltl) (n : ℕ) → ((i : ℕ) → Carries f n i (s i).bit) → (i : ℕ) → rows f n (s i) (s (i + 1))
     rows_hold (Ltl.Constant b) n c i = tt
     rows_hold (Ltl.Atom a) n c i = tt
     rows_hold (Ltl.Unary o f) n c i = (
-      unary_row_holds (Satisfies m f) (λ i. (s i).bit n) (λ i. truth f (n + unary_bits o) (s i)) (truth_tells f (n + unary_bits o) (λ j. (c j).1))
-          o (bit_tells (unary_bits o) (Ltl.Unary o f) n (λ j. (c j).0)) i,
-      rows_hold f (n + unary_bits o) (λ j. (c j).1) i,
+      unary_row_holds (Satisfies m f) (λ i. (s i).bit (n + nodes f)) (λ i. truth f n (s i)) (truth_tells f n (λ j. (c j).1))
+          o (bit_tells (unary_bits o) (Ltl.Unary o f) (n + nodes f) (λ j. (c j).0)) i,
+      rows_hold f n (λ j. (c j).1) i,
     )
     rows_hold (Ltl.Binary o f g) n c i = (
-      binary_row_holds (Satisfies m f) (Satisfies m g) (λ i. (s i).bit n) (λ i. truth f (n + binary_bits o) (s i)) (λ i. truth g (n + binary_bits o + nodes f) (s i))
-          (truth_tells f (n + binary_bits o) (λ j. (c j).1)) (truth_tells g (n + binary_bits o + nodes f) (λ j. (c j).2))
-          o (bit_tells (binary_bits o) (Ltl.Binary o f g) n (λ j. (c j).0)) i,
-      rows_hold f (n + binary_bits o) (λ j. (c j).1) i,
-      rows_hold g (n + binary_bits o + nodes f) (λ j. (c j).2) i,
+      binary_row_holds (Satisfies m f) (Satisfies m g) (λ i. (s i).bit (n + nodes f + nodes g)) (λ i. truth f n (s i)) (λ i. truth g (n + nodes f) (s i))
+          (truth_tells f n (λ j. (c j).1)) (truth_tells g (n + nodes f) (λ j. (c j).2))
+          o (bit_tells (binary_bits o) (Ltl.Binary o f g) (n + nodes f + nodes g) (λ j. (c j).0)) i,
+      rows_hold f n (λ j. (c j).1) i,
+      rows_hold g (n + nodes f) (λ j. (c j).2) i,
     )
 
     pub starts_hold : (f : Ltl) (n : ℕ) → ((i : ℕ) → Carries f n i (s i).bit) → starts f n (s 0)
     starts_hold (Ltl.Constant b) n c = tt
     starts_hold (Ltl.Atom a) n c = tt
     starts_hold (Ltl.Unary o f) n c = (
-      unary_start_holds (Satisfies m f) (λ i. (s i).bit n) (λ i. truth f (n + unary_bits o) (s i)) (truth_tells f (n + unary_bits o) (λ j. (c j).1))
-          o (bit_tells (unary_bits o) (Ltl.Unary o f) n (λ j. (c j).0)),
-      starts_hold f (n + unary_bits o) (λ j. (c j).1),
+      unary_start_holds (Satisfies m f) (λ i. (s i).bit (n + nodes f)) (λ i. truth f n (s i)) (truth_tells f n (λ j. (c j).1))
+          o (bit_tells (unary_bits o) (Ltl.Unary o f) (n + nodes f) (λ j. (c j).0)),
+      starts_hold f n (λ j. (c j).1),
     )
     starts_hold (Ltl.Binary o f g) n c = (
-      binary_start_holds (Satisfies m f) (Satisfies m g) (λ i. (s i).bit n) (λ i. truth f (n + binary_bits o) (s i)) (λ i. truth g (n + binary_bits o + nodes f) (s i))
-          (truth_tells f (n + binary_bits o) (λ j. (c j).1)) (truth_tells g (n + binary_bits o + nodes f) (λ j. (c j).2))
-          o (bit_tells (binary_bits o) (Ltl.Binary o f g) n (λ j. (c j).0)),
-      starts_hold f (n + binary_bits o) (λ j. (c j).1),
-      starts_hold g (n + binary_bits o + nodes f) (λ j. (c j).2),
+      binary_start_holds (Satisfies m f) (Satisfies m g) (λ i. (s i).bit (n + nodes f + nodes g)) (λ i. truth f n (s i)) (λ i. truth g (n + nodes f) (s i))
+          (truth_tells f n (λ j. (c j).1)) (truth_tells g (n + nodes f) (λ j. (c j).2))
+          o (bit_tells (binary_bits o) (Ltl.Binary o f g) (n + nodes f + nodes g) (λ j. (c j).0)),
+      starts_hold f n (λ j. (c j).1),
+      starts_hold g (n + nodes f) (λ j. (c j).2),
     )
 
     module _ (start p l : ℕ) (some : 0 < p) (repeat : (a : ℕ) → Repeats p start (m a)) where
@@ -321,17 +321,14 @@ module _ (v : Ltl → ℕ → Bool) where
       sets_hold (Ltl.Atom a) n c h = tt
       sets_hold (Ltl.Unary o f) n c h =
           let k : steady start p (past_height f) ≤ l = less (past_height f) (past_unary o + past_height f) (omega arith) h in
-          each_join _ (unary_sets o (λ t. t.bit n) (truth f (n + unary_bits o))) _
-          (unary_sets_hold s p l some o (Satisfies m f) (λ t. t.bit n) (truth f (n + unary_bits o)) (truth_tells f (n + unary_bits o) (λ j. (c j).1))
-          (bit_tells (unary_bits o) (Ltl.Unary o f) n (λ j. (c j).0)) (repeats_at f k))
-          (sets_hold f (n + unary_bits o) (λ j. (c j).1) k)
+          each_join _ (sets f n) _ (sets_hold f n (λ j. (c j).1) k)
+          (unary_sets_hold s p l some o (Satisfies m f) (λ t. t.bit (n + nodes f)) (truth f n) (truth_tells f n (λ j. (c j).1))
+          (bit_tells (unary_bits o) (Ltl.Unary o f) (n + nodes f) (λ j. (c j).0)) (repeats_at f k))
       sets_hold (Ltl.Binary o f g) n c h =
           let kf : steady start p (past_height f) ≤ l = less (past_height f) (past_binary o + max (past_height f) (past_height g)) (omega arith) h in
           let kg : steady start p (past_height g) ≤ l = less (past_height g) (past_binary o + max (past_height f) (past_height g)) (omega arith) h in
-          each_join _ (binary_sets o (λ t. t.bit n) (truth g (n + binary_bits o + nodes f))) _
-          (binary_sets_hold s p l some o (Satisfies m f) (Satisfies m g) (λ t. t.bit n) (truth f (n + binary_bits o)) (truth g (n + binary_bits o + nodes f))
-          (truth_tells f (n + binary_bits o) (λ j. (c j).1)) (truth_tells g (n + binary_bits o + nodes f) (λ j. (c j).2))
-          (bit_tells (binary_bits o) (Ltl.Binary o f g) n (λ j. (c j).0)) (repeats_at g kg))
-          (each_join _ (sets f (n + binary_bits o)) _
-          (sets_hold f (n + binary_bits o) (λ j. (c j).1) kf)
-          (sets_hold g (n + binary_bits o + nodes f) (λ j. (c j).2) kg))
+          each_join _ (sets f n) _ (sets_hold f n (λ j. (c j).1) kf)
+          (each_join _ (sets g (n + nodes f)) _ (sets_hold g (n + nodes f) (λ j. (c j).2) kg)
+          (binary_sets_hold s p l some o (Satisfies m f) (Satisfies m g) (λ t. t.bit (n + nodes f + nodes g)) (truth f n) (truth g (n + nodes f))
+          (truth_tells f n (λ j. (c j).1)) (truth_tells g (n + nodes f) (λ j. (c j).2))
+          (bit_tells (binary_bits o) (Ltl.Binary o f g) (n + nodes f + nodes g) (λ j. (c j).0)) (repeats_at g kg)))

@@ -1,22 +1,20 @@
 -- The bits of signal and count: one for each set, and one for each number up to a bound.
-use Rattle.std.specs.Prelude.{ℕ, ◌+◌, ◌<◌, ◌≡◌, Bool, true, false, not, ◌&&◌, ◌||◌, List, [], ◌∷◌}
-use Rattle.ltl_monitor.specs.Monitor.{Side, Set}
+use Rattle.std.specs.Prelude.{ℕ, zero, suc, ◌<◌, ◌≡◌, Bool, true, not, ◌&&◌, ◌||◌}
 
--- each set from number n on is marked or holds
-abbrev pub fires : (ℕ → Bool) → List Set → ℕ → Side → Bool
-fires mark [] n s = true
-fires mark (z ∷ zs) n s = (mark n || z s) && fires mark zs (n + 1) s
+-- each of the first n sets is marked or holds: the signal
+abbrev pub fires : (ℕ → Bool) → (ℕ → Bool) → ℕ → Bool
+fires mark holds zero = true
+fires mark holds (suc n) = fires mark holds n && (mark n || holds n)
 
--- the marks of sets from number n on, in the state after
-abbrev pub MarkRows : Bool → (ℕ → Bool) → (ℕ → Bool) → List Set → ℕ → Side → Type 0
-MarkRows now mark next [] n s = Unit {0}
-MarkRows now mark next (z ∷ zs) n s = (next n ≡ (not now && (mark n || z s))) × MarkRows now mark next zs (n + 1) s
+-- the marks of n sets in the state after: cleared at a signal, else a set that holds is marked
+abbrev pub MarkRows : ℕ → Bool → (ℕ → Bool) → (ℕ → Bool) → (ℕ → Bool) → Type 0
+MarkRows n now mark holds next = (j : ℕ) → j < n → next j ≡ (not now && (mark j || holds j))
 
-abbrev pub Unmarked : (ℕ → Bool) → List Set → ℕ → Type 0
-Unmarked mark [] n = Unit {0}
-Unmarked mark (z ∷ zs) n = (mark n ≡ false) × Unmarked mark zs (n + 1)
+-- there were at least n signals, where bit j says that there were more than j
+abbrev pub at_least : (ℕ → Bool) → ℕ → Bool
+at_least c zero = true
+at_least c (suc j) = c j
 
--- bit j says that more than j signals were before
-pub record CountRows (bound : ℕ) (now : Bool) (c d : ℕ → Bool) : Type 0 where
-  pub one : 0 < bound → d 0 ≡ (c 0 || now)
-  pub more : (j : ℕ) → j + 1 < bound → d (j + 1) ≡ (c (j + 1) || (c j && now))
+-- the counter's bits in the state after
+abbrev pub CountRows : ℕ → Bool → (ℕ → Bool) → (ℕ → Bool) → Type 0
+CountRows bound now c next = (j : ℕ) → j < bound → next j ≡ (c j || (at_least c j && now))

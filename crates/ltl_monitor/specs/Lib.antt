@@ -2,3 +2,9 @@ pub mod Monitor
 pub mod Signal
 pub mod FairLasso
 pub mod Counter
+pub mod States
+pub mod Drafting
+pub mod Assembly
+pub mod Counted
+pub mod Counting
+pub mod Lassos

@@ -33,12 +33,12 @@ binary_bits BinaryOperator.Releases = 1
 binary_bits BinaryOperator.Since = 1
 binary_bits BinaryOperator.Triggered = 1
 
--- how many bits a formula has: its operator's own first, then its operands'
+-- how many bits a formula has: its operands', then its operator's own
 abbrev pub nodes : Ltl → ℕ
 nodes (Ltl.Constant b) = 0
 nodes (Ltl.Atom a) = 0
-nodes (Ltl.Unary o f) = unary_bits o + nodes f
-nodes (Ltl.Binary o f g) = binary_bits o + (nodes f + nodes g)
+nodes (Ltl.Unary o f) = nodes f + unary_bits o
+nodes (Ltl.Binary o f g) = nodes f + (nodes g + binary_bits o)
 
 -- an operator's truth, from its own bit and its operands' truth
 abbrev pub unary_now : UnaryOperator → Bool → Bool → Bool
@@ -72,9 +72,9 @@ binary_now BinaryOperator.Triggered bit p q = bit
 abbrev pub truth : Ltl → ℕ → Side → Bool
 truth (Ltl.Constant b) n s = b
 truth (Ltl.Atom a) n s = s.atom a
-truth (Ltl.Unary o f) n s = unary_now o (s.bit n) (truth f (n + unary_bits o) s)
+truth (Ltl.Unary o f) n s = unary_now o (s.bit (n + nodes f)) (truth f n s)
 truth (Ltl.Binary o f g) n s =
-    binary_now o (s.bit n) (truth f (n + binary_bits o) s) (truth g (n + binary_bits o + nodes f) s)
+    binary_now o (s.bit (n + nodes f + nodes g)) (truth f n s) (truth g (n + nodes f) s)
 
 -- an operator's rule for a step, over its bit and its operands' truth, before it and after
 abbrev pub unary_row : UnaryOperator → Bool → Bool → Bool → Bool → Type 0
@@ -104,12 +104,11 @@ abbrev pub rows : Ltl → ℕ → Side → Side → Type 0
 rows (Ltl.Constant b) n s t = Unit {0}
 rows (Ltl.Atom a) n s t = Unit {0}
 rows (Ltl.Unary o f) n s t =
-    unary_row o (s.bit n) (t.bit n) (truth f (n + unary_bits o) s) (truth f (n + unary_bits o) t)
-    × rows f (n + unary_bits o) s t
+    unary_row o (s.bit (n + nodes f)) (t.bit (n + nodes f)) (truth f n s) (truth f n t) × rows f n s t
 rows (Ltl.Binary o f g) n s t =
-    binary_row o (s.bit n) (t.bit n) (truth f (n + binary_bits o) s) (truth g (n + binary_bits o + nodes f) s)
-    (truth f (n + binary_bits o) t) (truth g (n + binary_bits o + nodes f) t)
-    × rows f (n + binary_bits o) s t × rows g (n + binary_bits o + nodes f) s t
+    binary_row o (s.bit (n + nodes f + nodes g)) (t.bit (n + nodes f + nodes g)) (truth f n s) (truth g (n + nodes f) s)
+    (truth f n t) (truth g (n + nodes f) t)
+    × rows f n s t × rows g (n + nodes f) s t
 
 -- an operator's rule for the first state
 abbrev pub unary_start : UnaryOperator → Bool → Bool → Type 0
@@ -138,10 +137,9 @@ binary_start BinaryOperator.Triggered bit q = bit ≡ q
 abbrev pub starts : Ltl → ℕ → Side → Type 0
 starts (Ltl.Constant b) n s = Unit {0}
 starts (Ltl.Atom a) n s = Unit {0}
-starts (Ltl.Unary o f) n s = unary_start o (s.bit n) (truth f (n + unary_bits o) s) × starts f (n + unary_bits o) s
+starts (Ltl.Unary o f) n s = unary_start o (s.bit (n + nodes f)) (truth f n s) × starts f n s
 starts (Ltl.Binary o f g) n s =
-    binary_start o (s.bit n) (truth g (n + binary_bits o + nodes f) s)
-    × starts f (n + binary_bits o) s × starts g (n + binary_bits o + nodes f) s
+    binary_start o (s.bit (n + nodes f + nodes g)) (truth g (n + nodes f) s) × starts f n s × starts g (n + nodes f) s
 
 -- what has to hold again and again
 abbrev pub Set : Type 0
@@ -174,11 +172,9 @@ binary_sets BinaryOperator.Triggered bit q = []
 abbrev pub sets : Ltl → ℕ → List Set
 sets (Ltl.Constant b) n = []
 sets (Ltl.Atom a) n = []
-sets (Ltl.Unary o f) n =
-    unary_sets o (λ s. s.bit n) (truth f (n + unary_bits o)) ++ sets f (n + unary_bits o)
+sets (Ltl.Unary o f) n = sets f n ++ unary_sets o (λ s. s.bit (n + nodes f)) (truth f n)
 sets (Ltl.Binary o f g) n =
-    binary_sets o (λ s. s.bit n) (truth g (n + binary_bits o + nodes f))
-    ++ (sets f (n + binary_bits o) ++ sets g (n + binary_bits o + nodes f))
+    sets f n ++ (sets g (n + nodes f) ++ binary_sets o (λ s. s.bit (n + nodes f + nodes g)) (truth g (n + nodes f)))
 
 -- each of a list
 abbrev pub Each : {X : Type 0} → (X → Type 0) → List X → Type 0

@@ -1,6 +1,10 @@
 ghost use Rattle.std.specs.Prelude.{◌≡◌, ◌+◌, ◌-◌, ◌<◌, ◌↔◌, ℕ, Bool, List};
+ghost use Rattle.clause_core.specs.declared.literal.Lit.{Lit};
+ghost use Rattle.clause_core.specs.Systems.{TransitionSystem, Gives};
 ghost use Rattle.ltl_meaning.specs.Ltl.{Ltl, past_height};
 ghost use Rattle.ltl_monitor.specs.FairLasso.{Sequence, Loops, Violates, HasMonitor, Signals, beside};
+ghost use Rattle.ltl_monitor.specs.States.{Extends, justice_of, IsMonitor};
+ghost use Rattle.ltl_monitor.specs.Lassos.{IsLasso, word_of, HasFairLasso};
 
 /// A lasso violates a formula exactly where its stretch, by as many passes of the loop as past
 /// operators nest, has bits that make it a fair monitored lasso. Where no monitored run along it has
@@ -8,4 +12,11 @@ ghost use Rattle.ltl_monitor.specs.FairLasso.{Sequence, Loops, Violates, HasMoni
 pub fn monitors()
     ensures exact { (f : Ltl) (justice : List ℕ) (x : Sequence) (n l : ℕ) → l < n → Loops x l (n - l) → Violates justice f x n l ↔ HasMonitor justice f x n l (past_height f) }
     ensures signals { (f : Ltl) (justice : List ℕ) (x : Sequence) (n l k : ℕ) → l < n → Loops x l (n - l) → ((b : ℕ → ℕ → Bool) (m : ℕ) → Signals justice f (beside x b) m (k + 1) → ⊥) → ¬ Violates justice f x n l }
+{}
+
+/// A lasso of a system violates a formula exactly where its stretch, by as many passes of the loop as
+/// past operators nest, has bits with which it is a fair lasso of the monitored system. It does
+/// nothing: its contract is the law.
+pub fn monitored_lassos()
+    ensures { (sys m : TransitionSystem) (f : Ltl) (atoms : List Lit) → IsMonitor sys f atoms m → Gives m.state_bits m.fair m.defs → (xs values : ℕ → ℕ → Bool) (n l : ℕ) → ((i : ℕ) → Extends sys (xs i) (values i)) → IsLasso sys xs n l → Violates (justice_of sys atoms) f (word_of sys atoms values n l) n l ↔ HasFairLasso sys m xs n l (past_height f) }
 {}

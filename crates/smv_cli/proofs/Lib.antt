@@ -1,10 +1,5 @@
-pub mod Causes
 pub mod Complete
-pub mod Cutting
-pub mod KindNumbers
 pub mod Known
-pub mod Longest
 pub mod Recording
 pub mod Reports
-pub mod Tables
 pub mod Writing

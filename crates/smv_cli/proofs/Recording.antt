@@ -7,11 +7,12 @@ use Rattle.std.specs.List.{flat_map}
 use Rattle.std.proofs.Math.Seq.{take-append-add}
 use Rattle.std.proofs.KnownBytes.{Appends-trans}
 use Rattle.std.specs.Io.KnownBytes.{Appends}
+use Rattle.command_words.specs.declared.command.Effort.{Effort}
 use Rattle.smv_tree.specs.declared.tree.Program.{Program}
 use Rattle.smv_tree.specs.declared.tree.Specification.{Specification}
 use Rattle.smv_cli.specs.declared.record.Record.{Record}
 use Rattle.smv_cli.specs.Streams.{AppendsFront}
-use Rattle.smv_cli.specs.Records.{IsRight, RightFrom, Recorded, RecordedPart, status_with}
+use Rattle.smv_cli.specs.Records.{IsPaid, RightFrom, Recorded, RecordedPart, status_with}
 use Rattle.smv_cli.specs.Texts.{record_text}
 
 -- what was taken in one call, and a front of what came in the next
@@ -22,18 +23,18 @@ AppendsFront-after old mid new first second p (n, q) =
 pub AppendsFront-whole : (old new : Option (List ℕ)) (piece : List ℕ) → Appends old new piece → AppendsFront old new piece
 AppendsFront-whole old new piece took = (length piece, subst (Appends old new) (sym (take_all (length piece) piece (omega arith))) took)
 
-module _ (p : Program) where
-  RightFrom-more : (i : ℕ) (xs ys : List Specification) (rs : List Record) → RightFrom p i xs rs → RightFrom p i (xs ++ ys) rs
+module _ (p : Program) (effort : Effort) where
+  RightFrom-more : (i : ℕ) (xs ys : List Specification) (rs : List Record) → RightFrom p effort i xs rs → RightFrom p effort i (xs ++ ys) rs
   RightFrom-more i xs ys [] h = tt
   RightFrom-more i [] ys (r ∷ rs) h = absurd h
   RightFrom-more i (x ∷ xs) ys (r ∷ rs) (h, k) = (h, RightFrom-more (i + 1) xs ys rs k)
 
-  RightFrom-push : (i : ℕ) (xs : List Specification) (x : Specification) (rs : List Record) (r : Record) → RightFrom p i xs rs → length rs ≡ length xs
-      → IsRight p (i + length xs) x r → RightFrom p i (xs ++ x ∷ []) (rs ++ r ∷ [])
-  RightFrom-push i [] x [] r h e k = (subst (λ (n : ℕ). IsRight p n x r) (omega arith) k, tt)
+  RightFrom-push : (i : ℕ) (xs : List Specification) (x : Specification) (rs : List Record) (r : Record) → RightFrom p effort i xs rs → length rs ≡ length xs
+      → IsPaid p effort (i + length xs) x r → RightFrom p effort i (xs ++ x ∷ []) (rs ++ r ∷ [])
+  RightFrom-push i [] x [] r h e k = (subst (λ (n : ℕ). IsPaid p effort n x r) (omega arith) k, tt)
   RightFrom-push i [] x (q ∷ rs) r h e k = absurd h
   RightFrom-push i (y ∷ xs) x [] r h e k = absurd (omega (arith, e))
-  RightFrom-push i (y ∷ xs) x (q ∷ rs) r (h, k) e m = (h, RightFrom-push (i + 1) xs x rs r k (omega (arith, e)) (subst (λ (n : ℕ). IsRight p n x r) (omega arith) m))
+  RightFrom-push i (y ∷ xs) x (q ∷ rs) r (h, k) e m = (h, RightFrom-push (i + 1) xs x rs r k (omega (arith, e)) (subst (λ (n : ℕ). IsPaid p effort n x r) (omega arith) m))
 
 flat_map-push : (rs : List Record) (r : Record) → flat_map record_text (rs ++ r ∷ []) ≡ flat_map record_text rs ++ record_text r
 flat_map-push [] r = append-nil (record_text r)
@@ -46,22 +47,22 @@ status-push : (a : ℕ) (rs : List Record) (r : Record) → fold with_record a (
 status-push a [] r = refl
 status-push a (q ∷ rs) r = status-push (with_record a q) rs r
 
-module _ (p : Program) (specs : List Specification) (i : ℕ) where
-  right-whole : (rs : List Record) → RightFrom p 1 (take i specs) rs → RightFrom p 1 specs rs
-  right-whole rs right = subst (λ (xs : List Specification). RightFrom p 1 xs rs) (take-append-drop i specs) (RightFrom-more p 1 (take i specs) (drop i specs) rs right)
+module _ (p : Program) (effort : Effort) (specs : List Specification) (i : ℕ) where
+  right-whole : (rs : List Record) → RightFrom p effort 1 (take i specs) rs → RightFrom p effort 1 specs rs
+  right-whole rs right = subst (λ (xs : List Specification). RightFrom p effort 1 xs rs) (take-append-drop i specs) (RightFrom-more p effort 1 (take i specs) (drop i specs) rs right)
 
   -- right records of the first i specifications and one more
-  right-push : (rs : List Record) (spec : Specification) (r : Record) → i < length specs → IsRight p (i + 1) (get_or specs i spec) r
-      → RightFrom p 1 (take i specs) rs → length rs ≡ length (take i specs) → RightFrom p 1 (take (i + 1) specs) (rs ++ r ∷ [])
+  right-push : (rs : List Record) (spec : Specification) (r : Record) → i < length specs → IsPaid p effort (i + 1) (get_or specs i spec) r
+      → RightFrom p effort 1 (take i specs) rs → length rs ≡ length (take i specs) → RightFrom p effort 1 (take (i + 1) specs) (rs ++ r ∷ [])
   right-push rs spec r h k right each =
       let front : take (i + 1) specs ≡ take i specs ++ get_or specs i spec ∷ [] = take_more specs i spec h in
       let n : i + 1 ≡ 1 + length (take i specs) = omega (arith, length-take i specs) in
-      subst (λ (xs : List Specification). RightFrom p 1 xs (rs ++ r ∷ [])) (sym front)
-      (RightFrom-push p 1 (take i specs) (get_or specs i spec) rs r right each (subst (λ (m : ℕ). IsRight p m (get_or specs i spec) r) n k))
+      subst (λ (xs : List Specification). RightFrom p effort 1 xs (rs ++ r ∷ [])) (sym front)
+      (RightFrom-push p effort 1 (take i specs) (get_or specs i spec) rs r right each (subst (λ (m : ℕ). IsPaid p effort m (get_or specs i spec) r) n k))
 
   pub Recorded-push : (spec : Specification) (r : Record) (old mid new : Option (List ℕ)) (status next : ℕ) → i < length specs
-      → IsRight p (i + 1) (get_or specs i spec) r → Recorded p (take i specs) old mid status → Appends mid new (record_text r)
-      → next ≡ status_with status r.verdict → Recorded p (take (i + 1) specs) old new next
+      → IsPaid p effort (i + 1) (get_or specs i spec) r → Recorded p effort (take i specs) old mid status → Appends mid new (record_text r)
+      → next ≡ status_with status r.verdict → Recorded p effort (take (i + 1) specs) old new next
   Recorded-push spec r old mid new status next h k so_far took e = record {
     records = so_far.records ++ r ∷ [];
     right = right-push so_far.records spec r h k so_far.right so_far.each;
@@ -70,18 +71,18 @@ module _ (p : Program) (specs : List Specification) (i : ℕ) where
     worst = e ∙ ap (λ (a : ℕ). with_record a r) so_far.worst ∙ sym (status-push 0 so_far.records r);
   }
 
-  pub RecordedPart-whole : (old new : Option (List ℕ)) (status : ℕ) → Recorded p (take i specs) old new status → RecordedPart p specs old new
+  pub RecordedPart-whole : (old new : Option (List ℕ)) (status : ℕ) → Recorded p effort (take i specs) old new status → RecordedPart p effort specs old new
   RecordedPart-whole old new status so_far = record {
     records = so_far.records;
     right = right-whole so_far.records so_far.right;
     took = AppendsFront-whole old new (flat_map record_text so_far.records) so_far.took;
   }
 
-pub RecordedPart-push : (p : Program) (specs : List Specification) (i : ℕ) (spec : Specification) (r : Record) (old mid new : Option (List ℕ)) (status : ℕ) → i < length specs
-    → IsRight p (i + 1) (get_or specs i spec) r → Recorded p (take i specs) old mid status → AppendsFront mid new (record_text r)
-    → RecordedPart p specs old new
-RecordedPart-push p specs i spec r old mid new status h k so_far took = record {
+pub RecordedPart-push : (p : Program) (effort : Effort) (specs : List Specification) (i : ℕ) (spec : Specification) (r : Record) (old mid new : Option (List ℕ)) (status : ℕ) → i < length specs
+    → IsPaid p effort (i + 1) (get_or specs i spec) r → Recorded p effort (take i specs) old mid status → AppendsFront mid new (record_text r)
+    → RecordedPart p effort specs old new
+RecordedPart-push p effort specs i spec r old mid new status h k so_far took = record {
   records = so_far.records ++ r ∷ [];
-  right = right-whole p specs (i + 1) (so_far.records ++ r ∷ []) (right-push p specs i so_far.records spec r h k so_far.right so_far.each);
+  right = right-whole p effort specs (i + 1) (so_far.records ++ r ∷ []) (right-push p effort specs i so_far.records spec r h k so_far.right so_far.each);
   took = subst (AppendsFront old new) (sym (flat_map-push so_far.records r)) (AppendsFront-after old mid new (flat_map record_text so_far.records) (record_text r) so_far.took took);
 }

@@ -3,7 +3,7 @@ use Rattle.std.proofs.Common.{◌≡◌, ℕ, zero, suc, ◌+◌, ◌<◌, List,
 use Rattle.std.proofs.lemmas.List.{take_more}
 use Rattle.std.proofs.Math.Seq.{take-nil}
 use Rattle.std.specs.List.{zip}
-use Rattle.smv_meaning.specs.declared.value.Value.{Value}
+use Rattle.smv_value.specs.declared.value.Value.{Value}
 use Rattle.smv_cli.specs.Texts.{binding_text, more_bindings, state_line, states_text}
 
 more_bindings-push : (bs : List (List ℕ × Value)) (b : List ℕ × Value) → more_bindings (bs ++ b ∷ []) ≡ more_bindings bs ++ (codes ", " ++ binding_text b)

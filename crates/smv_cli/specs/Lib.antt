@@ -1,4 +1,3 @@
-pub mod Reading
 pub mod Records
 pub mod Report
 pub mod Streams

@@ -1,7 +1,10 @@
 -- Right records of the specifications of a program, and the status that they give.
-use Rattle.std.specs.Prelude.{◌≡◌, ℕ, zero, suc, ◌+◌, true, List, [], ◌∷◌, length, map, Option, fold}
+use Rattle.std.specs.Prelude.{◌≡◌, ℕ, zero, suc, ◌+◌, Bool, List, [], ◌∷◌, length, map, Option, fold}
 use Rattle.std.specs.List.{flat_map}
 use Rattle.std.specs.Io.KnownBytes.{Appends}
+use Rattle.command_words.specs.declared.command.Effort.{Effort}
+use Rattle.effort_purse.specs.declared.plain.PlainPurse.{PlainPurse}
+use Rattle.effort_purse.specs.Plain.{plain_budget, plain_spent}
 use Rattle.smv_tree.specs.declared.tree.Program.{Program}
 use Rattle.smv_tree.specs.declared.tree.Specification.{Specification}
 use Rattle.smv_meaning.specs.declared.value.Slot.{Slot}
@@ -14,32 +17,32 @@ use Rattle.smv_cli.specs.declared.record.Record.{Record}
 use Rattle.smv_cli.specs.Streams.{AppendsFront}
 use Rattle.smv_cli.specs.Texts.{record_text}
 
--- how many tickets a specification may cost, one for each query and one for each clause that the solver learns
-abbrev pub check_budget : ℕ
-check_budget = 1000000
+-- true: no run of any length breaks the specification; false: the trace is a run that breaks it; unknown: the purse,
+-- whose budget this is, was spent, or no run of so many steps at most breaks it and induction over one step does not
+-- show it
+abbrev pub IsRightVerdict : Program → Specification → ℕ → ℕ → Bool → Verdict → Type 0
+IsRightVerdict p spec budget bound over True = IsUnbroken p spec
+IsRightVerdict p spec budget bound over (False trace) = (trace.names ≡ map (λ (slot : Slot). slot.name) (slots_of p)) × Breaks p spec trace.states
+IsRightVerdict p spec budget bound over (Unknown cause) = IsCause p spec budget bound over cause
 
--- how many steps the runs have at most that are looked for
-abbrev pub check_bound : ℕ
-check_bound = 30
-
--- true: no run of any length breaks the specification; false: the trace is a run that breaks it; unknown: the budget
--- was spent, or no run of so many steps at most breaks it and induction over one step does not show it
-abbrev pub IsRightVerdict : Program → Specification → Verdict → Type 0
-IsRightVerdict p spec True = IsUnbroken p spec
-IsRightVerdict p spec (False trace) = (trace.names ≡ map (λ (slot : Slot). slot.name) (slots_of p)) × Breaks p spec trace.states
-IsRightVerdict p spec (Unknown cause) = IsCause p spec check_budget check_bound true cause
-
--- a right record of the specification of this number
-pub record IsRight (p : Program) (number : ℕ) (spec : Specification) (r : Record) : Type 0 where
+-- a right record of the specification of this number, where a purse of this budget paid and was spent or not
+pub record IsRight (p : Program) (budget bound : ℕ) (over : Bool) (number : ℕ) (spec : Specification) (r : Record) : Type 0 where
   pub numbered : r.number ≡ number
   pub of_kind : r.kind ≡ spec.kind
-  pub verdict : IsRightVerdict p spec r.verdict
+  pub verdict : IsRightVerdict p spec budget bound over r.verdict
+
+-- A right record by some purse of the budget. Where the record says `conflicts D of B`, D and B are the budget, and
+-- some purse of that budget is spent: this does not say that the purse which paid for the record is that one.
+pub record IsPaid (p : Program) (effort : Effort) (number : ℕ) (spec : Specification) (r : Record) : Type 0 where
+  pub purse : PlainPurse
+  pub budgeted : plain_budget purse ≡ effort.conflicts
+  pub right : IsRight p effort.conflicts effort.bound (plain_spent purse) number spec r
 
 -- right records of the first specifications, in their order, numbered from i on
-abbrev pub RightFrom : Program → ℕ → List Specification → List Record → Type 0
-RightFrom p i specs [] = Unit {0}
-RightFrom p i [] (r ∷ rs) = ⊥
-RightFrom p i (spec ∷ specs) (r ∷ rs) = IsRight p i spec r × RightFrom p (i + 1) specs rs
+abbrev pub RightFrom : Program → Effort → ℕ → List Specification → List Record → Type 0
+RightFrom p effort i specs [] = Unit {0}
+RightFrom p effort i [] (r ∷ rs) = ⊥
+RightFrom p effort i (spec ∷ specs) (r ∷ rs) = IsPaid p effort i spec r × RightFrom p effort (i + 1) specs rs
 
 -- 1 where it is 1 already, else 2
 abbrev pub at_least_unknown : ℕ → ℕ
@@ -58,15 +61,15 @@ abbrev pub status_of : List Record → ℕ
 status_of records = fold (λ status (r : Record). status_with status r.verdict) 0 records
 
 -- the sink took a right record of each specification, and the status is theirs
-pub record Recorded (p : Program) (specs : List Specification) (before now : Option (List ℕ)) (status : ℕ) : Type 0 where
+pub record Recorded (p : Program) (effort : Effort) (specs : List Specification) (before now : Option (List ℕ)) (status : ℕ) : Type 0 where
   pub records : List Record
-  pub right : RightFrom p 1 specs records
+  pub right : RightFrom p effort 1 specs records
   pub each : length records ≡ length specs
   pub took : Appends before now (flat_map record_text records)
   pub worst : status ≡ status_of records
 
 -- the sink took a prefix of right records of the first specifications
-pub record RecordedPart (p : Program) (specs : List Specification) (before now : Option (List ℕ)) : Type 0 where
+pub record RecordedPart (p : Program) (effort : Effort) (specs : List Specification) (before now : Option (List ℕ)) : Type 0 where
   pub records : List Record
-  pub right : RightFrom p 1 specs records
+  pub right : RightFrom p effort 1 specs records
   pub took : AppendsFront before now (flat_map record_text records)

@@ -3,8 +3,8 @@ use Rattle.std.specs.Prelude.{ℕ, ◌+◌, List, [], ◌∷◌, ◌++◌, codes
 use Rattle.std.specs.Fmt.{decimal}
 use Rattle.std.specs.List.{zip}
 use Rattle.smv_tree.specs.Texts.{kind_text, line_end}
-use Rattle.smv_meaning.specs.declared.value.Value.{Value}
-use Rattle.smv_meaning.specs.Texts.{value_text}
+use Rattle.smv_value.specs.declared.value.Value.{Value}
+use Rattle.smv_value.specs.Texts.{value_text}
 use Rattle.invariant_queries.specs.Texts.{cause_text}
 use Rattle.smv_cli.specs.declared.record.Trace.{Trace}
 use Rattle.smv_cli.specs.declared.record.Verdict.{Verdict}

@@ -1,11 +1,11 @@
 //! What is said of a specification: it is decided by queries to a solver.
 
-ghost use Rattle.std.specs.Prelude.{◌≡◌, map, IfOk};
+ghost use Rattle.std.specs.Prelude.{◌≡◌, ◌<◌, ◌^◌, map, IfOk};
 ghost use Rattle.smv_meaning.specs.declared.value.Slot.{Slot};
 ghost use Rattle.smv_cli.specs.Records.{IsRight};
 
 use crate::record::{Record, Trace, Verdict};
-use effort_purse::PlainPurse;
+use effort_purse::Purse;
 use invariant_queries::{Decision, decide};
 use plain_text::Text;
 use smv_meaning::{Slot, Typed, slots};
@@ -13,25 +13,23 @@ use smv_tree::{Specification, SpecificationKind};
 use sqlite_items::Items;
 use std::alloc::{AllocError, Global};
 
-/// How many tickets a specification may cost: one for each query, and one for each clause that the solver learns.
-const BUDGET: u64 = 1_000_000;
-
-/// How many steps the runs have at most that are looked for.
-const BOUND: usize = 30;
-
-/// The record of a specification under this number.
-#[tactic(auto, using(crate::proofs::Causes::spent_cause))]
-pub fn judge(
+/// The record of a specification under this number, as far as this purse pays and runs of so many steps show.
+pub fn judge<Q: Purse>(
     alloc: Global,
     typed: &Typed,
     number: usize,
     spec: &Specification,
+    bound: usize,
+    purse: &mut Q,
 ) -> Result<Record, AllocError>
-    ensures { IfOk result (IsRight typed.now.program number spec.now) }
+    requires bound { bound < 2 ^ 32 }
+    requires ready { Q.ready purse.old }
+    ensures right { IfOk result (IsRight typed.now.program (Q.budget purse.old) bound (Q.spent purse.new) number spec.now) }
+    ensures ready { Q.ready purse.new }
+    ensures budget { Q.budget purse.new ≡ Q.budget purse.old }
 {
     let kind = spec.kind;
-    let mut purse = PlainPurse::new(BUDGET);
-    match decide(alloc, typed, spec, BOUND, &mut purse)? {
+    match decide(alloc, typed, spec, bound, purse)? {
         Decision::True => Ok(record(number, kind, Verdict::True)),
         Decision::False(states) => {
             let names = slot_names(alloc, slots(typed))?;

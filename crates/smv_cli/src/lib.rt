@@ -4,7 +4,6 @@
 mod judging;
 mod print;
 mod record;
-mod source;
 mod streams;
 #[cfg(test)]
 mod tests;

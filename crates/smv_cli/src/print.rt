@@ -1,17 +1,19 @@
 //! Parts of a report, each written when it is made.
-ghost use Rattle.std.specs.Prelude.{◌≡◌, ◌≤◌, map, IfSome, IfOk, OnOk, IsErrOf};
+ghost use Rattle.std.specs.Prelude.{◌≡◌, ◌<◌, ◌≤◌, ◌^◌, map, IfSome, IfOk, OnOk, IsErrOf};
 ghost use Rattle.std.specs.Io.KnownBytes.{Appends};
 ghost use Rattle.outside.specs.Causes.{Rose};
 ghost use Rattle.smv_cli.specs.Streams.{AppendsFront};
-ghost use Rattle.smv_cli.specs.Records.{Recorded, RecordedPart, status_with};
+ghost use Rattle.smv_cli.specs.Records.{IsPaid, Recorded, RecordedPart, status_with};
 
 use crate::judging::judge;
-use crate::record::Verdict;
+use crate::record::{Record, Verdict};
 use crate::streams::write_all;
+use command_words::Effort;
+use effort_purse::PlainPurse;
 use outside::{Sink, Stop};
 use smv_meaning::Typed;
 use smv_tree::Specification;
-use std::alloc::Global;
+use std::alloc::{AllocError, Global};
 use std::fmt;
 
 /// Writes one part.
@@ -40,6 +42,21 @@ fn status_with(status: u8, verdict: &Verdict) -> u8
     }
 }
 
+// The record of a specification, paid from a purse of its own.
+fn judge_anew(
+    alloc: Global,
+    typed: &Typed,
+    number: usize,
+    spec: &Specification,
+    effort: &Effort,
+) -> Result<Record, AllocError>
+    requires { effort.now.bound < 2 ^ 32 }
+    ensures { IfOk result (IsPaid typed.now.program effort.now number spec.now) }
+{
+    let mut purse = PlainPurse::new(effort.conflicts);
+    judge(alloc, typed, number, spec, effort.bound, &mut purse)
+}
+
 /// Writes the record of each specification of a program, one by one, each when it is made. The answer is 1 where one
 /// is false, else 2 where one is unknown, else 0.
 pub fn put_records<K: Sink>(
@@ -47,16 +64,18 @@ pub fn put_records<K: Sink>(
     sink: &mut K,
     typed: &Typed,
     specs: &[&Specification],
+    effort: &Effort,
 ) -> Result<u8, Stop>
-    ensures ok { IfOk result (λ status. Recorded typed.now.program (map (λ s. s.now) specs.now) (K.taken sink.old) (K.taken sink.new) status) }
+    requires { effort.now.bound < 2 ^ 32 }
+    ensures ok { IfOk result (λ status. Recorded typed.now.program effort.now (map (λ s. s.now) specs.now) (K.taken sink.old) (K.taken sink.new) status) }
     ensures small { IfOk result (λ status. status ≤ 2) }
-    ensures part { RecordedPart typed.now.program (map (λ s. s.now) specs.now) (K.taken sink.old) (K.taken sink.new) }
+    ensures part { RecordedPart typed.now.program effort.now (map (λ s. s.now) specs.now) (K.taken sink.old) (K.taken sink.new) }
     ensures later { K.faults sink.old ≤ K.faults sink.new }
     ensures failed { IsErrOf result Stop.Failed → Rose (K.faults sink.old) (K.faults sink.new) }
 {
     let mut status = 0;
     'specs: for i in 0..specs.len() {
-        let Ok(made) = judge(alloc, typed, i + 1, specs[i]) else {
+        let Ok(made) = judge_anew(alloc, typed, i + 1, specs[i], effort) else {
             return Err(Stop::NoMemory);
         };
         put(alloc, sink, &made)?;

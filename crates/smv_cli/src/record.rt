@@ -7,8 +7,9 @@ ghost use Rattle.smv_cli.specs.Texts.{bindings_text, more_bindings, record_text,
 
 use invariant_queries::Cause;
 use plain_text::Text;
-use smv_meaning::{State, Value};
+use smv_meaning::State;
 use smv_tree::SpecificationKind;
+use smv_value::Value;
 use sqlite_items::Items;
 use std::fmt;
 

@@ -1,19 +1,22 @@
 //! The top call: from the words and the bytes of a source to the bytes of a report and a status.
-ghost use Rattle.std.specs.Prelude.{◌≡◌, ◌<◌, ◌≤◌, ◌^◌, length, map, IfOk, OnOk, IsErrOf, MatchBool, IfSome, ◌⊎◌, ◌≢◌, Some};
+ghost use Rattle.std.specs.Prelude.{◌≡◌, ◌<◌, ◌≤◌, ◌^◌, map, IfOk, IsErrOf, IfSome, ◌⊎◌, ◌≢◌, Some};
 ghost use Rattle.std.specs.Io.KnownBytes.{Appends, Keeps};
+ghost use Rattle.command_words.specs.Grammar.{IsCommandLine};
 ghost use Rattle.outside.specs.Causes.{Rose};
 ghost use Rattle.smv_tree.specs.Texts.{refusal_text};
 ghost use Rattle.smv_meaning.specs.Programs.{specifications_of};
 ghost use Rattle.smv_cli.specs.Records.{Recorded, RecordedPart};
-ghost use Rattle.smv_cli.specs.Report.{Answered, Begun, CheckDone, CheckPart, IsCheck, IsModel, Stage, refusal_of};
+ghost use Rattle.smv_cli.specs.Report.{Answered, Begun, CheckDone, CheckPart, CheckStage, IsSomeModel, Stage};
 ghost use Rattle.smv_cli.specs.Streams.{AppendsFront};
+ghost use Rattle.smv_cli.specs.Texts.{usage_text};
 
 use crate::print::{put, put_records};
-use crate::source::{ReadStop, read_source};
 use crate::streams::{SourceStop, read_all};
+use command_words::{Command, Effort, WordsStop, read_words};
 use outside::{Gate, OpenGate, Sink, Source, Stop, SureSink, SureSource};
-use smv_meaning::{make_typed, specifications};
-use smv_tree::{Place, Program, Refusal, Rule};
+use smv_front::read_model;
+use smv_meaning::{Typed, specifications};
+use smv_tree::{Refusal, TextStop};
 use std::alloc::Global;
 use std::sync::Wait;
 use std::thread::Threads;
@@ -23,104 +26,116 @@ pub const SOURCE_LIMIT: usize = 16_777_216;
 
 const USAGE: &str = "-- usage: smvcheck check | recheck | flat | self N SEED\n";
 
-// The one command line.
-fn is_check(words: &[&str]) -> bool
-    ensures { MatchBool result (IsCheck (map (λ w. w.now) words.now)) (IsCheck (map (λ w. w.now) words.now) → ⊥) }
-{
-    matches!(words, ["check"])
-}
-
 // Refuses a source, with status 3.
-fn refuse<K: Sink>(alloc: Global, sink: &mut K, rule: Rule, place: Place) -> Result<u8, Stop>
-    ensures ok { IfOk result (λ status. (status ≡ 3) × Appends (K.taken sink.old) (K.taken sink.new) (refusal_text (refusal_of rule place))) }
-    ensures front { AppendsFront (K.taken sink.old) (K.taken sink.new) (refusal_text (refusal_of rule place)) }
+fn refuse<K: Sink>(alloc: Global, sink: &mut K, refusal: &Refusal) -> Result<u8, Stop>
+    ensures ok { IfOk result (λ status. (status ≡ 3) × Appends (K.taken sink.old) (K.taken sink.new) (refusal_text refusal.now)) }
+    ensures front { AppendsFront (K.taken sink.old) (K.taken sink.new) (refusal_text refusal.now) }
     ensures later { K.faults sink.old ≤ K.faults sink.new }
     ensures failed { IsErrOf result Stop.Failed → Rose (K.faults sink.old) (K.faults sink.new) }
 {
-    let refusal = Refusal {
-        rule,
-        place,
-        detail: None,
-    };
-    put(alloc, sink, &refusal)?;
+    put(alloc, sink, refusal)?;
     Ok(3)
 }
 
-// Writes the records of a program.
-fn report_program<K: Sink>(alloc: Global, sink: &mut K, program: Program) -> Result<u8, Stop>
-    ensures ok { IfOk result (λ status. Recorded program (specifications_of program) (K.taken sink.old) (K.taken sink.new) status) }
+// Writes the records of a model.
+fn report_model<K: Sink>(
+    alloc: Global,
+    sink: &mut K,
+    typed: &Typed,
+    effort: &Effort,
+) -> Result<u8, Stop>
+    requires { effort.now.bound < 2 ^ 32 }
+    ensures ok { IfOk result (λ status. Recorded typed.now.program effort.now (specifications_of typed.now.program) (K.taken sink.old) (K.taken sink.new) status) }
     ensures small { IfOk result (λ status. status ≤ 2) }
-    ensures part { RecordedPart program (specifications_of program) (K.taken sink.old) (K.taken sink.new) }
+    ensures part { RecordedPart typed.now.program effort.now (specifications_of typed.now.program) (K.taken sink.old) (K.taken sink.new) }
     ensures later { K.faults sink.old ≤ K.faults sink.new }
     ensures failed { IsErrOf result Stop.Failed → Rose (K.faults sink.old) (K.faults sink.new) }
 {
-    let Ok(typed) = make_typed(alloc, program) else {
-        return Err(Stop::NoMemory);
-    };
     let Ok(specs) = specifications(alloc, &typed.program) else {
         return Err(Stop::NoMemory);
     };
-    put_records(alloc, sink, &typed, &specs)
+    put_records(alloc, sink, typed, &specs, effort)
 }
 
 // Reports on a text, and gives the status.
-fn report<K: Sink>(alloc: Global, sink: &mut K, text: &[u8]) -> Result<u8, Stop>
-    requires { length text.now < 2 ^ 32 }
-    ensures ok { IfOk result (λ status. CheckDone text.now (K.taken sink.old) (K.taken sink.new) status) }
+fn report<K: Sink>(alloc: Global, sink: &mut K, text: &[u8], effort: &Effort) -> Result<u8, Stop>
+    requires { effort.now.bound < 2 ^ 32 }
+    ensures ok { IfOk result (λ status. CheckDone effort.now text.now (K.taken sink.old) (K.taken sink.new) status) }
     ensures small { IfOk result (λ status. status ≤ 3) }
-    ensures part { CheckPart text.now (K.taken sink.old) (K.taken sink.new) }
+    ensures part { CheckPart effort.now text.now (K.taken sink.old) (K.taken sink.new) }
     ensures later { K.faults sink.old ≤ K.faults sink.new }
     ensures failed { IsErrOf result Stop.Failed → Rose (K.faults sink.old) (K.faults sink.new) }
 {
-    if text.len() > SOURCE_LIMIT {
-        return refuse(
-            alloc,
-            sink,
-            Rule::SourceTooLarge,
-            Place { line: 1, column: 1 },
-        );
-    }
-    match read_source(alloc, text) {
-        Ok(program) => report_program(alloc, sink, program),
-        Err(ReadStop::Unsupported(place)) => refuse(alloc, sink, Rule::Unsupported, place),
-        Err(ReadStop::NoMemory) => Err(Stop::NoMemory),
+    match read_model(alloc, text) {
+        Ok(typed) => report_model(alloc, sink, &typed, effort),
+        Err(TextStop::Refused(refusal)) => refuse(alloc, sink, &refusal),
+        Err(TextStop::NoMemory) => Err(Stop::NoMemory),
     }
 }
 
-// Does what the command line asks.
-fn perform<S: Source, K: Sink>(alloc: Global, words: &[&str], source: &mut S, sink: &mut K) -> u8
-    // What was taken is a report of what the source held.
-    ensures answered { result ≤ 4 → Answered (map (λ w. w.now) words.now) (S.left source.old)
-        (K.taken sink.old) (K.taken sink.new) result }
-    // No other answer than these: a fault, or want of memory, after a prefix of a report.
-    ensures begun { 4 < result → Begun (map (λ w. w.now) words.now) (S.left source.old)
-        (K.taken sink.old) (K.taken sink.new) }
-    ensures named { result ≤ 7 }
+// Reads a model and decides each of its specifications with this effort.
+fn check<S: Source, K: Sink>(alloc: Global, source: &mut S, sink: &mut K, effort: &Effort) -> u8
+    requires { effort.now.bound < 2 ^ 32 }
+    ensures answered { result ≤ 4 → Answered (CheckStage effort.now) (S.left source.old) (K.taken sink.old) (K.taken sink.new) result }
+    ensures begun { 4 < result → Begun (CheckStage effort.now) (S.left source.old) (K.taken sink.old) (K.taken sink.new) }
+    ensures named { (result ≢ 4) × (result ≤ 7) }
     ensures read_fault { result ≡ 5 → Rose (S.faults source.old) (S.faults source.new) }
     ensures untouched { result ≡ 5 → Keeps (K.taken sink.old) (K.taken sink.new) }
     ensures write_fault { result ≡ 6 → Rose (K.faults sink.old) (K.faults sink.new) }
-    ensures unread { (IsCheck (map (λ w. w.now) words.now) → ⊥) → source.new ≡ source.old }
 {
-    if !is_check(words) {
-        return match put(alloc, sink, &USAGE) {
-            Ok(()) => 4,
-            Err(Stop::Failed) => 6,
-            Err(Stop::NoMemory) => 7,
-        };
-    }
     let text = match read_all(alloc, source, SOURCE_LIMIT + 1) {
         Ok(text) => text,
         Err(SourceStop::Failed) => return 5,
         Err(SourceStop::NoMemory) => return 7,
     };
-    match report(alloc, sink, &text) {
+    match report(alloc, sink, &text, effort) {
         Ok(status) => status,
         Err(Stop::Failed) => 6,
         Err(Stop::NoMemory) => 7,
     }
 }
 
-/// Does what the command line asks, and answers the status.
+// Writes the line of usage.
+fn refuse_words<K: Sink>(alloc: Global, sink: &mut K) -> u8
+    ensures printed { result ≡ 4 → Appends (K.taken sink.old) (K.taken sink.new) usage_text }
+    ensures front { AppendsFront (K.taken sink.old) (K.taken sink.new) usage_text }
+    ensures named { (4 ≤ result) × (result ≢ 5) × (result ≤ 7) }
+    ensures write_fault { result ≡ 6 → Rose (K.faults sink.old) (K.faults sink.new) }
+{
+    match put(alloc, sink, &USAGE) {
+        Ok(()) => 4,
+        Err(Stop::Failed) => 6,
+        Err(Stop::NoMemory) => 7,
+    }
+}
+
+// Does what the words say.
+fn perform<'a, S: Source, K: Sink>(
+    alloc: Global,
+    words: &'a [&'a str],
+    source: &mut S,
+    sink: &mut K,
+) -> u8
+    ensures answered { result ≤ 4 → Answered (Stage (map (λ w. w.now) words.now)) (S.left source.old)
+        (K.taken sink.old) (K.taken sink.new) result }
+    ensures begun { 4 < result → Begun (Stage (map (λ w. w.now) words.now)) (S.left source.old)
+        (K.taken sink.old) (K.taken sink.new) }
+    ensures named { result ≤ 7 }
+    ensures usage { result ≡ 4 → IsCommandLine (map (λ w. w.now) words.now) → ⊥ }
+    ensures outside { (IsCommandLine (map (λ w. w.now) words.now) → ⊥) → (result ≡ 4) ⊎ (5 < result) }
+    ensures unread { (IsCommandLine (map (λ w. w.now) words.now) → ⊥) → source.new ≡ source.old }
+    ensures read_fault { result ≡ 5 → Rose (S.faults source.old) (S.faults source.new) }
+    ensures untouched { result ≡ 5 → Keeps (K.taken sink.old) (K.taken sink.new) }
+    ensures write_fault { result ≡ 6 → Rose (K.faults sink.old) (K.faults sink.new) }
+{
+    match read_words(alloc, words) {
+        Ok(Command::Check(effort)) => check(alloc, source, sink, &effort),
+        Err(WordsStop::Outside) => refuse_words(alloc, sink),
+        Err(WordsStop::NoMemory) => 7,
+    }
+}
+
+/// Does what the words of the command line say, and answers the status.
 pub fn run<'a, R: Threads + Wait + Sync, S: Source, K: Sink, G: Gate + Sync>(
     rt: &R,
     alloc: Global,
@@ -129,21 +144,24 @@ pub fn run<'a, R: Threads + Wait + Sync, S: Source, K: Sink, G: Gate + Sync>(
     sink: &mut K,
     gate: &G,
 ) -> u8
-    // What was taken is a report of what the source held.
-    ensures answered { result ≤ 4 → Answered (map (λ w. w.now) words.now) (S.left source.old)
+    // What was taken is a report of what the source held, with the effort that the words say; or the line of usage.
+    ensures answered { result ≤ 4 → Answered (Stage (map (λ w. w.now) words.now)) (S.left source.old)
         (K.taken sink.old) (K.taken sink.new) result }
     // No other answer than these: a fault, or want of memory, after a prefix of a report.
-    ensures begun { 4 < result → Begun (map (λ w. w.now) words.now) (S.left source.old)
+    ensures begun { 4 < result → Begun (Stage (map (λ w. w.now) words.now)) (S.left source.old)
         (K.taken sink.old) (K.taken sink.new) }
     ensures named { result ≤ 7 }
+    // The words are judged first: 4 comes just where they are outside the grammar, and then nothing is read.
+    ensures usage { result ≡ 4 → IsCommandLine (map (λ w. w.now) words.now) → ⊥ }
+    ensures outside { (IsCommandLine (map (λ w. w.now) words.now) → ⊥) → (result ≡ 4) ⊎ (5 < result) }
+    ensures unread { (IsCommandLine (map (λ w. w.now) words.now) → ⊥) → source.new ≡ source.old }
     ensures read_fault { result ≡ 5 → Rose (S.faults source.old) (S.faults source.new) }
     ensures untouched { result ≡ 5 → Keeps (K.taken sink.old) (K.taken sink.new) }
     ensures write_fault { result ≡ 6 → Rose (K.faults sink.old) (K.faults sink.new) }
-    ensures unread { (IsCheck (map (λ w. w.now) words.now) → ⊥) → source.new ≡ source.old }
     // A program gets its report, where nothing fails.
-    ensures complete { IsCheck (map (λ w. w.now) words.now)
+    ensures complete { IsCommandLine (map (λ w. w.now) words.now)
         → (Rose (S.faults source.old) (S.faults source.new) → ⊥) → (Rose (K.faults sink.old) (K.faults sink.new) → ⊥)
-        → IfSome (S.left source.old) (λ bytes. IsModel bytes → (result ≤ 2) ⊎ (result ≡ 7)) }
+        → IfSome (S.left source.old) (λ bytes. IsSomeModel bytes → (result ≤ 2) ⊎ (result ≡ 7)) }
 {
     gate.enter(rt, 0);
     perform(alloc, words, source, sink)

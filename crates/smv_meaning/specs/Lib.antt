@@ -1,4 +1,3 @@
 pub mod Programs
 pub mod Evaluation
 pub mod Runs
-pub mod Texts

@@ -1,11 +1,11 @@
 //! The parts of a program, and its slots.
 
-ghost use Rattle.std.specs.Prelude.{◌≡◌, ◌++◌, map, IfOk, OnOk, codes};
+ghost use Rattle.std.specs.Prelude.{◌≡◌, ◌++◌, ◌∷◌, [], map, IfOk, OnOk, MatchOption, codes};
 ghost use Rattle.std.specs.List.{flat_map};
-ghost use Rattle.smv_meaning.specs.Programs.{assignments_in, main_sections, sections_named, slot_of, slots_of, specifications_of, type_of, variables_in};
+ghost use Rattle.smv_meaning.specs.Programs.{assignments_in, constraints_in, main_sections, sections_named, slots_for, slots_of, specifications_of, variables_in};
 
 use crate::{Slot, Typed, ValueType};
-use smv_tree::{Assignment, Program, Section, Specification, TypeExpr, Variable};
+use smv_tree::{Assignment, Constraint, Program, Section, Specification, TypeExpr, Variable};
 use sqlite_items::Items;
 use std::alloc::{AllocError, Global};
 
@@ -41,9 +41,18 @@ pub fn assignments_in(section: &Section) -> &[Assignment]
     ensures { result.now ≡ assignments_in section.now }
 {
     match section {
-        Section::Variables(_) => &[],
         Section::Assignments(assignments) => assignments.as_slice(),
-        Section::Specification(_) => &[],
+        _ => &[],
+    }
+}
+
+/// The constraint that a section is, if it is one.
+pub fn constraint_in(section: &Section) -> Option<&Constraint>
+    ensures { MatchOption result (constraints_in section.now ≡ []) (λ c. constraints_in section.now ≡ c.now ∷ []) }
+{
+    match section {
+        Section::Constraint(constraint) => Some(constraint),
+        _ => None,
     }
 }
 
@@ -52,16 +61,7 @@ fn variables_in(section: &Section) -> &[Variable]
 {
     match section {
         Section::Variables(variables) => variables.as_slice(),
-        Section::Assignments(_) => &[],
-        Section::Specification(_) => &[],
-    }
-}
-
-fn type_of(written: TypeExpr) -> ValueType
-    ensures { result ≡ type_of written }
-{
-    match written {
-        TypeExpr::Boolean(_) => ValueType::Boolean,
+        _ => &[],
     }
 }
 
@@ -80,7 +80,7 @@ pub fn specifications(alloc: Global, program: &Program) -> Result<Vec<&Specifica
 
 // The slots of the variables that the sections declare.
 fn slots_of(alloc: Global, sections: &[Section]) -> Result<Items<Slot>, AllocError>
-    ensures { IfOk result (λ slots. slots ≡ map slot_of (flat_map variables_in sections.now)) }
+    ensures { IfOk result (λ slots. slots ≡ flat_map slots_for (flat_map variables_in sections.now)) }
 {
     let mut slots = Vec::new(alloc);
     for section in sections {
@@ -95,19 +95,30 @@ fn push_slots(
     slots: &mut Vec<Slot>,
     variables: &[Variable],
 ) -> Result<(), AllocError>
-    ensures { OnOk result (slots.new.items ≡ slots.old.items ++ map slot_of variables.now) }
+    ensures { OnOk result (slots.new.items ≡ slots.old.items ++ flat_map slots_for variables.now) }
 {
     for variable in variables {
-        slots.push(slot_of(alloc, variable)?)?;
+        push_slots_for(alloc, slots, variable)?;
     }
     Ok(())
 }
 
-fn slot_of(alloc: Global, variable: &Variable) -> Result<Slot, AllocError>
-    ensures { IfOk result (λ slot. slot ≡ slot_of variable.now) }
+// Adds the slots of a variable.
+fn push_slots_for(
+    alloc: Global,
+    slots: &mut Vec<Slot>,
+    variable: &Variable,
+) -> Result<(), AllocError>
+    ensures { OnOk result (slots.new.items ≡ slots.old.items ++ slots_for variable.now) }
 {
-    Ok(Slot {
-        name: variable.name.copy(alloc)?,
-        declared: type_of(variable.declared),
-    })
+    match &variable.declared {
+        TypeExpr::Boolean(_) => {
+            slots.push(Slot {
+                name: variable.name.copy(alloc)?,
+                declared: ValueType::Boolean,
+            })?;
+        }
+        TypeExpr::Instance(..) => {}
+    }
+    Ok(())
 }

@@ -9,7 +9,7 @@ mod typed;
 mod value;
 
 pub use evaluation::{eval, slot_named};
-pub use layout::{assignments_in, main_sections, make_typed, slots, specifications};
+pub use layout::{assignments_in, constraint_in, main_sections, make_typed, slots, specifications};
 pub use meets::{meets_init, meets_step};
 pub use typed::Typed;
-pub use value::{Outcome, Slot, State, Value, ValueType};
+pub use value::{Outcome, Slot, State, ValueType};

@@ -1,27 +1,8 @@
-//! Values, types, and what stands for a variable.
-
-ghost use Rattle.std.specs.Prelude.{Some};
-ghost use Rattle.smv_meaning.specs.Texts.{value_text};
+//! Types, outcomes, and what stands for a variable.
 
 use plain_text::Text;
+use smv_value::Value;
 use sqlite_items::Items;
-use std::fmt;
-
-/// A value of a variable or an expression (manual 2.1, Types Overview).
-#[derive(Clone, Copy, Debug, PartialEq, Eq)]
-pub enum Value {
-    Bool(bool),
-}
-
-impl fmt::Display for Value {
-    ghost output = { λ v. Some (value_text v) };
-
-    fn fmt<W: fmt::Write>(&self, f: &mut fmt::Formatter<W>) -> fmt::Result {
-        match *self {
-            Value::Bool(b) => write!(f, "{}", if b { "TRUE" } else { "FALSE" }),
-        }
-    }
-}
 
 /// The type of a variable (manual 2.1).
 #[derive(Clone, Copy, Debug, PartialEq, Eq)]

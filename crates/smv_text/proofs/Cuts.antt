@@ -11,7 +11,7 @@ use Rattle.smv_tree.specs.declared.refusal.Rule.{Rule}
 use Rattle.smv_tree.specs.declared.refusal.Refusal.{Refusal}
 use Rattle.smv_tree.specs.declared.refusal.TextStop.{TextStop}
 use Rattle.smv_tree.specs.declared.refusal.TextStop.TheVariants.{Refused, NoMemory}
-use Rattle.smv_tree.specs.Tokens as places
+use Rattle.smv_tree.specs.Places as places
 use Rattle.smv_text.specs.declared.lexeme.Lexeme.{Lexeme}
 use Rattle.smv_text.specs.declared.lexeme.Lexeme.TheVariants.{Flaw}
 use Rattle.smv_text.specs.Lexemes.{shape_of}

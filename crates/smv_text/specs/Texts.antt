@@ -9,7 +9,7 @@ use Rattle.smv_tree.specs.declared.refusal.Rule.TheVariants.{SourceTooLarge}
 use Rattle.smv_tree.specs.declared.refusal.Refusal.{Refusal}
 use Rattle.smv_tree.specs.declared.refusal.TextStop.{TextStop}
 use Rattle.smv_tree.specs.declared.refusal.TextStop.TheVariants.{Refused, NoMemory}
-use Rattle.smv_tree.specs.Tokens as places
+use Rattle.smv_tree.specs.Places as places
 use Rattle.smv_text.specs.declared.lexeme.Lexeme.{Lexeme}
 use Rattle.smv_text.specs.declared.lexeme.Lexeme.TheVariants as lexeme
 use Rattle.smv_text.specs.Lexemes.{shape_of}

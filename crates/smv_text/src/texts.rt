@@ -1,7 +1,7 @@
 //! Cuts a text into its tokens.
 
 ghost use Rattle.std.specs.Prelude.{◌≡◌, ◌≤◌, ◌<◌, ◌+◌, ◌^◌, ◌++◌, ◌∷◌, [], length, map, Some, None, IfOk, IfErr, OnOk};
-ghost use Rattle.smv_tree.specs.Tokens.{behind};
+ghost use Rattle.smv_tree.specs.Places.{behind};
 ghost use Rattle.smv_text.specs.Lexemes.{shape_of};
 ghost use Rattle.smv_text.specs.Texts.{good, pieces_of, IsText, IsTextStop};
 ghost use Rattle.smv_text.specs.Runs.{IsFlawStop};

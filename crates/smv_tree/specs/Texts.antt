@@ -3,7 +3,7 @@ use Rattle.std.specs.Prelude.{ℕ, List, [], ◌∷◌, ◌++◌, codes, Option,
 use Rattle.std.specs.Fmt.{decimal}
 use Rattle.smv_tree.specs.declared.place.Place.{Place}
 use Rattle.smv_tree.specs.declared.refusal.Rule.{Rule}
-use Rattle.smv_tree.specs.declared.refusal.Rule.TheVariants.{SourceTooLarge, BadByte, OpenComment, BadWordConstant, IntTooLarge, Unexpected, TooDeep, Unsupported}
+use Rattle.smv_tree.specs.declared.refusal.Rule.TheVariants.{SourceTooLarge, BadByte, OpenComment, BadWordConstant, IntTooLarge, Unexpected, TooDeep, Unsupported, NoMain, MainHasParameters, UnknownName, DuplicateName, UnknownModule, ModuleCycle, TooManySlots, NextHere, AssignedTwice, AssignCycle}
 use Rattle.smv_tree.specs.declared.refusal.Refusal.{Refusal}
 use Rattle.smv_tree.specs.declared.tree.SpecificationKind.{SpecificationKind}
 use Rattle.smv_tree.specs.declared.tree.SpecificationKind.TheVariants.{Invariant}
@@ -24,6 +24,16 @@ rule_text IntTooLarge = codes "104 IntTooLarge"
 rule_text Unexpected = codes "201 Unexpected"
 rule_text TooDeep = codes "202 TooDeep"
 rule_text Unsupported = codes "203 Unsupported"
+rule_text NoMain = codes "301 NoMain"
+rule_text MainHasParameters = codes "302 MainHasParameters"
+rule_text UnknownName = codes "304 UnknownName"
+rule_text DuplicateName = codes "305 DuplicateName"
+rule_text UnknownModule = codes "306 UnknownModule"
+rule_text ModuleCycle = codes "308 ModuleCycle"
+rule_text TooManySlots = codes "312 TooManySlots"
+rule_text NextHere = codes "406 NextHere"
+rule_text AssignedTwice = codes "501 AssignedTwice"
+rule_text AssignCycle = codes "502 AssignCycle"
 
 abbrev pub kind_text : SpecificationKind → List ℕ
 kind_text Invariant = codes "INVARSPEC"

@@ -1,17 +1,15 @@
 //! The tokens and the syntax tree of a model, with the place of each, and the refusals that a text may meet.
 #![tactic(auto)]
 
-mod laws;
 mod place;
 mod refusal;
 mod token;
 mod tree;
 
-pub use laws::is_spelled_once;
 pub use place::Place;
 pub use refusal::{Refusal, Rule, TextStop};
 pub use token::{Token, TokenKind, Tokens};
 pub use tree::{
-    Assignment, AssignmentKind, Expr, Module, Program, Section, Specification, SpecificationKind,
-    TypeExpr, Variable,
+    Assignment, AssignmentKind, ChainOperator, Constraint, ConstraintKind, Expr, Module, Parameter,
+    Program, Section, Specification, SpecificationKind, TypeExpr, Variable,
 };

@@ -28,6 +28,26 @@ pub enum Rule {
     TooDeep,
     /// The source goes beyond the language.
     Unsupported,
+    /// There is no module `main`.
+    NoMain,
+    /// The module `main` has parameters.
+    MainHasParameters,
+    /// A name leads nowhere.
+    UnknownName,
+    /// A module declares a name twice.
+    DuplicateName,
+    /// A type names no module.
+    UnknownModule,
+    /// A module is an instance of itself.
+    ModuleCycle,
+    /// There are more than 65536 variables.
+    TooManySlots,
+    /// `next` stands where no next value is.
+    NextHere,
+    /// A variable is assigned twice.
+    AssignedTwice,
+    /// Assignments of one time depend on each other.
+    AssignCycle,
 }
 
 /// Why a text is not read.
@@ -68,6 +88,16 @@ impl fmt::Display for Rule {
             Rule::Unexpected => write!(f, "201 Unexpected"),
             Rule::TooDeep => write!(f, "202 TooDeep"),
             Rule::Unsupported => write!(f, "203 Unsupported"),
+            Rule::NoMain => write!(f, "301 NoMain"),
+            Rule::MainHasParameters => write!(f, "302 MainHasParameters"),
+            Rule::UnknownName => write!(f, "304 UnknownName"),
+            Rule::DuplicateName => write!(f, "305 DuplicateName"),
+            Rule::UnknownModule => write!(f, "306 UnknownModule"),
+            Rule::ModuleCycle => write!(f, "308 ModuleCycle"),
+            Rule::TooManySlots => write!(f, "312 TooManySlots"),
+            Rule::NextHere => write!(f, "406 NextHere"),
+            Rule::AssignedTwice => write!(f, "501 AssignedTwice"),
+            Rule::AssignCycle => write!(f, "502 AssignCycle"),
         }
     }
 }

@@ -8,55 +8,39 @@ use sqlite_items::Items;
 /// (NuSMV 2.6 User Manual, 2.1, Lexical Structure).
 #[derive(Clone, Copy, Debug, PartialEq, Eq)]
 pub enum TokenKind {
-    // The reserved words of the first language.
+    // The words of modules and sections.
     Module,
     Var,
-    Assign,
-    Invarspec,
-    Boolean,
-    /// `init`
-    Init,
-    /// `next`
-    Next,
-    True,
-    False,
-    /// A reserved or unsupported word that no phrase of the first language has a place for.
-    OtherWord,
-    /// Any other word: a letter or `_`, then letters, digits, `_`, `$`, `#` and `-`.
-    Identifier,
-    // The symbols of the first language.
-    LeftParen,
-    RightParen,
-    Semicolon,
-    Colon,
-    /// `:=`
-    Becomes,
-    /// `!`
-    Not,
-    /// A byte that begins no token of the first language.
-    Unknown,
-    // The other sections.
     Ivar,
     FrozenVar,
     Define,
     Constants,
+    Assign,
     /// `INIT`
     InitSection,
     Invar,
     Trans,
     Justice,
     Fairness,
+    Invarspec,
     Ltlspec,
     Name,
     // The words of types.
+    Boolean,
     Word,
     Unsigned,
     Signed,
     Array,
     Of,
+    // The words of expressions.
     /// `self`
     SelfName,
-    // The operators that are words.
+    /// `init`
+    Init,
+    /// `next`
+    Next,
+    True,
+    False,
     Case,
     Esac,
     Mod,
@@ -102,18 +86,26 @@ pub enum TokenKind {
     Count,
     /// A reserved word of NuSMV that the language does without.
     Unsupported,
+    /// Any other word: a letter or `_`, then letters, digits, `_`, `$`, `#` and `-`.
+    Identifier,
     /// Decimal digits, of a number up to 2147483647.
     Integer,
     /// `0`, `u` or `s` or neither, a base, a width or none, `_` and digits.
     WordConstant,
-    // The other symbols.
+    // The symbols.
+    LeftParen,
+    RightParen,
     LeftBracket,
     RightBracket,
     LeftBrace,
     RightBrace,
     Comma,
+    Semicolon,
+    Colon,
     Dot,
     DotDot,
+    /// `:=`
+    Becomes,
     /// `::`
     Concat,
     Equal,
@@ -128,6 +120,8 @@ pub enum TokenKind {
     Divide,
     And,
     Or,
+    /// `!`
+    Not,
     /// `?`
     Question,
     /// `->`

@@ -1,6 +1,6 @@
 -- One more state.
 use Rattle.std.proofs.Common.{rules, ◌≡◌, ◌++◌, ◌∷◌, [], ◌-◌, ◌+◌, ◌∙◌, ap, List}
-use Rattle.smv_meaning.specs.declared.value.Value.{Value}
+use Rattle.smv_value.specs.declared.value.Value.{Value}
 use Rattle.invariant_queries.specs.Frames.{states_of}
 use Rattle.invariant_queries.proofs.Decoding.{states_more}
 use Rattle.invariant_queries.proofs.unrolling.states_of.Goals as goal

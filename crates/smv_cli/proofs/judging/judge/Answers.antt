@@ -5,8 +5,8 @@ use Rattle.smv_meaning.specs.Runs.{Breaks}
 use Rattle.smv_cli.specs.Records.{IsRightVerdict}
 use Rattle.smv_cli.proofs.judging.judge.Goals as goal
 
-pub returns-in_ok-names-in-False : goal.returns-in_ok-names-in-False
-returns-in_ok-names-in-False c =
+pub returns-in_ok-names-in-False-clause-right : goal.returns-in_ok-names-in-False-clause-right
+returns-in_ok-names-in-False-clause-right g c =
     let p = c.args.typed.now.program in
     let spec = c.args.spec.now in
     let found : Breaks p spec c.in-False.states = rw c.in-False.is at c.in_ok-decide.ensures.found in
@@ -15,5 +15,5 @@ returns-in_ok-names-in-False c =
     record {
       numbered = made.number;
       of_kind = made.kind;
-      verdict = subst (IsRightVerdict p spec) (sym made.verdict) (named, found);
+      verdict = subst (IsRightVerdict p spec (g.Q.Purse.budget c.args.purse.now) c.args.bound (g.Q.Purse.spent c.decide.new.purse)) (sym made.verdict) (named, found);
     }

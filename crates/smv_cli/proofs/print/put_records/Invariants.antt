@@ -5,7 +5,7 @@ use Rattle.smv_cli.proofs.print.put_records.Given as goal
 
 abbrev pub invariant-specs : goal.invariant-specs
 invariant-specs g l = record {
-  so_far : Recorded l.typed.program (take l.i (map (λ s. s.now) l.specs)) (g.K.Sink.taken l.initial.sink) (g.K.Sink.taken l.sink) l.status;
+  so_far : Recorded l.typed.program l.effort (take l.i (map (λ s. s.now) l.specs)) (g.K.Sink.taken l.initial.sink) (g.K.Sink.taken l.sink) l.status;
   small : l.status ≤ 2;
   later : g.K.Sink.faults l.initial.sink ≤ g.K.Sink.faults l.sink;
 }

@@ -3,8 +3,8 @@ use Rattle.std.proofs.Common.{◌∙◌, ◌++◌, ◌<◌, ◌≤◌, min, leng
 use Rattle.std.specs.Fmt.{HasWritten}
 use Rattle.std.specs.List.{zip}
 use Rattle.std.proofs.lemmas.Grind.{put_two}
-use Rattle.smv_meaning.specs.declared.value.Value.TheVariants.{Bool}
-use Rattle.smv_meaning.specs.Texts.{value_text}
+use Rattle.smv_value.specs.declared.value.Value.TheVariants.{Bool}
+use Rattle.smv_value.specs.Texts.{value_text}
 use Rattle.smv_cli.specs.Texts.{more_bindings}
 use Rattle.smv_cli.proofs.Writing.{bindings_more, bindings_whole}
 use Rattle.smv_cli.proofs.record.write_more_bindings.Goals as goal

@@ -1,34 +1,40 @@
-use Rattle.std.proofs.Common.{subst, sym}
-use Rattle.smv_cli.specs.Streams.{ReadsFirst}
-use Rattle.smv_cli.proofs.Reports.{done-answered, part-begun, nothing-begun, usage-answered, usage-begun}
+-- The report of what the words say.
+use Rattle.std.proofs.Common.{◌≡◌, ap, subst, arith, map, Bor, List, ℕ, Err}
+use Rattle.command_words.specs.declared.command.Command.TheVariants.{Check}
+use Rattle.command_words.specs.Grammar.{IsCommandLine, Says}
+use Rattle.smv_cli.proofs.Reports.{effort_in, is_check, check-answered, check-begun, unread-begun, usage-answered, usage-begun}
 use Rattle.smv_cli.proofs.top.perform.Goals as goal
 
-pub returns-in-Ok-clause-answered : goal.returns-in-Ok-clause-answered
-returns-in-Ok-clause-answered g c = λ _. usage-answered _ (g.S.Source.left c.args.source.now) (g.K.Sink.taken c.args.sink.now) (g.K.Sink.taken c.put.new.sink) c.if-not-is_check.ensures c.in-Ok.ensures.ok
+pub returns-in-Ok-Check-clause-answered : goal.returns-in-Ok-Check-clause-answered
+returns-in-Ok-Check-clause-answered g c = λ small.
+    let words = map (λ (w : Bor (List ℕ)). w.now) c.args.words.now in
+    let command = c.in-Ok-Check.field-0 in
+    let is = is_check command in
+    let said : Says words (Check (effort_in command)) = subst (Says words) is c.in-Ok-Check.ensures.said in
+    let done = rw is at c.check.ensures.answered in
+    check-answered words (g.S.Source.left c.args.source.now) (g.K.Sink.taken c.args.sink.now) (effort_in command) (g.K.Sink.taken c.check.new.sink) c.check.result said (done small)
 
-pub returns-in-Err-Failed-clause-begun : goal.returns-in-Err-Failed-clause-begun
-returns-in-Err-Failed-clause-begun g c = λ _. usage-begun _ (g.S.Source.left c.args.source.now) (g.K.Sink.taken c.args.sink.now) (g.K.Sink.taken c.put.new.sink) c.if-not-is_check.ensures c.put.ensures.front
+pub returns-in-Ok-Check-clause-begun : goal.returns-in-Ok-Check-clause-begun
+returns-in-Ok-Check-clause-begun g c = λ large.
+    let words = map (λ (w : Bor (List ℕ)). w.now) c.args.words.now in
+    let command = c.in-Ok-Check.field-0 in
+    let is = is_check command in
+    let said : Says words (Check (effort_in command)) = subst (Says words) is c.in-Ok-Check.ensures.said in
+    let done = rw is at c.check.ensures.begun in
+    check-begun words (g.S.Source.left c.args.source.now) (g.K.Sink.taken c.args.sink.now) (effort_in command) (g.K.Sink.taken c.check.new.sink) said (done large)
+
+pub returns-in-Err-Outside-clause-answered : goal.returns-in-Err-Outside-clause-answered
+returns-in-Err-Outside-clause-answered g c = λ small.
+    let words = map (λ (w : Bor (List ℕ)). w.now) c.args.words.now in
+    let outside : IsCommandLine words → ⊥ = c.in-Err-Outside.ensures.outside (ap Err c.in-Err-Outside.field-0-is) in
+    let four : c.refuse_words.result ≡ 4 = omega arith in
+    usage-answered words (g.S.Source.left c.args.source.now) (g.K.Sink.taken c.args.sink.now) (g.K.Sink.taken c.refuse_words.new.sink) c.refuse_words.result outside four (c.refuse_words.ensures.printed four)
+
+pub returns-in-Err-Outside-clause-begun : goal.returns-in-Err-Outside-clause-begun
+returns-in-Err-Outside-clause-begun g c = λ _.
+    let words = map (λ (w : Bor (List ℕ)). w.now) c.args.words.now in
+    let outside : IsCommandLine words → ⊥ = c.in-Err-Outside.ensures.outside (ap Err c.in-Err-Outside.field-0-is) in
+    usage-begun words (g.S.Source.left c.args.source.now) (g.K.Sink.taken c.args.sink.now) (g.K.Sink.taken c.refuse_words.new.sink) outside c.refuse_words.ensures.front
 
 pub returns-in-Err-NoMemory-clause-begun : goal.returns-in-Err-NoMemory-clause-begun
-returns-in-Err-NoMemory-clause-begun g c = λ _. usage-begun _ (g.S.Source.left c.args.source.now) (g.K.Sink.taken c.args.sink.now) (g.K.Sink.taken c.put.new.sink) c.if-not-is_check.ensures c.put.ensures.front
-
-pub returns-in-Err-Failed-read_all-clause-begun : goal.returns-in-Err-Failed-read_all-clause-begun
-returns-in-Err-Failed-read_all-clause-begun g c = λ _. nothing-begun _ (g.S.Source.left c.args.source.now) (g.K.Sink.taken c.args.sink.now)
-
-pub returns-in-Err-NoMemory-read_all-clause-begun : goal.returns-in-Err-NoMemory-read_all-clause-begun
-returns-in-Err-NoMemory-read_all-clause-begun g c = λ _. nothing-begun _ (g.S.Source.left c.args.source.now) (g.K.Sink.taken c.args.sink.now)
-
-pub returns-in-Ok-report-clause-answered : goal.returns-in-Ok-report-clause-answered
-returns-in-Ok-report-clause-answered g c = λ _.
-    let read : ReadsFirst 16777217 (g.S.Source.left c.args.source.now) c.deref.result.now = subst (ReadsFirst 16777217 (g.S.Source.left c.args.source.now)) (sym c.deref.ensures.value) c.in-Ok-read_all.ensures.bytes in
-    done-answered _ (g.S.Source.left c.args.source.now) (g.K.Sink.taken c.args.sink.now) (g.K.Sink.taken c.report.new.sink) c.deref.result.now c.in-Ok-report.status c.if-not-is_check.ensures read c.in-Ok-report.ensures.ok
-
-pub returns-in-Err-Failed-report-clause-begun : goal.returns-in-Err-Failed-report-clause-begun
-returns-in-Err-Failed-report-clause-begun g c = λ _.
-    let read : ReadsFirst 16777217 (g.S.Source.left c.args.source.now) c.deref.result.now = subst (ReadsFirst 16777217 (g.S.Source.left c.args.source.now)) (sym c.deref.ensures.value) c.in-Ok-read_all.ensures.bytes in
-    part-begun _ (g.S.Source.left c.args.source.now) (g.K.Sink.taken c.args.sink.now) (g.K.Sink.taken c.report.new.sink) c.deref.result.now c.if-not-is_check.ensures read c.report.ensures.part
-
-pub returns-clause-begun : goal.returns-clause-begun
-returns-clause-begun g c = λ _.
-    let read : ReadsFirst 16777217 (g.S.Source.left c.args.source.now) c.deref.result.now = subst (ReadsFirst 16777217 (g.S.Source.left c.args.source.now)) (sym c.deref.ensures.value) c.in-Ok-read_all.ensures.bytes in
-    part-begun _ (g.S.Source.left c.args.source.now) (g.K.Sink.taken c.args.sink.now) (g.K.Sink.taken c.report.new.sink) c.deref.result.now c.if-not-is_check.ensures read c.report.ensures.part
+returns-in-Err-NoMemory-clause-begun g c = λ _. unread-begun (map (λ (w : Bor (List ℕ)). w.now) c.args.words.now) (g.S.Source.left c.args.source.now) (g.K.Sink.taken c.args.sink.now)

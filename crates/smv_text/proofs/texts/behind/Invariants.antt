@@ -1,5 +1,5 @@
 use Rattle.std.proofs.Common.{◌≡◌, ◌≤◌, ◌+◌, drop}
-use Rattle.smv_tree.specs.Tokens.{behind}
+use Rattle.smv_tree.specs.Places.{behind}
 use Rattle.smv_text.proofs.texts.behind.Given as goal
 
 abbrev pub invariant-loop-byte : goal.invariant-loop-byte

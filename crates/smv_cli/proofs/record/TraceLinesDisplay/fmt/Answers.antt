@@ -1,7 +1,7 @@
 -- The line of one more state is written.
 use Rattle.std.proofs.Common.{◌∙◌, ◌++◌, take, refl, ap, List, ℕ, arith}
 use Rattle.std.proofs.lemmas.Grind.{put_two}
-use Rattle.smv_meaning.specs.declared.value.Value.{Value}
+use Rattle.smv_value.specs.declared.value.Value.{Value}
 use Rattle.smv_cli.specs.Texts.{state_line, states_text}
 use Rattle.smv_cli.proofs.Writing.{states_more}
 use Rattle.smv_cli.proofs.record.TraceLinesDisplay.fmt.Goals as goal

@@ -1,0 +1,94 @@
+-- The command lines that the program takes: a table of commands and of their options. What words such a table takes is
+-- the grammar of simple commands of `clap`.
+use Rattle.std.specs.Prelude.{◌≡◌, ℕ, ◌≤◌, List, [], ◌∷◌, map, fold, codes, Option, Some, None, true, Result, Ok}
+use Rattle.std.specs.Str.Parse.{ParsesUnsigned}
+use Rattle.clap.specs.Walk.{Row, Rule, Text, first_of}
+use Rattle.clap.specs.Simple.{App, Shape, new_app, new_rule, on_top, subcommand_of, with_rule, with_subcommand}
+use Rattle.clap.specs.Faults.{fault_of}
+use Rattle.clap.specs.declared.builder.value_parser.ValueParser.TheVariants as parser
+use Rattle.command_words.specs.declared.command.Command.{Command}
+use Rattle.command_words.specs.declared.command.Command.TheVariants.{Check}
+use Rattle.command_words.specs.declared.command.Effort.{Effort}
+
+-- a row of an option: its word, the least and the greatest number that it takes, and what stands for its number where
+-- it is left out
+pub record OptionRow : Type 0 where
+  pub word : Text
+  pub least : ℕ
+  pub greatest : ℕ
+  pub default : Text
+
+-- a row of a command: its word, and its options
+pub record CommandRow : Type 0 where
+  pub word : Text
+  pub options : List OptionRow
+
+-- how many tickets a specification may cost
+abbrev pub conflicts_option : OptionRow
+conflicts_option = record { word = codes "conflicts"; least = 0; greatest = 1099511627776; default = codes "1000000" }
+
+-- how many steps the runs have at most that are looked for
+abbrev pub bound_option : OptionRow
+bound_option = record { word = codes "bound"; least = 0; greatest = 10000; default = codes "30" }
+
+-- specifications are decided
+abbrev pub check_row : CommandRow
+check_row = record { word = codes "check"; options = conflicts_option ∷ bound_option ∷ [] }
+
+-- the table
+abbrev pub commands : List CommandRow
+commands = check_row ∷ []
+
+-- `--WORD N` and `--WORD=N`, with a number in this range, and what stands for it where it is left out
+abbrev pub number_rule : Text → ℕ → ℕ → Text → Rule
+number_rule word least greatest default = record (new_rule word) {
+  long = Some word;
+  parser = Some (parser.Unsigned least greatest);
+  defaults = default ∷ [];
+}
+
+-- the rule of an option
+abbrev pub option_rule : OptionRow → Rule
+option_rule row = number_rule row.word row.least row.greatest row.default
+
+-- a command with the rules of its options
+abbrev pub command_app : CommandRow → App
+command_app row = fold with_rule (new_app row.word) (map option_rule row.options)
+
+-- a program that wants a command, and has no help of its own
+abbrev pub bare_program : App
+bare_program = on_top (λ (s : Shape). record s {
+  no_binary_name = true;
+  subcommand_required = true;
+  disable_help_flag = true;
+  disable_help_subcommand = true;
+}) (new_app (codes "smvcheck"))
+
+-- the program with the commands of the table
+abbrev pub program : App
+program = fold (λ app row. with_subcommand app (command_app row).top) bare_program commands
+
+-- the words are in the grammar
+abbrev pub IsCommandLine : List Text → Type 0
+IsCommandLine words = fault_of program words ≡ []
+
+-- the option of this word has this number: its word on the command line, or its default, is read as that
+pub record HasNumber (rows : List Row) (word : Text) (greatest n : ℕ) : Type 0 where
+  pub text : Text
+  pub given : first_of word rows ≡ Some text
+  pub read : (let number : Result ℕ ℕ = Ok n in ParsesUnsigned 64 10 text number)
+  pub within : n ≤ greatest
+
+-- the options of `check` have these numbers
+pub record HasEffort (rows : List Row) (effort : Effort) : Type 0 where
+  pub conflicts : HasNumber rows conflicts_option.word conflicts_option.greatest effort.conflicts
+  pub bound : HasNumber rows bound_option.word bound_option.greatest effort.bound
+
+-- the command that was found, with its options, is this one
+abbrev pub Tells : Option (Text × List Row) → Command → Type 0
+Tells None command = ⊥
+Tells (Some found) (Check effort) = (found.0 ≡ check_row.word) × HasEffort found.1 effort
+
+-- the words say this command
+abbrev pub Says : List Text → Command → Type 0
+Says words command = IsCommandLine words × Tells (subcommand_of program words) command

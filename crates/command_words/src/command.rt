@@ -1,0 +1,17 @@
+//! What a command line asks for.
+
+/// What a command line asks for.
+#[derive(Clone, Copy, Debug, Drop, PartialEq, Eq)]
+pub enum Command {
+    /// A model is read, and each of its specifications is decided with this effort.
+    Check(Effort),
+}
+
+/// How much effort a specification may cost.
+#[derive(Clone, Copy, Debug, Drop, PartialEq, Eq)]
+pub struct Effort {
+    /// How many tickets: one for each query to the solver, and one for each clause that it learns.
+    pub conflicts: u64,
+    /// How many steps the runs have at most that are looked for.
+    pub bound: usize,
+}

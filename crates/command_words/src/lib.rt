@@ -1,0 +1,15 @@
+//! The words of the command line, and what they ask for.
+//!
+//! The grammar is a table of commands and options in `specs/Grammar.antt`; `clap` reads the words by it.
+#![tactic(auto)]
+
+mod command;
+mod laws;
+mod reading;
+mod table;
+#[cfg(test)]
+mod tests;
+
+pub use command::{Command, Effort};
+pub use laws::is_said_once;
+pub use reading::{WordsStop, read_words};

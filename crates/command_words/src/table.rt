@@ -1,0 +1,72 @@
+//! The table of commands and options, as `clap` takes it.
+
+ghost use Rattle.std.specs.Prelude.{◌≡◌, false, IfOk};
+ghost use Rattle.clap.specs.Words.{app_of, rule_of};
+ghost use Rattle.clap.specs.declared.Command.TheViews.{out-Command};
+ghost use Rattle.command_words.specs.Grammar.{bound_option, check_row, command_app, conflicts_option, number_rule, option_rule, program};
+
+use clap::builder::ValueParser;
+use clap::{Arg, Command};
+use std::alloc::{AllocError, Global};
+
+/// The word of the command that decides specifications.
+pub const CHECK: &str = "check";
+
+/// The word of the option that says how many tickets a specification may cost.
+pub const CONFLICTS: &str = "conflicts";
+
+/// The word of the option that says how many steps runs have at most.
+pub const BOUND: &str = "bound";
+
+// An option that takes a number from `least` to `greatest`.
+fn number_option<'a>(
+    alloc: Global,
+    word: &'a str,
+    least: u64,
+    greatest: u64,
+    default: &'a str,
+) -> Arg<'a>
+    ensures rule { rule_of result ≡ number_rule word.now least greatest default.now }
+    ensures local { result.global ≡ false }
+{
+    Arg::new(alloc, word)
+        .long(word)
+        .value_parser(ValueParser::unsigned(least, greatest))
+        .default_value(default)
+}
+
+fn conflicts_option<'a>(alloc: Global) -> Arg<'a>
+    ensures rule { rule_of result ≡ option_rule conflicts_option }
+    ensures local { result.global ≡ false }
+{
+    number_option(alloc, CONFLICTS, 0, 1_099_511_627_776, "1000000")
+}
+
+fn bound_option<'a>(alloc: Global) -> Arg<'a>
+    ensures rule { rule_of result ≡ option_rule bound_option }
+    ensures local { result.global ≡ false }
+{
+    number_option(alloc, BOUND, 0, 10_000, "30")
+}
+
+fn check_command<'a>(alloc: Global) -> Result<Command<'a>, AllocError>
+    ensures app { IfOk result (λ c. app_of c ≡ command_app check_row) }
+    ensures local { IfOk result (λ c. (out-Command c).has_globals ≡ false) }
+{
+    let conflicts = conflicts_option(alloc);
+    let bound = bound_option(alloc);
+    Command::new(alloc, CHECK).arg(conflicts)?.arg(bound)
+}
+
+/// The whole table.
+pub fn program<'a>(alloc: Global) -> Result<Command<'a>, AllocError>
+    ensures { IfOk result (λ c. app_of c ≡ program) }
+{
+    let check = check_command(alloc)?;
+    Command::new(alloc, "smvcheck")
+        .no_binary_name(true)
+        .subcommand_required(true)
+        .disable_help_flag(true)
+        .disable_help_subcommand(true)
+        .subcommand(check)
+}

@@ -1,0 +1,120 @@
+ghost use Rattle.std.specs.Prelude.{◌≡◌, ◌+◌, ◌-◌, ◌*◌, ◌++◌, ◌≤◌, IfOk, OnOk};
+ghost use Rattle.clause_core.specs.Systems.{IsSystem};
+ghost use Rattle.ltl_monitor.specs.Assembly.{layout_of, scene_of, begun, assembled};
+ghost use Rattle.ltl_monitor.specs.Drafting.{all_moved};
+
+use crate::draft::{Draft, Scene};
+use crate::layout::{Layout, Space, sum};
+use clause_core::{Clause, Clauses, Lit, System};
+use std::alloc::{AllocError, Global};
+
+// What the type of a system keeps. It does nothing.
+pub fn keep(system: &System)
+    ensures { IsSystem system.now }
+{
+    let _ = system.state_bits();
+    let _ = system.init();
+    let _ = system.step();
+    let _ = system.bad();
+    let _ = system.fair();
+    let _ = system.defs();
+}
+
+// The layout of a system with more bits.
+pub fn layout_of(system: &System, nodes: usize) -> Result<Layout, AllocError>
+    ensures { IfOk result (λ p. p ≡ layout_of system.now nodes) }
+{
+    let inner = sum(system.all_bits(), sum(nodes, nodes)?)?;
+    Ok(Layout {
+        given: system.state_bits(),
+        nodes,
+        inner,
+    })
+}
+
+pub fn scene(
+    alloc: Global,
+    layout: Layout,
+    system: &System,
+    literals: &[Lit],
+) -> Result<Scene, AllocError>
+    ensures { IfOk result (λ s. s ≡ scene_of layout system.now literals.now) }
+{
+    let mut atoms = layout.moved_all(alloc, Space::Local, literals)?;
+    atoms.append(layout.moved_all(alloc, Space::Local, system.fair())?)?;
+    Ok(Scene { layout, atoms })
+}
+
+pub fn begin(alloc: Global, layout: &Layout, system: &System) -> Result<Draft, AllocError>
+    ensures { IfOk result (λ d. d ≡ begun layout.now system.now) }
+{
+    let mut defs = Clauses::new(alloc);
+    layout.copy(alloc, Space::Local, system.defs(), &mut defs)?;
+    Ok(Draft {
+        node: 0,
+        gate: sum(system.all_bits(), layout.nodes)?,
+        defs,
+        starts: Clauses::new(alloc),
+        rows: Clauses::new(alloc),
+        sets: layout.moved_all(alloc, Space::Local, system.fair())?,
+    })
+}
+
+// A copy of these clauses, where their variables go.
+pub fn copied(
+    alloc: Global,
+    layout: &Layout,
+    space: Space,
+    clauses: &Clauses,
+) -> Result<Clauses, AllocError>
+    ensures { IfOk result (λ cs. cs ≡ all_moved layout.now space clauses.now) }
+{
+    let mut copy = Clauses::new(alloc);
+    layout.copy(alloc, space, clauses, &mut copy)?;
+    Ok(copy)
+}
+
+pub fn assemble(
+    alloc: Global,
+    layout: &Layout,
+    system: &System,
+    bad: Clauses,
+    draft: &Draft,
+) -> Result<System, AllocError>
+    requires valid { IsSystem (assembled layout.now system.now bad draft.now) }
+    requires room { layout.now.given + layout.now.nodes ≤ draft.now.gate }
+    ensures { IfOk result (λ m. m ≡ assembled layout.now system.now bad draft.now) }
+{
+    let mut init = copied(alloc, layout, Space::System, system.init())?;
+    layout.copy(alloc, Space::Now, &draft.defs, &mut init)?;
+    layout.copy(alloc, Space::Now, &draft.starts, &mut init)?;
+    let mut step = copied(alloc, layout, Space::System, system.step())?;
+    layout.copy(alloc, Space::Now, &draft.defs, &mut step)?;
+    layout.copy(alloc, Space::Next, &draft.defs, &mut step)?;
+    append(&mut step, &draft.rows)?;
+    let fair = layout.moved_all(alloc, Space::Now, draft.sets.as_slice())?;
+    let fair = Clause::from_slice(alloc, fair.as_slice())?;
+    let defs = copied(alloc, layout, Space::Now, &draft.defs)?;
+    let state_bits = sum(layout.given, layout.nodes)?;
+    let all_bits = all_bits(layout, draft.gate, state_bits)?;
+    Ok(System::new(state_bits, all_bits, init, step, bad, fair, defs))
+}
+
+// How many variables the monitored system has, where those of one state end at `gate`.
+fn all_bits(layout: &Layout, gate: usize, state_bits: usize) -> Result<usize, AllocError>
+    requires { state_bits ≤ gate }
+    ensures { IfOk result (λ n. n ≡ layout.now.inner + 2 * (gate - state_bits)) }
+{
+    let given = gate - state_bits;
+    sum(layout.inner, sum(given, given)?)
+}
+
+// Adds clauses at the end.
+pub fn append(clauses: &mut Clauses, more: &Clauses) -> Result<(), AllocError>
+    ensures { OnOk result (clauses.new ≡ clauses.old ++ more.now) }
+{
+    for k in 0..more.len() {
+        clauses.push(more.get(k))?;
+    }
+    Ok(())
+}

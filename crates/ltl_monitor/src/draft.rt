@@ -1,0 +1,286 @@
+ghost use Rattle.std.specs.Prelude.{◌≡◌, ◌+◌, ◌∷◌, ◌++◌, [], IfOk, OnOk};
+ghost use Rattle.clause_core.specs.Literals.{at};
+ghost use Rattle.ltl_meaning.specs.Ltl.{formula_of};
+ghost use Rattle.ltl_monitor.specs.Monitor.{unary_bits, binary_bits};
+ghost use Rattle.ltl_monitor.specs.Drafting.{unary_rules, binary_rules, gate_added, set_added, unary_lit, binary_lit, unary_drafted, binary_drafted, drafted, plain, is_or, is_iff};
+
+use crate::layout::{Both, Layout, sum};
+use crate::rules::{push_and, push_and_or, push_iff, push_or, push_or_and, push_same};
+use clause_core::{Clauses, Lit};
+use ltl_meaning::node::{BinaryOperator, Node, UnaryOperator};
+use sqlite_items::Items;
+use std::alloc::AllocError;
+
+// What the formulas of a draft are about.
+#[derive(Drop)]
+pub struct Scene {
+    pub layout: Layout,
+    // The atoms, as literals of one state.
+    pub atoms: Items<Lit>,
+}
+
+// The rules of the formulas that were added so far.
+#[derive(Drop)]
+pub struct Draft {
+    // The number of the next temporal operator.
+    pub node: usize,
+    // The next variable of one state, for a gate.
+    pub gate: usize,
+    // What gives the gates, of one state.
+    pub defs: Clauses,
+    // The rules of the first state, of one state.
+    pub starts: Clauses,
+    // The rules of a step, of the monitored system.
+    pub rows: Clauses,
+    // A literal for each set, of one state.
+    pub sets: Items<Lit>,
+}
+
+// How many bits an operator has of its own.
+pub fn unary_bits(operator: UnaryOperator) -> usize
+    ensures { result ≡ unary_bits operator }
+{
+    match operator {
+        UnaryOperator::Not => 0,
+        UnaryOperator::Next
+        | UnaryOperator::Finally
+        | UnaryOperator::Globally
+        | UnaryOperator::Yesterday
+        | UnaryOperator::WeakYesterday
+        | UnaryOperator::Once
+        | UnaryOperator::Historically => 1,
+    }
+}
+
+pub fn binary_bits(operator: BinaryOperator) -> usize
+    ensures { result ≡ binary_bits operator }
+{
+    match operator {
+        BinaryOperator::And
+        | BinaryOperator::Or
+        | BinaryOperator::Xor
+        | BinaryOperator::Xnor
+        | BinaryOperator::Implies
+        | BinaryOperator::Iff => 0,
+        BinaryOperator::Until
+        | BinaryOperator::Releases
+        | BinaryOperator::Since
+        | BinaryOperator::Triggered => 1,
+    }
+}
+
+fn unary_lit(operator: UnaryOperator, own: Lit, operand: Lit) -> Lit
+    ensures { result ≡ unary_lit operator own operand }
+{
+    match operator {
+        UnaryOperator::Not => operand.negated(),
+        UnaryOperator::Next
+        | UnaryOperator::Finally
+        | UnaryOperator::Globally
+        | UnaryOperator::Yesterday
+        | UnaryOperator::WeakYesterday
+        | UnaryOperator::Once
+        | UnaryOperator::Historically => own,
+    }
+}
+
+fn binary_lit(operator: BinaryOperator, own: Lit, gate: Lit) -> Lit
+    ensures { result ≡ binary_lit operator own gate }
+{
+    match operator {
+        BinaryOperator::And | BinaryOperator::Xor => gate.negated(),
+        BinaryOperator::Or | BinaryOperator::Xnor | BinaryOperator::Implies | BinaryOperator::Iff =>
+            gate,
+        BinaryOperator::Until
+        | BinaryOperator::Releases
+        | BinaryOperator::Since
+        | BinaryOperator::Triggered => own,
+    }
+}
+
+impl Scene {
+    // The literal of an atom that the list has.
+    fn atom(&self, number: usize) -> Lit
+        ensures { result ≡ at self.now.atoms number }
+    {
+        let atoms = self.atoms.as_slice();
+        if number < atoms.len() {
+            atoms[number]
+        } else {
+            Lit::new(0, false)
+        }
+    }
+}
+
+impl Draft {
+    // Adds a gate that is x or y.
+    pub fn or(&mut self, x: Lit, y: Lit) -> Result<(), AllocError>
+        ensures { OnOk result (self.new ≡ gate_added (is_or (plain self.old.gate) x y) self.old) }
+    {
+        push_or(&mut self.defs, Lit::new(self.gate, true), x, y)?;
+        self.gate = sum(self.gate, 1)?;
+        Ok(())
+    }
+
+    // Adds a gate that is whether x and y are alike.
+    fn iff(&mut self, x: Lit, y: Lit) -> Result<(), AllocError>
+        ensures { OnOk result (self.new ≡ gate_added (is_iff (plain self.old.gate) x y) self.old) }
+    {
+        push_iff(&mut self.defs, Lit::new(self.gate, true), x, y)?;
+        self.gate = sum(self.gate, 1)?;
+        Ok(())
+    }
+
+    // Adds the set of the states where x or y is true.
+    fn set(&mut self, x: Lit, y: Lit) -> Result<(), AllocError>
+        ensures { OnOk result (self.new ≡ set_added x y self.old) }
+    {
+        let gate = Lit::new(self.gate, true);
+        self.or(x, y)?;
+        self.sets.push(gate)
+    }
+
+    // Adds the rules of an operator, of its own bit and its operand.
+    fn unary_rules(&mut self, operator: UnaryOperator, b: Both, f: Both) -> Result<(), AllocError>
+        ensures { OnOk result (self.new ≡ unary_rules operator b f self.old) }
+    {
+        match operator {
+            UnaryOperator::Not => Ok(()),
+            UnaryOperator::Next => push_same(&mut self.rows, b.now, f.next),
+            UnaryOperator::Finally => {
+                push_or(&mut self.rows, b.now, f.now, b.next)?;
+                self.set(b.here.negated(), f.here)
+            }
+            UnaryOperator::Globally => {
+                push_and(&mut self.rows, b.now, f.now, b.next)?;
+                self.set(b.here, f.here.negated())
+            }
+            UnaryOperator::Yesterday => {
+                push_same(&mut self.rows, b.next, f.now)?;
+                self.starts.push(&[b.here.negated()])
+            }
+            UnaryOperator::WeakYesterday => {
+                push_same(&mut self.rows, b.next, f.now)?;
+                self.starts.push(&[b.here])
+            }
+            UnaryOperator::Once => {
+                push_or(&mut self.rows, b.next, f.next, b.now)?;
+                push_same(&mut self.starts, b.here, f.here)
+            }
+            UnaryOperator::Historically => {
+                push_and(&mut self.rows, b.next, f.next, b.now)?;
+                push_same(&mut self.starts, b.here, f.here)
+            }
+        }
+    }
+
+    // Adds the rules of an operator, of its own bit and its operands.
+    fn binary_rules(
+        &mut self,
+        operator: BinaryOperator,
+        b: Both,
+        f: Both,
+        g: Both,
+    ) -> Result<(), AllocError>
+        ensures { OnOk result (self.new ≡ binary_rules operator b f g self.old) }
+    {
+        match operator {
+            BinaryOperator::And => self.or(f.here.negated(), g.here.negated()),
+            BinaryOperator::Or => self.or(f.here, g.here),
+            BinaryOperator::Xor | BinaryOperator::Xnor | BinaryOperator::Iff => {
+                self.iff(f.here, g.here)
+            }
+            BinaryOperator::Implies => self.or(f.here.negated(), g.here),
+            BinaryOperator::Until => {
+                push_or_and(&mut self.rows, b.now, g.now, f.now, b.next)?;
+                self.set(b.here.negated(), g.here)
+            }
+            BinaryOperator::Releases => {
+                push_and_or(&mut self.rows, b.now, g.now, f.now, b.next)?;
+                self.set(b.here, g.here.negated())
+            }
+            BinaryOperator::Since => {
+                push_or_and(&mut self.rows, b.next, g.next, f.next, b.now)?;
+                push_same(&mut self.starts, b.here, g.here)
+            }
+            BinaryOperator::Triggered => {
+                push_and_or(&mut self.rows, b.next, g.next, f.next, b.now)?;
+                push_same(&mut self.starts, b.here, g.here)
+            }
+        }
+    }
+
+    // Adds an operator over the operand that was added last.
+    fn unary(
+        &mut self,
+        layout: &Layout,
+        operator: UnaryOperator,
+        operand: Lit,
+    ) -> Result<Lit, AllocError>
+        ensures { IfOk result (λ l. record { draft = self.new; lit = l } ≡ unary_drafted layout.now operator operand self.old) }
+    {
+        let own = Lit::new(sum(layout.given, self.node)?, true);
+        self.unary_rules(operator, layout.both(own)?, layout.both(operand)?)?;
+        self.node = sum(self.node, unary_bits(operator))?;
+        Ok(unary_lit(operator, own, operand))
+    }
+
+    // Adds an operator over two operands, of which the right one was added last.
+    fn binary(
+        &mut self,
+        layout: &Layout,
+        operator: BinaryOperator,
+        left: Lit,
+        right: Lit,
+    ) -> Result<Lit, AllocError>
+        ensures { IfOk result (λ l. record { draft = self.new; lit = l } ≡ binary_drafted layout.now operator left right self.old) }
+    {
+        let own = Lit::new(sum(layout.given, self.node)?, true);
+        let gate = Lit::new(self.gate, true);
+        self.binary_rules(
+            operator,
+            layout.both(own)?,
+            layout.both(left)?,
+            layout.both(right)?,
+        )?;
+        self.node = sum(self.node, binary_bits(operator))?;
+        Ok(binary_lit(operator, own, gate))
+    }
+
+    // Adds a gate that is true, and gives it or its negation.
+    pub fn constant(&mut self, value: bool) -> Result<Lit, AllocError>
+        ensures { IfOk result (λ l. (l ≡ record { var = self.old.gate; positive = value }) × (self.new ≡ gate_added ((plain self.old.gate ∷ []) ∷ []) self.old)) }
+    {
+        let gate = self.gate;
+        self.defs.push(&[Lit::new(gate, true)])?;
+        self.gate = sum(gate, 1)?;
+        Ok(Lit::new(gate, value))
+    }
+
+    // Adds a formula, operands first, and gives its literal.
+    pub fn add(&mut self, scene: &Scene, node: &Node) -> Result<Lit, AllocError>
+        ensures { IfOk result (λ l. record { draft = self.new; lit = l } ≡ drafted scene.now (formula_of node.now) self.old) }
+    {
+        match node {
+            Node::Constant(value) => self.constant(*value),
+            Node::Atom(number) => Ok(scene.atom(*number)),
+            Node::Unary(operator, operand) => {
+                let operand = self.add(scene, operand.get())?;
+                self.unary(&scene.layout, *operator, operand)
+            }
+            Node::Implies(left, right) => {
+                let left = self.add(scene, left.get())?;
+                let right = self.add(scene, right.get())?;
+                self.binary(&scene.layout, BinaryOperator::Implies, left, right)
+            }
+            Node::Chain(first, links) => {
+                let mut all = self.add(scene, first.get())?;
+                for link in links.as_slice() {
+                    let operand = self.add(scene, &link.operand)?;
+                    all = self.binary(&scene.layout, link.operator, all, operand)?;
+                }
+                Ok(all)
+            }
+        }
+    }
+}

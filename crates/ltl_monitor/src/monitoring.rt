@@ -1,0 +1,86 @@
+ghost use Rattle.std.specs.Prelude.{◌≡◌, ◌+◌, ◌-◌, ◌*◌, ◌++◌, ◌≤◌, IfOk, OnOk, length};
+ghost use Rattle.clause_core.specs.Literals.{Within};
+ghost use Rattle.clause_core.specs.Systems.{IsSystem, Gives};
+ghost use Rattle.ltl_meaning.specs.Ltl.{formula_of};
+ghost use Rattle.ltl_monitor.specs.Monitor.{nodes};
+ghost use Rattle.ltl_monitor.specs.States.{AtomsBelow, IsMonitor};
+ghost use Rattle.ltl_monitor.specs.Assembly.{layout_of, draft_of};
+ghost use Rattle.ltl_monitor.specs.Drafting.{all_moved};
+
+use crate::assembly::{assemble, begin, copied, keep, layout_of, scene};
+use crate::draft::{Draft, binary_bits, unary_bits};
+use crate::layout::{Layout, Space, sum};
+use crate::monitored_system::Monitored;
+use clause_core::{Lit, System};
+use ltl_meaning::formula::Formula;
+use ltl_meaning::node::{BinaryOperator, Node};
+use std::alloc::{AllocError, Global};
+
+/// The system with the monitor of a formula beside it, where the formula is false at first.
+///
+/// `atoms` are the literals of the formula's atoms. A state has, after the system's bits, one bit for
+/// each temporal operator (Lichtenstein, Pnueli and Zuck 1985), and each Boolean operator has a gate
+/// (Tseitin 1968). Time and memory are linear in the formula's size and the system's. The stack grows
+/// with the nesting of nodes, which callers keep to 2000; a chain takes none of it. The only error is
+/// want of memory, which a number of variables past `usize::MAX` counts as.
+pub fn monitored(
+    alloc: Global,
+    system: &System,
+    formula: &Formula,
+    atoms: &[Lit],
+) -> Result<Monitored, AllocError>
+    requires numbers { AtomsBelow (length atoms.now) (formula_of formula.now.root) }
+    requires within { Within system.now.all_bits atoms.now }
+    requires given { Gives system.now.state_bits atoms.now system.now.defs }
+    ensures { IfOk result (λ m. IsMonitor system.now (formula_of formula.now.root) atoms.now m.system) }
+{
+    keep(system);
+    let nodes = count_nodes(&formula.root)?;
+    let layout = layout_of(system, nodes)?;
+    let draft = draft(alloc, layout, system, formula, atoms)?;
+    let bad = copied(alloc, &layout, Space::System, system.bad())?;
+    let system = assemble(alloc, &layout, system, bad, &draft)?;
+    Ok(Monitored { system })
+}
+
+// The rules of a formula that is false in the first state.
+fn draft(
+    alloc: Global,
+    layout: Layout,
+    system: &System,
+    formula: &Formula,
+    atoms: &[Lit],
+) -> Result<Draft, AllocError>
+    ensures { IfOk result (λ d. d ≡ draft_of layout system.now (formula_of formula.now.root) atoms.now) }
+{
+    let scene = scene(alloc, layout, system, atoms)?;
+    let mut draft = begin(alloc, &layout, system)?;
+    let root = draft.add(&scene, &formula.root)?;
+    draft.starts.push(&[root.negated()])?;
+    Ok(draft)
+}
+
+// How many temporal operators there are.
+fn count_nodes(node: &Node) -> Result<usize, AllocError>
+    ensures { IfOk result (λ n. n ≡ nodes (formula_of node.now)) }
+{
+    match node {
+        Node::Constant(_) | Node::Atom(_) => Ok(0),
+        Node::Unary(operator, operand) => sum(count_nodes(operand.get())?, unary_bits(*operator)),
+        Node::Implies(left, right) => sum(
+            count_nodes(left.get())?,
+            sum(
+                count_nodes(right.get())?,
+                binary_bits(BinaryOperator::Implies),
+            )?,
+        ),
+        Node::Chain(first, links) => {
+            let mut all = count_nodes(first.get())?;
+            for link in links.as_slice() {
+                let operand = count_nodes(&link.operand)?;
+                all = sum(all, sum(operand, binary_bits(link.operator))?)?;
+            }
+            Ok(all)
+        }
+    }
+}

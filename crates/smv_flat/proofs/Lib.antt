@@ -1,0 +1,4 @@
+pub mod Depending
+pub mod Lent
+pub mod Marking
+pub mod Naming

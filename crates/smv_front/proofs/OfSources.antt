@@ -1,0 +1,70 @@
+-- Bytes are a model of one program at most, and are not refused where they are one.
+use Rattle.std.proofs.Common.{◌≡◌, ℕ, List, [], ◌∷◌, Option, None, Some, sym, subst, ◌∙◌}
+use Rattle.digraph.specs.Cycles.{Acyclic, IsRound, IsLeastRound}
+use Rattle.smv_tree.specs.declared.token.Tokens.{Tokens}
+use Rattle.smv_tree.specs.declared.refusal.Refusal.{Refusal}
+use Rattle.smv_tree.specs.declared.refusal.TextStop.{TextStop}
+use Rattle.smv_tree.specs.declared.refusal.TextStop.TheVariants.{Refused, NoMemory}
+use Rattle.smv_tree.specs.declared.tree.Program.{Program}
+use Rattle.smv_text.specs.Texts.{IsText, IsTextStop}
+use Rattle.smv_text.proofs.Cuts as text
+use Rattle.smv_parse.proofs.ParsedOnce as parse
+use Rattle.smv_parse.specs.Spelling.{IsSpelling, IsRefusedTokens, IsParseStop}
+use Rattle.smv_types.specs.Rules.{types_refusal, IsTypesStop}
+use Rattle.smv_flat.specs.declared.time.Time.{Time}
+use Rattle.smv_flat.specs.declared.time.Time.TheVariants as when
+use Rattle.smv_flat.specs.Assignments.{TellsCycle, dependencies, AreAssignable, IsRefusedByAssignments, twice_assigned, first_cycle, next_cycle, IsAssignmentStop}
+use Rattle.smv_front.specs.Sources.{Spells, IsModel, IsRefusedBy, in_text, in_grammar, in_types, in_assignments, IsSourceStop}
+
+-- the stops of each part are stops of the whole
+pub text_stop : (bytes : List ℕ) (stop : TextStop) → IsTextStop bytes stop → IsSourceStop bytes stop
+text_stop bytes (Refused r) h = in_text h
+text_stop bytes NoMemory h = h
+
+pub grammar_stop : (bytes : List ℕ) (tokens : Tokens) (stop : TextStop) → IsText bytes tokens → IsParseStop tokens stop → IsSourceStop bytes stop
+grammar_stop bytes tokens (Refused r) t h = in_grammar tokens t h
+grammar_stop bytes tokens NoMemory t h = h
+
+pub types_stop : (bytes : List ℕ) (tokens : Tokens) (p : Program) (stop : TextStop) → IsText bytes tokens → IsSpelling tokens.items p → IsTypesStop p stop → IsSourceStop bytes stop
+types_stop bytes tokens p (Refused r) t s h = in_types tokens p (record { text = t; spelled = s }) h
+types_stop bytes tokens p NoMemory t s h = h
+
+pub assignments_stop : (bytes : List ℕ) (tokens : Tokens) (p q : Program) (stop : TextStop) → IsText bytes tokens → IsSpelling tokens.items p → types_refusal p ≡ None → q ≡ p → IsAssignmentStop q stop → IsSourceStop bytes stop
+assignments_stop bytes tokens p q (Refused r) t s n e h = in_assignments tokens p (record { text = t; spelled = s }) n (subst (λ (u : Program). IsRefusedByAssignments u r) e h)
+assignments_stop bytes tokens p q NoMemory t s n e h = h
+
+pub model_read : (bytes : List ℕ) (tokens : Tokens) (p q : Program) → IsText bytes tokens → IsSpelling tokens.items p → types_refusal p ≡ None → q ≡ p → AreAssignable q → IsModel bytes q
+model_read bytes tokens p q t s n e a =
+    subst (λ (u : Program). IsModel bytes u) (sym e) (record { tokens = tokens; spelled = record { text = t; spelled = s }; typed = n; assignable = subst AreAssignable e a })
+
+-- a graph without cycles has no round
+round_apart : (g : List (List ℕ)) (round : List ℕ) → Acyclic g → IsRound g round → ⊥
+round_apart g [] a r = r
+round_apart g (x ∷ xs) a r = a x (xs, r)
+
+cycle_apart : (p : Program) (time : Time) (r : Refusal) → Acyclic (dependencies p time) → TellsCycle p time r → ⊥
+cycle_apart p time r a t = round_apart (dependencies p time) t.0 a (t.1.leads)
+
+none_some : {A : Type 0} (o : Option A) (x : A) → o ≡ None → o ≡ Some x → ⊥
+none_some o x n s = cc (n, s)
+
+assignable_apart : (p : Program) (r : Refusal) → AreAssignable p → IsRefusedByAssignments p r → ⊥
+assignable_apart p r a (twice_assigned h) = none_some _ r a.once h
+assignable_apart p r a (first_cycle n t) = cycle_apart p when.First r a.first_times t
+assignable_apart p r a (next_cycle n f t) = cycle_apart p when.Next r a.next_times t
+
+-- the bytes spell one program at most
+spelled_once : (bytes : List ℕ) (t u : Tokens) (p q : Program) → Spells bytes t p → Spells bytes u q → p ≡ q
+spelled_once bytes t u p q s r = parse.program_once t.items p q s.spelled (subst (λ (v : Tokens). IsSpelling v.items q) (text.one_text bytes u t r.text s.text) r.spelled)
+
+pub program_once : (bytes : List ℕ) (p q : Program) → IsModel bytes p → IsModel bytes q → p ≡ q
+program_once bytes p q m n = spelled_once bytes m.tokens n.tokens p q m.spelled n.spelled
+
+pub never_both : (bytes : List ℕ) (p : Program) (r : Refusal) → IsModel bytes p → IsRefusedBy bytes r → ⊥
+never_both bytes p r m (in_text h) = text.never_both bytes m.tokens r m.spelled.text h
+never_both bytes p r m (in_grammar tokens t h) =
+    parse.never_both m.tokens p r m.spelled.spelled (subst (λ (v : Tokens). IsRefusedTokens v r) (text.one_text bytes tokens m.tokens t m.spelled.text) h)
+never_both bytes p r m (in_types tokens q s h) =
+    none_some (types_refusal p) r m.typed (subst (λ (v : Program). types_refusal v ≡ Some r) (spelled_once bytes tokens m.tokens q p s m.spelled) h)
+never_both bytes p r m (in_assignments tokens q s n h) =
+    assignable_apart p r m.assignable (subst (λ (v : Program). IsRefusedByAssignments v r) (spelled_once bytes tokens m.tokens q p s m.spelled) h)

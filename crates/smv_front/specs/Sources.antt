@@ -1,0 +1,36 @@
+-- What bytes are a model, and by which rule other bytes are refused.
+use Rattle.std.specs.Prelude.{◌≡◌, ℕ, List, None, Some}
+use Rattle.smv_tree.specs.declared.token.Tokens.{Tokens}
+use Rattle.smv_tree.specs.declared.refusal.Refusal.{Refusal}
+use Rattle.smv_tree.specs.declared.refusal.TextStop.{TextStop}
+use Rattle.smv_tree.specs.declared.refusal.TextStop.TheVariants.{Refused, NoMemory}
+use Rattle.smv_tree.specs.declared.tree.Program.{Program}
+use Rattle.smv_text.specs.Texts.{IsText, IsRefusedText}
+use Rattle.smv_parse.specs.Spelling.{IsSpelling, IsRefusedTokens}
+use Rattle.smv_types.specs.Rules.{types_refusal}
+use Rattle.smv_flat.specs.Assignments.{AreAssignable, IsRefusedByAssignments}
+
+-- The bytes spell the program: they have these tokens, and the tokens spell it.
+pub record Spells (bytes : List ℕ) (tokens : Tokens) (p : Program) : Type 0 where
+  pub text : IsText bytes tokens
+  pub spelled : IsSpelling tokens.items p
+
+-- The bytes are a model of this program: they spell it, and it breaks no rule.
+pub record IsModel (bytes : List ℕ) (p : Program) : Type 0 where
+  pub tokens : Tokens
+  pub spelled : Spells bytes tokens p
+  pub typed : types_refusal p ≡ None
+  pub assignable : AreAssignable p
+
+-- The bytes are refused so, by the first rule that they break, at its first place: a rule of tokens; where they have tokens, a
+-- rule of the grammar; where the tokens spell a program, a rule of names and kinds; and where it breaks none, one of assignments.
+pub data IsRefusedBy (bytes : List ℕ) (r : Refusal) : Type 0 where
+  in_text : IsRefusedText bytes r → IsRefusedBy bytes r
+  in_grammar : (tokens : Tokens) → IsText bytes tokens → IsRefusedTokens tokens r → IsRefusedBy bytes r
+  in_types : (tokens : Tokens) (p : Program) → Spells bytes tokens p → types_refusal p ≡ Some r → IsRefusedBy bytes r
+  in_assignments : (tokens : Tokens) (p : Program) → Spells bytes tokens p → types_refusal p ≡ None → IsRefusedByAssignments p r → IsRefusedBy bytes r
+
+-- the bytes are refused so; or memory was refused, which may come at any time
+abbrev pub IsSourceStop : List ℕ → TextStop → Type 0
+IsSourceStop bytes (Refused r) = IsRefusedBy bytes r
+IsSourceStop bytes NoMemory = Unit {0}

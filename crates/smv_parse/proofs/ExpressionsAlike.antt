@@ -1,0 +1,82 @@
+-- What is read of an expression does not depend on the levels that are too many.
+use Rattle.std.proofs.Common.{◌≡◌, ℕ, zero, suc, Bool, true, false, List, refl}
+use Rattle.phrase_forms.specs.Forms.{Form, token, then, no_token, named, to, ◌⨾◌}
+use Rattle.phrase_forms.proofs.Alike.{Alike, same_form, then_reads, opened, to_alike, or_alike, maybe_alike, many_alike, named_alike}
+use Rattle.smv_tree.specs.declared.token.Token.{Token}
+use Rattle.smv_tree.specs.declared.token.TokenKind.TheVariants as kind
+use Rattle.smv_tree.specs.declared.tree.Expr.{Expr}
+use Rattle.smv_tree.specs.Kinds.{is_kind}
+use Rattle.smv_parse.specs.Expressions.{Phrases, just, is_leaf, leaf_of, begins_operand, is_equality, is_conjunction, is_disjunction, is_equivalence, goes_on_equality, goes_on_conjunction, goes_on_disjunction, goes_on_equivalence, goes_on_expression, chain, chain_of, parenthesised, primary, operand, equality, conjunction, disjunction, equivalence, implication, known, over, beyond, phrases}
+
+pub record AllAlike (q r : Phrases) : Type 0 where
+  pub expression : Alike q.expression r.expression
+  pub operand : Alike q.operand r.operand
+
+chain_alike : (is_operator m : Token → Bool) (a b : Form Token Expr) → Alike a b → Alike (chain is_operator m a) (chain is_operator m b)
+chain_alike is_operator m a b l =
+    let named_both = named_alike begins_operand m l in
+    let links = many_alike _ _ (opened false is_operator (named begins_operand m a) (named begins_operand m b) (λ e ts. l.parse ts)) in
+    to_alike chain_of (record { parse = then_reads _ _ _ _ named_both links; first = λ t. refl })
+
+-- phrases over two that read alike, where those may be read
+module _ (closed : Bool) (q r : Phrases) (h : closed ≡ false → AllAlike q r) where
+  abbrev e : Form Token Expr
+  e = (known q).expression
+
+  abbrev e' : Form Token Expr
+  e' = (known r).expression
+
+  expression_reads : closed ≡ false → (ts : List Token) → e.parse ts ≡ e'.parse ts
+  expression_reads unlocked ts = (h unlocked).expression.parse ts
+
+  expression_same : closed ≡ false → Alike e e'
+  expression_same unlocked = named_alike begins_operand goes_on_expression (h unlocked).expression
+
+  closing_same : closed ≡ false → (ts : List Token) → (then e (just kind.RightParen)).parse ts ≡ (then e' (just kind.RightParen)).parse ts
+  closing_same unlocked = then_reads _ _ _ _ (expression_same unlocked) (same_form (just kind.RightParen))
+
+  parenthesised_alike : Alike (parenthesised closed e) (parenthesised closed e')
+  parenthesised_alike = to_alike _ (opened closed (is_kind kind.LeftParen) (to (λ x. x.0) (then e (just kind.RightParen))) (to (λ x. x.0) (then e' (just kind.RightParen))) (λ unlocked ts. rw (closing_same unlocked ts) refl))
+
+  next_alike : Alike (just kind.Next ⨾ parenthesised closed e) (just kind.Next ⨾ parenthesised closed e')
+  next_alike = opened false (is_kind kind.Next) (parenthesised closed e) (parenthesised closed e') (λ unlocked. parenthesised_alike.parse)
+
+  primary_alike : Alike (primary closed (known q)) (primary closed (known r))
+  unfolding primary
+  primary_alike = or_alike _ _ _ _ (same_form (to leaf_of (token false is_leaf))) (or_alike _ _ _ _ parenthesised_alike (to_alike _ next_alike) (λ t. refl)) (λ t. refl)
+
+  operand_alike : Alike (operand closed (known q)) (operand closed (known r))
+  unfolding operand primary
+  operand_alike = or_alike _ _ _ _ (to_alike _ (opened closed (is_kind kind.Not) (known q).operand (known r).operand (λ unlocked. (h unlocked).operand.parse))) primary_alike (λ t. refl)
+
+  equality_alike : Alike (equality closed (known q)) (equality closed (known r))
+  unfolding equality
+  equality_alike = chain_alike is_equality no_token _ _ operand_alike
+
+  conjunction_alike : Alike (conjunction closed (known q)) (conjunction closed (known r))
+  unfolding conjunction
+  conjunction_alike = chain_alike is_conjunction goes_on_equality _ _ equality_alike
+
+  disjunction_alike : Alike (disjunction closed (known q)) (disjunction closed (known r))
+  unfolding disjunction
+  disjunction_alike = chain_alike is_disjunction goes_on_conjunction _ _ conjunction_alike
+
+  equivalence_alike : Alike (equivalence closed (known q)) (equivalence closed (known r))
+  unfolding equivalence
+  equivalence_alike = chain_alike is_equivalence goes_on_disjunction _ _ disjunction_alike
+
+  implication_alike : Alike (implication closed (known q)) (implication closed (known r))
+  unfolding implication
+  implication_alike =
+      to_alike _ (record {
+        parse = then_reads _ _ _ _ (named_alike begins_operand goes_on_equivalence equivalence_alike) (maybe_alike _ _ (opened closed (is_kind kind.Implies) e e' expression_reads));
+        first = λ t. refl;
+      })
+
+  over_alike : AllAlike (over closed q) (over closed r)
+  over_alike = record { expression = implication_alike; operand = operand_alike }
+
+pub phrases_alike : (room past past' : ℕ) → AllAlike (phrases past (suc room)) (phrases past' (suc room))
+unfolding phrases
+phrases_alike zero past past' = over_alike true (beyond past) (beyond past') (λ unlocked. absurd cc)
+phrases_alike (suc room) past past' = over_alike false (phrases past (suc room)) (phrases past' (suc room)) (λ unlocked. phrases_alike room past past')

@@ -1,0 +1,13 @@
+pub mod KindNumbers
+pub mod EachKind
+pub mod OfExpressions
+pub mod ExpressionsAlike
+pub mod OfRanks
+pub mod Levels
+pub mod Chains
+pub mod Links
+pub mod OfPrograms
+pub mod OfLoops
+pub mod OfParsing
+pub mod RefusedOnce
+pub mod ParsedOnce

@@ -1,0 +1,5 @@
+pub mod Expressions
+pub mod Programs
+pub mod Ranks
+pub mod Reading
+pub mod Spelling

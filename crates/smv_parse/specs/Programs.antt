@@ -1,0 +1,123 @@
+-- Modules and their sections (NuSMV 2.6 User Manual, 2.3), as far as the language goes today.
+use Rattle.std.specs.Prelude.{ℕ, false, List, [], ◌∷◌, Option, None, Some}
+use Rattle.phrase_forms.specs.Forms.{Form, token, or, maybe, many, to, ◌⨾◌, ◌▹◌, ◌◃◌}
+use Rattle.smv_tree.specs.declared.place.Place.{Place}
+use Rattle.smv_tree.specs.declared.token.Token.{Token}
+use Rattle.smv_tree.specs.declared.token.TokenKind.{TokenKind}
+use Rattle.smv_tree.specs.declared.token.TokenKind.TheVariants as kind
+use Rattle.smv_tree.specs.declared.tree.Program.{Program}
+use Rattle.smv_tree.specs.declared.tree.Module.{Module}
+use Rattle.smv_tree.specs.declared.tree.Parameter.{Parameter}
+use Rattle.smv_tree.specs.declared.tree.Section.{Section}
+use Rattle.smv_tree.specs.declared.tree.Section.TheVariants as section
+use Rattle.smv_tree.specs.declared.tree.Variable.{Variable}
+use Rattle.smv_tree.specs.declared.tree.TypeExpr.{TypeExpr}
+use Rattle.smv_tree.specs.declared.tree.TypeExpr.TheVariants as type
+use Rattle.smv_tree.specs.declared.tree.Assignment.{Assignment}
+use Rattle.smv_tree.specs.declared.tree.AssignmentKind.{AssignmentKind}
+use Rattle.smv_tree.specs.declared.tree.AssignmentKind.TheVariants as side
+use Rattle.smv_tree.specs.declared.tree.ConstraintKind.{ConstraintKind}
+use Rattle.smv_tree.specs.declared.tree.ConstraintKind.TheVariants as asked
+use Rattle.smv_tree.specs.declared.tree.SpecificationKind.TheVariants as claim
+use Rattle.smv_tree.specs.declared.tree.Expr.{Expr}
+use Rattle.smv_tree.specs.declared.tree.Expr.TheVariants as expr
+use Rattle.smv_tree.specs.Kinds.{is_identifier}
+use Rattle.smv_parse.specs.Expressions.{just, expression_within, most_levels}
+
+-- the expressions of a section: all levels may be opened in them, and then `past` that are too many
+abbrev pub expression : ℕ → Form Token Expr
+expression past = expression_within past most_levels
+
+abbrev pub identifier : Form Token Token
+identifier = token false is_identifier
+
+-- an identifier as an expression
+abbrev pub name_of : Token → Expr
+name_of t = expr.Name t.place t.text
+
+abbrev pub nothing_or : {A : Type 0} → Option A → List A
+nothing_or None = []
+nothing_or (Some x) = x ∷ []
+
+-- in parentheses, or nothing
+abbrev pub maybe_in : {A : Type 0} → Option (Option A) → List A
+maybe_in None = []
+maybe_in (Some x) = nothing_or x
+
+-- "(" .. ")", with one phrase or none in it, or nothing
+abbrev pub bracketed : {A : Type 0} → Form Token A → Form Token (List A)
+bracketed phrase = to maybe_in (maybe (just kind.LeftParen ▹ maybe phrase ◃ just kind.RightParen))
+
+-- the parentheses of an instance open a level
+abbrev pub under_one : ℕ
+under_one = 255
+
+-- the name of a module, and what the instance is given
+unfoldable pub instance_type : ℕ → Form Token TypeExpr
+instance_type past = to (λ x. type.Instance x.0.place x.0.text x.1) (identifier ⨾ bracketed (expression_within past under_one))
+
+unfoldable pub written_type : ℕ → Form Token TypeExpr
+written_type past = or (to (λ t. type.Boolean t.place) (just kind.Boolean)) (instance_type past)
+
+-- name ":" type ";"
+unfoldable pub declaration : ℕ → Form Token Variable
+declaration past = to (λ x. record { place = x.0.place; name = x.0.text; declared = x.1 }) (identifier ⨾ just kind.Colon ▹ written_type past ◃ just kind.Semicolon)
+
+-- "VAR" and its declarations
+unfoldable pub variables : ℕ → Form Token Section
+variables past = to section.Variables (just kind.Var ▹ many (declaration past))
+
+-- the left side of an assignment: its place, what it speaks of, and the variable
+abbrev pub Left : Type 0
+Left = Place × AssignmentKind × Expr
+
+-- keyword "(" name ")"
+abbrev pub sided : TokenKind → AssignmentKind → Form Token Left
+sided keyword which = to (λ x. (x.0.place, which, name_of x.1)) (just keyword ⨾ just kind.LeftParen ▹ identifier ◃ just kind.RightParen)
+
+-- name, "init" "(" name ")", or "next" "(" name ")"
+unfoldable pub left_side : Form Token Left
+left_side = or (to (λ t. (t.place, side.Current, name_of t)) identifier) (or (sided kind.Init side.Init) (sided kind.Next side.Next))
+
+-- left ":=" expression ";"
+unfoldable pub assignment : ℕ → Form Token Assignment
+assignment past =
+    to (λ x. record { place = x.0.0; kind = x.0.1; target = x.0.2; value = x.1 }) (left_side ⨾ just kind.Becomes ▹ expression past ◃ just kind.Semicolon)
+
+-- "ASSIGN" and its assignments
+unfoldable pub assignments : ℕ → Form Token Section
+assignments past = to section.Assignments (just kind.Assign ▹ many (assignment past))
+
+-- expression, and ";" or nothing: the missing ";" is an own choice of this project
+unfoldable pub formula : ℕ → Form Token Expr
+formula past = expression past ◃ maybe (just kind.Semicolon)
+
+-- keyword expression
+unfoldable pub constraint : TokenKind → ConstraintKind → ℕ → Form Token Section
+constraint keyword which past = to (λ x. section.Constraint (record { place = x.0.place; kind = which; formula = x.1 })) (just keyword ⨾ formula past)
+
+-- "NAME" name ":=", which has no effect
+unfoldable pub given_name : Form Token Token
+given_name = just kind.Name ▹ identifier ◃ just kind.Becomes
+
+-- "INVARSPEC" expression, with a name or without
+unfoldable pub specification : ℕ → Form Token Section
+specification past =
+    to (λ x. section.Specification (record { place = x.0.place; kind = claim.Invariant; formula = x.1 })) (just kind.Invarspec ⨾ maybe given_name ▹ formula past)
+
+unfoldable pub section_form : ℕ → Form Token Section
+section_form past =
+    or (variables past) (or (assignments past) (or (constraint kind.InitSection asked.Init past) (or (constraint kind.Trans asked.Trans past) (specification past))))
+
+abbrev pub parameter_of : Token → Parameter
+parameter_of t = record { place = t.place; name = t.text }
+
+-- "MODULE" name, its parameters and its sections
+unfoldable pub module_form : ℕ → Form Token Module
+module_form past =
+    to (λ x. record { place = x.0.place; name = x.1.0.text; parameters = x.1.1.0; sections = x.1.1.1 })
+    (just kind.Module ⨾ identifier ⨾ bracketed (to parameter_of identifier) ⨾ many (section_form past))
+
+-- a program: its modules
+unfoldable pub program : ℕ → Form Token Program
+program past = to (λ modules. record { modules = modules }) (many (module_form past))

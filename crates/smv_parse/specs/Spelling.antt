@@ -1,0 +1,114 @@
+-- What tokens are a program, and why tokens are refused.
+use Rattle.std.specs.Prelude.{◌≡◌, ℕ, Bool, true, false, ◌&&◌, ◌||◌, not, if◌then◌else◌, List, [], ◌∷◌, ◌++◌, Option, None, Some, codes}
+use Rattle.phrase_forms.specs.declared.fault.Fault.{Fault}
+use Rattle.phrase_forms.specs.declared.fault.Fault.TheVariants as fault
+use Rattle.phrase_forms.specs.Forms.{head}
+use Rattle.phrase_forms.specs.Levels.{SpellsWithin, IsRefusedWithin}
+use Rattle.smv_tree.specs.declared.place.Place.{Place}
+use Rattle.smv_tree.specs.declared.token.Token.{Token}
+use Rattle.smv_tree.specs.declared.token.Tokens.{Tokens}
+use Rattle.smv_tree.specs.declared.token.TokenKind.{TokenKind}
+use Rattle.smv_tree.specs.declared.token.TokenKind.TheVariants as kind
+use Rattle.smv_tree.specs.declared.refusal.Refusal.{Refusal}
+use Rattle.smv_tree.specs.declared.refusal.Rule.TheVariants as rule
+use Rattle.smv_tree.specs.declared.refusal.TextStop.{TextStop}
+use Rattle.smv_tree.specs.declared.refusal.TextStop.TheVariants.{Refused, NoMemory}
+use Rattle.smv_tree.specs.declared.tree.Program.{Program}
+use Rattle.smv_tree.specs.Kinds.{is_kind}
+use Rattle.smv_parse.specs.Programs.{program}
+
+-- the kinds of tokens that have a place in the language today
+abbrev pub is_in_use : TokenKind → Bool
+is_in_use kind.Module = true
+is_in_use kind.Var = true
+is_in_use kind.Assign = true
+is_in_use kind.InitSection = true
+is_in_use kind.Trans = true
+is_in_use kind.Invarspec = true
+is_in_use kind.Name = true
+is_in_use kind.Boolean = true
+is_in_use kind.Init = true
+is_in_use kind.Next = true
+is_in_use kind.True = true
+is_in_use kind.False = true
+is_in_use kind.Xor = true
+is_in_use kind.Xnor = true
+is_in_use kind.Identifier = true
+is_in_use kind.Abs = true
+is_in_use kind.Max = true
+is_in_use kind.Min = true
+is_in_use kind.Count = true
+is_in_use kind.LeftParen = true
+is_in_use kind.RightParen = true
+is_in_use kind.Semicolon = true
+is_in_use kind.Colon = true
+is_in_use kind.Becomes = true
+is_in_use kind.Equal = true
+is_in_use kind.NotEqual = true
+is_in_use kind.Not = true
+is_in_use kind.And = true
+is_in_use kind.Or = true
+is_in_use kind.Implies = true
+is_in_use kind.Iff = true
+is_in_use other = false
+
+-- the words that name a function before "("
+abbrev pub names_function : Token → Bool
+names_function t = is_kind kind.Abs t || is_kind kind.Max t || is_kind kind.Min t || is_kind kind.Count t
+
+-- The token goes beyond the language: it has no place in it, names a function of integers, or begins a second module. The
+-- tokens behind it are given, and whether a module begins before it.
+abbrev pub is_unsupported : Bool → Token → List Token → Bool
+is_unsupported begun t rest = not (is_in_use t.kind) || (names_function t && head (is_kind kind.LeftParen) rest) || (begun && is_kind kind.Module t)
+
+-- the first token that goes beyond the language
+unfoldable pub first_unsupported : Bool → List Token → Option Token
+first_unsupported begun [] = None
+first_unsupported begun (t ∷ ts) = if is_unsupported begun t ts then Some t else first_unsupported (begun || is_kind kind.Module t) ts
+
+-- the tokens spell the program, and none goes beyond the language
+pub record IsSpelling (tokens : List Token) (p : Program) : Type 0 where
+  pub supported : first_unsupported false tokens ≡ None
+  pub spelled : SpellsWithin program 0 tokens p
+
+-- the place of the first token, or of the end
+abbrev pub first_place : List Token → Place → Place
+first_place [] end = end
+first_place (t ∷ rest) end = t.place
+
+-- the text of the first token, or `end`
+abbrev pub first_text : List Token → List ℕ
+first_text [] = codes "end"
+first_text (t ∷ rest) = t.text
+
+-- how tokens are refused from the first of these on
+abbrev pub fault_refusal : Fault → List Token → Place → Refusal
+fault_refusal fault.Unexpected rest end = record { rule = rule.Unexpected; place = first_place rest end; detail = Some (first_text rest) }
+fault_refusal fault.TooDeep rest end = record { rule = rule.TooDeep; place = first_place rest end; detail = None }
+
+-- a token goes beyond the language: the first that does is named
+abbrev pub unsupported_refusal : Token → Refusal
+unsupported_refusal t = record { rule = rule.Unsupported; place = t.place; detail = Some t.text }
+
+-- The tokens are refused so, where none goes beyond the language: at the first that has no place where it stands, or
+-- that opens a level too many.
+pub record IsFaulty (tokens : Tokens) (refusal : Refusal) : Type 0 where
+  pub fault : Fault
+  pub before : List Token
+  pub rest : List Token
+  pub split : tokens.items ≡ before ++ rest
+  pub refused : IsRefusedWithin program fault before rest
+  pub told : refusal ≡ fault_refusal fault rest tokens.end
+
+-- the tokens are refused so: for the first that goes beyond the language, or where there is none, for a fault
+abbrev pub IsRefusedFor : Option Token → Tokens → Refusal → Type 0
+IsRefusedFor (Some t) tokens refusal = refusal ≡ unsupported_refusal t
+IsRefusedFor None tokens refusal = IsFaulty tokens refusal
+
+abbrev pub IsRefusedTokens : Tokens → Refusal → Type 0
+IsRefusedTokens tokens refusal = IsRefusedFor (first_unsupported false tokens.items) tokens refusal
+
+-- the tokens are refused so, or memory was
+abbrev pub IsParseStop : Tokens → TextStop → Type 0
+IsParseStop tokens (Refused refusal) = IsRefusedTokens tokens refusal
+IsParseStop tokens NoMemory = Unit {0}

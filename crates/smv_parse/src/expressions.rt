@@ -1,0 +1,271 @@
+//! Expressions, read from the front of tokens (NuSMV 2.6 User Manual, 2.2).
+
+ghost use Rattle.std.specs.Prelude.{◌≡◌, false, IfOk};
+ghost use Rattle.phrase_forms.specs.Forms.{Form, token, to, head};
+ghost use Rattle.smv_parse.specs.Expressions.{is_leaf, leaf_of, operator_of, parenthesised, primary, operand, implication, is_zero, expression_within};
+ghost use Rattle.smv_parse.specs.Ranks.{is_operator_of, operand_within, phrase_within, under, link_within, links_within};
+ghost use Rattle.smv_parse.specs.Reading.{Gives};
+
+use crate::reading::{Stop, begins, is_identifier, is_kind, just, opening};
+use phrase_forms::Fault;
+use smv_tree::{ChainOperator, Expr, Place, Token, TokenKind};
+use sqlite_items::{Boxed, Items};
+use std::alloc::{AllocError, Global};
+
+/// A level of precedence whose operators stand between any number of operands, from the tightest on.
+#[derive(Clone, Copy, Debug, PartialEq, Eq)]
+enum Rank {
+    Equality,
+    Conjunction,
+    Disjunction,
+    Equivalence,
+}
+
+impl Rank {
+    /// Whether the token is an operator of this rank.
+    fn has_operator(self, token: &Token) -> bool
+        ensures { result ≡ is_operator_of self token.now }
+    {
+        match self {
+            Rank::Equality => {
+                is_kind(TokenKind::Equal, token) || is_kind(TokenKind::NotEqual, token)
+            }
+            Rank::Conjunction => is_kind(TokenKind::And, token),
+            Rank::Disjunction => {
+                is_kind(TokenKind::Or, token)
+                    || is_kind(TokenKind::Xor, token)
+                    || is_kind(TokenKind::Xnor, token)
+            }
+            Rank::Equivalence => is_kind(TokenKind::Iff, token),
+        }
+    }
+
+    /// Whether an operator of this rank stands at the front.
+    fn goes_on(self, tokens: &[Token]) -> bool
+        ensures { result ≡ head (is_operator_of self) tokens.now }
+    {
+        match tokens {
+            [first, ..] => self.has_operator(first),
+            [] => false,
+        }
+    }
+
+    /// An operator of this rank.
+    fn operator(self, tokens: &[Token]) -> Result<(&Token, &[Token]), Stop<'_>>
+        ensures { Gives (λ x. (x.0.now, x.1.now)) result ((token false (is_operator_of self)).parse tokens.now) }
+    {
+        match tokens {
+            [first, rest @ ..] if self.has_operator(first) => Ok((first, rest)),
+            _ => Err(Stop::Refused(Fault::Unexpected, tokens)),
+        }
+    }
+}
+
+/// The operator that a token of this kind is.
+fn operator_of(kind: TokenKind) -> ChainOperator
+    ensures { result ≡ operator_of kind }
+{
+    match kind {
+        TokenKind::Equal => ChainOperator::Equal,
+        TokenKind::NotEqual => ChainOperator::NotEqual,
+        TokenKind::And => ChainOperator::And,
+        TokenKind::Xor => ChainOperator::Xor,
+        TokenKind::Xnor => ChainOperator::Xnor,
+        TokenKind::Iff => ChainOperator::Iff,
+        _ => ChainOperator::Or,
+    }
+}
+
+/// Whether no level may be opened.
+fn is_closed(room: usize) -> bool
+    ensures { result ≡ is_zero room }
+{
+    room == 0
+}
+
+/// Whether the token is a constant or a name.
+fn is_leaf(token: &Token) -> bool
+    ensures { result ≡ is_leaf token.now }
+{
+    is_kind(TokenKind::True, token) || is_kind(TokenKind::False, token) || is_identifier(token)
+}
+
+/// The constant or the name that the token is.
+fn leaf_of(alloc: Global, token: &Token) -> Result<Expr, AllocError>
+    ensures { IfOk result (λ e. e ≡ leaf_of token.now) }
+{
+    if is_identifier(token) {
+        Ok(Expr::Name(token.place, token.text.copy(alloc)?))
+    } else {
+        Ok(Expr::Bool(token.place, is_kind(TokenKind::True, token)))
+    }
+}
+
+/// A constant or a name.
+fn leaf<'a>(alloc: Global, tokens: &'a [Token]) -> Result<(Expr, &'a [Token]), Stop<'a>>
+    ensures { Gives (λ x. (x.0, x.1.now)) result ((to leaf_of (token false is_leaf)).parse tokens.now) }
+{
+    match tokens {
+        [first, rest @ ..] if is_leaf(first) => Ok((leaf_of(alloc, first)?, rest)),
+        _ => Err(Stop::Refused(Fault::Unexpected, tokens)),
+    }
+}
+
+/// `(` expression `)`
+#[cycle(expressions)]
+#[tactic(auto, using(crate::proofs::Levels::parenthesised_reads))]
+fn parenthesised<'a>(
+    alloc: Global,
+    room: usize,
+    tokens: &'a [Token],
+) -> Result<(Expr, &'a [Token]), Stop<'a>>
+    ensures { Gives (λ x. (x.0, x.1.now)) result ((parenthesised (is_zero room) (under room).expression).parse tokens.now) }
+{
+    let (_, tokens) = opening(is_closed(room), TokenKind::LeftParen, tokens)?;
+    let (inner, tokens) = expression(alloc, room - 1, tokens)?;
+    let (_, tokens) = just(TokenKind::RightParen, tokens)?;
+    Ok((inner, tokens))
+}
+
+/// A constant, a name, `(` expression `)`, or `next` `(` expression `)`.
+#[cycle(expressions)]
+#[tactic(auto, unfolding(crate::specs::Expressions::primary))]
+fn primary<'a>(
+    alloc: Global,
+    room: usize,
+    tokens: &'a [Token],
+) -> Result<(Expr, &'a [Token]), Stop<'a>>
+    ensures { Gives (λ x. (x.0, x.1.now)) result ((primary (is_zero room) (under room)).parse tokens.now) }
+{
+    match tokens {
+        [first, ..] if is_leaf(first) => leaf(alloc, tokens),
+        [first, ..] if is_kind(TokenKind::LeftParen, first) => parenthesised(alloc, room, tokens),
+        _ => {
+            let (next, tokens) = just(TokenKind::Next, tokens)?;
+            let (inner, tokens) = parenthesised(alloc, room, tokens)?;
+            let inner = Boxed::new(alloc, inner)?;
+            Ok((Expr::Next(next.place, inner), tokens))
+        }
+    }
+}
+
+/// `!` operand, or a primary expression.
+#[cycle(expressions)]
+#[tactic(auto, using(crate::proofs::Levels::under_operand), unfolding(crate::specs::Expressions::operand))]
+fn operand<'a>(
+    alloc: Global,
+    room: usize,
+    tokens: &'a [Token],
+) -> Result<(Expr, &'a [Token]), Stop<'a>>
+    ensures { Gives (λ x. (x.0, x.1.now)) result ((operand (is_zero room) (under room)).parse tokens.now) }
+{
+    if !begins(TokenKind::Not, tokens) {
+        return primary(alloc, room, tokens);
+    }
+    let (not, tokens) = opening(is_closed(room), TokenKind::Not, tokens)?;
+    let (denied, tokens) = operand(alloc, room - 1, tokens)?;
+    let denied = Boxed::new(alloc, denied)?;
+    Ok((Expr::Not(not.place, denied), tokens))
+}
+
+/// An operand of the rank: a phrase of the rank below.
+#[cycle(expressions)]
+#[tactic(auto, unfolding(crate::specs::Ranks::operand_within, crate::specs::Ranks::phrase_within))]
+fn operand_of<'a>(
+    alloc: Global,
+    rank: Rank,
+    room: usize,
+    tokens: &'a [Token],
+) -> Result<(Expr, &'a [Token]), Stop<'a>>
+    ensures { Gives (λ x. (x.0, x.1.now)) result ((operand_within rank room).parse tokens.now) }
+{
+    match rank {
+        Rank::Equality => operand(alloc, room, tokens),
+        Rank::Conjunction => phrase_of(alloc, Rank::Equality, room, tokens),
+        Rank::Disjunction => phrase_of(alloc, Rank::Conjunction, room, tokens),
+        Rank::Equivalence => phrase_of(alloc, Rank::Disjunction, room, tokens),
+    }
+}
+
+/// An operator of the rank and its right operand.
+#[cycle(expressions)]
+#[tactic(auto, unfolding(crate::specs::Ranks::link_within))]
+fn link<'a>(
+    alloc: Global,
+    rank: Rank,
+    room: usize,
+    tokens: &'a [Token],
+) -> Result<((Place, ChainOperator, Expr), &'a [Token]), Stop<'a>>
+    ensures { Gives (λ x. (x.0, x.1.now)) result ((link_within rank room).parse tokens.now) }
+{
+    let (operator, tokens) = rank.operator(tokens)?;
+    let (right, tokens) = operand_of(alloc, rank, room, tokens)?;
+    Ok(((operator.place, operator_of(operator.kind), right), tokens))
+}
+
+/// Any number of operators of the rank and their right operands.
+#[cycle(expressions)]
+#[tactic(auto, using(crate::proofs::Links::link_shorter))]
+fn links<'a>(
+    alloc: Global,
+    rank: Rank,
+    room: usize,
+    tokens: &'a [Token],
+) -> Result<(Items<(Place, ChainOperator, Expr)>, &'a [Token]), Stop<'a>>
+    ensures { Gives (λ x. (x.0, x.1.now)) result ((links_within rank room).parse tokens.now) }
+{
+    let mut links = Items::new(alloc);
+    let mut rest = tokens;
+    'links: while rank.goes_on(rest) {
+        let (link, after) = link(alloc, rank, room, rest)?;
+        links.push(link)?;
+        rest = after;
+    }
+    Ok((links, rest))
+}
+
+/// An operand of the rank, and any number more behind its operators.
+#[cycle(expressions)]
+#[tactic(auto, using(crate::proofs::Chains::phrase_reads))]
+fn phrase_of<'a>(
+    alloc: Global,
+    rank: Rank,
+    room: usize,
+    tokens: &'a [Token],
+) -> Result<(Expr, &'a [Token]), Stop<'a>>
+    ensures { Gives (λ x. (x.0, x.1.now)) result ((phrase_within rank room).parse tokens.now) }
+{
+    let (first, tokens) = operand_of(alloc, rank, room, tokens)?;
+    let (links, tokens) = links(alloc, rank, room, tokens)?;
+    if links.is_empty() {
+        return Ok((first, tokens));
+    }
+    let first = Boxed::new(alloc, first)?;
+    Ok((Expr::Chain(first, links), tokens))
+}
+
+/// The expression at the front of the tokens, and the tokens behind it (NuSMV 2.6 User Manual, 2.2, Expressions). At most
+/// `room` levels are open at one place in it: each parenthesis, each `!` and the right side of each `->` opens one, so `->`
+/// associates to the right.
+///
+/// It is refused as unexpected from the first token with which the tokens no longer begin an expression, or from their
+/// end; as too deep from the first token that opens a level too many. Memory may be refused at any time.
+#[cycle(expressions)]
+#[tactic(auto, using(crate::proofs::Levels::expression_reads))]
+pub fn expression<'a>(
+    alloc: Global,
+    room: usize,
+    tokens: &'a [Token],
+) -> Result<(Expr, &'a [Token]), Stop<'a>>
+    ensures { Gives (λ x. (x.0, x.1.now)) result ((expression_within 0 room).parse tokens.now) }
+{
+    let (left, tokens) = phrase_of(alloc, Rank::Equivalence, room, tokens)?;
+    if !begins(TokenKind::Implies, tokens) {
+        return Ok((left, tokens));
+    }
+    let (arrow, tokens) = opening(is_closed(room), TokenKind::Implies, tokens)?;
+    let (right, tokens) = expression(alloc, room - 1, tokens)?;
+    let left = Boxed::new(alloc, left)?;
+    let right = Boxed::new(alloc, right)?;
+    Ok((Expr::Implies(arrow.place, left, right), tokens))
+}

@@ -1,0 +1,15 @@
+//! The grammar of the language: from the tokens of a source to its program (NuSMV 2.6 User Manual, chapter 2).
+#![tactic(auto)]
+
+mod expressions;
+mod laws;
+mod parsing;
+mod programs;
+mod reading;
+mod unsupported;
+
+pub use laws::is_parsed_once;
+pub use parsing::parse;
+
+#[cfg(test)]
+mod tests;

@@ -1,0 +1,89 @@
+//! Tokens that go beyond the language.
+
+ghost use Rattle.std.specs.Prelude.{◌≡◌, false};
+ghost use Rattle.std.specs.Option.{option_copied};
+ghost use Rattle.smv_parse.specs.Spelling.{is_in_use, names_function, is_unsupported, first_unsupported};
+
+use crate::reading::{begins, is_kind};
+use smv_tree::{Token, TokenKind};
+
+/// Whether tokens of this kind have a place in the language.
+fn is_in_use(kind: TokenKind) -> bool
+    ensures { result ≡ is_in_use kind }
+{
+    match kind {
+        // The words of modules and sections.
+        TokenKind::Module
+        | TokenKind::Var
+        | TokenKind::Assign
+        | TokenKind::InitSection
+        | TokenKind::Trans
+        | TokenKind::Invarspec
+        | TokenKind::Name => true,
+        // The words of types and expressions.
+        TokenKind::Boolean
+        | TokenKind::Init
+        | TokenKind::Next
+        | TokenKind::True
+        | TokenKind::False
+        | TokenKind::Xor
+        | TokenKind::Xnor => true,
+        // The names.
+        TokenKind::Identifier
+        | TokenKind::Abs
+        | TokenKind::Max
+        | TokenKind::Min
+        | TokenKind::Count => true,
+        // The symbols of sections.
+        TokenKind::LeftParen
+        | TokenKind::RightParen
+        | TokenKind::Semicolon
+        | TokenKind::Colon
+        | TokenKind::Becomes => true,
+        // The operators.
+        TokenKind::Equal
+        | TokenKind::NotEqual
+        | TokenKind::Not
+        | TokenKind::And
+        | TokenKind::Or
+        | TokenKind::Implies
+        | TokenKind::Iff => true,
+        _ => false,
+    }
+}
+
+/// Whether the token is a word that names a function before `(`.
+fn names_function(token: &Token) -> bool
+    ensures { result ≡ names_function token.now }
+{
+    is_kind(TokenKind::Abs, token)
+        || is_kind(TokenKind::Max, token)
+        || is_kind(TokenKind::Min, token)
+        || is_kind(TokenKind::Count, token)
+}
+
+/// Whether the token goes beyond the language, before these tokens; `begun` says whether a module begins before it.
+fn is_unsupported(begun: bool, token: &Token, rest: &[Token]) -> bool
+    ensures { result ≡ is_unsupported begun token.now rest.now }
+{
+    !is_in_use(token.kind)
+        || names_function(token) && begins(TokenKind::LeftParen, rest)
+        || begun && is_kind(TokenKind::Module, token)
+}
+
+/// The first token that goes beyond the language.
+#[tactic(auto, unfolding(crate::specs::Spelling::first_unsupported))]
+pub fn first_unsupported(tokens: &[Token]) -> Option<&Token>
+    ensures { option_copied result ≡ first_unsupported false tokens.now }
+{
+    let mut begun = false;
+    let mut rest = tokens;
+    'tokens: while let [token, after @ ..] = rest {
+        if is_unsupported(begun, token, after) {
+            return Some(token);
+        }
+        begun = begun || is_kind(TokenKind::Module, token);
+        rest = after;
+    }
+    None
+}

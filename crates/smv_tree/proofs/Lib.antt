@@ -1,3 +1,0 @@
-pub mod OfSource
-pub mod OfSpelling
-pub mod OfReading
