@@ -1,33 +1,33 @@
 -- A lasso of a system violates a formula exactly where its stretch has bits that make a fair lasso of the monitored one.
-use Rattle.std.proofs.Common.{inl, inr, ◌≡◌, ℕ, zero, suc, ◌+◌, ◌-◌, ◌*◌, ◌<◌, ◌≤◌, Bool, true, false, List, [], ◌∷◌, map, length, get_or, refl, sym, ap, ◌∙◌, subst, arith}
-use Rattle.std.specs.Prelude.{◌↔◌, nat_lt, if◌then◌else◌, slice_index_or, All}
+use Rattle.std.proofs.Common.{inl, inr, ◌≡◌, ℕ, zero, suc, ◌+◌, ◌-◌, ◌*◌, ◌<◌, ◌≤◌, Bool, true, List, [], ◌∷◌, map, get_or, refl, sym, ap, ◌∙◌, subst, arith}
+use Rattle.std.specs.Prelude.{◌↔◌, nat_lt, if◌then◌else◌, All}
 use Rattle.std.proofs.lemmas.Bool.{cases_lt}
 use Rattle.ltl_meaning.specs.Ltl.{Ltl, past_height}
 use Rattle.ltl_meaning.proofs.Walk.{walk, walk_stays, walk_turns, walk_inside, walk_same}
 use Rattle.clause_core.specs.declared.literal.Lit.{Lit}
-use Rattle.clause_core.specs.Assignments.{ClauseTrue, Agrees}
-use Rattle.clause_core.specs.Systems.{TransitionSystem, Gives, FirstBits, StepBits, DefinedTrue, SameOn}
-use Rattle.ltl_monitor.specs.Monitor.{Side, Set, Each, rows, starts, truth, all_sets, InLoop, IsMonitored, IsFairMonitored}
-use Rattle.ltl_monitor.specs.FairLasso.{Sequence, Loops, Violates, beside, HasMonitor}
+use Rattle.clause_core.specs.Assignments.{Agrees}
+use Rattle.clause_core.specs.Systems.{TransitionSystem, Gives, FirstBits, StepBits}
+use Rattle.ltl_monitor.specs.Monitor.{Side, Set, Each, rows, starts, truth, all_sets, InLoop, IsFairMonitored}
+use Rattle.ltl_monitor.specs.FairLasso.{Sequence, Loops, Violates, beside}
 use Rattle.ltl_monitor.specs.States.{value, Extends, shown, justice_of, IsMonitor}
 use Rattle.ltl_monitor.specs.Lassos.{IsLasso, IsFair, state_at, word_of, with_bits, HasFairLasso}
 use Rattle.ltl_monitor.proofs.Clauses.{literal_from, same_refl, each_all, all_each}
 use Rattle.ltl_monitor.proofs.Lassos.{side_eq, to_monitor, from_monitor}
 use Rattle.ltl_monitor.proofs.Placed.{yes, no_}
 
-state_walk : (n l t : ℕ) → state_at n l t ≡ walk n l t
+pub state_walk : (n l t : ℕ) → state_at n l t ≡ walk n l t
 state_walk n l zero = refl
 state_walk n l (suc t) = ap (λ k. if nat_lt (k + 1) n then k + 1 else l) (state_walk n l t)
 
 module _ (n l : ℕ) (inside : l < n) where
-  state_stays : (i : ℕ) → state_at n l i + 1 < n → state_at n l (i + 1) ≡ state_at n l i + 1
+  pub state_stays : (i : ℕ) → state_at n l i + 1 < n → state_at n l (i + 1) ≡ state_at n l i + 1
   state_stays i h =
       state_walk n l (i + 1) ∙ walk_stays n l inside i (subst (λ k. k + 1 < n) (state_walk n l i) h) ∙ ap (λ k. k + 1) (sym (state_walk n l i))
 
-  state_turns : (i : ℕ) → n ≤ state_at n l i + 1 → state_at n l (i + 1) ≡ l
+  pub state_turns : (i : ℕ) → n ≤ state_at n l i + 1 → state_at n l (i + 1) ≡ l
   state_turns i h = state_walk n l (i + 1) ∙ walk_turns n l inside i (subst (λ k. n ≤ k + 1) (state_walk n l i) h)
 
-  state_inside : (i : ℕ) → state_at n l i < n
+  pub state_inside : (i : ℕ) → state_at n l i < n
   state_inside i = subst (λ k. k < n) (sym (state_walk n l i)) (walk_inside n l inside i)
 
   state_same : (i : ℕ) → i < n → state_at n l i ≡ i
@@ -82,10 +82,10 @@ module _ (E : ℕ → ℕ → Bool) (S : ℕ → Side) (n l : ℕ) where
   )
 
 -- only the state bits matter
-first_like : (sys : TransitionSystem) (x y : ℕ → Bool) → Agrees sys.state_bits x y → FirstBits sys x → FirstBits sys y
+pub first_like : (sys : TransitionSystem) (x y : ℕ → Bool) → Agrees sys.state_bits x y → FirstBits sys x → FirstBits sys y
 first_like sys x y g h = (h.0, λ v lt. h.1 v lt ∙ g v lt, h.2)
 
-step_like : (sys : TransitionSystem) (x y x' y' : ℕ → Bool) → Agrees sys.state_bits x x' → Agrees sys.state_bits y y' → StepBits sys x y → StepBits sys x' y'
+pub step_like : (sys : TransitionSystem) (x y x' y' : ℕ → Bool) → Agrees sys.state_bits x x' → Agrees sys.state_bits y y' → StepBits sys x y → StepBits sys x' y'
 step_like sys x y x' y' g k h = (h.0, λ v lt. h.1 v lt ∙ g v lt, λ v lt. h.2 v lt ∙ k v lt, h.3)
 
 module _ (sys m : TransitionSystem) (f : Ltl) (atoms : List Lit) (ism : IsMonitor sys f atoms m) (gives : Gives m.state_bits m.fair m.defs)

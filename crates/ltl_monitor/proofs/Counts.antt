@@ -1,11 +1,11 @@
 -- The counted system is a system, and its marks, signal and counter are those of the monitored one.
 use Rattle.std.proofs.Common.{inl, inr, ◌≡◌, ℕ, zero, suc, ◌+◌, ◌-◌, ◌*◌, ◌<◌, ◌≤◌, Bool, true, false, not, ◌&&◌, ◌||◌, List, [], ◌∷◌, ◌++◌, map, length, refl, sym, ap, ◌∙◌, subst, arith}
-use Rattle.std.specs.Prelude.{◌↔◌, slice_index_or, All}
+use Rattle.std.specs.Prelude.{◌↔◌, slice_index_or}
 use Rattle.std.proofs.lemmas.Bool.{cases_lt}
 use Rattle.std.proofs.lemmas.List.{length-map}
 use Rattle.clause_core.specs.declared.literal.Lit.{Lit}
 use Rattle.clause_core.specs.Literals.{negate, at, Within}
-use Rattle.clause_core.specs.Assignments.{ClauseTrue, Agrees}
+use Rattle.clause_core.specs.Assignments.{Agrees}
 use Rattle.clause_core.specs.Systems.{TransitionSystem, Gives, IsSystem, FirstBits, StepBits, BadBits}
 use Rattle.ltl_monitor.specs.declared.layout.Layout.{Layout}
 use Rattle.ltl_monitor.specs.declared.layout.Space.{Space}
@@ -14,10 +14,10 @@ use Rattle.ltl_monitor.specs.declared.draft.Scene.{Scene}
 use Rattle.ltl_monitor.specs.declared.counting.Counting.{Counting}
 use Rattle.ltl_monitor.specs.States.{value, Extends}
 use Rattle.ltl_monitor.specs.Counter.{fires, MarkRows, at_least, CountRows}
-use Rattle.ltl_monitor.specs.Counted.{sets_of, holds, marks, counts, signals, IsCounted}
-use Rattle.ltl_monitor.specs.Drafting.{place, moved, all_moved, plain, is_or, is_or_and, gate_added, row_added, start_added, Drafted}
+use Rattle.ltl_monitor.specs.Counted.{holds, marks, counts, signals, IsCounted}
+use Rattle.ltl_monitor.specs.Drafting.{place, moved, all_moved, plain, is_or, is_or_and, gate_added, row_added, Drafted}
 use Rattle.ltl_monitor.specs.Assembly.{layout_of, scene_of, begun, assembled}
-use Rattle.ltl_monitor.specs.Counting.{bit, unset_added, set_fired, fired, set_marked, marked, bit_counted, counted_up, yes_added, counting, bad_of, counted_at, counted_of}
+use Rattle.ltl_monitor.specs.Counting.{bit, unset_added, fired, marked, counted_up, yes_added, counting, bad_of, counted_at, counted_of}
 use Rattle.ltl_monitor.proofs.FromBits.{each_join}
 use Rattle.ltl_monitor.proofs.Clauses.{all, Met, met_parts, met_join, met_more, met_one, met_from, all_from, value_negate, is_or_means, is_or_and_means, is_and_or_means, Lits, Below, Alike, values_renamed}
 use Rattle.ltl_monitor.proofs.Meaning.{before, after, at_map}
@@ -34,13 +34,13 @@ below_suc P j = (
   ],
 )
 
-fires_like : (n : ℕ) (mark mark' hold hold' : ℕ → Bool) → ((i : ℕ) → i < n → mark i ≡ mark' i) → ((i : ℕ) → i < n → hold i ≡ hold' i) → fires mark hold n ≡ fires mark' hold' n
+pub fires_like : (n : ℕ) (mark mark' hold hold' : ℕ → Bool) → ((i : ℕ) → i < n → mark i ≡ mark' i) → ((i : ℕ) → i < n → hold i ≡ hold' i) → fires mark hold n ≡ fires mark' hold' n
 fires_like zero mark mark' hold hold' em eh = refl
 fires_like (suc n) mark mark' hold hold' em eh =
     ap (λ b. b && (mark n || hold n)) (fires_like n mark mark' hold hold' (λ i lt. em i (omega (arith, lt))) (λ i lt. eh i (omega (arith, lt))))
     ∙ ap (λ b. fires mark' hold' n && (b || hold n)) (em n (omega arith)) ∙ ap (λ b. fires mark' hold' n && (mark' n || b)) (eh n (omega arith))
 
-at_least_like : (n : ℕ) (c d : ℕ → Bool) → ((i : ℕ) → i < n → c i ≡ d i) → at_least c n ≡ at_least d n
+pub at_least_like : (n : ℕ) (c d : ℕ → Bool) → ((i : ℕ) → i < n → c i ≡ d i) → at_least c n ≡ at_least d n
 at_least_like zero c d h = refl
 at_least_like (suc n) c d h = h n (omega arith)
 

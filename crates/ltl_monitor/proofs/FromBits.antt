@@ -8,7 +8,7 @@ use Rattle.ltl_meaning.specs.declared.node.BinaryOperator.{BinaryOperator}
 use Rattle.ltl_meaning.specs.Ltl.{Ltl}
 use Rattle.ltl_meaning.specs.Truth.{Moment, unary_truth, binary_truth, Satisfies}
 use Rattle.ltl_meaning.proofs.Unfolding.{Tells, Often, until_from, releases_from, since_from, triggered_from, finally_from, globally_from, once_from, historically_from, yesterday_from, weak_yesterday_from}
-use Rattle.ltl_monitor.specs.Monitor.{Side, same, nodes, unary_bits, binary_bits, unary_now, binary_now, truth, unary_row, binary_row, rows, unary_start, binary_start, starts, Set, unary_sets, binary_sets, sets, Each}
+use Rattle.ltl_monitor.specs.Monitor.{Side, same, nodes, unary_now, binary_now, truth, unary_row, binary_row, rows, unary_start, binary_start, starts, Set, unary_sets, binary_sets, sets, Each}
 
 pub Decides-same : {P Q : Type 0} (x y : Bool) → Decides x P → Decides y Q → Decides (same x y) (P ↔ Q)
 Decides-same true true d e = (λ h. (λ p. e.0 refl, λ q. d.0 refl), λ h. refl)

@@ -10,7 +10,7 @@ use Rattle.ltl_meaning.proofs.Period.{wider, steady, repeats}
 use Rattle.ltl_meaning.proofs.Unfolding.{Tells}
 use Rattle.ltl_meaning.proofs.Decide.{Decided, decide, told_by, told_decides}
 use Rattle.ltl_meaning.proofs.Walk.{walk, walk_stays, walk_turns, walk_inside, walk_visits, walk_rounds}
-use Rattle.ltl_monitor.specs.Monitor.{Side, nodes, unary_bits, binary_bits, truth, rows, starts, Set, sets, Each, InLoop, all_sets, IsFairMonitored}
+use Rattle.ltl_monitor.specs.Monitor.{Side, nodes, truth, rows, starts, Set, sets, Each, InLoop, all_sets, IsFairMonitored}
 use Rattle.ltl_monitor.specs.FairLasso.{Sequence, along, Loops, Violates, beside, HasMonitor}
 use Rattle.ltl_monitor.proofs.FromBits.{Again, from_bits, each_left, each_right, each_join}
 use Rattle.ltl_monitor.proofs.ToBits.{bits, Carries, carried, truth_tells, rows_hold, starts_hold, sets_hold}

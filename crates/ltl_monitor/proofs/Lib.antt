@@ -10,4 +10,5 @@ pub mod FromBits
 pub mod ToBits
 pub mod Lassos
 pub mod BitLassos
+pub mod CountedLassos
 pub mod Signals

@@ -1,5 +1,5 @@
 -- What the clauses of a draft say: each formula's literal has its truth, and the rules are the monitor's.
-use Rattle.std.proofs.Common.{◌≡◌, ℕ, ◌+◌, ◌<◌, Bool, true, false, not, ◌&&◌, ◌||◌, List, [], ◌∷◌, ◌++◌, map, length, get_or, zero, suc, refl, sym, ap, ◌∙◌, subst, arith, append_assoc, append-nil}
+use Rattle.std.proofs.Common.{◌≡◌, ℕ, ◌+◌, ◌<◌, Bool, true, false, not, ◌&&◌, ◌||◌, List, [], ◌∷◌, ◌++◌, map, length, zero, suc, refl, sym, ap, ◌∙◌, subst, arith, append_assoc, append-nil}
 use Rattle.std.specs.Prelude.{◌↔◌, slice_index_or}
 use Rattle.ltl_meaning.specs.declared.node.UnaryOperator.{UnaryOperator}
 use Rattle.ltl_meaning.specs.declared.node.BinaryOperator.{BinaryOperator}
@@ -8,12 +8,11 @@ use Rattle.clause_core.specs.declared.literal.Lit.{Lit}
 use Rattle.clause_core.specs.Literals.{negate, at}
 use Rattle.ltl_monitor.specs.declared.layout.Layout.{Layout}
 use Rattle.ltl_monitor.specs.declared.layout.Space.{Space}
-use Rattle.ltl_monitor.specs.declared.layout.Both.{Both}
 use Rattle.ltl_monitor.specs.declared.draft.Draft.{Draft}
 use Rattle.ltl_monitor.specs.declared.draft.Scene.{Scene}
-use Rattle.ltl_monitor.specs.Monitor.{Side, same, nodes, unary_bits, binary_bits, unary_now, binary_now, truth, unary_row, binary_row, rows, unary_start, binary_start, starts, Set, unary_sets, binary_sets, sets}
+use Rattle.ltl_monitor.specs.Monitor.{Side, same, nodes, unary_now, binary_now, truth, unary_row, binary_row, rows, unary_start, binary_start, starts, Set, unary_sets, binary_sets, sets}
 use Rattle.ltl_monitor.specs.States.{value, AtomsBelow, side_of}
-use Rattle.ltl_monitor.specs.Drafting.{place, moved, both, plain, is_same, is_or, is_iff, is_or_and, unary_rules, binary_rules, unary_lit, binary_lit, Drafted, own_bit, unary_drafted, binary_drafted, drafted}
+use Rattle.ltl_monitor.specs.Drafting.{place, moved, both, plain, is_or, unary_rules, binary_rules, unary_lit, binary_lit, Drafted, own_bit, unary_drafted, binary_drafted, drafted}
 use Rattle.ltl_monitor.proofs.Clauses.{Met, value_negate, met_parts, met_more, met_one, is_same_means, is_or_means, is_iff_means, is_or_and_means, is_and_means, is_and_or_means}
 
 -- facts at other values

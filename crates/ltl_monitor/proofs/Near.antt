@@ -1,9 +1,9 @@
 -- What a formula's monitor says of a state depends on its atoms and on the formula's own bits.
-use Rattle.std.proofs.Common.{◌≡◌, ℕ, ◌+◌, ◌<◌, Bool, true, false, not, ◌&&◌, ◌||◌, List, [], ◌∷◌, ◌++◌, map, refl, sym, ap, ◌∙◌, subst, arith}
+use Rattle.std.proofs.Common.{◌≡◌, ℕ, ◌+◌, ◌<◌, Bool, true, not, ◌||◌, List, [], ◌∷◌, ◌++◌, map, refl, sym, ap, ◌∙◌, arith}
 use Rattle.ltl_meaning.specs.declared.node.UnaryOperator.{UnaryOperator}
 use Rattle.ltl_meaning.specs.declared.node.BinaryOperator.{BinaryOperator}
 use Rattle.ltl_meaning.specs.Ltl.{Ltl}
-use Rattle.ltl_monitor.specs.Monitor.{Side, same, nodes, unary_bits, binary_bits, unary_now, binary_now, truth, unary_row, binary_row, rows, unary_start, binary_start, starts, Set, unary_sets, binary_sets, sets}
+use Rattle.ltl_monitor.specs.Monitor.{Side, nodes, unary_bits, binary_bits, unary_now, binary_now, truth, unary_row, binary_row, rows, unary_start, binary_start, starts, Set, unary_sets, binary_sets, sets}
 use Rattle.ltl_monitor.proofs.Meaning.{like4, like6, map_append}
 
 -- both show the same atoms, and the same bits below k

@@ -1,5 +1,5 @@
 -- A draft's definitions give its literals in one way for each state, and its variables stay within bounds.
-use Rattle.std.proofs.Common.{◌≡◌, ℕ, zero, suc, ◌+◌, ◌-◌, ◌*◌, ◌<◌, ◌≤◌, Bool, true, false, not, ◌&&◌, ◌||◌, List, [], ◌∷◌, ◌++◌, map, length, refl, sym, ap, ◌∙◌, subst, arith}
+use Rattle.std.proofs.Common.{◌≡◌, ℕ, zero, suc, ◌+◌, ◌-◌, ◌*◌, ◌<◌, ◌≤◌, Bool, true, ◌||◌, List, [], ◌∷◌, ◌++◌, length, refl, sym, ap, ◌∙◌, arith}
 use Rattle.std.specs.Prelude.{◌↔◌, nat_lt, if◌then◌else◌}
 use Rattle.std.proofs.lemmas.Bool.Decides.{nat_tests}
 use Rattle.ltl_meaning.specs.declared.node.UnaryOperator.{UnaryOperator}
@@ -10,12 +10,11 @@ use Rattle.clause_core.specs.Literals.{negate, at}
 use Rattle.clause_core.specs.Assignments.{Agrees}
 use Rattle.ltl_monitor.specs.declared.layout.Layout.{Layout}
 use Rattle.ltl_monitor.specs.declared.layout.Space.{Space}
-use Rattle.ltl_monitor.specs.declared.layout.Both.{Both}
 use Rattle.ltl_monitor.specs.declared.draft.Draft.{Draft}
 use Rattle.ltl_monitor.specs.declared.draft.Scene.{Scene}
 use Rattle.ltl_monitor.specs.Monitor.{same, Each, nodes, unary_bits, binary_bits}
 use Rattle.ltl_monitor.specs.States.{value, AtomsBelow}
-use Rattle.ltl_monitor.specs.Drafting.{place, moved, both, plain, is_same, is_or, is_iff, is_or_and, gate_added, row_added, start_added, set_added, unary_rules, binary_rules, unary_lit, binary_lit, Drafted, own_bit, unary_drafted, binary_drafted, drafted}
+use Rattle.ltl_monitor.specs.Drafting.{place, moved, both, plain, is_same, is_or, is_iff, is_or_and, gate_added, row_added, start_added, set_added, unary_rules, binary_rules, unary_lit, binary_lit, Drafted, own_bit, drafted}
 use Rattle.ltl_monitor.proofs.FromBits.{each_join}
 use Rattle.ltl_monitor.proofs.Clauses.{Met, met_parts, met_join, met_one, is_or_means, is_iff_means, Lits, each_more, lits_more, Below, Alike, value_like, all_like}
 

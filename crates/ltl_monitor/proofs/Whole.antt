@@ -1,27 +1,24 @@
 -- The monitored system is a system, and it is the monitor of its formula.
-use Rattle.std.proofs.Common.{inl, inr, ◌≡◌, ℕ, ◌+◌, ◌-◌, ◌*◌, ◌<◌, ◌≤◌, max, Bool, true, false, not, List, [], ◌∷◌, ◌++◌, map, length, length-append, refl, sym, ap, ◌∙◌, subst, arith, append_assoc, append-nil}
-use Rattle.std.specs.Prelude.{◌↔◌, nat_lt, if◌then◌else◌, slice_index_or, All}
-use Rattle.std.proofs.lemmas.Bool.{cases_lt}
+use Rattle.std.proofs.Common.{◌≡◌, ℕ, ◌+◌, ◌-◌, ◌*◌, ◌<◌, ◌≤◌, Bool, true, false, not, List, [], ◌∷◌, ◌++◌, map, length, length-append, refl, sym, ap, ◌∙◌, subst, arith, append_assoc}
+use Rattle.std.specs.Prelude.{◌↔◌, slice_index_or}
 use Rattle.std.proofs.lemmas.List.{length-map}
 use Rattle.ltl_meaning.specs.Ltl.{Ltl}
 use Rattle.clause_core.specs.declared.literal.Lit.{Lit}
 use Rattle.clause_core.specs.Literals.{negate, Within}
-use Rattle.clause_core.specs.Assignments.{ClauseTrue, Agrees}
-use Rattle.clause_core.specs.Systems.{TransitionSystem, Gives, IsSystem, FirstBits, StepBits, BadBits, SameOn}
+use Rattle.clause_core.specs.Assignments.{Agrees}
+use Rattle.clause_core.specs.Systems.{TransitionSystem, Gives, IsSystem, FirstBits, StepBits, BadBits}
 use Rattle.ltl_monitor.specs.declared.layout.Layout.{Layout}
 use Rattle.ltl_monitor.specs.declared.layout.Space.{Space}
 use Rattle.ltl_monitor.specs.declared.draft.Draft.{Draft}
 use Rattle.ltl_monitor.specs.declared.draft.Scene.{Scene}
-use Rattle.ltl_monitor.specs.Monitor.{Side, Each, nodes, truth, rows, starts, Set, sets, all_sets}
-use Rattle.ltl_monitor.specs.States.{value, AtomsBelow, Extends, side_of, shown, numbers, justice_of, IsMonitor}
-use Rattle.ltl_monitor.specs.Drafting.{place, moved, all_moved, start_added, Drafted, drafted}
+use Rattle.ltl_monitor.specs.Monitor.{Side, nodes, truth, rows, starts, Set, sets, all_sets}
+use Rattle.ltl_monitor.specs.States.{value, AtomsBelow, Extends, shown, numbers, justice_of, IsMonitor}
+use Rattle.ltl_monitor.specs.Drafting.{place, moved, all_moved, Drafted, drafted}
 use Rattle.ltl_monitor.specs.Assembly.{layout_of, scene_of, begun, assembled, draft_of, monitor_at, monitor_of}
-use Rattle.ltl_monitor.proofs.FromBits.{each_join}
-use Rattle.ltl_monitor.proofs.Clauses.{Met, met_parts, met_join, met_one, met_from, all_from, value_negate, Lits, Below, Alike, each_all, all_each, each_more, lits_more, lits_all, all_lits, each_map_to, all, all_like, values_like, all_renamed, values_renamed, lits_renamed}
+use Rattle.ltl_monitor.proofs.Clauses.{Met, met_parts, met_join, met_one, met_from, all_from, value_negate, Lits, Below, values_renamed}
 use Rattle.ltl_monitor.proofs.Meaning.{before, after, side, Means, means, map_append}
-use Rattle.ltl_monitor.proofs.Sound.{Sound, Later, Grown, grown, now_in, next_in, one_lits, start_move}
+use Rattle.ltl_monitor.proofs.Sound.{Sound, Later, Grown, grown, one_lits, start_move}
 use Rattle.ltl_monitor.proofs.Near.{Near, near_back, truth_like, starts_like, rows_like, sets_like}
-use Rattle.ltl_monitor.proofs.Placed.{local_low, local_high, local_in, system_low, system_next, system_in, now_low, next_low, glue, glue_x, glue_y, glue_now, glue_next, glue_system, yes, no_}
 use Rattle.ltl_monitor.proofs.Assembled.{wide, begun_sound}
 use Rattle.ltl_monitor.proofs.Assembled as base
 

@@ -1,5 +1,5 @@
 -- The monitor's rules as clauses, drafted from the operands up: gates as by Tseitin (1968).
-use Rattle.std.specs.Prelude.{◌≡◌, ℕ, ◌+◌, ◌-◌, ◌*◌, ◌++◌, Bool, true, List, [], ◌∷◌, map, nat_lt, if◌then◌else◌}
+use Rattle.std.specs.Prelude.{ℕ, ◌+◌, ◌-◌, ◌*◌, ◌++◌, true, List, [], ◌∷◌, map, nat_lt, if◌then◌else◌}
 use Rattle.ltl_meaning.specs.declared.node.UnaryOperator.{UnaryOperator}
 use Rattle.ltl_meaning.specs.declared.node.BinaryOperator.{BinaryOperator}
 use Rattle.ltl_meaning.specs.Ltl.{Ltl}

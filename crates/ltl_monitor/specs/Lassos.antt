@@ -1,5 +1,5 @@
 -- Lassos of transition systems over bits.
-use Rattle.std.specs.Prelude.{◌≡◌, ℕ, zero, suc, ◌+◌, ◌-◌, ◌*◌, ◌<◌, ◌≤◌, Bool, List, All, nat_lt, if◌then◌else◌}
+use Rattle.std.specs.Prelude.{ℕ, zero, suc, ◌+◌, ◌-◌, ◌*◌, ◌<◌, ◌≤◌, Bool, List, All, nat_lt, if◌then◌else◌}
 use Rattle.clause_core.specs.declared.literal.Lit.{Lit}
 use Rattle.clause_core.specs.Systems.{TransitionSystem, FirstBits, StepBits, DefinedTrue}
 use Rattle.ltl_monitor.specs.States.{shown}

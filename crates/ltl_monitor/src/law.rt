@@ -1,10 +1,11 @@
 ghost use Rattle.std.specs.Prelude.{◌≡◌, ◌+◌, ◌-◌, ◌<◌, ◌↔◌, ℕ, Bool, List};
 ghost use Rattle.clause_core.specs.declared.literal.Lit.{Lit};
-ghost use Rattle.clause_core.specs.Systems.{TransitionSystem, Gives};
+ghost use Rattle.clause_core.specs.Systems.{TransitionSystem, Gives, ReachedWithin, BadBits};
 ghost use Rattle.ltl_meaning.specs.Ltl.{Ltl, past_height};
 ghost use Rattle.ltl_monitor.specs.FairLasso.{Sequence, Loops, Violates, HasMonitor, Signals, beside};
 ghost use Rattle.ltl_monitor.specs.States.{Extends, justice_of, IsMonitor};
-ghost use Rattle.ltl_monitor.specs.Lassos.{IsLasso, word_of, HasFairLasso};
+ghost use Rattle.ltl_monitor.specs.Lassos.{IsLasso, IsFair, word_of, HasFairLasso};
+ghost use Rattle.ltl_monitor.specs.Counted.{IsCounted};
 
 /// A lasso violates a formula exactly where its stretch, by as many passes of the loop as past
 /// operators nest, has bits that make it a fair monitored lasso. Where no monitored run along it has
@@ -19,4 +20,10 @@ pub fn monitors()
 /// nothing: its contract is the law.
 pub fn monitored_lassos()
     ensures { (sys m : TransitionSystem) (f : Ltl) (atoms : List Lit) → IsMonitor sys f atoms m → Gives m.state_bits m.fair m.defs → (xs values : ℕ → ℕ → Bool) (n l : ℕ) → ((i : ℕ) → Extends sys (xs i) (values i)) → IsLasso sys xs n l → Violates (justice_of sys atoms) f (word_of sys atoms values n l) n l ↔ HasFairLasso sys m xs n l (past_height f) }
+{}
+
+/// Where for some bound no bad state of the counted system is reached, the monitored system has no
+/// fair lasso. It does nothing: its contract is the law.
+pub fn counted_lassos()
+    ensures { (m c : TransitionSystem) (k : ℕ) → IsCounted m k c → Gives m.state_bits m.fair m.defs → ((j : ℕ) (x : ℕ → Bool) → ReachedWithin c j x → BadBits c x → ⊥) → (xs : ℕ → ℕ → Bool) (n l : ℕ) → IsLasso m xs n l → IsFair m xs n l → ⊥ }
 {}

@@ -13,7 +13,7 @@ mod rules;
 
 pub use counting::counted;
 pub use monitored_system::Monitored;
-pub use monitoring::monitored;
+pub use monitoring::{atoms_below, monitored};
 
 #[cfg(test)]
 mod tests;

@@ -1,4 +1,4 @@
-ghost use Rattle.std.specs.Prelude.{◌≡◌, ◌+◌, ◌-◌, ◌*◌, ◌++◌, ◌≤◌, IfOk, OnOk, length};
+ghost use Rattle.std.specs.Prelude.{◌≡◌, ◌↔◌, IfOk, IsTrue, length};
 ghost use Rattle.clause_core.specs.Literals.{Within};
 ghost use Rattle.clause_core.specs.Systems.{IsSystem, Gives};
 ghost use Rattle.ltl_meaning.specs.Ltl.{formula_of};
@@ -41,6 +41,33 @@ pub fn monitored(
     let bad = copied(alloc, &layout, Space::System, system.bad())?;
     let system = assemble(alloc, &layout, system, bad, &draft)?;
     Ok(Monitored { system })
+}
+
+/// Whether each atom's number in a formula is below a bound.
+pub fn atoms_below(formula: &Formula, bound: usize) -> bool
+    ensures { IsTrue result ↔ AtomsBelow bound (formula_of formula.now.root) }
+{
+    are_below(&formula.root, bound)
+}
+
+fn are_below(node: &Node, bound: usize) -> bool
+    ensures { IsTrue result ↔ AtomsBelow bound (formula_of node.now) }
+{
+    match node {
+        Node::Constant(_) => true,
+        Node::Atom(number) => *number < bound,
+        Node::Unary(_, operand) => are_below(operand.get(), bound),
+        Node::Implies(left, right) => {
+            are_below(left.get(), bound) && are_below(right.get(), bound)
+        }
+        Node::Chain(first, links) => {
+            let mut all = are_below(first.get(), bound);
+            for link in links.as_slice() {
+                all = are_below(&link.operand, bound) && all;
+            }
+            all
+        }
+    }
 }
 
 // The rules of a formula that is false in the first state.

@@ -1,9 +1,7 @@
 ghost use Rattle.std.specs.Prelude.{◌≡◌, [], IfOk, All};
 ghost use Rattle.clause_core.specs.Literals.{Within};
-ghost use Rattle.ltl_meaning.specs.Ltl.{formula_of};
-ghost use Rattle.ltl_monitor.specs.States.{AtomsBelow};
 
-use crate::{Monitored, counted, monitored};
+use crate::{Monitored, atoms_below, counted, monitored};
 use clause_core::{Clause, Clauses, Lit, System};
 use ltl_meaning::formula::Formula;
 use ltl_meaning::node::{BinaryOperator, Link, Node, UnaryOperator};
@@ -74,21 +72,22 @@ fn bits(alloc: Global, size: usize, number: u32) -> Result<Vec<bool>, AllocError
     Ok(bits)
 }
 
-// At which values of the first `size` variables the clauses can be met: '1' and '0', in their order.
+// At which values of the first `size` variables the clauses can be met: a binary digit for each, in
+// their order.
 fn places(
     alloc: Global,
     clauses: &Clauses,
     vars: usize,
     size: usize,
     count: u32,
-) -> Result<String, AllocError> {
-    let mut text = String::new(alloc);
+) -> Result<u64, AllocError> {
+    let mut digits = 0u64;
     for number in 0..count {
         let known = bits(alloc, size, number)?;
         let open = is_open(alloc, clauses, vars, &known)?;
-        text.push(if open { '1' } else { '0' })?;
+        digits = digits.wrapping_mul(2).wrapping_add(u64::from(open));
     }
-    Ok(text)
+    Ok(digits)
 }
 
 // A system of one bit, with no definitions and no bad state.
@@ -125,26 +124,53 @@ fn turning(alloc: Global, fair: &[Lit]) -> Result<System, AllocError>
     Ok(one_bit(alloc, init, step, fair))
 }
 
-// The turning system, with one JUSTICE literal that is true at each state's bit, and the monitor of a
-// formula of two atoms: the bit, and its negation.
-fn watched(alloc: Global, root: Node) -> Result<Monitored, Fail>
-    requires { AtomsBelow 2 (formula_of root) }
+// The monitor of a formula beside a system of one bit.
+fn watch(
+    alloc: Global,
+    system: &System,
+    formula: &Formula,
+    atoms: &[Lit],
+) -> Result<Monitored, AllocError>
+    requires one { system.now.state_bits ≡ 1 }
+    requires two { system.now.all_bits ≡ 2 }
+    requires none { system.now.defs ≡ [] }
+    requires within { Within 1 atoms.now }
 {
-    let system = turning(alloc, &[Lit::new(0, true)])?;
-    let formula = Formula::new(root).ok_or("too deep")?;
-    let atoms = [Lit::new(0, true), Lit::new(0, false)];
-    Ok(monitored(alloc, &system, &formula, &atoms)?)
+    if !atoms_below(formula, atoms.len()) {
+        return Err(AllocError);
+    }
+    monitored(alloc, system, formula, atoms)
 }
 
-fn over_atom(alloc: Global, operator: UnaryOperator) -> Result<Node, Fail>
-    ensures { IfOk result (λ n. AtomsBelow 2 (formula_of n)) }
+// The turning system, with one JUSTICE literal that is true where its bit is.
+fn fair_turning(alloc: Global) -> Result<System, AllocError>
+    ensures { IfOk result (λ s. (s.state_bits ≡ 1) × (s.all_bits ≡ 2) × (s.defs ≡ [])) }
 {
+    turning(alloc, &[Lit::new(0, true)])
+}
+
+// The monitor of a formula beside it. The atoms are the bit, and its negation.
+fn beside(alloc: Global, formula: &Formula) -> Result<Monitored, AllocError> {
+    let system = fair_turning(alloc)?;
+    watch(
+        alloc,
+        &system,
+        formula,
+        &[Lit::new(0, true), Lit::new(0, false)],
+    )
+}
+
+fn watched(alloc: Global, root: Node) -> Result<System, Fail> {
+    let formula = Formula::new(root).ok_or("too deep")?;
+    let Monitored { system } = beside(alloc, &formula)?;
+    Ok(system)
+}
+
+fn over_atom(alloc: Global, operator: UnaryOperator) -> Result<Node, Fail> {
     Ok(Node::unary(alloc, operator, Node::Atom(0))?)
 }
 
-fn over_atoms(alloc: Global, operator: BinaryOperator) -> Result<Node, Fail>
-    ensures { IfOk result (λ n. AtomsBelow 2 (formula_of n)) }
-{
+fn over_atoms(alloc: Global, operator: BinaryOperator) -> Result<Node, Fail> {
     let mut links = Items::new(alloc);
     links.push(Link {
         operator,
@@ -153,71 +179,98 @@ fn over_atoms(alloc: Global, operator: BinaryOperator) -> Result<Node, Fail>
     Ok(Node::chain(alloc, Node::Atom(0), links)?)
 }
 
-// First states, steps, and the states of the operator's set, of a monitor of one temporal operator.
-fn seen(alloc: Global, root: Node) -> Result<String, Fail>
-    requires { AtomsBelow 2 (formula_of root) }
-{
-    let system = watched(alloc, root)?.system;
-    let vars = system.all_bits();
-    let first = places(alloc, system.init(), vars, 2, 4)?;
-    let steps = places(alloc, system.step(), vars, 4, 16)?;
-    let mut set = String::new(alloc);
-    if let Some(l) = system.fair().get(1) {
-        let mut clauses = Clauses::new(alloc);
+// The definitions, and that set number 1 holds; or nothing, where there is no such set.
+fn set_clauses(alloc: Global, system: &System) -> Result<Clauses, AllocError> {
+    let mut clauses = Clauses::new(alloc);
+    let fair = system.fair();
+    if fair.len() > 1 {
+        clauses.push(&fair[1..2])?;
         for k in 0..system.defs().len() {
             clauses.push(system.defs().get(k))?;
         }
-        clauses.push(&[*l])?;
-        set = places(alloc, &clauses, vars, 2, 4)?;
     }
-    Ok(format!(in alloc; "{first} {steps} {set}")?)
+    Ok(clauses)
 }
 
-// A state's bit, and the operator's own bit; and these again in the next state.
+// First states, steps, and the states of the operator's set, of a monitor of one temporal operator. A
+// state is its bit and the operator's own bit; a step is both states.
+fn shown(alloc: Global, system: &System) -> Result<[u64; 3], AllocError> {
+    let vars = system.all_bits();
+    let first = places(alloc, system.init(), vars, 2, 4)?;
+    let steps = places(alloc, system.step(), vars, 4, 16)?;
+    let set = places(alloc, &set_clauses(alloc, system)?, vars, 2, 4)?;
+    Ok([first, steps, set])
+}
+
 #[test]
-fn monitors_of_one_operator(rt: HostRuntime) -> Result<(), Fail> {
+fn monitors_of_one_operand(rt: HostRuntime) -> Result<(), Fail> {
     let alloc = rt.alloc();
-    for (operator, want) in [
-        (UnaryOperator::Next, "1000 0100001001000010 "),
-        (UnaryOperator::Finally, "1000 0001100000010010 1101"),
-        (UnaryOperator::Globally, "1000 0100100000011000 1011"),
-        (UnaryOperator::Yesterday, "1000 0000101001010000 "),
-        (UnaryOperator::WeakYesterday, "0000 0000101001010000 "),
-        (UnaryOperator::Once, "1000 0100000000011010 "),
-        (UnaryOperator::Historically, "1000 0101100000000010 "),
+    for (operator, first, steps, set) in [
+        (UnaryOperator::Next, 0b1000, 0b0100001001000010, 0b1111),
+        (UnaryOperator::Finally, 0b1000, 0b0001100000010010, 0b1101),
+        (UnaryOperator::Globally, 0b1000, 0b0100100000011000, 0b1011),
+        (UnaryOperator::Yesterday, 0b1000, 0b0000101001010000, 0b1111),
+        (
+            UnaryOperator::WeakYesterday,
+            0b0000,
+            0b0000101001010000,
+            0b1111,
+        ),
+        (UnaryOperator::Once, 0b1000, 0b0100000000011010, 0b1111),
+        (
+            UnaryOperator::Historically,
+            0b1000,
+            0b0101100000000010,
+            0b1111,
+        ),
     ] {
-        let got = seen(alloc, over_atom(alloc, operator)?)?;
-        assert_eq!(rt; got.as_str(), want);
-    }
-    for (operator, want) in [
-        (BinaryOperator::Until, "1000 0100001000010010 1110"),
-        (BinaryOperator::Releases, "1000 0100100001000010 0111"),
-        (BinaryOperator::Since, "0000 0000100001010010 "),
-        (BinaryOperator::Triggered, "0000 0100101000010000 "),
-    ] {
-        let got = seen(alloc, over_atoms(alloc, operator)?)?;
-        assert_eq!(rt; got.as_str(), want);
+        let system = watched(alloc, over_atom(alloc, operator)?)?;
+        let got = shown(alloc, &system)?;
+        assert_eq!(rt; got, [first, steps, set]);
     }
     Ok(())
 }
 
-// A run of the turning system whose two sets hold in turns: bit, marks, and whether a signal was.
+#[test]
+fn monitors_of_two_operands(rt: HostRuntime) -> Result<(), Fail> {
+    let alloc = rt.alloc();
+    for (operator, first, steps, set) in [
+        (BinaryOperator::Until, 0b1000, 0b0100001000010010, 0b1110),
+        (BinaryOperator::Releases, 0b1000, 0b0100100001000010, 0b0111),
+        (BinaryOperator::Since, 0b0000, 0b0000100001010010, 0b1111),
+        (
+            BinaryOperator::Triggered,
+            0b0000,
+            0b0100101000010000,
+            0b1111,
+        ),
+    ] {
+        let system = watched(alloc, over_atoms(alloc, operator)?)?;
+        let got = shown(alloc, &system)?;
+        assert_eq!(rt; got, [first, steps, set]);
+    }
+    Ok(())
+}
+
+// The turning system whose bit is to be true and false again and again, with a counter up to one.
+fn of_two_sets(alloc: Global) -> Result<System, AllocError> {
+    let system = turning(alloc, &[Lit::new(0, true), Lit::new(0, false)])?;
+    counted(alloc, &Monitored { system }, 1)
+}
+
+// A state is its bit, two marks and the counter's bit. The run is 0000, 0101, 1000, 1101, 1000.
 #[test]
 fn signals_of_two_sets(rt: HostRuntime) -> Result<(), Fail> {
     let alloc = rt.alloc();
-    let system = turning(alloc, &[Lit::new(0, true), Lit::new(0, false)])?;
-    let counted = counted(alloc, &Monitored { system }, 1)?;
+    let counted = of_two_sets(alloc)?;
     let vars = counted.all_bits();
     let first = places(alloc, counted.init(), vars, 4, 16)?;
-    assert_eq!(rt; first.as_str(), "1000000000000000");
+    assert_eq!(rt; first, 0b1000000000000000);
     let bad = places(alloc, counted.bad(), vars, 4, 16)?;
-    assert_eq!(rt; bad.as_str(), "0000000000100111");
-    let run = [0b0000, 0b0101, 0b1000, 0b1101, 0b1000];
-    let steps = places(alloc, counted.step(), vars, 8, 256)?;
-    let steps = steps.as_bytes();
-    for k in 0..4usize {
-        assert_eq!(rt; steps[run[k] + 16 * run[k + 1]], b'1');
+    assert_eq!(rt; bad, 0b0000000000100111);
+    for step in [0x50, 0x85, 0xd8, 0x8d] {
+        let known = bits(alloc, 8, step)?;
+        assert!(rt; is_open(alloc, counted.step(), vars, &known)?);
     }
-    assert_eq!(rt; steps.iter().filter(|b| **b == b'1').count(), 16);
     Ok(())
 }
