@@ -16,8 +16,8 @@ use std::alloc::{AllocError, Global};
 /// A state has, after the monitored system's bits, one bit for each set, which says that it was seen
 /// since the last signal, and one for each number below the bound, which says that there were more
 /// signals. The signal is true where each set was seen or holds. A state is bad where the count is at
-/// the bound and the signal is true, so where no bad state is reached, no fair run has that many
-/// signals (Claessen and Sörensson 2012). Time and memory are linear in the system and the bound. The
+/// the bound and the signal is true, so where no bad state is reached, no run has more signals than
+/// that (Claessen and Sörensson 2012). Time and memory are linear in the system and the bound. The
 /// only error is want of memory, which a number of variables past `usize::MAX` counts as.
 pub fn counted(alloc: Global, monitored: &Monitored, bound: usize) -> Result<System, AllocError>
     ensures { IfOk result (λ c. IsCounted monitored.now.system bound c) }
