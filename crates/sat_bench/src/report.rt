@@ -1,0 +1,26 @@
+//! The lines that tell an outcome.
+ghost use Rattle.std.specs.Prelude.{◌≡◌, ◌++◌, IfOk, string_bytes, codes, decimal};
+ghost use Rattle.sat_bench.specs.Verdicts.{line_of};
+
+use crate::solving::{Outcome, Verdict};
+use std::alloc::{AllocError, Global};
+
+// The line of a verdict, as solvers' competitions have it.
+fn line(verdict: Verdict) -> &'static str
+    ensures { result.now ≡ line_of verdict }
+{
+    match verdict {
+        Verdict::Satisfiable => "s SATISFIABLE",
+        Verdict::Unsatisfiable => "s UNSATISFIABLE",
+        Verdict::Unknown => "s UNKNOWN",
+    }
+}
+
+/// The verdict's line, and a line with the count of conflicts.
+pub fn report(alloc: Global, outcome: &Outcome) -> Result<String, AllocError>
+    ensures { IfOk result (λ text. string_bytes text ≡ line_of outcome.now.verdict ++ (codes "\nc conflicts " ++ decimal outcome.now.conflicts)) }
+{
+    let answer = line(outcome.verdict);
+    let conflicts = outcome.conflicts;
+    format!(in alloc; "{answer}\nc conflicts {conflicts}")
+}
