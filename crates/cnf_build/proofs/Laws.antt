@@ -10,7 +10,16 @@ use Rattle.clause_core.specs.declared.literal.Lit.{Lit}
 use Rattle.clause_core.specs.Literals.{negate}
 use Rattle.clause_core.specs.Assignments.{ClauseTrue}
 use Rattle.clause_core.specs.Propagation.{UnitIn, Closed}
-use Rattle.cnf_build.specs.Encoding.{lit, node_lit, down, up, clauses_of, cnf_from, HoldsLive, NodeSet, SetLive}
+use Rattle.cnf_build.specs.Encoding.{lit, node_lit, down, up, clauses_of, cnf_from}
+use Rattle.cnf_build.specs.Law.{NodeSet, of_nodes}
+
+-- v has at each live node the value that the node gives it
+abbrev pub HoldsLive : (ℕ → Bool) → (ℕ → Bool) → List Node → Type 0
+HoldsLive live v g = (k : ℕ) → k < length g → live k ≡ true → NodeHolds v k (get_or g k Input)
+
+-- unit propagation sets each live node's variable once its operands are set
+abbrev pub SetLive : (ℕ → Bool) → (ℕ → ℕ) → (Lit → Bool) → List Node → Type 0
+SetLive live name t g = (k : ℕ) → k < length g → live k ≡ true → NodeSet name t k (get_or g k Input)
 
 module _ {X : Type 0} (P : X → Type 0) where
   pub any_head : (x : X) (xs : List X) → P x → Any P (x ∷ xs)
@@ -75,7 +84,7 @@ third_clause x true true h = inl h
 third_clause x true false h = inr (inr refl)
 third_clause x false z h = inr (inl refl)
 
-module _ (v : ℕ → Bool) where
+module _ (name : ℕ → ℕ) (v : ℕ → Bool) where
   abbrev True : Lit → Type 0
   True l = v l.var ≡ l.positive
 
@@ -83,105 +92,105 @@ module _ (v : ℕ → Bool) where
   Met c = ClauseTrue v c
 
   -- the clauses of a node hold exactly where its value is right
-  pub node_from : (k : ℕ) (n : Node) → All (ClauseTrue v) (clauses_of k n) → NodeHolds v k n
-  node_from k False h = any_one True (node_lit k false) (h 0 [] (omega arith))
+  pub node_from : (k : ℕ) (n : Node) → All (ClauseTrue v) (clauses_of name k n) → NodeHolds (of_nodes name v) k n
+  node_from k False h = any_one True (node_lit name k false) (h 0 [] (omega arith))
   node_from k Input h = tt
   node_from k (And a b) h =
-      let m1 : Met (down k a) = h 0 [] (omega arith) in
-      let m2 : Met (down k b) = h 1 [] (omega arith) in
-      let m3 : Met (up k a b) = h 2 [] (omega arith) in
-      and_from_clauses (v k) (edge_value v a) (edge_value v b)
-      (elim (any_two True (node_lit k false) (lit a) m1) [ inl p ↦ inl p | inr p ↦ inr (on_true a.negated (v a.node) p) ])
-      (elim (any_two True (node_lit k false) (lit b) m2) [ inl p ↦ inl p | inr p ↦ inr (on_true b.negated (v b.node) p) ])
-      (elim (any_three True (node_lit k true) (negate (lit a)) (negate (lit b)) m3) [
+      let m1 : Met (down name k a) = h 0 [] (omega arith) in
+      let m2 : Met (down name k b) = h 1 [] (omega arith) in
+      let m3 : Met (up name k a b) = h 2 [] (omega arith) in
+      and_from_clauses (v (name k)) (edge_value (of_nodes name v) a) (edge_value (of_nodes name v) b)
+      (elim (any_two True (node_lit name k false) (lit name a) m1) [ inl p ↦ inl p | inr p ↦ inr (on_true a.negated (v (name a.node)) p) ])
+      (elim (any_two True (node_lit name k false) (lit name b) m2) [ inl p ↦ inl p | inr p ↦ inr (on_true b.negated (v (name b.node)) p) ])
+      (elim (any_three True (node_lit name k true) (negate (lit name a)) (negate (lit name b)) m3) [
         | inl p ↦ inl p
-        | inr q ↦ inr (elim q [ inl p ↦ inl (on_false a.negated (v a.node) p) | inr p ↦ inr (on_false b.negated (v b.node) p) ])
+        | inr q ↦ inr (elim q [ inl p ↦ inl (on_false a.negated (v (name a.node)) p) | inr p ↦ inr (on_false b.negated (v (name b.node)) p) ])
       ])
 
-  down_met : (k : ℕ) (a : Edge) → (v k ≡ false) ⊎ (edge_value v a ≡ true) → Met (down k a)
+  down_met : (k : ℕ) (a : Edge) → (v (name k) ≡ false) ⊎ (edge_value (of_nodes name v) a ≡ true) → Met (down name k a)
   down_met k a h =
       elim h [
-        | inl p ↦ any_head True (node_lit k false) (lit a ∷ []) p
-        | inr p ↦ any_tail True (node_lit k false) (lit a ∷ []) (any_head True (lit a) [] (true_on a.negated (v a.node) p))
+        | inl p ↦ any_head True (node_lit name k false) (lit name a ∷ []) p
+        | inr p ↦ any_tail True (node_lit name k false) (lit name a ∷ []) (any_head True (lit name a) [] (true_on a.negated (v (name a.node)) p))
       ]
 
-  up_met : (k : ℕ) (a b : Edge) → (v k ≡ true) ⊎ ((edge_value v a ≡ false) ⊎ (edge_value v b ≡ false)) → Met (up k a b)
+  up_met : (k : ℕ) (a b : Edge) → (v (name k) ≡ true) ⊎ ((edge_value (of_nodes name v) a ≡ false) ⊎ (edge_value (of_nodes name v) b ≡ false)) → Met (up name k a b)
   up_met k a b h =
       elim h [
-        | inl p ↦ any_head True (node_lit k true) (negate (lit a) ∷ negate (lit b) ∷ []) p
-        | inr q ↦ any_tail True (node_lit k true) (negate (lit a) ∷ negate (lit b) ∷ [])
+        | inl p ↦ any_head True (node_lit name k true) (negate (lit name a) ∷ negate (lit name b) ∷ []) p
+        | inr q ↦ any_tail True (node_lit name k true) (negate (lit name a) ∷ negate (lit name b) ∷ [])
             (elim q [
-              | inl p ↦ any_head True (negate (lit a)) (negate (lit b) ∷ []) (false_on a.negated (v a.node) p)
-              | inr p ↦ any_tail True (negate (lit a)) (negate (lit b) ∷ []) (any_head True (negate (lit b)) [] (false_on b.negated (v b.node) p))
+              | inl p ↦ any_head True (negate (lit name a)) (negate (lit name b) ∷ []) (false_on a.negated (v (name a.node)) p)
+              | inr p ↦ any_tail True (negate (lit name a)) (negate (lit name b) ∷ []) (any_head True (negate (lit name b)) [] (false_on b.negated (v (name b.node)) p))
             ])
       ]
 
-  pub node_to : (k : ℕ) (n : Node) → NodeHolds v k n → All (ClauseTrue v) (clauses_of k n)
-  node_to k False h = All-cons Met (node_lit k false ∷ []) [] (any_head True (node_lit k false) [] h) (All-nil Met)
+  pub node_to : (k : ℕ) (n : Node) → NodeHolds (of_nodes name v) k n → All (ClauseTrue v) (clauses_of name k n)
+  node_to k False h = All-cons Met (node_lit name k false ∷ []) [] (any_head True (node_lit name k false) [] h) (All-nil Met)
   node_to k Input h = All-nil Met
   node_to k (And a b) h =
-      All-cons Met (down k a) (down k b ∷ up k a b ∷ []) (down_met k a (first_clause (v k) (edge_value v a) (edge_value v b) h))
-      (All-cons Met (down k b) (up k a b ∷ []) (down_met k b (second_clause (v k) (edge_value v a) (edge_value v b) h))
-      (All-cons Met (up k a b) [] (up_met k a b (third_clause (v k) (edge_value v a) (edge_value v b) h)) (All-nil Met)))
+      All-cons Met (down name k a) (down name k b ∷ up name k a b ∷ []) (down_met k a (first_clause (v (name k)) (edge_value (of_nodes name v) a) (edge_value (of_nodes name v) b) h))
+      (All-cons Met (down name k b) (up name k a b ∷ []) (down_met k b (second_clause (v (name k)) (edge_value (of_nodes name v) a) (edge_value (of_nodes name v) b) h))
+      (All-cons Met (up name k a b) [] (up_met k a b (third_clause (v (name k)) (edge_value (of_nodes name v) a) (edge_value (of_nodes name v) b) h)) (All-nil Met)))
 
 -- the clauses of a live node are among the clauses
-pub node_in : (live : ℕ → Bool) (j : ℕ) (g : List Node) (k : ℕ) (c : List Lit) → k < length g → live (j + k) ≡ true →
-    Contains (clauses_of (j + k) (get_or g k Input)) c → Contains (cnf_from live j g) c
-node_in live j [] k c l on h = absurd (omega arith)
-node_in live j (n ∷ ns) zero c l on h =
+pub node_in : (live : ℕ → Bool) (name : ℕ → ℕ) (j : ℕ) (g : List Node) (k : ℕ) (c : List Lit) → k < length g → live (j + k) ≡ true →
+    Contains (clauses_of name (j + k) (get_or g k Input)) c → Contains (cnf_from live name j g) c
+node_in live name j [] k c l on h = absurd (omega arith)
+node_in live name j (n ∷ ns) zero c l on h =
     let e : j + 0 ≡ j = omega arith in
     let P : ℕ → Type 0 = λ m. live m ≡ true in
-    let Q : ℕ → Type 0 = λ m. Contains (clauses_of m n) c in
+    let Q : ℕ → Type 0 = λ m. Contains (clauses_of name m n) c in
     let at : live j ≡ true = subst P e on in
-    let in_n : Contains (clauses_of j n) c = subst Q e h in
-    let f : cond (live j) (clauses_of j n) [] ≡ clauses_of j n = ap (λ b. cond b (clauses_of j n) []) at in
+    let in_n : Contains (clauses_of name j n) c = subst Q e h in
+    let f : cond (live j) (clauses_of name j n) [] ≡ clauses_of name j n = ap (λ b. cond b (clauses_of name j n) []) at in
     let R : List (List Lit) → Type 0 = λ cs. Contains cs c in
-    Contains-append_left (cond (live j) (clauses_of j n) []) (cnf_from live (suc j) ns) c (subst R (sym f) in_n)
-node_in live j (n ∷ ns) (suc k) c l on h =
+    Contains-append_left (cond (live j) (clauses_of name j n) []) (cnf_from live name (suc j) ns) c (subst R (sym f) in_n)
+node_in live name j (n ∷ ns) (suc k) c l on h =
     let e : j + suc k ≡ suc j + k = omega arith in
     let P : ℕ → Type 0 = λ m. live m ≡ true in
-    let Q : ℕ → Type 0 = λ m. Contains (clauses_of m (get_or ns k Input)) c in
-    Contains-append_right (cond (live j) (clauses_of j n) []) (cnf_from live (suc j) ns) c
-    (node_in live (suc j) ns k c (omega arith) (subst P e on) (subst Q e h))
+    let Q : ℕ → Type 0 = λ m. Contains (clauses_of name m (get_or ns k Input)) c in
+    Contains-append_right (cond (live j) (clauses_of name j n) []) (cnf_from live name (suc j) ns) c
+    (node_in live name (suc j) ns k c (omega arith) (subst P e on) (subst Q e h))
 
 -- what each live node's clauses meet, all clauses meet
-pub all_nodes : (P : List Lit → Type 0) (live : ℕ → Bool) (j : ℕ) (g : List Node) →
-    ((k : ℕ) → k < length g → live (j + k) ≡ true → All P (clauses_of (j + k) (get_or g k Input))) → All P (cnf_from live j g)
-all_nodes P live j [] h = All-nil P
-all_nodes P live j (n ∷ ns) h =
+pub all_nodes : (P : List Lit → Type 0) (live : ℕ → Bool) (name : ℕ → ℕ) (j : ℕ) (g : List Node) →
+    ((k : ℕ) → k < length g → live (j + k) ≡ true → All P (clauses_of name (j + k) (get_or g k Input))) → All P (cnf_from live name j g)
+all_nodes P live name j [] h = All-nil P
+all_nodes P live name j (n ∷ ns) h =
     let e : j + 0 ≡ j = omega arith in
-    let here : live j ≡ true → All P (clauses_of j n) =
-    λ on. (let Q : ℕ → Type 0 = λ m. All P (clauses_of m n) in subst Q e (h 0 (omega arith) (let R : ℕ → Type 0 = λ m. live m ≡ true in subst R (sym e) on))) in
-    let first : All P (cond (live j) (clauses_of j n) []) =
+    let here : live j ≡ true → All P (clauses_of name j n) =
+    λ on. (let Q : ℕ → Type 0 = λ m. All P (clauses_of name m n) in subst Q e (h 0 (omega arith) (let R : ℕ → Type 0 = λ m. live m ≡ true in subst R (sym e) on))) in
+    let first : All P (cond (live j) (clauses_of name j n) []) =
     elim (cases_Bool (live j)) [
       | inl on ↦ rw on (here on)
       | inr off ↦ rw off (All-nil P)
     ] in
-    All-append P (cond (live j) (clauses_of j n) []) (cnf_from live (suc j) ns) first
-    (all_nodes P live (suc j) ns (λ k l on.
+    All-append P (cond (live j) (clauses_of name j n) []) (cnf_from live name (suc j) ns) first
+    (all_nodes P live name (suc j) ns (λ k l on.
     let f : j + suc k ≡ suc j + k = omega arith in
     let R : ℕ → Type 0 = λ m. live m ≡ true in
-    let Q : ℕ → Type 0 = λ m. All P (clauses_of m (get_or ns k Input)) in
+    let Q : ℕ → Type 0 = λ m. All P (clauses_of name m (get_or ns k Input)) in
     subst Q f (h (suc k) (omega arith) (subst R (sym f) on))))
 
 -- P of each clause of each live node
-at_node : (P : List Lit → Type 0) (live : ℕ → Bool) (g : List Node) → All P (cnf_from live 0 g) →
-    (k : ℕ) → k < length g → live k ≡ true → (c : List Lit) → Contains (clauses_of k (get_or g k Input)) c → P c
-at_node P live g h k l on c in_c =
+at_node : (P : List Lit → Type 0) (live : ℕ → Bool) (name : ℕ → ℕ) (g : List Node) → All P (cnf_from live name 0 g) →
+    (k : ℕ) → k < length g → live k ≡ true → (c : List Lit) → Contains (clauses_of name k (get_or g k Input)) c → P c
+at_node P live name g h k l on c in_c =
     let e : 0 + k ≡ k = omega arith in
     let R : ℕ → Type 0 = λ m. live m ≡ true in
-    let Q : ℕ → Type 0 = λ m. Contains (clauses_of m (get_or g k Input)) c in
-    All-contains P (cnf_from live 0 g) c h (node_in live 0 g k c l (subst R (sym e) on) (subst Q (sym e) in_c))
+    let Q : ℕ → Type 0 = λ m. Contains (clauses_of name m (get_or g k Input)) c in
+    All-contains P (cnf_from live name 0 g) c h (node_in live name 0 g k c l (subst R (sym e) on) (subst Q (sym e) in_c))
 
-pub clauses_hold : (live : ℕ → Bool) (g : List Node) (v : ℕ → Bool) → All (ClauseTrue v) (cnf_from live 0 g) ↔ HoldsLive live v g
-clauses_hold live g v = (
-  λ h k l on. node_from v k (get_or g k Input)
-      (λ i d m. at_node (ClauseTrue v) live g h k l on (get_or (clauses_of k (get_or g k Input)) i d) (Contains-get_or (clauses_of k (get_or g k Input)) i d m)),
-  λ h. all_nodes (ClauseTrue v) live 0 g (λ k l on.
+pub clauses_hold : (live : ℕ → Bool) (name : ℕ → ℕ) (g : List Node) (v : ℕ → Bool) → All (ClauseTrue v) (cnf_from live name 0 g) ↔ HoldsLive live (of_nodes name v) g
+clauses_hold live name g v = (
+  λ h k l on. node_from name v k (get_or g k Input)
+      (λ i d m. at_node (ClauseTrue v) live name g h k l on (get_or (clauses_of name k (get_or g k Input)) i d) (Contains-get_or (clauses_of name k (get_or g k Input)) i d m)),
+  λ h. all_nodes (ClauseTrue v) live name 0 g (λ k l on.
       let e : 0 + k ≡ k = omega arith in
       let R : ℕ → Type 0 = λ m. live m ≡ true in
-      let Q : ℕ → Type 0 = λ m. All (ClauseTrue v) (clauses_of m (get_or g k Input)) in
-      subst Q (sym e) (node_to v k (get_or g k Input) (h k l (subst R e on)))),
+      let Q : ℕ → Type 0 = λ m. All (ClauseTrue v) (clauses_of name m (get_or g k Input)) in
+      subst Q (sym e) (node_to name v k (get_or g k Input) (h k l (subst R e on)))),
 )
 
 not-not : (b : Bool) → not (not b) ≡ b
@@ -191,49 +200,49 @@ not-not false = refl
 negate-negate : (l : Lit) → negate (negate l) ≡ l
 negate-negate l = λ i. record { var = l.var; positive = not-not l.positive i }
 
-module _ (t : Lit → Bool) where
+module _ (name : ℕ → ℕ) (t : Lit → Bool) where
   abbrev Unit_rule : List Lit → Type 0
   Unit_rule c = (l : Lit) → UnitIn t c l → t l ≡ true
 
   abbrev Off : Lit → Lit → Type 0
   Off l m = (m ≡ l → ⊥) → t (negate m) ≡ true
 
-  down_sets : (k : ℕ) (a : Edge) → Unit_rule (down k a) → t (negate (lit a)) ≡ true → t (node_lit k false) ≡ true
+  down_sets : (k : ℕ) (a : Edge) → Unit_rule (down name k a) → t (negate (lit name a)) ≡ true → t (node_lit name k false) ≡ true
   down_sets k a rule off =
-      let l = node_lit k false in
+      let l = node_lit name k false in
       rule l (
-        first_in l (lit a ∷ []),
-        All-cons (Off l) l (lit a ∷ []) (λ ne. absurd (ne refl)) (All-cons (Off l) (lit a) [] (λ ne. off) (All-nil (Off l))),
+        first_in l (lit name a ∷ []),
+        All-cons (Off l) l (lit name a ∷ []) (λ ne. absurd (ne refl)) (All-cons (Off l) (lit name a) [] (λ ne. off) (All-nil (Off l))),
       )
 
-  up_sets : (k : ℕ) (a b : Edge) → Unit_rule (up k a b) → t (lit a) ≡ true → t (lit b) ≡ true → t (node_lit k true) ≡ true
+  up_sets : (k : ℕ) (a b : Edge) → Unit_rule (up name k a b) → t (lit name a) ≡ true → t (lit name b) ≡ true → t (node_lit name k true) ≡ true
   up_sets k a b rule on_a on_b =
-      let l = node_lit k true in
-      let na = negate (lit a) in
-      let nb = negate (lit b) in
+      let l = node_lit name k true in
+      let na = negate (lit name a) in
+      let nb = negate (lit name b) in
       rule l (
         first_in l (na ∷ nb ∷ []),
         All-cons (Off l) l (na ∷ nb ∷ []) (λ ne. absurd (ne refl))
-            (All-cons (Off l) na (nb ∷ []) (λ ne. ap t (negate-negate (lit a)) ∙ on_a)
-            (All-cons (Off l) nb [] (λ ne. ap t (negate-negate (lit b)) ∙ on_b) (All-nil (Off l)))),
+            (All-cons (Off l) na (nb ∷ []) (λ ne. ap t (negate-negate (lit name a)) ∙ on_a)
+            (All-cons (Off l) nb [] (λ ne. ap t (negate-negate (lit name b)) ∙ on_b) (All-nil (Off l)))),
       )
 
-  false_sets : (k : ℕ) → Unit_rule (node_lit k false ∷ []) → t (node_lit k false) ≡ true
+  false_sets : (k : ℕ) → Unit_rule (node_lit name k false ∷ []) → t (node_lit name k false) ≡ true
   false_sets k rule =
-      let l = node_lit k false in
+      let l = node_lit name k false in
       rule l (first_in l [], All-cons (Off l) l [] (λ ne. absurd (ne refl)) (All-nil (Off l)))
 
-  node_set : (k : ℕ) (n : Node) → ((c : List Lit) → Contains (clauses_of k n) c → Unit_rule c) → NodeSet t k n
-  node_set k False h = false_sets k (h (node_lit k false ∷ []) (first_in (node_lit k false ∷ []) []))
+  node_set : (k : ℕ) (n : Node) → ((c : List Lit) → Contains (clauses_of name k n) c → Unit_rule c) → NodeSet name t k n
+  node_set k False h = false_sets k (h (node_lit name k false ∷ []) (first_in (node_lit name k false ∷ []) []))
   node_set k Input h = tt
   node_set k (And a b) h =
-      let one : Unit_rule (down k a) = h (down k a) (first_in (down k a) (down k b ∷ up k a b ∷ [])) in
-      let two : Unit_rule (down k b) = h (down k b) (later_in (down k a) (down k b ∷ up k a b ∷ []) (down k b) (first_in (down k b) (up k a b ∷ []))) in
-      let three : Unit_rule (up k a b) =
-      h (up k a b) (later_in (down k a) (down k b ∷ up k a b ∷ []) (up k a b) (later_in (down k b) (up k a b ∷ []) (up k a b) (first_in (up k a b) []))) in
+      let one : Unit_rule (down name k a) = h (down name k a) (first_in (down name k a) (down name k b ∷ up name k a b ∷ [])) in
+      let two : Unit_rule (down name k b) = h (down name k b) (later_in (down name k a) (down name k b ∷ up name k a b ∷ []) (down name k b) (first_in (down name k b) (up name k a b ∷ []))) in
+      let three : Unit_rule (up name k a b) =
+      h (up name k a b) (later_in (down name k a) (down name k b ∷ up name k a b ∷ []) (up name k a b) (later_in (down name k b) (up name k a b ∷ []) (up name k a b) (first_in (up name k a b) []))) in
       (up_sets k a b three, down_sets k a one, down_sets k b two)
 
 -- a closed set holds a node's literal once it holds those of the operands
-pub sets_live : (live : ℕ → Bool) (g : List Node) (t : Lit → Bool) → Closed t (cnf_from live 0 g) → SetLive live t g
-sets_live live g t closed k l on =
-    node_set t k (get_or g k Input) (at_node (λ c. (l : Lit) → UnitIn t c l → t l ≡ true) live g closed k l on)
+pub sets_live : (live : ℕ → Bool) (name : ℕ → ℕ) (g : List Node) (t : Lit → Bool) → Closed t (cnf_from live name 0 g) → SetLive live name t g
+sets_live live name g t closed k l on =
+    node_set name t k (get_or g k Input) (at_node (λ c. (l : Lit) → UnitIn t c l → t l ≡ true) live name g closed k l on)

@@ -1,15 +1,21 @@
-use Rattle.std.proofs.Common.{◌≡◌, ℕ, ◌<◌, ◌+◌, Bool, true, false, ◌&&◌, List, [], ◌∷◌, length, get_or, refl, sym, ◌∙◌, ap, subst, arith, zero, suc}
+use Rattle.std.proofs.Common.{◌≡◌, ℕ, ◌<◌, ◌+◌, ◌↔◌, Bool, true, false, ◌&&◌, List, [], ◌∷◌, length, get_or, refl, sym, ◌∙◌, ap, subst, arith, zero, suc, inl, inr}
 use Rattle.std.specs.List.{All}
 use Rattle.bit_graph.specs.declared.edge.Edge.{Edge}
 use Rattle.bit_graph.specs.declared.edge.Node.{Node}
 use Rattle.bit_graph.specs.declared.edge.Node.TheVariants.{False, Input, And}
 use Rattle.bit_graph.specs.Meaning.{edge_value, exclusive_or, NodeHolds, IsBelow, Acyclic, Stands}
-use Rattle.bit_graph.specs.Values.{values, OneWay}
+use Rattle.bit_graph.specs.Values.{values, Agrees, OneWay}
 use Rattle.clause_core.specs.declared.literal.Lit.{Lit}
 use Rattle.clause_core.specs.Literals.{negate, Within}
-use Rattle.cnf_build.specs.Encoding.{lit, node_lit, down, up, clauses_of, cnf_from, HoldsLive, NodeSet, SetLive, Reaches, IsCone, RootsLive, Told, CnfLaw, NodeByNode, IsCnf}
-use Rattle.cnf_build.proofs.Laws.{clauses_hold, sets_live, all_nodes}
-use Rattle.std.proofs.lemmas.List.Elements.{All-cons, All-nil}
+use Rattle.clause_core.specs.Assignments.{ClauseTrue}
+use Rattle.clause_core.specs.Propagation.{Closed}
+use Rattle.cnf_build.specs.Encoding.{lit, variable_lit, node_lit, down, up, clauses_of, cnf_from}
+use Rattle.cnf_build.specs.Cone.{Reaches, IsCone, Reached}
+use Rattle.cnf_build.specs.Numbering.{HasVariable, Numbering}
+use Rattle.cnf_build.specs.Law.{NodeSet, InputsSet, of_nodes, HasValues, CnfLaw, IsCnf}
+use Rattle.cnf_build.proofs.Laws.{HoldsLive, SetLive, clauses_hold, sets_live, all_nodes}
+use Rattle.cnf_build.proofs.Counting.{live_has, numbering_of}
+use Rattle.std.proofs.lemmas.List.Elements.{All-cons, All-nil, All-map}
 
 abbrev Same : (ℕ → Bool) → (ℕ → Bool) → (ℕ → Bool) → ℕ → Type 0
 Same live v w k = (j : ℕ) → j < k → live j ≡ true → v j ≡ w j
@@ -24,31 +30,45 @@ node_same live v w k Input b r h i p q = i refl
 node_same live v w k (And x y) b r h i p q =
     p ∙ (λ j. edge_value-same v w x (h x.node b.0 r.0) j && edge_value-same v w y (h y.node b.1 r.1) j) ∙ sym q
 
+-- a node holds where it and its operands have the values that they have elsewhere
+holds_same : (live v w : ℕ → Bool) (k : ℕ) (n : Node) → IsBelow k n → Reaches live n → Same live v w k → v k ≡ w k →
+    NodeHolds w k n → NodeHolds v k n
+holds_same live v w k False b r h e q = e ∙ q
+holds_same live v w k Input b r h e q = tt
+holds_same live v w k (And x y) b r h e q =
+    e ∙ q ∙ sym (λ j. edge_value-same v w x (h x.node b.0 r.0) j && edge_value-same v w y (h y.node b.1 r.1) j)
+
+-- t sets the edge's literal if b is true, and else its negation
+abbrev Told : (ℕ → ℕ) → (Lit → Bool) → Edge → Bool → Type 0
+Told name t e true = t (lit name e) ≡ true
+Told name t e false = t (negate (lit name e)) ≡ true
+
 -- the literal of an edge, from that of its node
-told_at : (t : Lit → Bool) (n : ℕ) (p y : Bool) → t (node_lit n y) ≡ true → Told t (record { node = n; negated = p }) (exclusive_or p y)
-told_at t n true true h = h
-told_at t n true false h = h
-told_at t n false true h = h
-told_at t n false false h = h
+told_at : (name : ℕ → ℕ) (t : Lit → Bool) (n : ℕ) (p y : Bool) → t (node_lit name n y) ≡ true → Told name t (record { node = n; negated = p }) (exclusive_or p y)
+told_at name t n true true h = h
+told_at name t n true false h = h
+told_at name t n false true h = h
+told_at name t n false false h = h
 
-pub told : (t : Lit → Bool) (e : Edge) (y : Bool) → t (node_lit e.node y) ≡ true → Told t e (exclusive_or e.negated y)
-told t e y h = told_at t e.node e.negated y h
+told : (name : ℕ → ℕ) (t : Lit → Bool) (e : Edge) (y : Bool) → t (node_lit name e.node y) ≡ true → Told name t e (exclusive_or e.negated y)
+told name t e y h = told_at name t e.node e.negated y h
 
-on_is : (t : Lit → Bool) (k : ℕ) (y z : Bool) → y ≡ z → t (node_lit k z) ≡ true → t (node_lit k y) ≡ true
-on_is t k y z e h = ap (λ b. t (node_lit k b)) e ∙ h
+on_is : (t : Lit → Bool) (i : ℕ) (y z : Bool) → y ≡ z → t (variable_lit i z) ≡ true → t (variable_lit i y) ≡ true
+on_is t i y z e h = ap (λ b. t (variable_lit i b)) e ∙ h
 
-and_told : (t : Lit → Bool) (k : ℕ) (x y : Edge) (p q r : Bool) → NodeSet t k (And x y) → Told t x p → Told t y q → r ≡ (p && q) → t (node_lit k r) ≡ true
-and_told t k x y true true r s hx hy e = on_is t k r true e (s.0 hx hy)
-and_told t k x y true false r s hx hy e = on_is t k r false e (s.2 hy)
-and_told t k x y false q r s hx hy e = on_is t k r false e (s.1 hx)
+and_told : (name : ℕ → ℕ) (t : Lit → Bool) (k : ℕ) (x y : Edge) (p q r : Bool) → NodeSet name t k (And x y) → Told name t x p → Told name t y q →
+    r ≡ (p && q) → t (node_lit name k r) ≡ true
+and_told name t k x y true true r s hx hy e = on_is t (name k) r true e (s.0 hx hy)
+and_told name t k x y true false r s hx hy e = on_is t (name k) r false e (s.2 hy)
+and_told name t k x y false q r s hx hy e = on_is t (name k) r false e (s.1 hx)
 
-node_told : (live : ℕ → Bool) (t : Lit → Bool) (w : ℕ → Bool) (k : ℕ) (n : Node) → NodeSet t k n → NodeHolds w k n →
-    (n ≡ Input → t (node_lit k (w k)) ≡ true) → IsBelow k n → Reaches live n →
-    ((j : ℕ) → j < k → live j ≡ true → t (node_lit j (w j)) ≡ true) → t (node_lit k (w k)) ≡ true
-node_told live t w k False s h i b r f = on_is t k (w k) false h s
-node_told live t w k Input s h i b r f = i refl
-node_told live t w k (And x y) s h i b r f =
-    and_told t k x y (edge_value w x) (edge_value w y) (w k) s (told t x (w x.node) (f x.node b.0 r.0)) (told t y (w y.node) (f y.node b.1 r.1)) h
+node_told : (live : ℕ → Bool) (name : ℕ → ℕ) (t : Lit → Bool) (w : ℕ → Bool) (k : ℕ) (n : Node) → NodeSet name t k n → NodeHolds w k n →
+    (n ≡ Input → t (node_lit name k (w k)) ≡ true) → IsBelow k n → Reaches live n →
+    ((j : ℕ) → j < k → live j ≡ true → t (node_lit name j (w j)) ≡ true) → t (node_lit name k (w k)) ≡ true
+node_told live name t w k False s h i b r f = on_is t (name k) (w k) false h s
+node_told live name t w k Input s h i b r f = i refl
+node_told live name t w k (And x y) s h i b r f =
+    and_told name t k x y (edge_value w x) (edge_value w y) (w k) s (told name t x (w x.node) (f x.node b.0 r.0)) (told name t y (w y.node) (f y.node b.1 r.1)) h
 
 module _ (live : ℕ → Bool) (g : List Node) (ok : Acyclic g) (cone : IsCone live g) where
   same_below : (v w : ℕ → Bool) → HoldsLive live v g → HoldsLive live w g →
@@ -58,33 +78,22 @@ module _ (live : ℕ → Bool) (g : List Node) (ok : Acyclic g) (cone : IsCone l
       node_same live v w k (get_or g k Input) (ok.below k l) (cone k l on)
       (λ j m o. same_below v w p q i d j (omega arith) (omega arith) o) (i k l) (p k l on) (q k l on)
 
-  told_below : (t : Lit → Bool) (w : ℕ → Bool) → SetLive live t g → HoldsLive live w g →
-      ((k : ℕ) → k < length g → get_or g k Input ≡ Input → t (node_lit k (w k)) ≡ true) →
-      (d k : ℕ) → k < d → k < length g → live k ≡ true → t (node_lit k (w k)) ≡ true
-  told_below t w s h i zero k m l on = absurd (omega arith)
-  told_below t w s h i (suc d) k m l on =
-      node_told live t w k (get_or g k Input) (s k l on) (h k l on) (i k l) (ok.below k l) (cone k l on)
-      (λ j n o. told_below t w s h i d j (omega arith) (omega arith) o)
+  told_below : (name : ℕ → ℕ) (t : Lit → Bool) (w : ℕ → Bool) → SetLive live name t g → HoldsLive live w g →
+      ((k : ℕ) → k < length g → get_or g k Input ≡ Input → t (node_lit name k (w k)) ≡ true) →
+      (d k : ℕ) → k < d → k < length g → live k ≡ true → t (node_lit name k (w k)) ≡ true
+  told_below name t w s h i zero k m l on = absurd (omega arith)
+  told_below name t w s h i (suc d) k m l on =
+      node_told live name t w k (get_or g k Input) (s k l on) (h k l on) (i k l) (ok.below k l) (cone k l on)
+      (λ j n o. told_below name t w s h i d j (omega arith) (omega arith) o)
 
-  pub values_live : OneWay g → (a : ℕ → Bool) → HoldsLive live (values a g) g
-  values_live way a k l on = (way.some a).0.holds k l
+-- an input asks nothing
+holds_input : (v : ℕ → Bool) (k : ℕ) (n : Node) → n ≡ Input → NodeHolds v k n
+holds_input v k n e = let P : Node → Type 0 = NodeHolds v k in subst P (sym e) tt
 
-  pub law : OneWay g → (roots : List Edge) → RootsLive live roots → All (Stands g) roots → CnfLaw g roots (cnf_from live 0 g)
-  law way roots in_roots stand = record {
-    some = λ a. (clauses_hold live g (values a g)).1 (values_live way a);
-    only = λ a v agrees met k d l.
-        let e : Edge = get_or roots k d in
-        edge_value-same v (values a g) e
-        (same_below v (values a g) ((clauses_hold live g v).0 met) (values_live way a)
-        (λ j m i. agrees j m i ∙ sym ((way.some a).1 j m i)) (suc e.node) e.node (omega arith) (stand k d l) (in_roots k d l));
-    sets = λ a t closed inputs k d l.
-        let e : Edge = get_or roots k d in
-        told t e (values a g e.node)
-        (told_below t (values a g) (sets_live live g t closed) (values_live way a)
-        (λ j m i. on_is t j (values a g j) (a j) ((way.some a).1 j m i) (inputs j m i)) (suc e.node) e.node (omega arith) (stand k d l) (in_roots k d l));
-  }
+set_input : (name : ℕ → ℕ) (t : Lit → Bool) (k : ℕ) (n : Node) → n ≡ Input → NodeSet name t k n
+set_input name t k n e = let P : Node → Type 0 = NodeSet name t k in subst P (sym e) tt
 
--- no literal is past the nodes
+-- no literal is past the variables
 module _ (n : ℕ) where
   abbrev In : Lit → Type 0
   In l = l.var < n
@@ -92,40 +101,126 @@ module _ (n : ℕ) where
   two_in : (l m : Lit) → In l → In m → Within n (l ∷ m ∷ [])
   two_in l m p q = All-cons In l (m ∷ []) p (All-cons In m [] q (All-nil In))
 
-  node_within : (k : ℕ) (x : Node) → k < n → IsBelow k x → All (Within n) (clauses_of k x)
-  node_within k False h b = All-cons (Within n) (node_lit k false ∷ []) [] (All-cons In (node_lit k false) [] h (All-nil In)) (All-nil (Within n))
-  node_within k Input h b = All-nil (Within n)
-  node_within k (And x y) h b =
-      let in_x : x.node < n = omega (arith, b.0) in
-      let in_y : y.node < n = omega (arith, b.1) in
-      All-cons (Within n) (down k x) (down k y ∷ up k x y ∷ []) (two_in (node_lit k false) (lit x) h in_x)
-      (All-cons (Within n) (down k y) (up k x y ∷ []) (two_in (node_lit k false) (lit y) h in_y)
-      (All-cons (Within n) (up k x y) []
-      (All-cons In (node_lit k true) (negate (lit x) ∷ negate (lit y) ∷ []) h (two_in (negate (lit x)) (negate (lit y)) in_x in_y)) (All-nil (Within n))))
+  node_within : (live : ℕ → Bool) (name : ℕ → ℕ) → (k : ℕ) (x : Node) → name k < n → IsBelow k x → Reaches live x →
+      ((j : ℕ) → j < k → live j ≡ true → name j < n) → All (Within n) (clauses_of name k x)
+  node_within live name k False h b r f = All-cons (Within n) (node_lit name k false ∷ []) [] (All-cons In (node_lit name k false) [] h (All-nil In)) (All-nil (Within n))
+  node_within live name k Input h b r f = All-nil (Within n)
+  node_within live name k (And x y) h b r f =
+      let in_x : name x.node < n = f x.node b.0 r.0 in
+      let in_y : name y.node < n = f y.node b.1 r.1 in
+      All-cons (Within n) (down name k x) (down name k y ∷ up name k x y ∷ []) (two_in (node_lit name k false) (lit name x) h in_x)
+      (All-cons (Within n) (down name k y) (up name k x y ∷ []) (two_in (node_lit name k false) (lit name y) h in_y)
+      (All-cons (Within n) (up name k x y) []
+      (All-cons In (node_lit name k true) (negate (lit name x) ∷ negate (lit name y) ∷ []) h (two_in (negate (lit name x)) (negate (lit name y)) in_x in_y)) (All-nil (Within n))))
 
-pub cnf_within : (live : ℕ → Bool) (g : List Node) → Acyclic g → All (Within (length g)) (cnf_from live 0 g)
-cnf_within live g ok =
-    all_nodes (Within (length g)) live 0 g (λ k l on.
-    let e : 0 + k ≡ k = omega arith in
-    let Q : ℕ → Type 0 = λ m. All (Within (length g)) (clauses_of m (get_or g k Input)) in
-    subst Q (sym e) (node_within (length g) k (get_or g k Input) l (ok.below k l)))
+module _ (g : List Node) (roots : List Edge) (vars : ℕ) (cs : List (List Lit)) (lits : List Lit) (ok : Acyclic g) (h : IsCnf g roots vars cs lits) where
+  abbrev numbering : Numbering g roots vars
+  numbering = numbering_of g roots vars cs lits h
 
-module _ (g : List Node) (roots : List Edge) (cs : List (List Lit)) (lits : List Lit) (ok : Acyclic g) (h : IsCnf g roots cs lits) where
   -- a fact of the nodes' clauses is one of the clauses
-  of_clauses : (P : List (List Lit) → Type 0) → P (cnf_from h.0 0 g) → P cs
-  of_clauses P p = subst P (sym h.1) p
+  of_clauses : (P : List (List Lit) → Type 0) → P (cnf_from h.live h.name 0 g) → P cs
+  of_clauses P p = subst P (sym h.clauses) p
 
-  pub law_of : OneWay g → All (Stands g) roots → CnfLaw g roots cs
-  law_of way stand = of_clauses (CnfLaw g roots) (law h.0 g ok h.2 way roots h.3 stand)
+  met : (v : ℕ → Bool) → All (ClauseTrue v) cs ↔ HoldsLive h.live (of_nodes h.name v) g
+  met v = of_clauses (λ c. All (ClauseTrue v) c ↔ HoldsLive h.live (of_nodes h.name v) g) (clauses_hold h.live h.name g v)
 
-  pub nodes_of : NodeByNode g roots cs
-  nodes_of = of_clauses (NodeByNode g roots) (record {
-    live = h.0;
-    cone = h.2;
-    roots_live = h.3;
-    holds = λ v. clauses_hold h.0 g v;
-    sets = λ t closed. sets_live h.0 g t closed;
-  })
+  set : (t : Lit → Bool) → Closed t cs → SetLive h.live h.name t g
+  set t = of_clauses (λ c. Closed t c → SetLive h.live h.name t g) (sets_live h.live h.name g t)
 
-  pub within_of : All (Within (length g)) cs
-  within_of = of_clauses (All (Within (length g))) (cnf_within h.0 g ok)
+  is_live : (k : ℕ) → Reached g roots k → h.live k ≡ true
+  is_live k r = r h.live h.cone h.roots_live
+
+  holds_all : (v : ℕ → Bool) → HoldsLive h.live v g ↔ ((k : ℕ) → HasVariable g roots k → NodeHolds v k (get_or g k Input))
+  holds_all v = (
+    λ p k has. elim (has.1) [
+      | inl input ↦ holds_input v k (get_or g k Input) input
+      | inr reached ↦ p k has.0 (is_live k reached)
+    ],
+    λ p k l on. p k (live_has g roots vars cs lits h k l on),
+  )
+
+  sets_all : (t : Lit → Bool) → SetLive h.live h.name t g → (k : ℕ) → HasVariable g roots k → NodeSet h.name t k (get_or g k Input)
+  sets_all t p k has = elim (has.1) [
+    | inl input ↦ set_input h.name t k (get_or g k Input) input
+    | inr reached ↦ p k has.0 (is_live k reached)
+  ]
+
+  root_has : All (Stands g) roots → (k : ℕ) (d : Edge) → k < length roots → HasVariable g roots (get_or roots k d).node
+  root_has stand k d l = (stand k d l, inr (λ live cone in_roots. in_roots k d l))
+
+  -- where the variables have the nodes' values, each node's variable has the node's
+  node_value : (a v : ℕ → Bool) → HasValues g numbering.node vars a v → (k : ℕ) → HasVariable g roots k → v (h.name k) ≡ values a g k
+  unfolding numbering_of
+  node_value a v is k has =
+      let n = numbering.of_node k has in
+      is (h.name k) n.0 ∙ ap (values a g) n.1
+
+  module _ (way : OneWay g) where
+    values_live : (a : ℕ → Bool) → HoldsLive h.live (values a g) g
+    values_live a k l on = (way.some a).0.holds k l
+
+    values_from : (a v : ℕ → Bool) → Agrees a (of_nodes h.name v) g → All (ClauseTrue v) cs → HasValues g numbering.node vars a v
+    unfolding numbering_of
+    values_from a v agrees is i l =
+        let n = numbering.of_variable i l in
+        let k = numbering.node i in
+        let at_inputs = λ (j : ℕ) (m : j < length g) (input : get_or g j Input ≡ Input). agrees j m input ∙ sym ((way.some a).1 j m input) in
+        let here : v (h.name k) ≡ values a g k = elim (n.0.1) [
+          | inl input ↦ at_inputs k n.0.0 input
+          | inr reached ↦ same_below h.live g ok h.cone (of_nodes h.name v) (values a g) ((met v).0 is) (values_live a) at_inputs (suc k) k (omega arith) n.0.0 (is_live k reached)
+        ] in
+        sym (ap v n.1) ∙ here
+
+    values_to : (a v : ℕ → Bool) → HasValues g numbering.node vars a v → Agrees a (of_nodes h.name v) g × All (ClauseTrue v) cs
+    unfolding numbering_of
+    values_to a v is = (
+      λ k l input. node_value a v is k (l, inl input) ∙ (way.some a).1 k l input,
+      (met v).1 (λ k l on.
+          holds_same h.live (of_nodes h.name v) (values a g) k (get_or g k Input) (ok.below k l) (h.cone k l on)
+          (λ j m live. node_value a v is j (live_has g roots vars cs lits h j (omega arith) live))
+          (node_value a v is k (live_has g roots vars cs lits h k l on)) (values_live a k l on)),
+    )
+
+    spreads : (a : ℕ → Bool) (t : Lit → Bool) → Closed t cs → InputsSet h.name a t g → (i : ℕ) → i < vars → t (variable_lit i (values a g (numbering.node i))) ≡ true
+    unfolding numbering_of
+    spreads a t closed inputs i l =
+        let n = numbering.of_variable i l in
+        let k = numbering.node i in
+        let at_inputs = λ (j : ℕ) (m : j < length g) (input : get_or g j Input ≡ Input).
+        on_is t (h.name j) (values a g j) (a j) ((way.some a).1 j m input) (inputs j m input) in
+        let here : t (variable_lit (h.name k) (values a g k)) ≡ true = elim (n.0.1) [
+          | inl input ↦ at_inputs k n.0.0 input
+          | inr reached ↦ told_below h.live g ok h.cone h.name t (values a g) (set t closed) (values_live a) at_inputs (suc k) k (omega arith) n.0.0 (is_live k reached)
+        ] in
+        let P : ℕ → Type 0 = λ j. t (variable_lit j (values a g k)) ≡ true in
+        subst P n.1 here
+
+    pub law_of : All (Stands g) roots → CnfLaw g roots vars cs lits
+    unfolding numbering_of
+    law_of stand = record {
+      numbering = numbering;
+      literals = h.literals;
+      one_way = λ a v. (λ p. values_from a v p.0 p.1, values_to a v);
+      agrees = λ a v is k d l.
+          edge_value-same (of_nodes h.name v) (values a g) (get_or roots k d) (node_value a v is (get_or roots k d).node (root_has stand k d l));
+      spreads = spreads;
+      holds = λ v. (λ p. (holds_all (of_nodes h.name v)).0 ((met v).0 p), λ p. (met v).1 ((holds_all (of_nodes h.name v)).1 p));
+      sets = λ t closed. sets_all t (set t closed);
+    }
+
+  pub within_of : All (Within vars) cs
+  unfolding numbering_of
+  within_of = of_clauses (All (Within vars))
+      (all_nodes (Within vars) h.live h.name 0 g (λ k l on.
+      let e : 0 + k ≡ k = omega arith in
+      let R : ℕ → Type 0 = λ m. h.live m ≡ true in
+      let Q : ℕ → Type 0 = λ m. All (Within vars) (clauses_of h.name m (get_or g k Input)) in
+      let here = subst R e on in
+      subst Q (sym e) (node_within vars h.live h.name k (get_or g k Input) (numbering.of_node k (live_has g roots vars cs lits h k l here)).0 (ok.below k l) (h.cone k l here)
+      (λ j m live. (numbering.of_node j (live_has g roots vars cs lits h j (omega arith) live)).0))))
+
+  pub roots_within_of : All (Stands g) roots → Within vars lits
+  unfolding numbering_of
+  roots_within_of stand =
+      let P : List Lit → Type 0 = Within vars in
+      subst P (sym h.literals) (All-map (λ l. l.var < vars) (lit h.name) roots (λ k d l. (numbering.of_node (get_or roots k d).node (root_has stand k d l)).0))

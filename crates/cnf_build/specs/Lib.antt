@@ -1,1 +1,4 @@
 pub mod Encoding
+pub mod Cone
+pub mod Numbering
+pub mod Law

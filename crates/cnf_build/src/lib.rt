@@ -2,6 +2,8 @@
 //! on (Tseitin 1968).
 #![tactic(auto)]
 
+mod cone;
+mod numbers;
 mod tseitin;
 
 pub use tseitin::{Cnf, clauses};

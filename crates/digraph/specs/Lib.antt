@@ -1,3 +1,4 @@
 pub mod Cycles
+pub mod Reach
 pub mod Search
 pub mod Turn

@@ -105,7 +105,7 @@ fn step(
     }
 }
 
-fn successors_of<'a>(g: &'a [Items<usize>], a: usize) -> &'a [usize]
+pub(crate) fn successors_of<'a>(g: &'a [Items<usize>], a: usize) -> &'a [usize]
     requires { a < length g.now }
     ensures { result.now ≡ successors g.now a }
 {

@@ -22,7 +22,7 @@ type Engine = Solver<Watched>;
 /// `Spent` comes only where the purse refused one. An input on which no root stands gets any value, and
 /// nothing is kept from one query to the next. The only error is want of memory.
 ///
-/// The edges become clauses by a variable for each node (Tseitin 1968), and a solver that learns from
+/// The edges become clauses by a variable for each node that the roots reach (Tseitin 1968), and a solver that learns from
 /// conflicts (Marques-Silva and Sakallah 1996) looks for values with the roots as its assumptions.
 pub fn satisfy<Q: Purse>(
     alloc: Global,
@@ -41,7 +41,7 @@ pub fn satisfy<Q: Purse>(
     ensures budget { Q.budget purse.new ≡ Q.budget purse.old }
 {
     let cnf = clauses(alloc, graph, roots)?;
-    let mut solver = solver_of(alloc, graph.len(), &cnf.clauses)?;
+    let mut solver = solver_of(alloc, cnf.vars, &cnf.clauses)?;
     let answer = solver.solve(alloc, &cnf.roots, purse)?;
     Ok(found(answer, inputs))
 }

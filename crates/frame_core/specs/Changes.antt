@@ -16,7 +16,7 @@ use Rattle.frame_core.specs.declared.outcomes.Verdict.{Verdict}
 use Rattle.frame_core.specs.declared.outcomes.Verdict.TheVariants.{Invariant, Reached}
 use Rattle.frame_core.specs.Facts.{ProvedClause, ClearLevel, FoundState}
 use Rattle.frame_core.specs.Law.{FrameState, lemma_at, obligation_at, Covers, AllStand, IsInvariant, IsAsHigh, raised_at, retired_at}
-use Rattle.frame_core.specs.Looking.{IsBehind, IsHeldBy}
+use Rattle.frame_core.specs.Looking.{IsBehind, IsHeldBy, IsHeldByNone}
 use Rattle.frame_core.specs.Differences.{IsSameSystem, DifferAt}
 
 -- the frames with one lemma more
@@ -26,12 +26,13 @@ with_lemma f clause level = record f { lemmas = f.lemmas ++ record { clause = cl
 -- a clause is inserted; but for Added the frames are as before
 abbrev pub Inserts : FrameState → ProvedClause → Insertion → FrameState → Type 0
 Inserts before p (insertion.Added n) after =
-    IsSameSystem false before.system p.system × AllStand before.lemmas (p.level - 1) p.parents
-    × (n ≡ length before.lemmas) × (after ≡ with_lemma before p.clause p.level)
+    IsSameSystem false before.system p.system × IsHeldByNone before.lemmas p.clause p.level
+    × AllStand before.lemmas (p.level - 1) p.parents × (n ≡ length before.lemmas) × (after ≡ with_lemma before p.clause p.level)
 Inserts before p (insertion.Held n) after =
     IsSameSystem false before.system p.system × IsHeldBy before.lemmas p.clause p.level n × (after ≡ before)
 Inserts before p (insertion.Behind k level) after =
-    IsSameSystem false before.system p.system × IsBehind before.lemmas (p.level - 1) p.parents k level × (after ≡ before)
+    IsSameSystem false before.system p.system × IsHeldByNone before.lemmas p.clause p.level
+    × IsBehind before.lemmas (p.level - 1) p.parents k level × (after ≡ before)
 Inserts before p (insertion.OtherSystem place) after = DifferAt false before.system p.system place × (after ≡ before)
 
 -- the frames with lemma n at this level

@@ -1,5 +1,5 @@
 -- Lemmas that are looked up.
-use Rattle.std.specs.Prelude.{◌≡◌, ◌⊎◌, ℕ, ◌<◌, ◌≤◌, List, [], length, slice_index_or}
+use Rattle.std.specs.Prelude.{◌≡◌, ◌⊎◌, ◌↔◌, ℕ, ◌<◌, ◌≤◌, Bool, true, false, List, [], length, slice_index_or, Contains, if◌then◌else◌}
 use Rattle.clause_core.specs.declared.literal.Lit.{Lit}
 use Rattle.frame_core.specs.declared.lemmas.Lemma.{Lemma}
 use Rattle.frame_core.specs.declared.lemmas.Parent.{Parent}
@@ -31,3 +31,15 @@ IsBehind lemmas least parents k level =
 abbrev pub IsHeldBy : List Lemma → List Lit → ℕ → ℕ → Type 0
 IsHeldBy lemmas clause level n =
     (n < length lemmas) × IsPart (lemma_at lemmas n).clause clause × (level ≤ (lemma_at lemmas n).level)
+
+-- no lemma has a part of the literals and at least the level
+abbrev pub IsHeldByNone : List Lemma → List Lit → ℕ → Type 0
+IsHeldByNone lemmas clause level = (n : ℕ) → IsHeldBy lemmas clause level n → ⊥
+
+-- the literal is marked: positive ones in the first list, at their variables, and negative ones in the second
+abbrev pub has_literal : List Bool × List Bool → Lit → Bool
+has_literal marks l = slice_index_or (if l.positive then marks.0 else marks.1) l.var false
+
+-- the test tells just the literals of the clause
+abbrev pub IsSetOf : List Lit → (Lit → Bool) → Type 0
+IsSetOf clause test = (l : Lit) → (test l ≡ true) ↔ Contains clause l

@@ -98,8 +98,10 @@ impl<'a> Frames<'a> {
     /// Adds the clause as a lemma, unless it is of another system, a lemma holds it already, or a parent's
     /// level, looked up now, is too low. After want of memory the frames are as before.
     ///
-    /// Compares the systems clause by clause, and looks at each lemma once: at its literals only where its
-    /// level is high enough and it has no more literals than the clause, in one walk over both.
+    /// It takes a table of two entries for each state bit, compares the systems clause by clause, and looks
+    /// at each lemma once: where its level is high enough, at its literals up to the first that the clause
+    /// lacks, each by one look into the table. So the test of a lemma costs no more than the shorter of the
+    /// two clauses, and one look.
     pub fn insert(&mut self, proved: Proved) -> Result<Insertion, AllocError>
         ensures done { IfOk result (λ r. Inserts self.old proved.entry r self.new) }
         ensures err { OnErr result (self.new ≡ self.old) }
@@ -107,7 +109,9 @@ impl<'a> Frames<'a> {
         if let Some(place) = difference(self.system, proved.system(), false) {
             return Ok(Insertion::OtherSystem { place });
         }
-        if let Some(n) = holder(&self.lemmas, proved.clause(), proved.level()) {
+        let alloc = *self.lemmas.allocator();
+        let vars = proved.system().state_bits();
+        if let Some(n) = holder(alloc, vars, &self.lemmas, proved.clause(), proved.level())? {
             return Ok(Insertion::Held(n));
         }
         if let Some((parent, level)) = first_behind(

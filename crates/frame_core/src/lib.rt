@@ -18,3 +18,6 @@ pub use keeping::Frames;
 pub use lemmas::{Lemma, Obligation, Parent};
 pub use outcomes::{Insertion, Noting, Opening, Raising, Verdict};
 pub use runs::BitRun;
+
+#[cfg(test)]
+mod tests;

@@ -1,12 +1,14 @@
-ghost use Rattle.std.specs.Prelude.{◌≡◌, ◌<◌, ◌≤◌, ℕ, true, false, length, MatchOption, MatchBool, IfSome};
+ghost use Rattle.std.specs.Prelude.{◌≡◌, ◌<◌, ◌≤◌, ℕ, true, false, length, IfOk, IsTrue, All, ◌↔◌, MatchOption, MatchBool};
+ghost use Rattle.clause_core.specs.Literals.{Within};
 ghost use Rattle.frame_core.specs.Law.{AllStand, obligation_at};
 ghost use Rattle.frame_core.specs.Changes.{HasLiveAt, HasNoneAt};
-ghost use Rattle.frame_core.specs.Looking.{IsKeptLevel, IsBehind, IsHeldBy};
+ghost use Rattle.frame_core.specs.Looking.{IsKeptLevel, IsBehind, IsHeldBy, IsHeldByNone, has_literal};
 
 use crate::comparing::is_same_clause;
 use crate::lemmas::{Lemma, Obligation, Parent};
-use crate::subset::is_part;
+use crate::subset::{LiteralSet, is_part};
 use clause_core::Lit;
+use std::alloc::{AllocError, Global};
 
 // The level that the parent has here; 0 where no lemma has its number and clause.
 fn kept_level(lemmas: &[Lemma], parent: &Parent) -> u64
@@ -34,17 +36,32 @@ pub(crate) fn first_behind(lemmas: &[Lemma], least: u64, parents: &[Parent]) -> 
     None
 }
 
-// A lemma that has a part of these literals and at least this level.
-pub(crate) fn holder(lemmas: &[Lemma], clause: &[Lit], level: u64) -> Option<usize>
-    ensures { IfSome result (IsHeldBy lemmas.now clause.now level) }
+// The first lemma that has a part of these literals, whose variables are below `vars`, and at least this
+// level.
+pub(crate) fn holder(
+    alloc: Global,
+    vars: usize,
+    lemmas: &[Lemma],
+    clause: &[Lit],
+    level: u64,
+) -> Result<Option<usize>, AllocError>
+    requires { Within vars clause.now }
+    ensures { IfOk result (λ r. MatchOption r (IsHeldByNone lemmas.now clause.now level) (IsHeldBy lemmas.now clause.now level)) }
 {
+    let literals = LiteralSet::of(alloc, vars, clause)?;
     for n in 0..lemmas.len() {
-        let lemma = &lemmas[n];
-        if lemma.level >= level && is_part(lemma.clause.as_slice(), clause) {
-            return Some(n);
+        if holds(&lemmas[n], &literals, level) {
+            return Ok(Some(n));
         }
     }
-    None
+    Ok(None)
+}
+
+// Whether the lemma has a part of these literals and at least this level.
+fn holds(lemma: &Lemma, literals: &LiteralSet, level: u64) -> bool
+    ensures { IsTrue result ↔ (All (λ l. has_literal literals.now l ≡ true) lemma.now.clause × level ≤ lemma.now.level) }
+{
+    lemma.level >= level && is_part(lemma.clause.as_slice(), literals)
 }
 
 // The first obligation that is a first state.

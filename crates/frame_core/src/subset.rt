@@ -1,33 +1,83 @@
-ghost use Rattle.std.specs.Prelude.{◌≡◌, ◌<◌, length, slice_index_or};
-ghost use Rattle.std.specs.Bool.{OnTrue};
-ghost use Rattle.frame_core.specs.Law.{IsPart};
+ghost use Rattle.std.specs.Prelude.{◌≡◌, ◌<◌, ◌↔◌, ◌⊎◌, Bool, true, false, List, length, All, Contains, IfOk, IsTrue, slice_index_or};
+ghost use Rattle.clause_core.specs.declared.literal.Lit.{Lit as ALit};
+ghost use Rattle.clause_core.specs.Literals.{Within};
+ghost use Rattle.frame_core.specs.Looking.{has_literal, IsSetOf};
 
 use clause_core::Lit;
+use std::alloc::{AllocError, Global};
+use std::marker::Model;
 
-// The first place of the literal from `from` on, or the list's length.
-fn place_from(lits: &[Lit], from: usize, wanted: Lit) -> usize
-    ensures { result < length lits.now → slice_index_or lits.now result wanted ≡ wanted }
-{
-    for at in from..lits.len() {
-        if lits[at].is_same(wanted) {
-            return at;
-        }
-    }
-    lits.len()
+/// The literals of a clause as a table, so that one look tells whether a literal is among them. Contracts
+/// see the lists of marks.
+#[derive(Drop)]
+pub(crate) struct LiteralSet {
+    // for each variable whether it is among the literals, and whether its negation is
+    positive: Vec<bool>,
+    negative: Vec<bool>,
 }
 
-// Whether each literal of the first clause is in the second: one walk over both, in the second's order.
-// It may miss this where the two are not in the same order.
-pub(crate) fn is_part(c: &[Lit], d: &[Lit]) -> bool
-    ensures { OnTrue result (IsPart c.now d.now) }
-{
-    if c.len() > d.len() {
-        return false;
+impl Model for LiteralSet {
+    ghost use Rattle.std.specs.Prelude.{List, Bool};
+
+    ghost Value = { List Bool × List Bool };
+
+    ghost view = { λ s. (s.positive.items, s.negative.items) };
+}
+
+impl LiteralSet {
+    /// The literals of this clause, whose variables are below `vars`.
+    pub(crate) fn of(alloc: Global, vars: usize, clause: &[Lit]) -> Result<LiteralSet, AllocError>
+        requires { Within vars clause.now }
+        ensures { IfOk result (λ s. IsSetOf clause.now (has_literal s)) }
+    {
+        let mut positive = vec![in alloc; false; vars]?;
+        let mut negative = vec![in alloc; false; vars]?;
+        'literals: for l in clause {
+            mark(&mut positive, &mut negative, *l);
+        }
+        Ok(LiteralSet { positive, negative })
     }
-    let mut at: usize = 0;
-    for l in c {
-        at = place_from(d, at, *l);
-        if at >= d.len() {
+
+    /// Whether the literal is among them.
+    pub(crate) fn has(&self, l: Lit) -> bool
+        ensures { result ≡ has_literal self.now l }
+    {
+        if l.positive {
+            marked(&self.positive, l.var)
+        } else {
+            marked(&self.negative, l.var)
+        }
+    }
+}
+
+fn marked(marks: &[bool], var: usize) -> bool
+    ensures { result ≡ slice_index_or marks.now var false }
+{
+    var < marks.len() && marks[var]
+}
+
+fn mark(positive: &mut Vec<bool>, negative: &mut Vec<bool>, l: Lit)
+    requires in_positive { l.var < length positive.old.items }
+    requires in_negative { l.var < length negative.old.items }
+    ensures positive { length positive.new.items ≡ length positive.old.items }
+    ensures negative { length negative.new.items ≡ length negative.old.items }
+    ensures here { has_literal (positive.new.items, negative.new.items) l ≡ true }
+    ensures grows { (m : ALit) → has_literal (positive.old.items, negative.old.items) m ≡ true → has_literal (positive.new.items, negative.new.items) m ≡ true }
+    ensures only { (m : ALit) → has_literal (positive.new.items, negative.new.items) m ≡ true → (m ≡ l) ⊎ (has_literal (positive.old.items, negative.old.items) m ≡ true) }
+{
+    if l.positive {
+        positive[l.var] = true;
+    } else {
+        negative[l.var] = true;
+    }
+}
+
+// Whether each literal of the clause is in the set; looks at them up to the first that is not.
+pub(crate) fn is_part(clause: &[Lit], set: &LiteralSet) -> bool
+    ensures { IsTrue result ↔ All (λ l. has_literal set.now l ≡ true) clause.now }
+{
+    for l in clause {
+        if !set.has(*l) {
             return false;
         }
     }

@@ -1,4 +1,4 @@
-use Rattle.std.proofs.Common.{◌≡◌, ℕ, ◌<◌, ◌≤◌, ◌+◌, ◌-◌, Bool, true, false, List, [], ◌∷◌, ◌++◌, length, take, get_or, suc, refl, sym, subst, ap, ◌∙◌, inl, inr, arith, map, replicate}
+use Rattle.std.proofs.Common.{◌≡◌, ℕ, ◌<◌, ◌≤◌, ◌+◌, Bool, true, false, List, [], ◌∷◌, ◌++◌, length, take, get_or, suc, refl, sym, subst, ap, ◌∙◌, inl, inr, arith, map, replicate}
 use Rattle.std.specs.List.{All, Contains}
 use Rattle.std.proofs.Math.ListN.{get_or-map}
 use Rattle.std.proofs.lemmas.Bool.{cases_Bool, cases_lt, both_ways}
@@ -7,14 +7,14 @@ use Rattle.std.proofs.lemmas.List.Elements.{All-contains, All-cons, All-map, All
 use Rattle.clause_core.specs.declared.literal.Lit.{Lit}
 use Rattle.clause_core.specs.Literals.{negate, none_lit, at, Within}
 use Rattle.clause_core.specs.Propagation.{AllFalse, Follows, Settled}
-use Rattle.sat_core.specs.Positions.{Marked, OnlyMark}
+use Rattle.sat_core.specs.Positions.{Marked}
 use Rattle.clause_core.specs.Propagation.{Reaches}
 use Rattle.clause_core.proofs.Lists.{negate_negate}
 use Rattle.sat_prop.specs.declared.trail.Trail.{Trail}
 use Rattle.sat_prop.specs.Trails.{among, is_literal, AtRest, FalseOn, Based}
 use Rattle.sat_prop.proofs.Ways.{lit_is_same, lit_is_itself, place_same}
 use Rattle.sat_prop.proofs.Sweeps.{reasoned_from}
-use Rattle.sat_core.specs.Searching.{decided, PerLevel, LearnedFrom, MarksFalse, LowListed, learned_clause, SettledBelow, WatchBelow}
+use Rattle.sat_core.specs.Searching.{decided, PerLevel, LearnedFrom, PlacesFalse, learned_clause, SettledBelow, WatchBelow}
 use Rattle.sat_prop.specs.Watches.{Watchable}
 use Rattle.sat_core.proofs.Levels.{decided_length, reached, reached_all, conflicting, read_itself, not_below, unset_below, decisions_open}
 
@@ -28,35 +28,25 @@ contains_head x xs = (0, omega arith, refl)
 pub contains_tail : {X : Type 0} (x y : X) (xs : List X) → Contains xs y → Contains (x ∷ xs) y
 contains_tail x y xs h = Contains-append_right (x ∷ []) xs y h
 
--- each marked literal's negation is in the clause
-pub has_marked : (literals : List Lit) (marks : List Bool) (floor p : ℕ) (low : List ℕ) → length marks ≡ length literals → OnlyMark marks floor p → LowListed marks floor low →
-    (q : ℕ) → q < length literals → Marked marks q → Contains (learned_clause literals p low) (negate (at literals q))
-has_marked literals marks floor p low len only ok q lq m =
-    elim (cases_lt q floor) [
-      | inl l ↦ contains_tail (negate (at literals p)) (negate (at literals q)) (map (λ r. negate (at literals r)) low)
-          (contains_map (λ r. negate (at literals r)) low q (ok.0 q l m))
-      | inr g ↦
-          let same : q ≡ p = only.2 q g (omega (arith, len)) m in
-          let P : ℕ → Type 0 = λ x. Contains (learned_clause literals p low) (negate (at literals x)) in
-          subst P (sym same) (contains_head (negate (at literals p)) (map (λ r. negate (at literals r)) low))
-    ]
-
-pub learned_follows : (literals : List Lit) (cs : List (List Lit)) (marks : List Bool) (k : ℕ) (c : List Lit) → k < length cs →
-    MarksFalse literals cs marks (get_or cs k []) →
-    ((q : ℕ) → q < length literals → Marked marks q → Contains c (negate (at literals q))) → Follows cs c
-learned_follows literals cs marks k c lk false' has t all closed =
-    let out : AllFalse t (get_or cs k []) = false' t closed (λ q lq m.
-    ap t (sym (negate_negate (at literals q))) ∙ All-contains (λ m. t (negate m) ≡ true) c (negate (at literals q)) all (has q lq m)) in
+-- the clause of the negations of the literals that make a clause false follows
+pub learned_follows : (literals : List Lit) (cs : List (List Lit)) (k p : ℕ) (low : List ℕ) → k < length cs →
+    PlacesFalse literals cs p low (get_or cs k []) → Follows cs (learned_clause literals p low)
+learned_follows literals cs k p low lk false' t all closed =
+    let c = learned_clause literals p low in
+    let f : ℕ → Lit = λ r. negate (at literals r) in
+    let held : (q : ℕ) → Contains c (f q) → t (at literals q) ≡ true = λ q has.
+    ap t (sym (negate_negate (at literals q))) ∙ All-contains (λ m. t (negate m) ≡ true) c (f q) all has in
+    let out : AllFalse t (get_or cs k []) = false' t closed (held p (contains_head (f p) (map f low)))
+    (λ j d lj. held (get_or low j d) (contains_tail (f p) (f (get_or low j d)) (map f low) (contains_map f low (get_or low j d) (Contains-get_or low j d lj)))) in
     inl (k, get_or cs k [], lk, read_itself cs k lk, out)
 
-pub learned_from : (t : Trail) (cs : List (List Lit)) (k p i floor : ℕ) (marks : List Bool) (low : List ℕ) →
+pub learned_from : (t : Trail) (cs : List (List Lit)) (k p i floor : ℕ) (low : List ℕ) →
     Based t.literals.items t.reasons.items cs → k < length cs → FalseOn t.literals.items (get_or cs k []) →
     ((i : ℕ) → i < length t.starts.items → AtRest cs (take (get_or t.starts.items i 0) t.literals.items)) →
     length t.starts.items ≡ i + 1 → floor ≡ get_or t.starts.items i 0 →
-    MarksFalse t.literals.items cs marks (get_or cs k []) → OnlyMark marks floor p → p < length t.literals.items → LowListed marks floor low →
-    length marks ≡ length t.literals.items →
+    PlacesFalse t.literals.items cs p low (get_or cs k []) → floor ≤ p → p < length t.literals.items → All (λ q. q < floor) low →
     LearnedFrom cs (decided t.literals.items t.starts.items) (learned_clause t.literals.items p low)
-learned_from t cs k p i floor marks low based lk out rest ls lf false' only lp ok len =
+learned_from t cs k p i floor low based lk out rest ls lf false' le lp lows =
     let tr = t.literals.items in
     let starts = t.starts.items in
     let ds = decided tr starts in
@@ -64,22 +54,22 @@ learned_from t cs k p i floor marks low based lk out rest ls lf false' only lp o
     let reasons = reasoned_from tr t.reasons.items cs based in
     let li : i < length starts = omega arith in
     let lfl : floor < length tr = omega (arith, lf, t.in_trail i li) in
-    let start_le : get_or starts i 0 ≤ p = omega (arith, only.0) in
+    let start_le : get_or starts i 0 ≤ p = omega (arith, le) in
     let m = negate (at tr p) in
     let all_reached : All (λ m. Reaches cs ds (negate m)) c =
     All-cons (λ m. Reaches cs ds (negate m)) m (map (λ r. negate (at tr r)) low)
     (let P : Lit → Type 0 = Reaches cs ds in subst P (sym (negate_negate (at tr p))) (reached_all tr t.reasons.items starts cs reasons t.roots p lp))
     (All-map (λ m. Reaches cs ds (negate m)) (λ r. negate (at tr r)) low (λ j d lj.
     let q = get_or low j d in
-    let lq : q < length tr = omega (arith, (ok.1 j d lj).0) in
+    let lq : q < length tr = omega (arith, lows j d lj) in
     let P : Lit → Type 0 = Reaches cs ds in
     subst P (sym (negate_negate (at tr q))) (reached_all tr t.reasons.items starts cs reasons t.roots q lq))) in
-    let lows : All (λ k. (k ≡ m → ⊥) → Reaches cs (take i ds) (negate k)) c =
+    let below_reached : All (λ k. (k ≡ m → ⊥) → Reaches cs (take i ds) (negate k)) c =
     All-cons (λ k. (k ≡ m → ⊥) → Reaches cs (take i ds) (negate k)) m (map (λ r. negate (at tr r)) low)
     (λ ne. absurd (ne refl))
     (All-map (λ k. (k ≡ m → ⊥) → Reaches cs (take i ds) (negate k)) (λ r. negate (at tr r)) low (λ j d lj ne.
     let q = get_or low j d in
-    let lq : q < floor = (ok.1 j d lj).0 in
+    let lq : q < floor = lows j d lj in
     let P : Lit → Type 0 = Reaches cs (take i ds) in
     subst P (sym (negate_negate (at tr q))) (reached tr t.reasons.items starts cs reasons t.roots t.rising i li floor (omega arith) (omega arith) q lq))) in
     let below = unset_below tr t.places.items starts cs i p t.placed t.rising t.in_trail li (rest i li) start_le lp in (
@@ -87,13 +77,13 @@ learned_from t cs k p i floor marks low based lk out rest ls lf false' only lp o
       omega (arith, decided_length tr starts),
       decisions_open tr t.places.items starts cs t.placed t.rising t.in_trail rest,
       conflicting tr t.reasons.items starts cs k reasons t.roots lk out,
-      learned_follows tr cs marks k c lk false' (has_marked tr marks floor p low len only ok),
+      learned_follows tr cs k p low lk false',
       all_reached,
       (
         m,
         contains_head m (map (λ r. negate (at tr r)) low),
         (below m refl, below (negate m) refl),
-        lows,
+        below_reached,
       ),
     )
 

@@ -7,3 +7,4 @@ pub mod Marking
 pub mod Origins
 pub mod Reasons
 pub mod Results
+pub mod Shortening

@@ -1,12 +1,13 @@
 -- What the search keeps, and what it does to the clauses.
-use Rattle.std.specs.Prelude.{◌≡◌, ℕ, ◌+◌, ◌<◌, ◌≤◌, ◌⊎◌, Bool, true, false, List, [], ◌∷◌, ◌++◌, length, take, map, suc, slice_index, slice_index_or, Contains, All}
+use Rattle.std.specs.Prelude.{◌≡◌, ℕ, ◌+◌, ◌-◌, ◌<◌, ◌≤◌, ◌⊎◌, Bool, true, false, List, [], ◌∷◌, ◌++◌, length, take, map, suc, slice_index, slice_index_or, Contains, All}
 use Rattle.clause_core.specs.declared.literal.Lit.{Lit}
 use Rattle.clause_core.specs.Literals.{negate, at, Within}
 use Rattle.clause_core.specs.Propagation.{AllFalse, Closed, HasConflict, Follows, Settled}
 use Rattle.sat_core.specs.Positions.{Marked}
 use Rattle.clause_core.specs.Propagation.{Holds, Reaches, Conflicting, DecisionsOpen}
 use Rattle.clause_core.specs.Learning.{Asserting}
-use Rattle.sat_prop.specs.Trails.{is_literal, among, AtRest}
+use Rattle.sat_prop.specs.declared.trail.Trail.{Trail}
+use Rattle.sat_prop.specs.Trails.{is_literal, among, reason_at, AtRest}
 use Rattle.sat_core.specs.Queries.{IsLearned, IsSound, given_of, learned_of, state_of}
 
 -- the decisions of the trail
@@ -45,6 +46,31 @@ Level cs assumptions low l =
 abbrev pub MarksFalse : List Lit → List (List Lit) → List Bool → List Lit → Type 0
 MarksFalse trail cs marks c =
     (t : Lit → Bool) → Closed t cs → ((q : ℕ) → q < length trail → Marked marks q → t (at trail q) ≡ true) → AllFalse t c
+
+-- the literal at p and those at the places in low propagate to make the clause false
+abbrev pub PlacesFalse : List Lit → List (List Lit) → ℕ → List ℕ → List Lit → Type 0
+PlacesFalse trail cs p low c =
+    (t : Lit → Bool) → Closed t cs → t (at trail p) ≡ true → All (λ q. t (at trail q) ≡ true) low → AllFalse t c
+
+-- the literal at p and those at the places in low propagate to all marked literals
+abbrev pub Recovers : List Lit → List (List Lit) → List Bool → ℕ → List ℕ → Type 0
+Recovers trail cs marks p low =
+    (t : Lit → Bool) → Closed t cs → t (at trail p) ≡ true → All (λ q. t (at trail q) ≡ true) low →
+    (q : ℕ) → q < length trail → Marked marks q → t (at trail q) ≡ true
+
+-- the literal at q stands before all decisions, which begin at `first`; or a clause forced it whose other
+-- literals stand at marked places
+abbrev pub Implied : Trail → List (List Lit) → List Bool → ℕ → ℕ → Type 0
+Implied t cs marks first q =
+    (q < first)
+    ⊎ ((0 < reason_at t.literals.items t.reasons.items q)
+    × All (λ m. (slice_index t.places.items m.var ≡ q → ⊥) → Marked marks (slice_index t.places.items m.var))
+    (slice_index_or cs (reason_at t.literals.items t.reasons.items q - 1) []))
+
+-- what was marked still is, and what is newly marked is implied by what is marked
+abbrev pub MarksImplied : Trail → List (List Lit) → ℕ → List Bool → List Bool → Type 0
+MarksImplied t cs first old new =
+    ((r : ℕ) → Marked old r → Marked new r) × ((r : ℕ) → Marked new r → Marked old r ⊎ Implied t cs new first r)
 
 -- low lists the marked places below floor
 abbrev pub LowListed : List Bool → ℕ → List ℕ → Type 0

@@ -6,6 +6,7 @@ ghost use Rattle.sat_core.specs.Searching.{learned_clause, LearnedFrom, decided,
 
 use crate::marks::resolve;
 use crate::order::Order;
+use crate::shorten::shorten;
 use clause_core::Lit;
 use sat_prop::Propagator;
 use std::alloc::{AllocError, Global};
@@ -91,9 +92,10 @@ fn analyze<P: Propagator>(
     let mut marks = vec![in alloc; false; trail.literals.len()]?;
     let mut low = Vec::new(alloc);
     let p = resolve(inner, inner.clause(k), floor, &mut marks, &mut low, order)?;
-    let clause = clause_of(alloc, &trail.literals, p, &low)?;
-    let best = greatest(&low);
-    let level = jump_level(&trail.starts, &low, best, !order.restarts());
+    let kept = shorten(alloc, inner, p, floor, &mut marks, &low)?;
+    let clause = clause_of(alloc, &trail.literals, p, &kept)?;
+    let best = greatest(&kept);
+    let level = jump_level(&trail.starts, &kept, best, !order.restarts());
     Ok(Lesson {
         clause,
         level,

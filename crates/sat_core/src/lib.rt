@@ -8,6 +8,7 @@ mod marks;
 mod order;
 mod query;
 mod search;
+mod shorten;
 mod solver;
 #[cfg(test)]
 mod tests;

@@ -178,6 +178,51 @@ fn pigeons_fit_where_there_are_holes(rt: HostRuntime) -> Result<(), Fail> {
     Ok(())
 }
 
+// The clauses of a formula in the DIMACS format, without its header.
+fn formula(alloc: Global, text: &str) -> Result<Clauses, Fail> {
+    let mut list = Clauses::new(alloc);
+    let mut clause = Vec::new(alloc);
+    for word in text.split_whitespace() {
+        let number = word.parse::<i32>()?;
+        match number.unsigned_abs().checked_sub(1) {
+            Some(var) => clause.push(Lit::new(var as usize, number > 0))?,
+            None => {
+                list.push(&clause)?;
+                clause.clear();
+            }
+        }
+    }
+    Ok(list)
+}
+
+// The six variables are the edges of a complete graph of four nodes. Each node has an odd number of true edges; or
+// all but one have, which can't be, as each edge is counted twice (Tseitin 1968).
+const ODD: &str = "1 2 3 0 1 -2 -3 0 -1 2 -3 0 -1 -2 3 0 3 4 5 0 3 -4 -5 0 -3 4 -5 0 -3 -4 5 0 \
+    5 6 1 0 5 -6 -1 0 -5 6 -1 0 -5 -6 1 0 2 4 6 0 2 -4 -6 0 -2 4 -6 0 -2 -4 6 0";
+
+const ONE_EVEN: &str =
+    "1 2 3 0 1 -2 -3 0 -1 2 -3 0 -1 -2 3 0 3 4 5 0 3 -4 -5 0 -3 4 -5 0 -3 -4 5 0 \
+    5 6 1 0 5 -6 -1 0 -5 6 -1 0 -5 -6 1 0 2 4 -6 0 2 -4 6 0 -2 4 6 0 -2 -4 -6 0";
+
+#[test]
+fn known_formulas_at_each_budget(rt: HostRuntime) -> Result<(), Fail> {
+    let alloc = rt.alloc();
+    for (text, budget, want) in [
+        (ODD, 0, 'x'),
+        (ODD, 1000, 's'),
+        (ONE_EVEN, 0, 'x'),
+        (ONE_EVEN, 1, 'x'),
+        (ONE_EVEN, 4, 'x'),
+        (ONE_EVEN, 1000, 'u'),
+    ] {
+        let list = formula(alloc, text)?;
+        let scanned = answer_to::<Scan>(&rt, alloc, 6, &list, &[], budget)?;
+        let watched = answer_to::<Watched>(&rt, alloc, 6, &list, &[], budget)?;
+        assert_eq!(rt; (scanned.0, watched.0), (want, want));
+    }
+    Ok(())
+}
+
 #[test]
 fn a_solver_is_asked_again(rt: HostRuntime) -> Result<(), Fail> {
     let alloc = rt.alloc();

@@ -1,7 +1,8 @@
-use Rattle.std.proofs.Common.{◌≡◌, ℕ, ◌<◌, ◌≤◌, ◌-◌, true, false, List, [], ◌∷◌, ◌++◌, length, take, get_or, sym, subst, ◌∙◌, inl, inr, arith, length-append}
+use Rattle.std.proofs.Common.{◌≡◌, ℕ, ◌<◌, ◌≤◌, eqb, true, false, List, [], ◌∷◌, ◌++◌, length, take, get_or, set, refl, sym, subst, ap, ◌∙◌, inl, inr, arith, length-append, length-set}
+use Rattle.std.specs.List.{list_any}
 use Rattle.std.proofs.Math.Seq.{get_or-append_seam}
-use Rattle.std.proofs.lemmas.Bool.{cases_eq, cases_lt, both_ways}
-use Rattle.std.proofs.lemmas.List.{take-take, take_all, take-append-le, get_or_append_left, length-take, get_or-take}
+use Rattle.std.proofs.lemmas.Bool.{cases_Bool, cases_lt, both_ways}
+use Rattle.std.proofs.lemmas.List.{take-take, take_all, take-append-le, get_or_append_left, length-take, length-map, get_or-take}
 use Rattle.clause_core.specs.declared.literal.Lit.{Lit}
 use Rattle.std.proofs.lemmas.List.Elements.{All-contains}
 use Rattle.clause_core.specs.Literals.{negate, none_lit, at, Within}
@@ -10,9 +11,13 @@ use Rattle.sat_prop.specs.declared.trail.Trail.{Trail}
 use Rattle.sat_prop.specs.declared.watch.Watches.{Watches}
 use Rattle.sat_prop.specs.Trails.{is_literal, among}
 use Rattle.sat_prop.specs.Watches.{none_watches, watches_at, TrueIn, Guarded, HasTwo, AllGuarded, HasOneLiteral, ShortListed, ShortTrue, LevelsGuarded, WatchesIn, AllWatchesIn, InShort, Listed, AllListed, ListsMore, ShortMore, Enlisted, Watchable, WatchesSay, cell}
-use Rattle.sat_prop.proofs.Ways.{among_take_where, among_where, among_here}
+use Rattle.sat_prop.proofs.Ways.{among_take_where, among_take_here, among_where, among_here}
 use Rattle.sat_prop.proofs.Queues.{take_in}
-use Rattle.sat_prop.proofs.Watching.{watch_grows}
+use Rattle.sat_prop.proofs.Watching.{watch_grows, list_at}
+use Rattle.sat_prop.proofs.Visits.{cell_now, listed_push}
+use Rattle.sat_prop.specs.declared.lists.Entry.{Entry}
+use Rattle.sat_prop.specs.Entries.{AllEntries, fits, listed_with, numbers, numbers_of}
+use Rattle.sat_prop.proofs.Listing.{entries_both, entries_more, fits_new, length_both, numbers_push}
 
 -- a fact of each clause and its watches, with one clause more
 pub per_new : (R : ℕ → Watches → List Lit → Type 0) (cs : List (List Lit)) (watches : List Watches) (c : List Lit) (h : Watches) → length watches ≡ length cs →
@@ -50,6 +55,73 @@ lists_new cs watches lists lists' short c h len ok more new k lk =
     (λ j lj big. let o = ok j (omega (arith, lj, len)) big in (more (cell (watches_at watches j).a) j o.0, more (cell (watches_at watches j).b) j o.1))
     new.0 k (omega (arith, lk, len, length-append cs (c ∷ []), length-append watches (h ∷ [])))
 
+-- a clause at the end of the lists of its two watches
+pub listed_new : (lists : List (List ℕ)) (n k : ℕ) → n < length lists → Listed (set lists n (get_or lists n [] ++ k ∷ [])) n k
+listed_new lists n k lt =
+    let xs = get_or lists n [] in
+    let Q : List ℕ → Type 0 = λ v. list_any (λ y. eqb y k) v ≡ true in
+    subst Q (sym (cell_now lists n (xs ++ k ∷ []) lt)) (list_at (xs ++ k ∷ []) k (length xs) (omega (arith, length-append xs (k ∷ []))) (get_or-append_seam xs k [] 0))
+
+pub listed_both : (lists new : List (List Entry)) (h : Watches) (k : ℕ) → cell h.a < length lists → cell h.b < length lists → new ≡ listed_with lists h k →
+    ListsMore (numbers_of lists) (numbers_of new) × (Listed (numbers_of new) (cell h.a) k × Listed (numbers_of new) (cell h.b) k)
+listed_both lists new h k la lb same =
+    let a = cell h.a in
+    let b = cell h.b in
+    let one : Entry = record { clause = k; other = h.b } in
+    let two : Entry = record { clause = k; other = h.a } in
+    let first = set lists a (get_or lists a [] ++ one ∷ []) in
+    let N = numbers_of lists in
+    let M = numbers_of first in
+    let em : M ≡ set N a (get_or N a [] ++ k ∷ []) = numbers_push lists first a one refl in
+    let en : numbers_of new ≡ set M b (get_or M b [] ++ k ∷ []) = numbers_push first new b two same in
+    let na : a < length N = omega (arith, la, length-map lists numbers) in
+    let mb : b < length M = omega (arith, lb, length-map first numbers, length-set lists a (get_or lists a [] ++ one ∷ [])) in
+    let up : (n j : ℕ) → Listed N n j → Listed M n j = λ n j l. let P : List (List ℕ) → Type 0 = λ v. Listed v n j in subst P (sym em) (listed_push N a k n j na l) in
+    let on : (n j : ℕ) → Listed M n j → Listed (numbers_of new) n j = λ n j l. let P : List (List ℕ) → Type 0 = λ v. Listed v n j in subst P (sym en) (listed_push M b k n j mb l) in
+    let P : List (List ℕ) → Type 0 = λ v. Listed v a k in
+    let Q : List (List ℕ) → Type 0 = λ v. Listed v b k in
+    (λ n j l. on n j (up n j l), (on a k (subst P (sym em) (listed_new N a k na)), subst Q (sym en) (listed_new M b k mb)))
+
+-- the lists after a clause was put where it is to be found
+pub enlisted : (lists new : List (List Entry)) (short : List ℕ) (h : Watches) (k : ℕ) → (is_literal h.a h.b ≡ false → cell h.a < length lists) → (is_literal h.a h.b ≡ false → cell h.b < length lists) →
+    (is_literal h.a h.b ≡ true → new ≡ lists) → (HasTwo h → new ≡ listed_with lists h k) → (is_literal h.a h.b ≡ true → InShort short k) →
+    ListsMore (numbers_of lists) (numbers_of new) × Enlisted (numbers_of new) short h k
+enlisted lists new short h k la lb same both in_short = (
+  elim (cases_Bool (is_literal h.a h.b)) [
+    | inl on ↦ λ n j l. let P : List (List Entry) → Type 0 = λ v. Listed (numbers_of v) n j in subst P (sym (same on)) l
+    | inr off ↦ (listed_both lists new h k (la off) (lb off) (both off)).0
+  ],
+  (λ off. (listed_both lists new h k (la off) (lb off) (both off)).1, in_short),
+)
+
+-- the entries after a clause was put where it is to be found
+pub entries_new : (cs : List (List Lit)) (c : List Lit) (lists new : List (List Entry)) (h : Watches) → (is_literal h.a h.b ≡ false → cell h.a < length lists) → (is_literal h.a h.b ≡ false → cell h.b < length lists) →
+    (is_literal h.a h.b ≡ true → new ≡ lists) → (HasTwo h → new ≡ listed_with lists h (length cs)) → (HasTwo h → WatchesIn h c) → AllEntries (fits cs) lists →
+    AllEntries (fits (cs ++ c ∷ [])) new
+entries_new cs c lists new h la lb same both two fit =
+    let more : AllEntries (fits (cs ++ c ∷ [])) lists = entries_more cs (c ∷ []) lists fit in
+    let P : List (List Entry) → Type 0 = AllEntries (fits (cs ++ c ∷ [])) in
+    elim (cases_Bool (is_literal h.a h.b)) [
+      | inl on ↦ subst P (sym (same on)) more
+      | inr off ↦ entries_both (fits (cs ++ c ∷ [])) lists new h (length cs) (la off) (lb off) (both off) more (fits_new cs c h.b (two off).1) (fits_new cs c h.a (two off).0)
+    ]
+
+pub enlisted_length : (lists new : List (List Entry)) (h : Watches) (k : ℕ) → (is_literal h.a h.b ≡ true → new ≡ lists) → (HasTwo h → new ≡ listed_with lists h k) → length new ≡ length lists
+enlisted_length lists new h k same both =
+    elim (cases_Bool (is_literal h.a h.b)) [
+      | inl on ↦ ap length (same on)
+      | inr off ↦ length_both lists new h k (both off)
+    ]
+
+-- what was put into the lists is taken out again
+pub delisted : (lists mid last : List (List Entry)) (h : Watches) (k : ℕ) → (is_literal h.a h.b ≡ true → mid ≡ lists) → (HasTwo h → mid ≡ listed_with lists h k) →
+    (is_literal h.a h.b ≡ true → last ≡ mid) → (HasTwo h → (before : List (List Entry)) (j : ℕ) → length before ≡ length mid → mid ≡ listed_with before h j → last ≡ before) → last ≡ lists
+delisted lists mid last h k same both kept back =
+    elim (cases_Bool (is_literal h.a h.b)) [
+      | inl on ↦ kept on ∙ same on
+      | inr off ↦ back off lists k (sym (length_both lists mid h k (both off))) (both off)
+    ]
+
 pub small_new : (cs : List (List Lit)) (watches : List Watches) (lists' : List (List ℕ)) (short short' : List ℕ) (c : List Lit) (h : Watches) → length watches ≡ length cs → ShortListed cs watches short →
     ShortMore short short' → Enlisted lists' short' h (length cs) → (is_literal h.a h.b ≡ true → HasOneLiteral c) → ShortListed (cs ++ c ∷ []) (watches ++ h ∷ []) short'
 small_new cs watches lists' short short' c h len ok more new one =
@@ -57,10 +129,11 @@ small_new cs watches lists' short short' c h len ok more new one =
     (λ j lj e. let o = ok j lj e in (o.0, more j o.1)) (λ e. (one e, new.1 e))
 
 -- the levels with a clause more
-pub watch_new : (cs : List (List Lit)) (watches : List Watches) (c : List Lit) (h : Watches) (s u : List Lit) → length watches ≡ length cs → among s (negate h.a) ≡ false → among s (negate h.b) ≡ false →
+pub watch_new : (cs : List (List Lit)) (watches : List Watches) (c : List Lit) (h : Watches) (s u : List Lit) → length watches ≡ length cs →
+    (HasTwo h → among s (negate h.a) ≡ false) → (HasTwo h → among s (negate h.b) ≡ false) →
     AllGuarded cs watches s u → AllGuarded (cs ++ c ∷ []) (watches ++ h ∷ []) s u
 watch_new cs watches c h s u len fa fb old =
-    per_new (λ k x y. HasTwo x → Guarded s u x y) cs watches c h len old (λ _. (λ on. absurd (both_ways _ fa on), λ on. absurd (both_ways _ fb on)))
+    per_new (λ k x y. HasTwo x → Guarded s u x y) cs watches c h len old (λ two. (λ on. absurd (both_ways _ (fa two) on), λ on. absurd (both_ways _ (fb two) on)))
 
 pub levels_new : (cs : List (List Lit)) (watches : List Watches) (c : List Lit) (w : ℕ) (h : Watches) (literals : List Lit) (starts : List ℕ) → length watches ≡ length cs → WatchesSay c w h →
     Watchable literals starts c w → LevelsGuarded cs watches literals starts → LevelsGuarded (cs ++ c ∷ []) (watches ++ h ∷ []) literals starts
@@ -74,31 +147,46 @@ levels_new cs watches c w h literals starts len said can old i li =
     let E : Lit → Type 0 = λ x. is_literal x (at c w) ≡ false in
     let F : Lit → Type 0 = λ x. is_literal h.a x ≡ false in
     let apart : is_literal h.a h.b ≡ false = subst F (sym e.1) (subst E (sym e.0) f.1) in (
-      watch_new cs watches c h s s len (subst A (sym e.0) f.2) (subst A (sym e.1) f.3) o.0,
+      watch_new cs watches c h s s len (λ _. subst A (sym e.0) f.2) (λ _. subst A (sym e.1) f.3) o.0,
       per_new (λ k x y. is_literal x.a x.b ≡ true → TrueIn s y) cs watches c h len o.1 (λ on. absurd (both_ways _ apart on)),
     )
 
-pub nothing_on : (cs : List (List Lit)) (watches : List Watches) (literals u : List Lit) → AllGuarded cs watches (take 0 literals) u
-nothing_on cs watches literals u k lk big =
-    let off : (l : Lit) → among (take 0 literals) l ≡ true → ⊥ = λ l on. let h = among_take_where literals 0 l (omega arith) on in omega (arith, h.1) in
-    (λ on. absurd (off (negate (watches_at watches k).a) on), λ on. absurd (off (negate (watches_at watches k).b) on))
-
--- the queue from the last boundary on
-pub bottom_queue : (cs : List (List Lit)) (watches : List Watches) (t : Trail) (n : ℕ) → (length t.starts.items ≡ 0 → n ≡ 0) → (0 < length t.starts.items → n ≡ get_or t.starts.items (length t.starts.items - 1) 0) →
-    LevelsGuarded cs watches t.literals.items t.starts.items → (n ≤ length t.literals.items) × AllGuarded cs watches (take n t.literals.items) t.literals.items
-bottom_queue cs watches t n none some levels =
-    let literals = t.literals.items in
-    let R : ℕ → Type 0 = λ m. (m ≤ length literals) × AllGuarded cs watches (take m literals) literals in
-    elim (cases_eq (length t.starts.items) 0) [
-      | inl z ↦ let here : R 0 = (omega arith, nothing_on cs watches literals literals) in subst R (sym (none z)) here
-      | inr nz ↦
-          let j = length t.starts.items - 1 in
-          let lj : j < length t.starts.items = omega (arith, nz) in
-          let s = get_or t.starts.items j 0 in
-          let le : s ≤ length literals = omega (arith, t.in_trail j lj) in
-          let here : R s = (le, watch_grows cs watches (take s literals) (take s literals) literals (λ l on. take_in literals s l le on) (levels j lj).0) in
-          subst R (sym (some (omega (arith, nz)))) here
+-- a literal that stands negated at its place is not false before it
+pub not_before : (t : Trail) (l : Lit) (n : ℕ) → n ≤ length t.literals.items → n ≤ get_or t.places.items l.var 0 → among (take n t.literals.items) (negate l) ≡ false
+not_before t l n le below =
+    elim (cases_Bool (among (take n t.literals.items) (negate l))) [
+      | inl on ↦
+          let h = among_take_where t.literals.items n (negate l) le on in
+          let here : get_or t.places.items l.var 0 ≡ h.0 = ap (λ (m : Lit). get_or t.places.items m.var 0) (sym h.2) ∙ t.placed h.0 (omega (arith, h.1, le)) in
+          absurd (omega (arith, h.1, here, below))
+      | inr off ↦ off
     ]
+
+-- a literal that is not set is not set before any place
+pub not_in_take : (tr : List Lit) (m : Lit) (n : ℕ) → n ≤ length tr → among tr m ≡ false → among (take n tr) m ≡ false
+not_in_take tr m n le off =
+    elim (cases_Bool (among (take n tr) m)) [
+      | inl on ↦ absurd (both_ways _ off (take_in tr n m le on))
+      | inr no_more ↦ no_more
+    ]
+
+pub take_more : (tr : List Lit) (m n : ℕ) (l : Lit) → m ≤ n → n ≤ length tr → among (take m tr) l ≡ true → among (take n tr) l ≡ true
+take_more tr m n l le ln on =
+    let h = among_take_where tr m l (omega arith) on in among_take_here tr n h.0 l ln (omega (arith, h.1)) h.2
+
+pub not_in_less : (tr : List Lit) (m n : ℕ) (l : Lit) → m ≤ n → n ≤ length tr → among (take n tr) l ≡ false → among (take m tr) l ≡ false
+not_in_less tr m n l le ln off =
+    elim (cases_Bool (among (take m tr) l)) [
+      | inl on ↦ absurd (both_ways _ off (take_more tr m n l le ln on))
+      | inr no_more ↦ no_more
+    ]
+
+-- what is guarded up to a place is guarded up to an earlier one
+pub queue_less : (cs : List (List Lit)) (watches : List Watches) (tr : List Lit) (m n : ℕ) → m ≤ n → n ≤ length tr → AllGuarded cs watches (take n tr) tr →
+    AllGuarded cs watches (take m tr) tr
+queue_less cs watches tr m n le ln ok k lk two =
+    let old = ok k lk two in
+    (λ on. old.0 (take_more tr m n _ le ln on), λ on. old.1 (take_more tr m n _ le ln on))
 
 -- a decision: what was at rest is a boundary
 pub levels_decide : (cs : List (List Lit)) (watches : List Watches) (t : Trail) (l : Lit) → AllGuarded cs watches t.literals.items t.literals.items → ShortTrue cs watches t.literals.items →

@@ -1,13 +1,27 @@
-use Rattle.std.proofs.Common.{◌≡◌, ℕ, ◌<◌, List, [], length, get_or, set, map, sym, ap, ◌∙◌, Vec, Global}
-use Rattle.std.proofs.lemmas.List.{get_or-map, map-set}
+use Rattle.std.proofs.Common.{◌≡◌, ℕ, ◌<◌, Bool, List, [], length, get_or, set, map, sym, ap, ◌∙◌, inl, inr, arith, Vec, Global}
+use Rattle.std.specs.List.{All}
+use Rattle.std.proofs.lemmas.Bool.{cases_lt}
+use Rattle.std.proofs.lemmas.List.{get_or-map, get_or_past, map-set}
+use Rattle.std.proofs.lemmas.List.Elements.{All-get_or}
+use Rattle.sat_prop.specs.declared.lists.Entry.{Entry}
+use Rattle.sat_prop.specs.Entries.{AllEntries}
 
-abbrev pub items_of : Vec ℕ Global → List ℕ
+abbrev pub items_of : Vec Entry Global → List Entry
 items_of v = v.items
 
-pub cell_read : (cells : List (Vec ℕ Global)) (c : ℕ) (x : Vec ℕ Global) → c < length cells → x ≡ get_or cells c x →
+pub cell_read : (cells : List (Vec Entry Global)) (c : ℕ) (x : Vec Entry Global) → c < length cells → x ≡ get_or cells c x →
     x.items ≡ get_or (map items_of cells) c []
 cell_read cells c x lt e = ap items_of e ∙ sym (get_or-map items_of cells c x [] lt)
 
-pub cell_set : (cells : List (Vec ℕ Global)) (c : ℕ) (y : Vec ℕ Global) (ys : List ℕ) → y.items ≡ ys →
+pub cell_set : (cells : List (Vec Entry Global)) (c : ℕ) (y : Vec Entry Global) (ys : List Entry) → y.items ≡ ys →
     map items_of (set cells c y) ≡ set (map items_of cells) c ys
 cell_set cells c y ys e = map-set items_of cells c y ∙ ap (set (map items_of cells) c) e
+
+-- empty lists have no entry that could fail a test
+pub empties_pass : (p : Entry → Bool) (lists : List (List Entry)) → All (λ xs. xs ≡ []) lists → AllEntries p lists
+empties_pass p lists none n k d lt =
+    let here : get_or lists n [] ≡ [] = elim (cases_lt n (length lists)) [
+      | inl l ↦ All-get_or (λ xs. xs ≡ []) lists n [] l none
+      | inr ge ↦ get_or_past lists n [] ge
+    ] in
+    absurd (omega (arith, lt, ap length here))

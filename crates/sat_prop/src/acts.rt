@@ -2,7 +2,8 @@ ghost use Rattle.std.specs.Prelude.{◌+◌, ◌-◌, ◌*◌, ◌^◌, [], ◌�
 ghost use Rattle.clause_core.specs.Literals.{Within, negate};
 ghost use Rattle.unit_propagation.specs.Values.{holds, unset};
 ghost use Rattle.sat_prop.specs.Trails.{Based, among};
-ghost use Rattle.sat_prop.specs.Watches.{AllWatchesIn, AllListed, AllGuarded, ShortListed, ShortTrue, LevelsGuarded, Watchable};
+ghost use Rattle.sat_prop.specs.Entries.{AllEntries, fits, numbers_of};
+ghost use Rattle.sat_prop.specs.Watches.{AllWatchesIn, AllListed, AllGuarded, ShortListed, ShortTrue, LevelsGuarded, Watchable, HasTwo};
 
 use crate::attach::{attach, watches_of};
 use crate::lists::WatchLists;
@@ -10,20 +11,42 @@ use crate::trail::Trail;
 use crate::watch::Watches;
 use clause_core::{Clauses, Lit};
 use std::alloc::AllocError;
+use unit_propagation::is_false;
 
-// Where the last level starts.
-fn bottom(starts: &[usize]) -> usize
-    ensures none { length starts.now ≡ 0 → result ≡ 0 }
-    ensures some { 0 < length starts.now → result ≡ slice_index starts.now (length starts.now - 1) }
+// The last place up to n before which the literal is not false.
+fn open_until(trail: &Trail, l: Lit, n: usize) -> usize
+    requires in_range { l.var < length trail.now.values.items }
+    requires low { n ≤ length trail.now.literals.items }
+    ensures low { result ≤ n }
+    ensures open { among (take result trail.now.literals.items) (negate l) ≡ false }
 {
-    if starts.len() == 0 {
-        0
-    } else {
-        starts[starts.len() - 1]
+    if is_false(&trail.values, l) {
+        let q = trail.places[l.var];
+        if q < n {
+            return q;
+        }
     }
+    n
 }
 
-// Adds a clause whose watches are its first literal and that at w. The queue begins again at the last decision.
+// The last place up to n before which no watch is false, where there are two.
+fn head_for(trail: &Trail, h: Watches, n: usize) -> usize
+    requires a_in { HasTwo h → h.a.var < length trail.now.values.items }
+    requires b_in { HasTwo h → h.b.var < length trail.now.values.items }
+    requires low { n ≤ length trail.now.literals.items }
+    ensures low { result ≤ n }
+    ensures open_a { HasTwo h → among (take result trail.now.literals.items) (negate h.a) ≡ false }
+    ensures open_b { HasTwo h → among (take result trail.now.literals.items) (negate h.b) ≡ false }
+{
+    if h.a.is_same(h.b) {
+        return n;
+    }
+    let m = open_until(trail, h.a, n);
+    open_until(trail, h.b, m)
+}
+
+// Adds a clause whose watches are its first literal and that at w. The queue begins
+// again where one of these is false.
 pub fn learn_on(
     clauses: &mut Clauses,
     trail: &Trail,
@@ -41,8 +64,9 @@ pub fn learn_on(
     requires room { 2 * length trail.now.values.items < 2 ^ 64 }
     requires watches_len { length watches.old.items ≡ length clauses.old }
     requires watches_in { AllWatchesIn clauses.old watches.old.items }
-    requires all_listed { AllListed watches.old.items lists.old }
+    requires all_listed { AllListed watches.old.items (numbers_of lists.old) }
     requires cells { length lists.old ≡ 2 * length trail.now.values.items }
+    requires fit { AllEntries (fits clauses.old) lists.old }
     requires short_listed { ShortListed clauses.old watches.old.items short.old.items }
     requires low { head.old ≤ length trail.now.literals.items }
     requires queue { AllGuarded clauses.old watches.old.items (take head.old trail.now.literals.items) trail.now.literals.items }
@@ -51,8 +75,9 @@ pub fn learn_on(
     ensures within_in { All (Within (length trail.now.values.items)) clauses.new }
     ensures watches_len { length watches.new.items ≡ length clauses.new }
     ensures watches_in { AllWatchesIn clauses.new watches.new.items }
-    ensures all_listed { AllListed watches.new.items lists.new }
+    ensures all_listed { AllListed watches.new.items (numbers_of lists.new) }
     ensures cells { length lists.new ≡ 2 * length trail.now.values.items }
+    ensures fit { AllEntries (fits clauses.new) lists.new }
     ensures short_listed { ShortListed clauses.new watches.new.items short.new.items }
     ensures low { head.new ≤ length trail.now.literals.items }
     ensures queue { AllGuarded clauses.new watches.new.items (take head.new trail.now.literals.items) trail.now.literals.items }
@@ -61,7 +86,7 @@ pub fn learn_on(
     ensures failed { OnErr result (clauses.new ≡ clauses.old) }
 {
     let h = watches_of(c, w);
-    let n = bottom(&trail.starts);
+    let n = head_for(trail, h, *head);
     attach(clauses, watches, lists, short, c, h)?;
     *head = n;
     Ok(())

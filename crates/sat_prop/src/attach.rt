@@ -1,9 +1,11 @@
 ghost use Rattle.std.specs.Prelude.{◌+◌, ◌-◌, ◌*◌, ◌^◌, [], ◌∷◌, ◌≡◌, ◌<◌, ◌≤◌, ℕ, ◌++◌, true, false, IfOk, OnOk, OnErr, length, take, All, List, slice_set, slice_index, slice_index_or, MatchOption};
 ghost use Rattle.clause_core.specs.Literals.{Within, negate};
-ghost use Rattle.sat_prop.specs.Watches.{AllWatchesIn, WatchesIn, AllListed, ShortListed, WatchesSay, ListsMore, ShortMore, Enlisted, HasTwo, HasOneLiteral, cell};
+ghost use Rattle.sat_prop.specs.Entries.{AllEntries, fits, listed_with, numbers_of};
+ghost use Rattle.sat_prop.specs.declared.lists.Entry.{Entry};
+ghost use Rattle.sat_prop.specs.Watches.{AllWatchesIn, WatchesIn, AllListed, ShortListed, WatchesSay, ShortMore, InShort, HasTwo, HasOneLiteral, cell};
 ghost use Rattle.sat_prop.specs.Trails.{is_literal};
 
-use crate::lists::WatchLists;
+use crate::lists::{Entry, WatchLists};
 use crate::watch::{Watches, cell_of};
 use clause_core::{Clauses, Lit};
 use std::alloc::AllocError;
@@ -37,7 +39,45 @@ fn pair_of(c: &[Lit]) -> Watches
     Watches { a: none, b: none }
 }
 
-// Notes where clause k is to be found.
+// Puts clause k into the lists of its two watches. After want of memory these are as before.
+fn list_both(lists: &mut WatchLists, h: Watches, k: usize) -> Result<(), AllocError>
+    requires a_in { 2 * h.a.var + 1 < 2 ^ 64 }
+    requires b_in { 2 * h.b.var + 1 < 2 ^ 64 }
+    requires a_cell { cell h.a < length lists.old }
+    requires b_cell { cell h.b < length lists.old }
+    ensures done { OnOk result (lists.new ≡ listed_with lists.old h k) }
+    ensures failed { OnErr result (lists.new ≡ lists.old) }
+{
+    let a = cell_of(h.a);
+    let first = Entry {
+        clause: k,
+        other: h.b,
+    };
+    let second = Entry {
+        clause: k,
+        other: h.a,
+    };
+    lists.push(a, first)?;
+    if let Err(e) = lists.push(cell_of(h.b), second) {
+        lists.pop(a);
+        return Err(e);
+    }
+    Ok(())
+}
+
+// Takes a clause out of the lists again, where it came last.
+fn unlist_both(lists: &mut WatchLists, h: Watches)
+    requires a_in { 2 * h.a.var + 1 < 2 ^ 64 }
+    requires b_in { 2 * h.b.var + 1 < 2 ^ 64 }
+    requires a_cell { cell h.a < length lists.old }
+    requires b_cell { cell h.b < length lists.old }
+    ensures { (before : List (List Entry)) (k : ℕ) → length before ≡ length lists.old → lists.old ≡ listed_with before h k → lists.new ≡ before }
+{
+    lists.pop(cell_of(h.b));
+    lists.pop(cell_of(h.a));
+}
+
+// Notes where clause k is to be found. After want of memory the lists are as before.
 fn enlist(
     lists: &mut WatchLists,
     short: &mut Vec<usize>,
@@ -48,18 +88,32 @@ fn enlist(
     requires b_in { is_literal h.a h.b ≡ false → 2 * h.b.var + 1 < 2 ^ 64 }
     requires a_cell { is_literal h.a h.b ≡ false → cell h.a < length lists.old }
     requires b_cell { is_literal h.a h.b ≡ false → cell h.b < length lists.old }
-    ensures cells { length lists.new ≡ length lists.old }
-    ensures lists { ListsMore lists.old lists.new }
+    ensures same { is_literal h.a h.b ≡ true → lists.new ≡ lists.old }
+    ensures both { OnOk result (HasTwo h → lists.new ≡ listed_with lists.old h k) }
+    ensures failed { OnErr result (lists.new ≡ lists.old) }
     ensures short { ShortMore short.old.items short.new.items }
-    ensures done { OnOk result (Enlisted lists.new short.new.items h k) }
+    ensures short_done { OnOk result (is_literal h.a h.b ≡ true → InShort short.new.items k) }
 {
     if h.a.is_same(h.b) {
         short.push(k)?;
+        Ok(())
     } else {
-        lists.push(cell_of(h.a), k)?;
-        lists.push(cell_of(h.b), k)?;
+        list_both(lists, h, k)
     }
-    Ok(())
+}
+
+// Takes a clause out of the lists again, where it came last.
+fn delist(lists: &mut WatchLists, h: Watches)
+    requires a_in { is_literal h.a h.b ≡ false → 2 * h.a.var + 1 < 2 ^ 64 }
+    requires b_in { is_literal h.a h.b ≡ false → 2 * h.b.var + 1 < 2 ^ 64 }
+    requires a_cell { is_literal h.a h.b ≡ false → cell h.a < length lists.old }
+    requires b_cell { is_literal h.a h.b ≡ false → cell h.b < length lists.old }
+    ensures same { is_literal h.a h.b ≡ true → lists.new ≡ lists.old }
+    ensures undone { HasTwo h → (before : List (List Entry)) (k : ℕ) → length before ≡ length lists.old → lists.old ≡ listed_with before h k → lists.new ≡ before }
+{
+    if !h.a.is_same(h.b) {
+        unlist_both(lists, h);
+    }
 }
 
 // Adds a clause with its watches.
@@ -79,12 +133,14 @@ pub fn attach(
     requires one { is_literal h.a h.b ≡ true → HasOneLiteral c.now }
     requires watches_len { length watches.old.items ≡ length clauses.old }
     requires watches_in { AllWatchesIn clauses.old watches.old.items }
-    requires all_listed { AllListed watches.old.items lists.old }
+    requires all_listed { AllListed watches.old.items (numbers_of lists.old) }
     requires short_listed { ShortListed clauses.old watches.old.items short.old.items }
+    requires fit { AllEntries (fits clauses.old) lists.old }
     ensures cells { length lists.new ≡ length lists.old }
+    ensures fit { AllEntries (fits clauses.new) lists.new }
     ensures watches_len { length watches.new.items ≡ length clauses.new }
     ensures watches_in { AllWatchesIn clauses.new watches.new.items }
-    ensures all_listed { AllListed watches.new.items lists.new }
+    ensures all_listed { AllListed watches.new.items (numbers_of lists.new) }
     ensures short_listed { ShortListed clauses.new watches.new.items short.new.items }
     ensures done { OnOk result (clauses.new ≡ clauses.old ++ c.now ∷ []) }
     ensures done_watches { OnOk result (watches.new.items ≡ watches.old.items ++ h ∷ []) }
@@ -93,10 +149,14 @@ pub fn attach(
 {
     let k = watches.len();
     enlist(lists, short, h, k)?;
-    watches.push(h)?;
+    if let Err(e) = watches.push(h) {
+        delist(lists, h);
+        return Err(e.into());
+    }
     if let Err(e) = clauses.push(c) {
         watches.truncate(k);
-        return Err(e.into());
+        delist(lists, h);
+        return Err(e);
     }
     Ok(())
 }

@@ -1,19 +1,30 @@
-ghost use Rattle.std.specs.Prelude.{◌+◌, ◌-◌, ◌*◌, [], ◌∷◌, ◌≡◌, ◌<◌, ◌≤◌, ℕ, ◌++◌, IfOk, OnOk, OnErr, length, List, slice_set, slice_index, slice_index_or};
-ghost use Rattle.sat_prop.specs.Watches.{swap_out};
+ghost use Rattle.std.specs.Prelude.{◌+◌, ◌-◌, ◌*◌, [], ◌∷◌, ◌≡◌, ◌<◌, ◌≤◌, ℕ, ◌++◌, Bool, true, IfOk, OnOk, OnErr, length, List, take, slice_set, slice_index, slice_index_or};
+ghost use Rattle.sat_prop.specs.Entries.{AllEntries, entry_out, numbers_of};
+ghost use Rattle.sat_prop.specs.declared.lists.Entry.{Entry};
 
+use clause_core::Lit;
 use std::alloc::{AllocError, Global};
 use std::marker::Model;
+
+// The number of a clause that watches a literal, and another literal of it: where that one is true, nothing is to
+// be done at the clause, and it need not be looked up.
+#[derive(Clone, Copy, Drop)]
+pub struct Entry {
+    pub clause: usize,
+    pub other: Lit,
+}
 
 // For each literal the list of the clauses that watch it.
 #[derive(Drop)]
 pub struct WatchLists {
-    cells: Vec<Vec<usize>>,
+    cells: Vec<Vec<Entry>>,
 }
 
 impl Model for WatchLists {
-    ghost use Rattle.std.specs.Prelude.{List, ℕ, map};
+    ghost use Rattle.std.specs.Prelude.{List, map};
+    ghost use Rattle.sat_prop.specs.declared.lists.Entry.{Entry};
 
-    ghost Value = { List (List ℕ) };
+    ghost Value = { List (List Entry) };
 
     ghost view = { λ s. map (λ v. v.items) s.cells.items };
 }
@@ -21,7 +32,8 @@ impl Model for WatchLists {
 impl WatchLists {
     // So many empty lists.
     pub fn new(alloc: Global, n: usize) -> Result<WatchLists, AllocError>
-        ensures { IfOk result (λ s. length s ≡ n) }
+        ensures len { IfOk result (λ s. length s ≡ n) }
+        ensures empty { IfOk result (λ s. (p : Entry → Bool) → AllEntries p s) }
     {
         let mut cells = Vec::new(alloc);
         for _ in 0..n {
@@ -39,29 +51,47 @@ impl WatchLists {
     }
 
     // Entry i of list number c.
-    pub fn get(&self, c: usize, i: usize) -> usize
+    pub fn get(&self, c: usize, i: usize) -> Entry
         requires cell { c < length self.now }
         requires entry { i < length (slice_index_or self.now c []) }
-        ensures { result ≡ slice_index (slice_index_or self.now c []) i }
+        ensures clause { result.clause ≡ slice_index (slice_index_or (numbers_of self.now) c []) i }
+        ensures fits { (p : Entry → Bool) → AllEntries p self.now → p result ≡ true }
     {
         self.cells[c][i]
     }
 
-    // Puts k at the end of list number c.
-    pub fn push(&mut self, c: usize, k: usize) -> Result<(), AllocError>
+    // Writes entry i of list number c.
+    pub fn put(&mut self, c: usize, i: usize, e: Entry)
+        requires cell { c < length self.old }
+        requires entry { i < length (slice_index_or self.old c []) }
+        ensures { self.new ≡ slice_set self.old c (slice_set (slice_index_or self.old c []) i e) }
+    {
+        self.cells[c][i] = e;
+    }
+
+    // Puts an entry at the end of list number c.
+    pub fn push(&mut self, c: usize, e: Entry) -> Result<(), AllocError>
         requires { c < length self.old }
-        ensures done { OnOk result (self.new ≡ slice_set self.old c (slice_index_or self.old c [] ++ k ∷ [])) }
+        ensures done { OnOk result (self.new ≡ slice_set self.old c (slice_index_or self.old c [] ++ e ∷ [])) }
         ensures failed { OnErr result (self.new ≡ self.old) }
     {
-        self.cells[c].push(k)?;
+        self.cells[c].push(e)?;
         Ok(())
+    }
+
+    // Takes the last entry out of list number c.
+    pub fn pop(&mut self, c: usize)
+        requires { c < length self.old }
+        ensures { self.new ≡ slice_set self.old c (take (length (slice_index_or self.old c []) - 1) (slice_index_or self.old c [])) }
+    {
+        let _ = self.cells[c].pop();
     }
 
     // Takes entry i out of list number c, and puts the last one into its place.
     pub fn remove(&mut self, c: usize, i: usize)
         requires cell { c < length self.old }
         requires entry { i < length (slice_index_or self.old c []) }
-        ensures { self.new ≡ slice_set self.old c (swap_out (slice_index_or self.old c []) i) }
+        ensures { self.new ≡ slice_set self.old c (entry_out (slice_index_or self.old c []) i) }
     {
         self.cells[c].swap_remove(i);
     }

@@ -3,6 +3,7 @@ ghost use Rattle.clause_core.specs.declared.literal.Lit.{Lit};
 ghost use Rattle.clause_core.specs.Literals.{Within, negate};
 ghost use Rattle.sat_prop.specs.Trails.{Based, AtRest, among};
 ghost use Rattle.sat_prop.specs.Moves.{Extends, FalseClause};
+ghost use Rattle.sat_prop.specs.Entries.{AllEntries, fits, numbers_of};
 ghost use Rattle.sat_prop.specs.Watches.{AllWatchesIn, AllListed, Kept, KeepsTwo, AllGuarded, ShortDone, ShortListed, ShortTrue, LevelsGuarded};
 
 use crate::lists::WatchLists;
@@ -26,16 +27,18 @@ pub fn run_queue(
     requires based { Based trail.old.literals.items trail.old.reasons.items clauses.now }
     requires watches_len { length watches.old.items ≡ length clauses.now }
     requires watches_in { AllWatchesIn clauses.now watches.old.items }
-    requires all_listed { AllListed watches.old.items lists.old }
+    requires all_listed { AllListed watches.old.items (numbers_of lists.old) }
     requires cells { length lists.old ≡ 2 * length trail.old.values.items }
+    requires fit { AllEntries (fits clauses.now) lists.old }
     requires low { head.old ≤ length trail.old.literals.items }
     requires queue { AllGuarded clauses.now watches.old.items (take head.old trail.old.literals.items) trail.old.literals.items }
     ensures based { Based trail.new.literals.items trail.new.reasons.items clauses.now }
     ensures extends { Extends trail.old trail.new }
     ensures watches_len { length watches.new.items ≡ length clauses.now }
     ensures watches_in { AllWatchesIn clauses.now watches.new.items }
-    ensures all_listed { AllListed watches.new.items lists.new }
+    ensures all_listed { AllListed watches.new.items (numbers_of lists.new) }
     ensures cells { length lists.new ≡ length lists.old }
+    ensures fit { AllEntries (fits clauses.now) lists.new }
     ensures kept { Kept clauses.now watches.old.items watches.new.items trail.old.literals.items }
     ensures two_kept { KeepsTwo watches.old.items watches.new.items }
     ensures low { head.new ≤ length trail.new.literals.items }

@@ -2,6 +2,7 @@ ghost use Rattle.std.specs.Prelude.{◌+◌, ◌-◌, ◌*◌, ◌^◌, [], ◌�
 ghost use Rattle.clause_core.specs.Literals.{Within, negate};
 ghost use Rattle.sat_prop.specs.Trails.{Based, AtRest, among};
 ghost use Rattle.sat_prop.specs.Moves.{Extends, FalseClause};
+ghost use Rattle.sat_prop.specs.Entries.{AllEntries, fits, numbers_of};
 ghost use Rattle.sat_prop.specs.Watches.{AllWatchesIn, AllListed, AllGuarded, ShortListed, ShortTrue, LevelsGuarded};
 
 use crate::lists::WatchLists;
@@ -50,8 +51,9 @@ pub fn settle(
     requires based { Based trail.old.literals.items trail.old.reasons.items clauses.now }
     requires watches_len { length watches.old.items ≡ length clauses.now }
     requires watches_in { AllWatchesIn clauses.now watches.old.items }
-    requires all_listed { AllListed watches.old.items lists.old }
+    requires all_listed { AllListed watches.old.items (numbers_of lists.old) }
     requires cells { length lists.old ≡ 2 * length trail.old.values.items }
+    requires fit { AllEntries (fits clauses.now) lists.old }
     requires short_listed { ShortListed clauses.now watches.old.items short.now }
     requires low { head.old ≤ length trail.old.literals.items }
     requires queue { AllGuarded clauses.now watches.old.items (take head.old trail.old.literals.items) trail.old.literals.items }
@@ -60,8 +62,9 @@ pub fn settle(
     ensures extends { Extends trail.old trail.new }
     ensures watches_len { length watches.new.items ≡ length clauses.now }
     ensures watches_in { AllWatchesIn clauses.now watches.new.items }
-    ensures all_listed { AllListed watches.new.items lists.new }
+    ensures all_listed { AllListed watches.new.items (numbers_of lists.new) }
     ensures cells { length lists.new ≡ length lists.old }
+    ensures fit { AllEntries (fits clauses.now) lists.new }
     ensures short_listed { ShortListed clauses.now watches.new.items short.now }
     ensures low { head.new ≤ length trail.new.literals.items }
     ensures queue { AllGuarded clauses.now watches.new.items (take head.new trail.new.literals.items) trail.new.literals.items }

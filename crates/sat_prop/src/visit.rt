@@ -3,13 +3,15 @@ ghost use Rattle.clause_core.specs.declared.literal.Lit.{Lit};
 ghost use Rattle.clause_core.specs.Literals.{Within, negate};
 ghost use Rattle.sat_prop.specs.Trails.{Based, among};
 ghost use Rattle.sat_prop.specs.Moves.{Extends, FalseClause};
+ghost use Rattle.sat_prop.specs.Entries.{AllEntries, fits, numbers_of};
 ghost use Rattle.sat_prop.specs.Watches.{AllWatchesIn, AllListed, Kept, DoneWith, KeepsTwo};
 
-use crate::lists::WatchLists;
+use crate::lists::{Entry, WatchLists};
 use crate::trail::Trail;
 use crate::watch::{Finding, Watches, cell_of, look_at, other_of};
 use clause_core::{Clauses, Lit};
 use std::alloc::AllocError;
+use unit_propagation::is_set;
 
 // Visits each clause that watches f, which became false.
 pub fn visit_list(
@@ -24,16 +26,18 @@ pub fn visit_list(
     requires based { Based trail.old.literals.items trail.old.reasons.items clauses.now }
     requires watches_len { length watches.old.items ≡ length clauses.now }
     requires watches_in { AllWatchesIn clauses.now watches.old.items }
-    requires all_listed { AllListed watches.old.items lists.old }
+    requires all_listed { AllListed watches.old.items (numbers_of lists.old) }
     requires cells { length lists.old ≡ 2 * length trail.old.values.items }
+    requires fit { AllEntries (fits clauses.now) lists.old }
     requires f_in { f.var < length trail.old.values.items }
     requires off { among trail.old.literals.items (negate f) ≡ true }
     ensures based { Based trail.new.literals.items trail.new.reasons.items clauses.now }
     ensures extends { Extends trail.old trail.new }
     ensures watches_len { length watches.new.items ≡ length clauses.now }
     ensures watches_in { AllWatchesIn clauses.now watches.new.items }
-    ensures all_listed { AllListed watches.new.items lists.new }
+    ensures all_listed { AllListed watches.new.items (numbers_of lists.new) }
     ensures cells { length lists.new ≡ length lists.old }
+    ensures fit { AllEntries (fits clauses.now) lists.new }
     ensures kept { Kept clauses.now watches.old.items watches.new.items trail.old.literals.items }
     ensures two_kept { KeepsTwo watches.old.items watches.new.items }
     ensures says { IfOk result (λ o. MatchOption o ((k : ℕ) → DoneWith clauses.now watches.new.items trail.new.literals.items f k) (FalseClause clauses.now trail.new)) }
@@ -41,14 +45,33 @@ pub fn visit_list(
     let c = cell_of(f);
     let mut i = 0;
     'visit: while i < lists.size(c) {
-        let k = lists.get(c, i);
-        if k < watches.len() {
+        let e = lists.get(c, i);
+        let k = e.clause;
+        if is_set(&trail.values, e.other) {
+            i += 1;
+        } else if k < watches.len() {
             match other_of(watches[k], f) {
                 None => lists.remove(c, i),
                 Some(o) => match look_at(&trail.values, clauses.get(k), o) {
-                    Finding::Hit => i += 1,
+                    Finding::Hit => {
+                        lists.put(
+                            c,
+                            i,
+                            Entry {
+                                clause: k,
+                                other: o,
+                            },
+                        );
+                        i += 1;
+                    }
                     Finding::Move(g) => {
-                        lists.push(cell_of(g), k)?;
+                        lists.push(
+                            cell_of(g),
+                            Entry {
+                                clause: k,
+                                other: o,
+                            },
+                        )?;
                         watches[k] = Watches { a: g, b: o };
                         lists.remove(c, i);
                     }

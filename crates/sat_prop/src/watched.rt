@@ -1,6 +1,7 @@
 ghost use Rattle.std.specs.Prelude.{◌+◌, ◌-◌, ◌*◌, ◌^◌, [], ◌∷◌, ◌≡◌, ◌<◌, ◌≤◌, ℕ, ◌++◌, true, false, IfOk, OnOk, OnErr, length, take, All, List, slice_index, slice_index_or, MatchOption};
 ghost use Rattle.clause_core.specs.Literals.{Within};
 ghost use Rattle.sat_prop.specs.Trails.{Based};
+ghost use Rattle.sat_prop.specs.Entries.{AllEntries, fits, numbers_of};
 ghost use Rattle.sat_prop.specs.Watches.{AllWatchesIn, AllListed, AllGuarded, ShortListed, ShortTrue, LevelsGuarded};
 
 use crate::acts::{decide_on, learn_on, undo_on};
@@ -27,8 +28,9 @@ pub struct Watched {
     ghost room: { 2 * length trail.values.items < 2 ^ 64 },
     ghost watches_len: { length watches.items ≡ length clauses },
     ghost watches_in: { AllWatchesIn clauses watches.items },
-    ghost all_listed: { AllListed watches.items lists },
+    ghost all_listed: { AllListed watches.items (numbers_of lists) },
     ghost cells: { length lists ≡ 2 * length trail.values.items },
+    ghost fit: { AllEntries (fits clauses) lists },
     ghost short_listed: { ShortListed clauses watches.items short.items },
     ghost low: { head ≤ length trail.literals.items },
     ghost queue: { AllGuarded clauses watches.items (take head trail.literals.items) trail.literals.items },

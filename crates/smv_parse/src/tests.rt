@@ -6,8 +6,7 @@ mod programs;
 use plain_text::Text;
 use smv_tree::{Place, Token, TokenKind};
 use sqlite_items::Items;
-use std::alloc::Global;
-use std::test::Fail;
+use std::alloc::{AllocError, Global};
 
 /// The kinds of the words that are no identifiers.
 const KINDS: [(&str, TokenKind); 32] = [
@@ -45,17 +44,22 @@ const KINDS: [(&str, TokenKind); 32] = [
     ("+", TokenKind::Plus),
 ];
 
-fn kind_of(word: &str) -> TokenKind {
-    for (written, kind) in KINDS {
-        if written == word {
-            return kind;
+/// The kind that the table gives a word.
+fn kind_in(table: &[(&str, TokenKind)], word: &str) -> Option<TokenKind> {
+    for (written, kind) in table {
+        if *written == word {
+            return Some(*kind);
         }
     }
-    TokenKind::Identifier
+    None
+}
+
+fn kind_of(word: &str) -> TokenKind {
+    kind_in(&KINDS, word).unwrap_or(TokenKind::Identifier)
 }
 
 /// A token of each word between spaces; its column is its number, from 1.
-fn tokens_of(alloc: Global, words: &str) -> Result<Items<Token>, Fail> {
+fn tokens_of(alloc: Global, words: &str) -> Result<Items<Token>, AllocError> {
     let mut tokens = Items::new(alloc);
     for word in words.split_whitespace() {
         let column = tokens.len().saturating_add(1);

@@ -144,6 +144,20 @@ fn at(line: usize, column: usize) -> Place {
     Place { line, column }
 }
 
+fn variable_named(
+    alloc: Global,
+    line: usize,
+    name: &str,
+    declared: TypeExpr,
+) -> Result<Variable, AllocError> {
+    let name = Text::from_str(alloc, name)?;
+    Ok(Variable {
+        place: at(line, 1),
+        name,
+        declared,
+    })
+}
+
 // A section of one variable.
 fn variable(
     alloc: Global,
@@ -151,25 +165,23 @@ fn variable(
     name: &str,
     declared: TypeExpr,
 ) -> Result<Section, AllocError> {
+    let variable = variable_named(alloc, line, name, declared)?;
     let mut variables = Items::new(alloc);
-    variables.push(Variable {
-        place: at(line, 1),
-        name: Text::from_str(alloc, name)?,
-        declared,
-    })?;
+    variables.push(variable)?;
     Ok(Section::Variables(variables))
+}
+
+// The variable of this number in line 3.
+fn numbered(alloc: Global, i: usize) -> Result<Variable, AllocError> {
+    let name = format!(in alloc; "v{i}")?;
+    variable_named(alloc, 3, name.as_str(), TypeExpr::Boolean(at(3, 5)))
 }
 
 // 65536 variables.
 fn many_variables(alloc: Global) -> Result<Section, AllocError> {
     let mut variables = Items::new(alloc);
     for i in 0..65536 {
-        let name = format!(in alloc; "v{i}")?;
-        variables.push(Variable {
-            place: at(3, 1),
-            name: Text::from_str(alloc, name.as_str())?,
-            declared: TypeExpr::Boolean(at(3, 5)),
-        })?;
+        variables.push(numbered(alloc, i)?)?;
     }
     Ok(Section::Variables(variables))
 }

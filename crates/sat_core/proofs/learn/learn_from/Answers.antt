@@ -1,4 +1,4 @@
-use Rattle.std.proofs.Common.{◌≡◌, List, [], ◌∷◌, ◌++◌, ◌+◌, ◌-◌, take, get_or, subst, sym, ap, ℕ, ◌∙◌}
+use Rattle.std.proofs.Common.{◌≡◌, List, [], ◌∷◌, ◌++◌, take, get_or, subst, sym, ap, ℕ, ◌∙◌}
 use Rattle.clause_core.specs.declared.literal.Lit.{Lit}
 use Rattle.sat_prop.specs.Trails.{AtRest}
 use Rattle.sat_core.specs.Searching.{PerLevel}

@@ -1,4 +1,4 @@
-use Rattle.std.proofs.Common.{◌≡◌, ◌<◌, length, List, [], ◌+◌, ◌-◌, ◌⊎◌, true, false, get_or, arith, subst, sym, ap, ◌≤◌, ℕ, set, length-set, ◌∙◌}
+use Rattle.std.proofs.Common.{◌≡◌, ◌<◌, length, List, [], ◌+◌, ◌-◌, ◌⊎◌, false, get_or, arith, subst, sym, ap, ◌≤◌, ℕ, set, length-set, ◌∙◌}
 use Rattle.std.specs.List.{All}
 use Rattle.clause_core.specs.declared.literal.Lit.{Lit}
 use Rattle.sat_core.specs.Positions.{level_marks, one, MarksAdded}

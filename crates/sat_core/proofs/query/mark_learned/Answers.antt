@@ -1,4 +1,4 @@
-use Rattle.std.proofs.Common.{◌≡◌, ◌<◌, ◌+◌, ◌++◌, ◌∷◌, [], Bool, false, List, length, subst, sym, refl, ap, ◌∙◌, arith, length-append}
+use Rattle.std.proofs.Common.{◌≡◌, ◌<◌, ◌++◌, ◌∷◌, [], Bool, false, List, length, subst, sym, refl, ap, ◌∙◌, arith, length-append}
 use Rattle.sat_core.specs.Searching.{SameMarks}
 use Rattle.sat_core.proofs.Origins.{same_push}
 use Rattle.sat_core.proofs.query.mark_learned.Goals as goal

@@ -1,4 +1,4 @@
-use Rattle.std.proofs.Common.{◌≡◌, ◌<◌, length, List, [], ◌∷◌, ◌++◌, ◌+◌, ◌-◌, ◌⊎◌, true, false, get_or, arith, subst, sym, ap, inl, inr, ◌≤◌, ℕ, set, length-set, ◌∙◌}
+use Rattle.std.proofs.Common.{◌≡◌, ◌<◌, length, List, [], ◌∷◌, ◌++◌, ◌-◌, ◌⊎◌, false, get_or, arith, subst, sym, ap, inl, inr, ◌≤◌, ℕ, set, length-set, ◌∙◌}
 use Rattle.std.specs.List.{All, Contains}
 use Rattle.std.proofs.lemmas.Bool.{cases_eq}
 use Rattle.std.proofs.lemmas.List.Elements.{All-push, All-weaker, All-contains_itself, Contains-push, Contains-append_left}

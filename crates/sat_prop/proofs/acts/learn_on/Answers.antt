@@ -1,12 +1,12 @@
-use Rattle.std.proofs.Common.{◌≡◌, ℕ, ◌<◌, ◌-◌, ◌∷◌, ◌++◌, List, [], length, get_or, arith, subst, sym}
+use Rattle.std.proofs.Common.{◌∷◌, ◌++◌, List, [], length, take, arith, subst, sym}
 use Rattle.clause_core.specs.declared.literal.Lit.{Lit}
 use Rattle.sat_prop.specs.declared.watch.Watches.{Watches}
 use Rattle.sat_prop.specs.Trails.{Based}
-use Rattle.sat_prop.specs.Watches.{LevelsGuarded}
+use Rattle.sat_prop.specs.Watches.{AllGuarded, LevelsGuarded}
 use Rattle.sat_prop.proofs.Ways.{reasoned_more}
 use Rattle.sat_prop.proofs.Sweeps.{based_from, reasoned_from}
 use Rattle.sat_prop.proofs.Visits.{cell_in}
-use Rattle.sat_prop.proofs.Attaching.{levels_new, bottom_queue, head_cell}
+use Rattle.sat_prop.proofs.Attaching.{levels_new, watch_new, queue_less, head_cell}
 use Rattle.sat_prop.proofs.acts.learn_on.Goals as goal
 
 pub attach-requires-clause-a_in : goal.attach-requires-clause-a_in
@@ -57,20 +57,19 @@ returns-clause-levels c =
 pub returns-clause-queue : goal.returns-clause-queue
 returns-clause-queue c =
     let t = c.args.trail.now in
+    let tr = t.literals.items in
     let said = c.in_ok-attach.ensures in
-    let new = levels_new c.args.clauses.now c.args.watches.now.items c.args.c.now c.args.w c.watches_of-h.result t.literals.items t.starts.items c.requires.watches_len c.watches_of-h.ensures c.requires.watch c.requires.levels in
-    let P : List (List Lit) → Type 0 = λ x. LevelsGuarded x c.attach.new.watches.items t.literals.items t.starts.items in
-    let Q : List Watches → Type 0 = λ x. LevelsGuarded (c.args.clauses.now ++ c.args.c.now ∷ []) x t.literals.items t.starts.items in
-    let now : P c.attach.new.clauses = subst P (sym said.done) (subst Q (sym said.done_watches) new) in
-    let n = c.bottom-n.result in
-    let N : List ℕ → Type 0 = λ xs. length xs ≡ 0 → n ≡ 0 in
-    let S : List ℕ → Type 0 = λ xs. 0 < length xs → n ≡ get_or xs (length xs - 1) 0 in
-    (bottom_queue c.attach.new.clauses c.attach.new.watches.items t n (subst N c.deref.ensures.value c.bottom-n.ensures.none) (subst S c.deref.ensures.value c.bottom-n.ensures.some) now).1
+    let n = c.head_for-n.result in
+    let old = queue_less c.args.clauses.now c.args.watches.now.items tr n c.args.head.now c.head_for-n.ensures.low c.requires.low c.requires.queue in
+    let new = watch_new c.args.clauses.now c.args.watches.now.items c.args.c.now c.watches_of-h.result (take n tr) tr c.requires.watches_len c.head_for-n.ensures.open_a c.head_for-n.ensures.open_b old in
+    let P : List (List Lit) → Type 0 = λ x. AllGuarded x c.attach.new.watches.items (take n tr) tr in
+    let Q : List Watches → Type 0 = λ x. AllGuarded (c.args.clauses.now ++ c.args.c.now ∷ []) x (take n tr) tr in
+    subst P (sym said.done) (subst Q (sym said.done_watches) new)
 
-pub returns-clause-low : goal.returns-clause-low
-returns-clause-low c =
-    let t = c.args.trail.now in
-    let n = c.bottom-n.result in
-    let N : List ℕ → Type 0 = λ xs. length xs ≡ 0 → n ≡ 0 in
-    let S : List ℕ → Type 0 = λ xs. 0 < length xs → n ≡ get_or xs (length xs - 1) 0 in
-    (bottom_queue c.args.clauses.now c.args.watches.now.items t n (subst N c.deref.ensures.value c.bottom-n.ensures.none) (subst S c.deref.ensures.value c.bottom-n.ensures.some) c.requires.levels).0
+pub head_for-n-requires-clause-a_in : goal.head_for-n-requires-clause-a_in
+head_for-n-requires-clause-a_in c big =
+    head_cell (length c.args.trail.now.values.items) c.args.c.now c.watches_of-h.result.a c.requires.within (c.watches_of-h.ensures.0 big).0
+
+pub head_for-n-requires-clause-b_in : goal.head_for-n-requires-clause-b_in
+head_for-n-requires-clause-b_in c big =
+    head_cell (length c.args.trail.now.values.items) c.args.c.now c.watches_of-h.result.b c.requires.within (c.watches_of-h.ensures.0 big).1

@@ -51,6 +51,7 @@ queue-preserved c =
       watches_in = said.watches_in;
       all_listed = said.all_listed;
       cells = said.cells ∙ inv.cells;
+      fit = said.fit;
       kept = kept_on cs c.args.watches.now.items c.queue.watches.items h' c.args.trail.now t inv.extends inv.kept said.kept;
       two_kept = λ k big. said.two_kept k (inv.two_kept k big);
       low = omega (arith, lt');

@@ -2,6 +2,7 @@ use Rattle.std.proofs.Common.{◌≡◌, ◌≤◌, ◌+◌, ◌-◌, length, ta
 use Rattle.unit_propagation.specs.Values.{unset}
 use Rattle.sat_prop.specs.Trails.{Based}
 use Rattle.sat_prop.specs.Moves.{Extends}
+use Rattle.sat_prop.specs.Entries.{AllEntries, fits, numbers_of}
 use Rattle.sat_prop.specs.Watches.{AllWatchesIn, AllListed, Kept, KeepsTwo, AllGuarded}
 use Rattle.sat_prop.proofs.queue.run_queue.Given as goal
 
@@ -12,8 +13,9 @@ invariant-queue l =
       extends : Extends l.fn.trail l.trail;
       watches_len : length l.watches.items ≡ length l.clauses;
       watches_in : AllWatchesIn l.clauses l.watches.items;
-      all_listed : AllListed l.watches.items l.lists;
+      all_listed : AllListed l.watches.items (numbers_of l.lists);
       cells : length l.lists ≡ length l.fn.lists;
+      fit : AllEntries (fits l.clauses) l.lists;
       kept : Kept l.clauses l.fn.watches.items l.watches.items l.fn.trail.literals.items;
       two_kept : KeepsTwo l.fn.watches.items l.watches.items;
       low : l.head ≤ length l.trail.literals.items;

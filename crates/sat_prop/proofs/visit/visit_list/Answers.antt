@@ -1,7 +1,7 @@
-use Rattle.std.proofs.Common.{◌≡◌, ℕ, ◌<◌, ◌≤◌, ◌∷◌, ◌⊎◌, true, false, List, [], length, get_or, sym, subst, ap, ◌∙◌, inl, inr, arith, set, length-set, length-append}
+use Rattle.std.proofs.Common.{◌≡◌, ℕ, ◌<◌, ◌≤◌, ◌+◌, ◌∷◌, ◌++◌, ◌⊎◌, true, false, List, [], length, get_or, get_or-set_other, refl, sym, subst, ap, ◌∙◌, inl, inr, arith, set, length-set, length-append}
 use Rattle.std.specs.List.{Contains}
 use Rattle.std.proofs.lemmas.Bool.{both_ways}
-use Rattle.std.proofs.lemmas.List.{get_or_read}
+use Rattle.std.proofs.lemmas.List.{get_or_read, length-map}
 use Rattle.std.proofs.lemmas.List.Elements.{All-contains}
 use Rattle.clause_core.specs.declared.literal.Lit.{Lit}
 use Rattle.clause_core.specs.Literals.{negate, at}
@@ -10,17 +10,20 @@ use Rattle.clause_core.specs.Propagation.{UnitIn, AllFalse}
 use Rattle.sat_prop.specs.declared.trail.Trail.{Trail}
 use Rattle.sat_prop.specs.declared.watch.Watches.{Watches}
 use Rattle.sat_prop.specs.Trails.{among, Based}
-use Rattle.sat_prop.specs.Watches.{none_watches, watches_at, HasTwo, AllWatchesIn, cell, DoneWithBelow, Kept}
+use Rattle.sat_prop.specs.Entries.{AllEntries, entry_out, fits, numbers, numbers_of}
+use Rattle.sat_prop.specs.declared.lists.Entry.{Entry}
+use Rattle.sat_prop.specs.Watches.{none_watches, watches_at, HasTwo, AllListed, AllWatchesIn, cell, DoneWithBelow, Kept}
+use Rattle.sat_prop.proofs.Listing.{fits_below, entries_push, entries_put, entries_remove, numbers_len, numbers_push, numbers_put, numbers_remove}
 use Rattle.sat_prop.proofs.Ways.{lit_is_itself, among_here, at_end}
 use Rattle.sat_prop.proofs.Sweeps.{false_on, went_push, went_none, based_push, contains_among}
-use Rattle.sat_prop.proofs.Watching.{true_from}
+use Rattle.sat_prop.proofs.Watching.{cell_same, true_from}
 use Rattle.sat_prop.proofs.Visits.{removed, apart_from, none_not_big, cell_in, done_more, done_true, done_grows, done_all, heads_move, bigs_move, kept_move, went_grows, move_facts, moved}
 use Rattle.sat_prop.proofs.visit.visit_list.Goals as goal
 
 pub visit-preserved-in-None : goal.visit-preserved-in-None
 visit-preserved-in-None c =
     let H = c.visit.watches.items in
-    let k = c.get-k.result in
+    let k = c.get-e.result.clause in
     let n = c.cell_of-c.result in
     let f = c.args.f in
     let hd = c.index.result.now in
@@ -29,64 +32,72 @@ visit-preserved-in-None c =
     let F : Watches → Type 0 = λ h. HasTwo h → (h.a ≡ f → ⊥) × (h.b ≡ f → ⊥) in
     let far : F (watches_at H k) = subst F he c.in-None.ensures in
     let inv = c.visit.invariant in
-    let ln : n < length c.visit.lists = omega (arith, inv.cells, c.requires.cells, c.cell_of-c.ensures, cell_in f (length c.args.trail.now.values.items) c.requires.f_in) in
-    let li : c.visit.i < length (get_or c.visit.lists n []) = omega (arith, c.visit-test.true, c.size.ensures) in
-    let r = removed c.args.clauses.now H c.visit.lists c.remove.new.self c.visit.trail.literals.items f n c.visit.i k ln li c.get-k.ensures (apart_from (watches_at H k) f n c.cell_of-c.ensures far) inv.all_listed inv.done c.remove.ensures in
+    let L = c.visit.lists in
+    let lr : n < length L = omega (arith, inv.cells, c.requires.cells, c.cell_of-c.ensures, cell_in f (length c.args.trail.now.values.items) c.requires.f_in) in
+    let ln : n < length (numbers_of L) = omega (arith, lr, length-map L numbers) in
+    let le : c.visit.i < length (get_or L n []) = omega (arith, c.visit-test.true, c.size.ensures) in
+    let li : c.visit.i < length (get_or (numbers_of L) n []) = omega (arith, le, numbers_len L n) in
+    let r = removed c.args.clauses.now H (numbers_of L) (numbers_of c.remove.new.self) c.visit.trail.literals.items f n c.visit.i k ln li c.get-e.ensures.clause (apart_from (watches_at H k) f n c.cell_of-c.ensures far) inv.all_listed inv.done (numbers_remove L c.remove.new.self n c.visit.i c.remove.ensures) in
     record {
       based = inv.based;
       extends = inv.extends;
       watches_len = inv.watches_len;
       watches_in = inv.watches_in;
       all_listed = r.0;
-      cells = r.1 ∙ inv.cells;
+      cells = ap length c.remove.ensures ∙ length-set L n (entry_out (get_or L n []) c.visit.i) ∙ inv.cells;
+      fit = entries_remove (fits c.args.clauses.now) L c.remove.new.self n c.visit.i lr le c.remove.ensures inv.fit;
       kept = inv.kept;
       two_kept = inv.two_kept;
       done = r.2;
-      upper = omega (arith, r.3, li);
+      upper = omega (arith, r.3, le, numbers_len L n, numbers_len c.remove.new.self n);
     }
 
 pub visit-preserved : goal.visit-preserved
 visit-preserved c =
     let H = c.visit.watches.items in
-    let k = c.get-k.result in
+    let k = c.get-e.result.clause in
     let n = c.cell_of-c.result in
     let f = c.args.f in
     let past : length H ≤ k = omega (arith, c.if-k-len.false, c.len.ensures, c.visit.watches.ok.0) in
     let inv = c.visit.invariant in
-    let ln : n < length c.visit.lists = omega (arith, inv.cells, c.requires.cells, c.cell_of-c.ensures, cell_in f (length c.args.trail.now.values.items) c.requires.f_in) in
-    let li : c.visit.i < length (get_or c.visit.lists n []) = omega (arith, c.visit-test.true, c.size.ensures) in
-    let r = removed c.args.clauses.now H c.visit.lists c.remove-else-k-len.new.self c.visit.trail.literals.items f n c.visit.i k ln li c.get-k.ensures (λ big. absurd (none_not_big H k past big)) inv.all_listed inv.done c.remove-else-k-len.ensures in
+    let L = c.visit.lists in
+    let lr : n < length L = omega (arith, inv.cells, c.requires.cells, c.cell_of-c.ensures, cell_in f (length c.args.trail.now.values.items) c.requires.f_in) in
+    let ln : n < length (numbers_of L) = omega (arith, lr, length-map L numbers) in
+    let le : c.visit.i < length (get_or L n []) = omega (arith, c.visit-test.true, c.size.ensures) in
+    let li : c.visit.i < length (get_or (numbers_of L) n []) = omega (arith, le, numbers_len L n) in
+    let r = removed c.args.clauses.now H (numbers_of L) (numbers_of c.remove-else-k-len.new.self) c.visit.trail.literals.items f n c.visit.i k ln li c.get-e.ensures.clause (λ big. absurd (none_not_big H k past big)) inv.all_listed inv.done (numbers_remove L c.remove-else-k-len.new.self n c.visit.i c.remove-else-k-len.ensures) in
     record {
       based = inv.based;
       extends = inv.extends;
       watches_len = inv.watches_len;
       watches_in = inv.watches_in;
       all_listed = r.0;
-      cells = r.1 ∙ inv.cells;
+      cells = ap length c.remove-else-k-len.ensures ∙ length-set L n (entry_out (get_or L n []) c.visit.i) ∙ inv.cells;
+      fit = entries_remove (fits c.args.clauses.now) L c.remove-else-k-len.new.self n c.visit.i lr le c.remove-else-k-len.ensures inv.fit;
       kept = inv.kept;
       two_kept = inv.two_kept;
       done = r.2;
-      upper = omega (arith, r.3, li);
+      upper = omega (arith, r.3, le, numbers_len L n, numbers_len c.remove-else-k-len.new.self n);
     }
 
 pub returns-clause-says : goal.returns-clause-says
 returns-clause-says c =
     let inv = c.visit.invariant in
     let f = c.args.f in
-    let D : ℕ → Type 0 = λ n. DoneWithBelow c.args.clauses.now c.visit.watches.items c.visit.trail.literals.items f (get_or c.visit.lists n []) c.visit.i in
-    let le : length (get_or c.visit.lists (cell f) []) ≤ c.visit.i = omega (arith, c.visit-test.false, c.size.ensures, ap (λ n. length (get_or c.visit.lists n [])) c.cell_of-c.ensures) in
-    done_all c.args.clauses.now c.visit.watches.items c.visit.lists c.visit.trail.literals.items f c.visit.i inv.watches_len inv.all_listed le (subst D c.cell_of-c.ensures inv.done)
+    let D : ℕ → Type 0 = λ n. DoneWithBelow c.args.clauses.now c.visit.watches.items c.visit.trail.literals.items f (get_or (numbers_of c.visit.lists) n []) c.visit.i in
+    let le : length (get_or (numbers_of c.visit.lists) (cell f) []) ≤ c.visit.i = omega (arith, c.visit-test.false, c.size.ensures, ap (λ n. length (get_or c.visit.lists n [])) c.cell_of-c.ensures, numbers_len c.visit.lists (cell f)) in
+    done_all c.args.clauses.now c.visit.watches.items (numbers_of c.visit.lists) c.visit.trail.literals.items f c.visit.i inv.watches_len inv.all_listed le (subst D c.cell_of-c.ensures inv.done)
 
 pub returns-in-False-clause-says : goal.returns-in-False-clause-says
 returns-in-False-clause-says c =
     let cs = c.args.clauses.now in
     let t = c.visit.trail in
-    let k = c.get-k.result in
+    let k = c.get-e.result.clause in
     let inv = c.visit.invariant in
     let lk : k < length cs = omega (arith, c.if-k-len.true, c.len.ensures, c.visit.watches.ok.0, inv.watches_len) in
-    let P : List Lit → Type 0 = AllFalse (holds c.deref.result.now) in
+    let P : List Lit → Type 0 = AllFalse (holds c.deref-in-Some.result.now) in
     let Q : List ℕ → Type 0 = λ v. AllFalse (holds v) (get_or cs k []) in
-    (lk, false_on t.values.items t.literals.items (get_or cs k []) t.values_ok (subst Q c.deref.ensures.value (subst P c.get.ensures c.in-False.ensures)))
+    (lk, false_on t.values.items t.literals.items (get_or cs k []) t.values_ok (subst Q c.deref-in-Some.ensures.value (subst P c.get.ensures c.in-False.ensures)))
 
 -- the two watches of the clause in hand
 other_in : (cs : List (List Lit)) (H : List Watches) (k : ℕ) (hd : Watches) (f o : Lit) → hd ≡ watches_at H k → k < length cs → AllWatchesIn cs H →
@@ -108,7 +119,7 @@ pub look_at-requires-clause-has : goal.look_at-requires-clause-has
 look_at-requires-clause-has c =
     let cs = c.args.clauses.now in
     let H = c.visit.watches.items in
-    let k = c.get-k.result in
+    let k = c.get-e.result.clause in
     let hd = c.index.result.now in
     let inv = c.visit.invariant in
     let lk : k < length H = omega (arith, c.if-k-len.true, c.len.ensures, c.visit.watches.ok.0) in
@@ -123,7 +134,7 @@ visit-preserved-in-Hit c =
     let cs = c.args.clauses.now in
     let t = c.visit.trail in
     let H = c.visit.watches.items in
-    let k = c.get-k.result in
+    let k = c.get-e.result.clause in
     let hd = c.index.result.now in
     let o = c.in-Some.o in
     let inv = c.visit.invariant in
@@ -132,19 +143,27 @@ visit-preserved-in-Hit c =
     let he : hd ≡ watches_at H k = get_or_read H k hd lk c.index.ensures none_watches in
     let w = other_in cs H k hd c.args.f o he lc inv.watches_in c.in-Some.ensures in
     let Q : List ℕ → Type 0 = λ v. holds v o ≡ true in
-    let on : among t.literals.items o ≡ true = t.values_ok o ∙ subst Q c.deref.ensures.value c.in-Hit.ensures in
+    let on : among t.literals.items o ≡ true = t.values_ok o ∙ subst Q c.deref-in-Some.ensures.value c.in-Hit.ensures in
     let hit = true_from t.literals.items (get_or cs k []) o (contains_among (get_or cs k []) o w.1) on in
+    let L = c.visit.lists in
+    let n = c.cell_of-c.result in
+    let f = c.args.f in
+    let lr : n < length L = omega (arith, inv.cells, c.requires.cells, c.cell_of-c.ensures, cell_in f (length c.args.trail.now.values.items) c.requires.f_in) in
+    let same : numbers_of c.put.new.self ≡ numbers_of L = numbers_put L c.put.new.self n c.visit.i (record { clause = k; other = o }) c.get-e.ensures.clause c.put.ensures in
+    let A : List (List ℕ) → Type 0 = AllListed H in
+    let D : List (List ℕ) → Type 0 = λ v. DoneWithBelow cs H t.literals.items f (get_or v n []) (c.visit.i + 1) in
     record {
       based = inv.based;
       extends = inv.extends;
       watches_len = inv.watches_len;
       watches_in = inv.watches_in;
-      all_listed = inv.all_listed;
-      cells = inv.cells;
+      all_listed = subst A (sym same) inv.all_listed;
+      cells = ap length c.put.ensures ∙ length-set L n (set (get_or L n []) c.visit.i (record { clause = k; other = o })) ∙ inv.cells;
+      fit = entries_put (fits cs) L c.put.new.self n c.visit.i (record { clause = k; other = o }) lr c.put.ensures inv.fit w.1;
       kept = inv.kept;
       two_kept = inv.two_kept;
-      done = done_more cs H t.literals.items c.args.f (get_or c.visit.lists c.cell_of-c.result []) c.visit.i k c.get-k.ensures inv.done (done_true cs H t.literals.items c.args.f k hit);
-      upper = omega (arith, c.visit-test.true, c.size.ensures);
+      done = subst D (sym same) (done_more cs H t.literals.items f (get_or (numbers_of L) n []) c.visit.i k c.get-e.ensures.clause inv.done (done_true cs H t.literals.items f k hit));
+      upper = omega (arith, c.visit-test.true, c.size.ensures, numbers_len L n, numbers_len c.put.new.self n, ap (λ v. length (get_or v n [])) same);
     }
 
 pub cell_of-requires : goal.cell_of-requires
@@ -152,7 +171,7 @@ cell_of-requires c =
     let cs = c.args.clauses.now in
     let t = c.visit.trail in
     let H = c.visit.watches.items in
-    let k = c.get-k.result in
+    let k = c.get-e.result.clause in
     let hd = c.index.result.now in
     let f = c.args.f in
     let o = c.in-Some.o in
@@ -162,7 +181,7 @@ cell_of-requires c =
     let he : hd ≡ watches_at H k = get_or_read H k hd lk c.index.ensures none_watches in
     let w = other_in cs H k hd f o he lc inv.watches_in c.in-Some.ensures in
     let g = c.in-Move.g in
-    let m = move_facts cs t k g o c.get.result.now c.deref.result.now c.get.ensures c.deref.ensures.value c.in-Move.ensures in
+    let m = move_facts cs t k g o c.get.result.now c.deref-in-Some.result.now c.get.ensures c.deref-in-Some.ensures.value c.in-Move.ensures in
     let gv : g.var < length c.args.trail.now.values.items = All-contains (λ x. x.var < length c.args.trail.now.values.items) (get_or cs k []) g (c.requires.within k [] lc) (contains_among (get_or cs k []) g m.0) in
     omega (arith, gv, c.requires.short)
 
@@ -171,7 +190,7 @@ push-requires c =
     let cs = c.args.clauses.now in
     let t = c.visit.trail in
     let H = c.visit.watches.items in
-    let k = c.get-k.result in
+    let k = c.get-e.result.clause in
     let hd = c.index.result.now in
     let f = c.args.f in
     let o = c.in-Some.o in
@@ -181,16 +200,48 @@ push-requires c =
     let he : hd ≡ watches_at H k = get_or_read H k hd lk c.index.ensures none_watches in
     let w = other_in cs H k hd f o he lc inv.watches_in c.in-Some.ensures in
     let g = c.in-Move.g in
-    let m = move_facts cs t k g o c.get.result.now c.deref.result.now c.get.ensures c.deref.ensures.value c.in-Move.ensures in
+    let m = move_facts cs t k g o c.get.result.now c.deref-in-Some.result.now c.get.ensures c.deref-in-Some.ensures.value c.in-Move.ensures in
     let gv : g.var < length c.args.trail.now.values.items = All-contains (λ x. x.var < length c.args.trail.now.values.items) (get_or cs k []) g (c.requires.within k [] lc) (contains_among (get_or cs k []) g m.0) in
     omega (arith, inv.cells, c.requires.cells, c.cell_of.ensures, cell_in g (length c.args.trail.now.values.items) gv)
+
+pub remove-requires-in-Move-clause-entry : goal.remove-requires-in-Move-clause-entry
+remove-requires-in-Move-clause-entry c =
+    let cs = c.args.clauses.now in
+    let t = c.visit.trail in
+    let H = c.visit.watches.items in
+    let k = c.get-e.result.clause in
+    let hd = c.index.result.now in
+    let f = c.args.f in
+    let o = c.in-Some.o in
+    let inv = c.visit.invariant in
+    let lk : k < length H = omega (arith, c.if-k-len.true, c.len.ensures, c.visit.watches.ok.0) in
+    let lc : k < length cs = omega (arith, lk, inv.watches_len) in
+    let he : hd ≡ watches_at H k = get_or_read H k hd lk c.index.ensures none_watches in
+    let w = other_in cs H k hd f o he lc inv.watches_in c.in-Some.ensures in
+    let g = c.in-Move.g in
+    let m = move_facts cs t k g o c.get.result.now c.deref-in-Some.result.now c.get.ensures c.deref-in-Some.ensures.value c.in-Move.ensures in
+    let gv : g.var < length c.args.trail.now.values.items = All-contains (λ x. x.var < length c.args.trail.now.values.items) (get_or cs k []) g (c.requires.within k [] lc) (contains_among (get_or cs k []) g m.0) in
+    let n = c.cell_of-c.result in
+    let off : among t.literals.items (negate f) ≡ true = went_grows c.args.trail.now t inv.extends (negate f) c.requires.off in
+    let ng : g ≡ f → ⊥ = λ e. let N : Lit → Type 0 = λ x. among t.literals.items (negate x) ≡ false in both_ways _ (subst N e m.1) off in
+    let L = c.visit.lists in
+    let lr : n < length L = omega (arith, inv.cells, c.requires.cells, c.cell_of-c.ensures, cell_in f (length c.args.trail.now.values.items) c.requires.f_in) in
+    let ln : n < length (numbers_of L) = omega (arith, lr, length-map L numbers) in
+    let lp : c.cell_of.result < length L = omega (arith, inv.cells, c.requires.cells, c.cell_of.ensures, cell_in g (length c.args.trail.now.values.items) gv) in
+    let lm : c.cell_of.result < length (numbers_of L) = omega (arith, lp, length-map L numbers) in
+    let le : c.visit.i < length (get_or L n []) = omega (arith, c.visit-test.true, c.size.ensures) in
+    let li : c.visit.i < length (get_or (numbers_of L) n []) = omega (arith, le, numbers_len L n) in
+    let put : Entry = record { clause = k; other = o } in
+    let apart : n ≡ c.cell_of.result → ⊥ = λ e. ng (cell_same g f (sym c.cell_of.ensures ∙ sym e ∙ c.cell_of-c.ensures)) in
+    let here : get_or c.push.new.self n [] ≡ get_or L n [] = ap (λ v. get_or v n []) c.in_ok-push-in-Move.ensures.done ∙ (rw get_or-set_other refl) in
+    omega (arith, le, ap length here)
 
 pub visit-smaller-in-Move : goal.visit-smaller-in-Move
 visit-smaller-in-Move c =
     let cs = c.args.clauses.now in
     let t = c.visit.trail in
     let H = c.visit.watches.items in
-    let k = c.get-k.result in
+    let k = c.get-e.result.clause in
     let hd = c.index.result.now in
     let f = c.args.f in
     let o = c.in-Some.o in
@@ -200,24 +251,29 @@ visit-smaller-in-Move c =
     let he : hd ≡ watches_at H k = get_or_read H k hd lk c.index.ensures none_watches in
     let w = other_in cs H k hd f o he lc inv.watches_in c.in-Some.ensures in
     let g = c.in-Move.g in
-    let m = move_facts cs t k g o c.get.result.now c.deref.result.now c.get.ensures c.deref.ensures.value c.in-Move.ensures in
+    let m = move_facts cs t k g o c.get.result.now c.deref-in-Some.result.now c.get.ensures c.deref-in-Some.ensures.value c.in-Move.ensures in
     let gv : g.var < length c.args.trail.now.values.items = All-contains (λ x. x.var < length c.args.trail.now.values.items) (get_or cs k []) g (c.requires.within k [] lc) (contains_among (get_or cs k []) g m.0) in
     let n = c.cell_of-c.result in
     let off : among t.literals.items (negate f) ≡ true = went_grows c.args.trail.now t inv.extends (negate f) c.requires.off in
     let ng : g ≡ f → ⊥ = λ e. let N : Lit → Type 0 = λ x. among t.literals.items (negate x) ≡ false in both_ways _ (subst N e m.1) off in
-    let ln : n < length c.visit.lists = omega (arith, inv.cells, c.requires.cells, c.cell_of-c.ensures, cell_in f (length c.args.trail.now.values.items) c.requires.f_in) in
-    let lm : c.cell_of.result < length c.visit.lists = omega (arith, inv.cells, c.requires.cells, c.cell_of.ensures, cell_in g (length c.args.trail.now.values.items) gv) in
-    let li : c.visit.i < length (get_or c.visit.lists n []) = omega (arith, c.visit-test.true, c.size.ensures) in
-    let r = moved cs H c.visit.lists c.push.new.self c.remove-in-Move.new.self t.literals.items f g o k n c.cell_of.result c.visit.i c.cell_of.ensures c.cell_of-c.ensures ng w.3 lk lm ln w.0 m.2 w.2 li c.get-k.ensures
-    inv.all_listed inv.done c.in_ok-push-in-Move.ensures.done c.remove-in-Move.ensures in
-    omega (arith, r.3, li)
+    let L = c.visit.lists in
+    let lr : n < length L = omega (arith, inv.cells, c.requires.cells, c.cell_of-c.ensures, cell_in f (length c.args.trail.now.values.items) c.requires.f_in) in
+    let ln : n < length (numbers_of L) = omega (arith, lr, length-map L numbers) in
+    let lp : c.cell_of.result < length L = omega (arith, inv.cells, c.requires.cells, c.cell_of.ensures, cell_in g (length c.args.trail.now.values.items) gv) in
+    let lm : c.cell_of.result < length (numbers_of L) = omega (arith, lp, length-map L numbers) in
+    let le : c.visit.i < length (get_or L n []) = omega (arith, c.visit-test.true, c.size.ensures) in
+    let li : c.visit.i < length (get_or (numbers_of L) n []) = omega (arith, le, numbers_len L n) in
+    let r = moved cs H (numbers_of L) (numbers_of c.push.new.self) (numbers_of c.remove-in-Move.new.self) t.literals.items f g o k n c.cell_of.result c.visit.i c.cell_of.ensures c.cell_of-c.ensures ng w.3 lk lm ln w.0 m.2 w.2 li c.get-e.ensures.clause
+    inv.all_listed inv.done (numbers_push L c.push.new.self c.cell_of.result (record { clause = k; other = o }) c.in_ok-push-in-Move.ensures.done)
+    (numbers_remove c.push.new.self c.remove-in-Move.new.self n c.visit.i c.remove-in-Move.ensures) in
+    omega (arith, r.3, le, numbers_len L n, numbers_len c.remove-in-Move.new.self n)
 
 pub visit-preserved-in-Move : goal.visit-preserved-in-Move
 visit-preserved-in-Move c =
     let cs = c.args.clauses.now in
     let t = c.visit.trail in
     let H = c.visit.watches.items in
-    let k = c.get-k.result in
+    let k = c.get-e.result.clause in
     let hd = c.index.result.now in
     let f = c.args.f in
     let o = c.in-Some.o in
@@ -227,28 +283,43 @@ visit-preserved-in-Move c =
     let he : hd ≡ watches_at H k = get_or_read H k hd lk c.index.ensures none_watches in
     let w = other_in cs H k hd f o he lc inv.watches_in c.in-Some.ensures in
     let g = c.in-Move.g in
-    let m = move_facts cs t k g o c.get.result.now c.deref.result.now c.get.ensures c.deref.ensures.value c.in-Move.ensures in
+    let m = move_facts cs t k g o c.get.result.now c.deref-in-Some.result.now c.get.ensures c.deref-in-Some.ensures.value c.in-Move.ensures in
     let gv : g.var < length c.args.trail.now.values.items = All-contains (λ x. x.var < length c.args.trail.now.values.items) (get_or cs k []) g (c.requires.within k [] lc) (contains_among (get_or cs k []) g m.0) in
     let n = c.cell_of-c.result in
     let off : among t.literals.items (negate f) ≡ true = went_grows c.args.trail.now t inv.extends (negate f) c.requires.off in
     let ng : g ≡ f → ⊥ = λ e. let N : Lit → Type 0 = λ x. among t.literals.items (negate x) ≡ false in both_ways _ (subst N e m.1) off in
-    let ln : n < length c.visit.lists = omega (arith, inv.cells, c.requires.cells, c.cell_of-c.ensures, cell_in f (length c.args.trail.now.values.items) c.requires.f_in) in
-    let lm : c.cell_of.result < length c.visit.lists = omega (arith, inv.cells, c.requires.cells, c.cell_of.ensures, cell_in g (length c.args.trail.now.values.items) gv) in
-    let li : c.visit.i < length (get_or c.visit.lists n []) = omega (arith, c.visit-test.true, c.size.ensures) in
-    let r = moved cs H c.visit.lists c.push.new.self c.remove-in-Move.new.self t.literals.items f g o k n c.cell_of.result c.visit.i c.cell_of.ensures c.cell_of-c.ensures ng w.3 lk lm ln w.0 m.2 w.2 li c.get-k.ensures
-    inv.all_listed inv.done c.in_ok-push-in-Move.ensures.done c.remove-in-Move.ensures in
+    let L = c.visit.lists in
+    let lr : n < length L = omega (arith, inv.cells, c.requires.cells, c.cell_of-c.ensures, cell_in f (length c.args.trail.now.values.items) c.requires.f_in) in
+    let ln : n < length (numbers_of L) = omega (arith, lr, length-map L numbers) in
+    let lp : c.cell_of.result < length L = omega (arith, inv.cells, c.requires.cells, c.cell_of.ensures, cell_in g (length c.args.trail.now.values.items) gv) in
+    let lm : c.cell_of.result < length (numbers_of L) = omega (arith, lp, length-map L numbers) in
+    let le : c.visit.i < length (get_or L n []) = omega (arith, c.visit-test.true, c.size.ensures) in
+    let li : c.visit.i < length (get_or (numbers_of L) n []) = omega (arith, le, numbers_len L n) in
+    let r = moved cs H (numbers_of L) (numbers_of c.push.new.self) (numbers_of c.remove-in-Move.new.self) t.literals.items f g o k n c.cell_of.result c.visit.i c.cell_of.ensures c.cell_of-c.ensures ng w.3 lk lm ln w.0 m.2 w.2 li c.get-e.ensures.clause
+    inv.all_listed inv.done (numbers_push L c.push.new.self c.cell_of.result (record { clause = k; other = o }) c.in_ok-push-in-Move.ensures.done)
+    (numbers_remove c.push.new.self c.remove-in-Move.new.self n c.visit.i c.remove-in-Move.ensures) in
     let moves : Kept cs H (set H k (record { a = g; b = o })) t.literals.items = kept_move cs H k g o t.literals.items lk w.0 w.2 m.1 in
+    let M = c.push.new.self in
+    let m' = c.cell_of.result in
+    let put : Entry = record { clause = k; other = o } in
+    let pushed : AllEntries (fits cs) c.push.new.self = entries_push (fits cs) L c.push.new.self c.cell_of.result put lp c.in_ok-push-in-Move.ensures.done inv.fit w.1 in
+    let apart : n ≡ c.cell_of.result → ⊥ = λ e. ng (cell_same g f (sym c.cell_of.ensures ∙ sym e ∙ c.cell_of-c.ensures)) in
+    let here : get_or c.push.new.self n [] ≡ get_or L n [] = ap (λ v. get_or v n []) c.in_ok-push-in-Move.ensures.done ∙ (rw get_or-set_other refl) in
+    let lq : n < length c.push.new.self = omega (arith, lr, ap length c.in_ok-push-in-Move.ensures.done, length-set L c.cell_of.result (get_or L c.cell_of.result [] ++ put ∷ [])) in
+    let lu : c.visit.i < length (get_or c.push.new.self n []) = omega (arith, le, ap length here) in
+    let fit' : AllEntries (fits cs) c.remove-in-Move.new.self = entries_remove (fits cs) c.push.new.self c.remove-in-Move.new.self n c.visit.i lq lu c.remove-in-Move.ensures pushed in
     record {
       based = inv.based;
       extends = inv.extends;
       watches_len = length-set H k (record { a = g; b = o }) ∙ inv.watches_len;
       watches_in = heads_move cs H k g o lk m.0 w.1 inv.watches_in;
       all_listed = r.0;
-      cells = r.1 ∙ inv.cells;
+      cells = ap length c.remove-in-Move.ensures ∙ length-set M n (entry_out (get_or M n []) c.visit.i) ∙ ap length c.in_ok-push-in-Move.ensures.done ∙ length-set L m' (get_or L m' [] ++ put ∷ []) ∙ inv.cells;
+      fit = fit';
       kept = λ s u part old. moves s u (λ l on. went_grows c.args.trail.now t inv.extends l (part l on)) (inv.kept s u part old);
       two_kept = λ j big. bigs_move H k g o lk m.2 j (inv.two_kept j big);
       done = r.2;
-      upper = omega (arith, r.3, li);
+      upper = omega (arith, r.3, le, numbers_len L n, numbers_len c.remove-in-Move.new.self n);
     }
 
 pub visit-preserved-in-Force : goal.visit-preserved-in-Force
@@ -256,7 +327,7 @@ visit-preserved-in-Force c =
     let cs = c.args.clauses.now in
     let t = c.visit.trail in
     let H = c.visit.watches.items in
-    let k = c.get-k.result in
+    let k = c.get-e.result.clause in
     let hd = c.index.result.now in
     let f = c.args.f in
     let o = c.in-Some.o in
@@ -265,9 +336,9 @@ visit-preserved-in-Force c =
     let lc : k < length cs = omega (arith, lk, inv.watches_len) in
     let he : hd ≡ watches_at H k = get_or_read H k hd lk c.index.ensures none_watches in
     let w = other_in cs H k hd f o he lc inv.watches_in c.in-Some.ensures in
-    let P : List Lit → Type 0 = λ x. UnitIn (holds c.deref.result.now) x o × (holds c.deref.result.now o ≡ false) × (holds c.deref.result.now (negate o) ≡ false) in
+    let P : List Lit → Type 0 = λ x. UnitIn (holds c.deref-in-Some.result.now) x o × (holds c.deref-in-Some.result.now o ≡ false) × (holds c.deref-in-Some.result.now (negate o) ≡ false) in
     let Q : List ℕ → Type 0 = λ v. UnitIn (holds v) (get_or cs k []) o × (holds v o ≡ false) × (holds v (negate o) ≡ false) in
-    let u : Q t.values.items = subst Q c.deref.ensures.value (subst P c.get.ensures c.in-Force.ensures) in
+    let u : Q t.values.items = subst Q c.deref-in-Some.ensures.value (subst P c.get.ensures c.in-Force.ensures) in
     let ov : o.var < length c.args.trail.now.values.items = All-contains (λ x. x.var < length c.args.trail.now.values.items) (get_or cs k []) o (c.requires.within k [] lc) u.0.0 in
     let in_now : o.var < length t.values.items = omega (arith, ov, inv.extends.vars) in
     let in_why : o.var < length t.reasons.items = omega (arith, in_now, t.reasons_len) in
@@ -280,7 +351,7 @@ visit-preserved-in-Force c =
     let on : among new.literals.items o ≡ true =
     among_here new.literals.items (length t.literals.items) o (omega (arith, ap length done.literals, length-append t.literals.items (o ∷ []))) (ap (λ xs. at xs (length t.literals.items)) done.literals ∙ at_end t.literals.items o) in
     let hit = true_from new.literals.items (get_or cs k []) o (contains_among (get_or cs k []) o w.1) on in
-    let E = get_or c.visit.lists c.cell_of-c.result [] in
+    let E = get_or (numbers_of c.visit.lists) c.cell_of-c.result [] in
     let below : DoneWithBelow cs H new.literals.items f E c.visit.i = λ j lj. done_grows cs H t.literals.items new.literals.items f (get_or E j 0) (λ l. went_grows t new one.0 l) (inv.done j lj) in
     record {
       based = based';
@@ -289,8 +360,47 @@ visit-preserved-in-Force c =
       watches_in = inv.watches_in;
       all_listed = inv.all_listed;
       cells = inv.cells;
+      fit = inv.fit;
       kept = inv.kept;
       two_kept = inv.two_kept;
-      done = done_more cs H new.literals.items f E c.visit.i k c.get-k.ensures below (done_true cs H new.literals.items f k hit);
+      done = done_more cs H new.literals.items f E c.visit.i k c.get-e.ensures.clause below (done_true cs H new.literals.items f k hit);
+      upper = omega (arith, c.visit-test.true, c.size.ensures);
+    }
+
+pub is_set-requires : goal.is_set-requires
+is_set-requires c =
+    let cs = c.args.clauses.now in
+    let e = c.get-e.result in
+    let inv = c.visit.invariant in
+    let fit : fits cs e ≡ true = c.get-e.ensures.fits (fits cs) inv.fit in
+    let lc : e.clause < length cs = fits_below cs e fit in
+    let v : e.other.var < length c.args.trail.now.values.items = All-contains (λ x. x.var < length c.args.trail.now.values.items) (get_or cs e.clause []) e.other (c.requires.within e.clause [] lc) (contains_among (get_or cs e.clause []) e.other fit) in
+    omega (arith, v, inv.extends.vars, ap length c.deref.ensures.value)
+
+pub visit-preserved-then-is_set : goal.visit-preserved-then-is_set
+visit-preserved-then-is_set c =
+    let cs = c.args.clauses.now in
+    let t = c.visit.trail in
+    let H = c.visit.watches.items in
+    let e = c.get-e.result in
+    let k = e.clause in
+    let f = c.args.f in
+    let inv = c.visit.invariant in
+    let fit : fits cs e ≡ true = c.get-e.ensures.fits (fits cs) inv.fit in
+    let V : List ℕ → Type 0 = λ v. holds v e.other ≡ true in
+    let set' : V c.deref.result.now = sym c.is_set.ensures ∙ c.if-is_set.true in
+    let on : among t.literals.items e.other ≡ true = t.values_ok e.other ∙ subst V c.deref.ensures.value set' in
+    let hit = true_from t.literals.items (get_or cs k []) e.other (contains_among (get_or cs k []) e.other fit) on in
+    record {
+      based = inv.based;
+      extends = inv.extends;
+      watches_len = inv.watches_len;
+      watches_in = inv.watches_in;
+      all_listed = inv.all_listed;
+      cells = inv.cells;
+      fit = inv.fit;
+      kept = inv.kept;
+      two_kept = inv.two_kept;
+      done = done_more cs H t.literals.items f (get_or (numbers_of c.visit.lists) c.cell_of-c.result []) c.visit.i k c.get-e.ensures.clause inv.done (done_true cs H t.literals.items f k hit);
       upper = omega (arith, c.visit-test.true, c.size.ensures);
     }

@@ -1,6 +1,7 @@
 use Rattle.std.proofs.Common.{◌≡◌, ◌≤◌, ◌-◌, [], length, get_or}
 use Rattle.sat_prop.specs.Trails.{Based}
 use Rattle.sat_prop.specs.Moves.{Extends}
+use Rattle.sat_prop.specs.Entries.{AllEntries, fits, numbers_of}
 use Rattle.sat_prop.specs.Watches.{AllWatchesIn, AllListed, Kept, DoneWithBelow, KeepsTwo}
 use Rattle.sat_prop.proofs.visit.visit_list.Given as goal
 
@@ -11,11 +12,12 @@ invariant-visit l =
       extends : Extends l.fn.trail l.trail;
       watches_len : length l.watches.items ≡ length l.clauses;
       watches_in : AllWatchesIn l.clauses l.watches.items;
-      all_listed : AllListed l.watches.items l.lists;
+      all_listed : AllListed l.watches.items (numbers_of l.lists);
       cells : length l.lists ≡ length l.fn.lists;
+      fit : AllEntries (fits l.clauses) l.lists;
       kept : Kept l.clauses l.fn.watches.items l.watches.items l.fn.trail.literals.items;
       two_kept : KeepsTwo l.fn.watches.items l.watches.items;
-      done : DoneWithBelow l.clauses l.watches.items l.trail.literals.items l.f (get_or l.lists l.c []) l.i;
+      done : DoneWithBelow l.clauses l.watches.items l.trail.literals.items l.f (get_or (numbers_of l.lists) l.c []) l.i;
       upper : l.i ≤ length (get_or l.lists l.c []);
     }
 

@@ -1,7 +1,8 @@
-use Rattle.std.proofs.Common.{◌≡◌, ◌<◌, ◌++◌, ◌∷◌, [], List, ℕ, length, get_or, map, sym, ap, subst, ◌∙◌}
+use Rattle.std.proofs.Common.{◌≡◌, ◌<◌, ◌++◌, ◌∷◌, [], List, length, get_or, map, sym, ap, subst, ◌∙◌}
 use Rattle.std.proofs.lemmas.List.{length-map}
 use Rattle.std.proofs.lemmas.List.{set-get_or}
 use Rattle.std.proofs.lemmas.Result.{err_from_is_err_and}
+use Rattle.sat_prop.specs.declared.lists.Entry.{Entry}
 use Rattle.sat_prop.proofs.Cells.{items_of, cell_read, cell_set}
 use Rattle.sat_prop.proofs.lists.WatchLists.push.Goals as goal
 
@@ -12,7 +13,7 @@ returns-in_err-push-clause-failed c =
     let k = c.args.c in
     let L = map items_of cells in
     let x = c.index_mut.result.now in
-    let len : k < length L = subst (λ (v : List (List ℕ)). k < length v) (sym c.self.view_is) c.requires in
+    let len : k < length L = subst (λ (v : List (List Entry)). k < length v) (sym c.self.view_is) c.requires in
     let lt : k < length cells = simp length-map at len in
     let e : c.push.new.self.items ≡ get_or L k [] = c.in_err-push.ensures.items ∙ cell_read cells k x lt c.index_mut.ensures.value in
     rw p.1 (cell_set cells k c.push.new.self (get_or L k []) e ∙ set-get_or L k [] ∙ c.self.view_is)
@@ -23,7 +24,7 @@ returns-clause-done c =
     let k = c.args.c in
     let L = map items_of cells in
     let x = c.index_mut.result.now in
-    let len : k < length L = subst (λ (v : List (List ℕ)). k < length v) (sym c.self.view_is) c.requires in
+    let len : k < length L = subst (λ (v : List (List Entry)). k < length v) (sym c.self.view_is) c.requires in
     let lt : k < length cells = simp length-map at len in
-    let e : c.push.new.self.items ≡ get_or L k [] ++ c.args.k ∷ [] = c.in_ok-push.ensures.items ∙ ap (λ xs. xs ++ c.args.k ∷ []) (cell_read cells k x lt c.index_mut.ensures.value) in
-    rw (← c.self.view_is) (cell_set cells k c.push.new.self (get_or L k [] ++ c.args.k ∷ []) e)
+    let e : c.push.new.self.items ≡ get_or L k [] ++ c.args.e ∷ [] = c.in_ok-push.ensures.items ∙ ap (λ xs. xs ++ c.args.e ∷ []) (cell_read cells k x lt c.index_mut.ensures.value) in
+    rw (← c.self.view_is) (cell_set cells k c.push.new.self (get_or L k [] ++ c.args.e ∷ []) e)

@@ -1,0 +1,53 @@
+ghost use Rattle.std.specs.Prelude.{◌≡◌, ◌<◌, ◌≤◌, ℕ, Bool, true, length, IfOk, All};
+ghost use Rattle.bit_graph.specs.Meaning.{Stands, IsBelow};
+ghost use Rattle.cnf_build.specs.Cone.{marked, IsCone, RootsLive, AllReached, Included, Reaches};
+
+use bit_graph::{Edge, Graph, Node};
+use std::alloc::{AllocError, Global};
+
+// Marks the nodes that the roots reach: an operand is before its node, so one pass down is enough.
+pub fn cone(alloc: Global, graph: &Graph, roots: &[Edge]) -> Result<Vec<bool>, AllocError>
+    requires { All (Stands graph.now) roots.now }
+    ensures size { IfOk result (λ m. length m.items ≡ length graph.now) }
+    ensures cone { IfOk result (λ m. IsCone (marked m.items) graph.now) }
+    ensures roots { IfOk result (λ m. RootsLive (marked m.items) roots.now) }
+    ensures reached { IfOk result (λ m. AllReached (marked m.items) graph.now roots.now) }
+{
+    let size = graph.len();
+    let mut marks = vec![in alloc; false; size]?;
+    'roots: for e in roots {
+        mark(&mut marks, *e);
+    }
+    'nodes: for k in (0..size).rev() {
+        if marks[k] {
+            mark_operands(&mut marks, k, graph.node(k));
+        }
+    }
+    Ok(marks)
+}
+
+fn mark(marks: &mut Vec<bool>, e: Edge)
+    requires { e.node < length marks.old.items }
+    ensures size { length marks.new.items ≡ length marks.old.items }
+    ensures grows { Included (marked marks.old.items) (marked marks.new.items) }
+    ensures marks { marked marks.new.items e.node ≡ true }
+    ensures same { (j : ℕ) → e.node < j → marked marks.new.items j ≡ marked marks.old.items j }
+    ensures least { (live : ℕ → Bool) → live e.node ≡ true → Included (marked marks.old.items) live → Included (marked marks.new.items) live }
+{
+    marks[e.node] = true;
+}
+
+fn mark_operands(marks: &mut Vec<bool>, k: usize, node: Node)
+    requires size { k < length marks.old.items }
+    requires below { IsBelow k node }
+    ensures size { length marks.new.items ≡ length marks.old.items }
+    ensures grows { Included (marked marks.old.items) (marked marks.new.items) }
+    ensures same { (j : ℕ) → k ≤ j → marked marks.new.items j ≡ marked marks.old.items j }
+    ensures reaches { Reaches (marked marks.new.items) node }
+    ensures least { (live : ℕ → Bool) → Reaches live node → Included (marked marks.old.items) live → Included (marked marks.new.items) live }
+{
+    if let Node::And(a, b) = node {
+        mark(marks, a);
+        mark(marks, b);
+    }
+}

@@ -1,0 +1,9 @@
+mod Each
+mod Places
+mod Meets
+mod FromModel
+mod ToModel
+mod WithinVars
+mod Answers
+mod Recorded
+mod Stretched

@@ -1,0 +1,16 @@
+use Rattle.std.proofs.Common.{arith}
+use Rattle.clause_core.proofs.Definitions.{Gives-none}
+use Rattle.lasso_search.proofs.tests.without_defs.Goals as goal
+
+pub new-system-requires : goal.new-system-requires
+new-system-requires c =
+    rw (c.new-bad.ensures, c.new-defs.ensures)
+    (record {
+      room = omega arith;
+      init_in = c.requires.init_in;
+      step_in = c.requires.step_in;
+      bad_in = λ k d lt. absurd (omega (arith, lt));
+      fair_in = λ k d lt. (let h = c.requires.fair_in k d lt in omega (arith, h));
+      defs_in = λ k d lt. absurd (omega (arith, lt));
+      gives = Gives-none c.args.bits c.args.fair c.requires.fair_in;
+    })

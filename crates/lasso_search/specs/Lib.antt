@@ -1,0 +1,4 @@
+pub mod Lassos
+pub mod Unrolling
+pub mod Searches
+pub mod Books

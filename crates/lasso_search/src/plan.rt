@@ -1,0 +1,149 @@
+ghost use Rattle.std.specs.Prelude.{◌≡◌, ◌+◌, ◌++◌, map, IfOk, OnOk};
+ghost use Rattle.lasso_search.specs.Unrolling.{spot, loop_kind, place, moved, all_moved, begun, met};
+
+use clause_core::{Clauses, Lit};
+use std::alloc::{AllocError, Global};
+
+// How the variables of a query for lassos of some length lie: those of one kind beside one another,
+// one for each state and one for the state after the last. The kinds are the system's variables,
+// those that only its steps have, one that tells where the loop begins, and one for each fairness set.
+#[derive(Clone, Copy, Drop)]
+pub struct Plan {
+    // How many states the lasso has.
+    pub states: usize,
+    // How many state bits the system has.
+    pub bits: usize,
+    // How many variables the system has.
+    pub all: usize,
+}
+
+// A copy of the system's variables.
+#[derive(Clone, Copy, Drop)]
+pub enum Turn {
+    // Of the first state.
+    First,
+    // Of a state and what is defined of it.
+    State(usize),
+    // Of a step from a state to the next.
+    Step(usize),
+}
+
+// A sum, or want of memory where it is too large: there is no room for so many variables.
+pub fn sum(a: usize, b: usize) -> Result<usize, AllocError>
+    ensures { IfOk result (λ n. n ≡ a + b) }
+{
+    let Some(n) = a.checked_add(b) else {
+        return Err(AllocError);
+    };
+    Ok(n)
+}
+
+impl Plan {
+    // The variable of a kind at a time.
+    pub fn spot(&self, kind: usize, time: usize) -> Result<usize, AllocError>
+        ensures { IfOk result (λ v. v ≡ spot self.now kind time) }
+    {
+        let times = sum(self.states, 1)?;
+        let Some(first) = kind.checked_mul(times) else {
+            return Err(AllocError);
+        };
+        let var = sum(first, time)?;
+        Ok(var)
+    }
+
+    // The kind of the variables that tell where the loop begins.
+    pub fn loop_kind(&self) -> Result<usize, AllocError>
+        ensures { IfOk result (λ k. k ≡ loop_kind self.now) }
+    {
+        let inner = self.all.saturating_sub(self.bits).saturating_sub(self.bits);
+        let kind = sum(self.all, inner)?;
+        Ok(kind)
+    }
+
+    // Where a variable of the system goes.
+    pub fn place(&self, turn: Turn, var: usize) -> Result<usize, AllocError>
+        ensures { IfOk result (λ v. v ≡ place self.now turn var) }
+    {
+        match turn {
+            Turn::First => self.first(var),
+            Turn::State(time) => self.spot(var, time),
+            Turn::Step(time) => self.step(time, var),
+        }
+    }
+
+    fn first(&self, var: usize) -> Result<usize, AllocError>
+        ensures { IfOk result (λ v. v ≡ place self.now Turn.First var) }
+    {
+        if var < self.bits {
+            self.spot(var, 0)
+        } else {
+            self.spot(var, self.states)
+        }
+    }
+
+    fn step(&self, time: usize, var: usize) -> Result<usize, AllocError>
+        ensures { IfOk result (λ v. v ≡ place self.now (Turn.Step time) var) }
+    {
+        if var < self.bits {
+            self.spot(var, time)
+        } else if var - self.bits < self.bits {
+            let next = sum(time, 1)?;
+            self.spot(var - self.bits, next)
+        } else {
+            let kind = sum(var - self.bits - self.bits, self.all)?;
+            self.spot(kind, time)
+        }
+    }
+
+    // A literal of the system where its variable goes.
+    pub fn moved(&self, turn: Turn, literal: Lit) -> Result<Lit, AllocError>
+        ensures { IfOk result (λ l. l ≡ moved self.now turn literal) }
+    {
+        let var = self.place(turn, literal.var)?;
+        Ok(Lit::new(var, literal.positive))
+    }
+
+    // That the loop begins before a time.
+    pub fn begun(&self, time: usize) -> Result<Lit, AllocError>
+        ensures { IfOk result (λ l. l ≡ begun self.now time) }
+    {
+        let var = self.spot(self.loop_kind()?, time)?;
+        Ok(Lit::new(var, true))
+    }
+
+    // That a fairness set is met at a time in the loop.
+    pub fn met(&self, set: usize, time: usize) -> Result<Lit, AllocError>
+        ensures { IfOk result (λ l. l ≡ met self.now set time) }
+    {
+        let first = sum(self.loop_kind()?, 1)?;
+        let var = self.spot(sum(first, set)?, time)?;
+        Ok(Lit::new(var, true))
+    }
+
+    // Adds clauses of the system where their variables go.
+    pub fn copy(
+        &self,
+        alloc: Global,
+        turn: Turn,
+        clauses: &Clauses,
+        into: &mut Clauses,
+    ) -> Result<(), AllocError>
+        ensures { OnOk result (into.new ≡ into.old ++ all_moved self.now turn clauses.now) }
+    {
+        for k in 0..clauses.len() {
+            let clause = self.moved_all(alloc, turn, clauses.get(k))?;
+            into.push(&clause)?;
+        }
+        Ok(())
+    }
+
+    fn moved_all(&self, alloc: Global, turn: Turn, literals: &[Lit]) -> Result<Vec<Lit>, AllocError>
+        ensures { IfOk result (λ ls. ls.items ≡ map (moved self.now turn) literals.now) }
+    {
+        let mut all = Vec::new(alloc);
+        for literal in literals {
+            all.push(self.moved(turn, *literal)?)?;
+        }
+        Ok(all)
+    }
+}
