@@ -1,19 +1,19 @@
 -- What the tests need of their systems.
-use Rattle.std.proofs.Common.{Some, ◌≡◌, ℕ, ◌<◌, ◌+◌, ◌⊎◌, Bool, true, false, ◌&&◌, ◌||◌, List, [], ◌∷◌, length, get_or, refl, sym, ◌∙◌, subst, arith, zero, suc, inl, inr, ⊎_elim}
+use Rattle.std.proofs.Common.{Some, ◌≡◌, ℕ, ◌<◌, ◌≤◌, ◌⊎◌, Bool, true, false, ◌&&◌, ◌||◌, List, [], ◌∷◌, length, get_or, refl, sym, ◌∙◌, subst, arith, zero, suc, inl, inr, ⊎_elim}
 use Rattle.std.specs.Bool.{beq}
 use Rattle.std.specs.Cmp.{booleans_Decides}
-use Rattle.std.specs.List.{All, Contains}
+use Rattle.std.specs.List.{All}
 use Rattle.std.proofs.lemmas.Bool.{cases_order, and_parts}
-use Rattle.std.proofs.lemmas.List.Elements.{All-nil, All-cons}
+use Rattle.std.proofs.lemmas.List.Elements.{All-nil, All-cons, All-contains_itself}
 use Rattle.clause_core.specs.declared.literal.Lit.{Lit}
-use Rattle.clause_core.specs.Literals.{Within}
 use Rattle.clause_core.specs.Assignments.{ClauseTrue, assignment_of}
 use Rattle.clause_core.specs.Systems.{TransitionSystem, FirstBits, StepBits, BadBits, NextIs}
+use Rattle.frame_core.specs.declared.lemmas.Lemma.{Lemma}
 use Rattle.frame_core.specs.declared.lemmas.Parent.{Parent}
 use Rattle.frame_core.specs.Facts.{FoundState, IsProved, IsClear, IsFound, MeetsParents}
-use Rattle.frame_core.specs.Law.{FrameState, IsPart}
+use Rattle.frame_core.specs.Law.{FrameState, lemma_at, IsPart, Covers}
 use Rattle.frame_core.specs.Changes.{IsCovered, MayHaveParent}
-use Rattle.frame_core.specs.Examples.{last, middle, register_frames, latch_frames, low_lemma, either_lemma, yes, no, latch, register, low, either_low, low_parent, last_values, middle_values, first_values}
+use Rattle.frame_core.specs.Examples.{last, middle, register_frames, yes, no, latch, register, low, either_low, low_parent, last_values, middle_values, first_values}
 
 -- whether the assignment makes the clauses true, as a test
 clause_met : (ℕ → Bool) → List Lit → Bool
@@ -178,12 +178,15 @@ first_to_middle (suc zero) lt = refl
 first_to_middle (suc (suc zero)) lt = refl
 first_to_middle (suc (suc (suc b))) lt = absurd (omega arith)
 
-pub low_is_part : IsPart low either_low
-unfolding low either_low
-low_is_part = All-cons (Contains either_low) (no 0) [] (0, omega arith, refl) (All-nil (Contains either_low))
-
-pub low_covers : IsCovered (latch_frames (either_lemma ∷ low_lemma ∷ [])) 0
-low_covers = (1, omega arith, omega arith, (refl, low_is_part, omega arith))
+-- lemma 1 covers lemma 0 where they say the same
+pub covers_first : (f : FrameState) (a b : Lemma) → 1 < length f.lemmas → a ≡ lemma_at f.lemmas 0 → b ≡ lemma_at f.lemmas 1 →
+    b.live ≡ true → a.level ≤ b.level → b.clause ≡ a.clause → IsCovered f 0
+covers_first f a b many is_a is_b live high same =
+    let P : Lemma → Type 0 = λ l. Covers l (lemma_at f.lemmas 0) in
+    let Q : Lemma → Type 0 = λ l. Covers b l in
+    let R : List Lit → Type 0 = λ d. IsPart b.clause d in
+    let part : IsPart b.clause a.clause = subst R same (All-contains_itself b.clause) in
+    (1, many, omega arith, subst P is_b (subst Q is_a (live, part, high)))
 
 -- the same of parts that are equal
 pub low_proof : (s : TransitionSystem) (c : List Lit) (level : ℕ) (parents : List Parent) → s ≡ latch → c ≡ low → 0 < level →

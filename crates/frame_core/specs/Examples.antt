@@ -2,7 +2,6 @@
 use Rattle.std.specs.Prelude.{ℕ, Bool, true, false, List, [], ◌∷◌, Some, None}
 use Rattle.clause_core.specs.declared.literal.Lit.{Lit}
 use Rattle.clause_core.specs.Systems.{TransitionSystem}
-use Rattle.frame_core.specs.declared.lemmas.Lemma.{Lemma}
 use Rattle.frame_core.specs.declared.lemmas.Obligation.{Obligation}
 use Rattle.frame_core.specs.declared.lemmas.Parent.{Parent}
 use Rattle.frame_core.specs.Law.{FrameState}
@@ -47,16 +46,6 @@ low = no 0 ∷ []
 
 unfoldable pub either_low : List Lit
 either_low = no 0 ∷ no 1 ∷ []
-
--- the frames of the latch with these lemmas and no more
-abbrev pub latch_frames : List Lemma → FrameState
-latch_frames lemmas = record { system = latch; lemmas = lemmas; top = 0; obligations = [] }
-
-abbrev pub low_lemma : Lemma
-low_lemma = record { clause = low; level = 1; live = true }
-
-abbrev pub either_lemma : Lemma
-either_lemma = record { clause = either_low; level = 1; live = true }
 
 abbrev pub low_parent : Parent
 low_parent = record { number = 0; clause = low }

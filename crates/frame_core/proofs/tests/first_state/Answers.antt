@@ -1,4 +1,4 @@
-use Rattle.std.proofs.Common.{◌∙◌, true, false}
+use Rattle.std.proofs.Common.{◌∙◌, true}
 use Rattle.frame_core.specs.Examples.{first_values}
 use Rattle.frame_core.proofs.SmallSystems.{first_state}
 use Rattle.frame_core.proofs.tests.first_state.Goals as goal

@@ -1,4 +1,4 @@
-use Rattle.std.proofs.Common.{◌∙◌, true, false}
+use Rattle.std.proofs.Common.{◌∙◌, false}
 use Rattle.frame_core.specs.Examples.{last_values}
 use Rattle.frame_core.proofs.SmallSystems.{last_state}
 use Rattle.frame_core.proofs.tests.last_state.Goals as goal

@@ -1,4 +1,3 @@
-use Rattle.std.proofs.Common.{sym, subst}
 use Rattle.frame_core.proofs.SmallSystems.{middle_may}
 use Rattle.frame_core.proofs.tests.with_middle.Goals as goal
 
