@@ -18,7 +18,7 @@ use Rattle.clap.specs.declared.parser.matches.ValueSource.{ValueSource}
 use Rattle.clap.specs.declared.parser.matches.ValueSource.TheVariants.{DefaultValue, CommandLine}
 use Rattle.clap.proofs.ValueTestLemmas.{accepts-Accepts}
 use Rattle.command_words.specs.declared.command.Command.{Command}
-use Rattle.command_words.specs.declared.command.Command.TheVariants.{Check}
+use Rattle.command_words.specs.declared.command.Command.TheVariants.{Check, Flat}
 use Rattle.command_words.specs.Grammar.{OptionRow, conflicts_option, bound_option, option_rule, program, HasNumber, Tells, Says, IsCommandLine}
 
 -- the rule of an option as a parse has it
@@ -42,6 +42,14 @@ first_shape (s ∷ ss) = s
 
 abbrev check_shape : Shape
 check_shape = first_shape check_shapes
+
+-- and `flat`
+abbrev second_shape : List Shape → Shape
+second_shape [] = app.top
+second_shape (s ∷ ss) = first_shape ss
+
+abbrev flat_shape : Shape
+flat_shape = second_shape check_shapes
 
 -- the word is a number that the option takes
 abbrev Reads : OptionRow → Text → Type 0
@@ -310,13 +318,24 @@ told words e =
     let bound = number bound_option (rows_found words) (kept bound_option conflicts_agree (λ _ v h. h) words e) has_bound in
     (Check (record { conflicts = conflicts.0; bound = bound.0 }), (refl, record { conflicts = conflicts.1; bound = bound.1 }))
 
+-- the shape of `flat`, if it is named
+abbrev of_flat : Text → Option Shape
+of_flat word = cond (bytes_eq flat_shape.name word || false) (Some flat_shape) None
+
+flat_told : (p : Text × List Text) → option_map_or (λ (s : Shape). level_fault s [] nothing_held p.1 false []) (of_flat p.0) [] ≡ []
+    → is_some (option_map (λ (s : Shape). rows_at s p.1) (of_flat p.0)) ≡ true → (command : Command) × Tells (option_map (λ (s : Shape). rows_at s p.1) (of_flat p.0)) command
+flat_told p e some =
+    elim (bytes_eq flat_shape.name p.0) as (λ x. is_some (option_map (λ (s : Shape). rows_at s p.1) (cond (x || false) (Some flat_shape) None)) ≡ true
+    → (command : Command) × Tells (option_map (λ (s : Shape). rows_at s p.1) (cond (x || false) (Some flat_shape) None)) command)
+    [ true ↦ λ _. (Flat, refl) | false ↦ λ none. cc ] some
+
 found_told : (stop : Option (Text × List Text)) → entered_fault app stop ≡ [] → is_some (entered app stop) ≡ true → (command : Command) × Tells (entered app stop) command
 found_told None e some = cc
 found_told (Some p) e some =
-    elim (bytes_eq check_shape.name p.0) as (λ x. option_map_or (λ (s : Shape). level_fault s [] nothing_held p.1 false []) (cond (x || false) (Some check_shape) None) [] ≡ []
-    → is_some (option_map (λ (s : Shape). rows_at s p.1) (cond (x || false) (Some check_shape) None)) ≡ true
-    → (command : Command) × Tells (option_map (λ (s : Shape). rows_at s p.1) (cond (x || false) (Some check_shape) None)) command)
-    [ true ↦ λ fault _. told p.1 fault | false ↦ λ _ none. cc ] e some
+    elim (bytes_eq check_shape.name p.0) as (λ x. option_map_or (λ (s : Shape). level_fault s [] nothing_held p.1 false []) (cond (x || false) (Some check_shape) (of_flat p.0)) [] ≡ []
+    → is_some (option_map (λ (s : Shape). rows_at s p.1) (cond (x || false) (Some check_shape) (of_flat p.0))) ≡ true
+    → (command : Command) × Tells (option_map (λ (s : Shape). rows_at s p.1) (cond (x || false) (Some check_shape) (of_flat p.0))) command)
+    [ true ↦ λ fault _. told p.1 fault | false ↦ flat_told p ] e some
 
 wanted : (rows : List Row) (has : Bool) → check_fault app.top rows has ≡ [] → has ≡ true
 wanted rows true e = refl

@@ -7,7 +7,7 @@ use Rattle.clap.specs.Simple.{App, Shape, new_app, new_rule, on_top, subcommand_
 use Rattle.clap.specs.Faults.{fault_of}
 use Rattle.clap.specs.declared.builder.value_parser.ValueParser.TheVariants as parser
 use Rattle.command_words.specs.declared.command.Command.{Command}
-use Rattle.command_words.specs.declared.command.Command.TheVariants.{Check}
+use Rattle.command_words.specs.declared.command.Command.TheVariants.{Check, Flat}
 use Rattle.command_words.specs.declared.command.Effort.{Effort}
 
 -- a row of an option: its word, the least and the greatest number that it takes, and what stands for its number where
@@ -35,9 +35,13 @@ bound_option = record { word = codes "bound"; least = 0; greatest = 10000; defau
 abbrev pub check_row : CommandRow
 check_row = record { word = codes "check"; options = conflicts_option ∷ bound_option ∷ [] }
 
+-- slots and items are listed
+abbrev pub flat_row : CommandRow
+flat_row = record { word = codes "flat"; options = [] }
+
 -- the table
 abbrev pub commands : List CommandRow
-commands = check_row ∷ []
+commands = check_row ∷ flat_row ∷ []
 
 -- `--WORD N` and `--WORD=N`, with a number in this range, and what stands for it where it is left out
 abbrev pub number_rule : Text → ℕ → ℕ → Text → Rule
@@ -88,6 +92,7 @@ pub record HasEffort (rows : List Row) (effort : Effort) : Type 0 where
 abbrev pub Tells : Option (Text × List Row) → Command → Type 0
 Tells None command = ⊥
 Tells (Some found) (Check effort) = (found.0 ≡ check_row.word) × HasEffort found.1 effort
+Tells (Some found) Flat = found.0 ≡ flat_row.word
 
 -- the words say this command
 abbrev pub Says : List Text → Command → Type 0

@@ -5,6 +5,8 @@
 pub enum Command {
     /// A model is read, and each of its specifications is decided with this effort.
     Check(Effort),
+    /// A model is read, and its slots and items are listed.
+    Flat,
 }
 
 /// How much effort a specification may cost.

@@ -5,7 +5,7 @@ ghost use Rattle.clap.specs.Words.{found_of, rows_of, subcommand_rows_of};
 ghost use Rattle.command_words.specs.Grammar.{HasEffort, HasNumber, IsCommandLine, Says, Tells, bound_option, conflicts_option};
 
 use crate::command::{Command, Effort};
-use crate::table::{BOUND, CHECK, CONFLICTS, program};
+use crate::table::{BOUND, CHECK, CONFLICTS, FLAT, program};
 use clap::ArgMatches;
 use clap::error::ErrorKind;
 use std::alloc::Global;
@@ -47,6 +47,9 @@ fn command_of(matches: &ArgMatches<'_>) -> Option<Command>
     ensures { IfSome result (Tells (subcommand_rows_of matches.now)) }
 {
     let (word, found) = matches.subcommand()?;
+    if word == FLAT {
+        return Some(Command::Flat);
+    }
     if word != CHECK {
         return None;
     }

@@ -3,7 +3,7 @@
 ghost use Rattle.std.specs.Prelude.{◌≡◌, false, IfOk};
 ghost use Rattle.clap.specs.Words.{app_of, rule_of};
 ghost use Rattle.clap.specs.declared.Command.TheViews.{out-Command};
-ghost use Rattle.command_words.specs.Grammar.{bound_option, check_row, command_app, conflicts_option, number_rule, option_rule, program};
+ghost use Rattle.command_words.specs.Grammar.{bound_option, check_row, command_app, conflicts_option, flat_row, number_rule, option_rule, program};
 
 use clap::builder::ValueParser;
 use clap::{Arg, Command};
@@ -11,6 +11,9 @@ use std::alloc::{AllocError, Global};
 
 /// The word of the command that decides specifications.
 pub const CHECK: &str = "check";
+
+/// The word of the command that lists slots and items.
+pub const FLAT: &str = "flat";
 
 /// The word of the option that says how many tickets a specification may cost.
 pub const CONFLICTS: &str = "conflicts";
@@ -58,6 +61,13 @@ fn check_command<'a>(alloc: Global) -> Result<Command<'a>, AllocError>
     Command::new(alloc, CHECK).arg(conflicts)?.arg(bound)
 }
 
+fn flat_command<'a>(alloc: Global) -> Command<'a>
+    ensures app { app_of result ≡ command_app flat_row }
+    ensures local { (out-Command result).has_globals ≡ false }
+{
+    Command::new(alloc, FLAT)
+}
+
 /// The whole table.
 pub fn program<'a>(alloc: Global) -> Result<Command<'a>, AllocError>
     ensures { IfOk result (λ c. app_of c ≡ program) }
@@ -68,5 +78,6 @@ pub fn program<'a>(alloc: Global) -> Result<Command<'a>, AllocError>
         .subcommand_required(true)
         .disable_help_flag(true)
         .disable_help_subcommand(true)
-        .subcommand(check)
+        .subcommand(check)?
+        .subcommand(flat_command(alloc))
 }

@@ -34,6 +34,16 @@ fn words_inside(rt: HostRuntime) -> Result<(), Fail> {
 }
 
 #[test]
+fn a_listing(rt: HostRuntime) -> Result<(), Fail> {
+    let alloc = rt.alloc();
+    for line in ["flat", "flat --"] {
+        let words: Vec<&str> = line.split_whitespace().collect(alloc)?;
+        assert_eq!(rt; read_words(alloc, &words), Ok(Command::Flat), "{line:?}");
+    }
+    Ok(())
+}
+
+#[test]
 fn words_outside(rt: HostRuntime) -> Result<(), Fail> {
     let alloc = rt.alloc();
     let lines = [
@@ -59,7 +69,12 @@ fn words_outside(rt: HostRuntime) -> Result<(), Fail> {
         "check help",
         "recheck",
         "Check",
-        "flat",
+        "flat flat",
+        "flat check",
+        "flat --bound 1",
+        "flat --conflicts=1",
+        "--bound 1 flat",
+        "flat x",
     ];
     for line in lines {
         let words: Vec<&str> = line.split_whitespace().collect(alloc)?;

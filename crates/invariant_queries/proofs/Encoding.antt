@@ -1,6 +1,6 @@
 -- The states that values of inputs give, and values that give states.
-use Rattle.std.proofs.Common.{◌≡◌, ◌∙◌, ℕ, zero, suc, ◌+◌, ◌*◌, ◌<◌, ◌≤◌, Bool, false, List, [], ◌∷◌, ◌++◌, length, map, take, drop, refl, sym, ap, arith, length-append}
-use Rattle.std.proofs.Math.Seq.{drop-cons, take-append_seam}
+use Rattle.std.proofs.Common.{◌≡◌, ◌∙◌, ℕ, zero, suc, ◌+◌, ◌*◌, ◌<◌, ◌≤◌, Bool, false, List, [], ◌∷◌, ◌++◌, length, map, take, drop, refl, sym, ap, arith, append_assoc, length-append}
+use Rattle.std.proofs.Math.Seq.{drop-append_seam, drop-cons, take-append_seam}
 use Rattle.std.proofs.lemmas.List.{length-map, drop-drop}
 use Rattle.bit_graph.specs.declared.edge.Node.{Node}
 use Rattle.bit_graph.specs.Meaning.{HasInputs}
@@ -8,7 +8,7 @@ use Rattle.bit_graph.specs.Values.{OneWay, assigned, values}
 use Rattle.smv_value.specs.declared.value.Value.{Value}
 use Rattle.smv_value.specs.declared.value.Value.TheVariants as value
 use Rattle.invariant_queries.specs.Edges.{state_under}
-use Rattle.invariant_queries.specs.Frames.{frame_from, frames_from, states_of}
+use Rattle.invariant_queries.specs.Frames.{frame_from, frames_from, values_of}
 
 -- each state has k values
 abbrev pub Each : ℕ → List (List Value) → Type 0
@@ -32,16 +32,13 @@ module _ (g : List Node) (law : OneWay g) (inputs : ℕ) (are : HasInputs inputs
       ∙ ap (λ (s : List Value). value.Bool (assigned flat start) ∷ s) rest
       ∙ ap (λ (l : List Bool). map value.Bool (take (suc k) l)) (sym cons)
 
-  frames_value : (k n start : ℕ) → start + n * k ≤ inputs → map (state_under (values (assigned flat) g)) (frames_from k start n) ≡ states_of k n (drop start flat)
+  pub frames_value : (k n start : ℕ) → start + n * k ≤ inputs → map (state_under (values (assigned flat) g)) (frames_from k start n) ≡ values_of k n (drop start flat)
   frames_value k zero start h = refl
   frames_value k (suc n) start h =
-      let rest : map (state_under (values (assigned flat) g)) (frames_from k (start + k) n) ≡ states_of k n (drop k (drop start flat)) =
-      frames_value k n (start + k) (omega (arith, h)) ∙ ap (states_of k n) (sym (drop-drop k start flat)) in
+      let rest : map (state_under (values (assigned flat) g)) (frames_from k (start + k) n) ≡ values_of k n (drop k (drop start flat)) =
+      frames_value k n (start + k) (omega (arith, h)) ∙ ap (values_of k n) (sym (drop-drop k start flat)) in
       ap (λ (s : List Value). s ∷ map (state_under (values (assigned flat) g)) (frames_from k (start + k) n)) (frame_value k start (omega (arith, h)))
       ∙ ap (λ (ss : List (List Value)). map value.Bool (take k (drop start flat)) ∷ ss) rest
-
-  pub decoded : (k n : ℕ) → n * k ≡ inputs → map (state_under (values (assigned flat) g)) (frames_from k 0 n) ≡ states_of k n flat
-  decoded k n e = frames_value k n 0 (omega (arith, e))
 
 bool_of : Value → Bool
 bool_of (value.Bool b) = b
@@ -59,21 +56,19 @@ bools_back (value.Bool b ∷ s) = ap (λ (l : List Value). value.Bool b ∷ l) (
 take_front : {A : Type 0} (k : ℕ) (xs ys : List A) → length xs ≡ k → take k (xs ++ ys) ≡ xs
 take_front k xs ys e = ap (λ n. take n (xs ++ ys)) (sym e) ∙ take-append_seam xs ys
 
-drop_front : {A : Type 0} (xs ys : List A) → drop (length xs) (xs ++ ys) ≡ ys
-drop_front [] ys = refl
-drop_front (x ∷ xs) ys = drop_front xs ys
-
-pub flat_back : (k : ℕ) (ss : List (List Value)) → Each k ss → states_of k (length ss) (flat_of ss) ≡ ss
+pub flat_back : (k : ℕ) (ss : List (List Value)) (rest : List Bool) → Each k ss → values_of k (length ss) (flat_of ss ++ rest) ≡ ss
 unfolding flat_of
-flat_back k [] each = refl
-flat_back k (s ∷ ss) (e, each) =
+flat_back k [] rest each = refl
+flat_back k (s ∷ ss) rest (e, each) =
+    let tail = flat_of ss ++ rest in
     let long : length (map bool_of s) ≡ k = length-map s bool_of ∙ e in
-    let front : take k (map bool_of s ++ flat_of ss) ≡ map bool_of s = take_front k (map bool_of s) (flat_of ss) long in
-    let back : drop k (map bool_of s ++ flat_of ss) ≡ flat_of ss = ap (λ n. drop n (map bool_of s ++ flat_of ss)) (sym long) ∙ drop_front (map bool_of s) (flat_of ss) in
-    ap (λ (l : List Bool). map value.Bool l ∷ states_of k (length ss) (drop k (map bool_of s ++ flat_of ss))) front
-    ∙ ap (λ (l : List Value). l ∷ states_of k (length ss) (drop k (map bool_of s ++ flat_of ss))) (bools_back s)
-    ∙ ap (λ (l : List Bool). s ∷ states_of k (length ss) l) back
-    ∙ ap (λ (l : List (List Value)). s ∷ l) (flat_back k ss each)
+    let front : take k (map bool_of s ++ tail) ≡ map bool_of s = take_front k (map bool_of s) tail long in
+    let back : drop k (map bool_of s ++ tail) ≡ tail = ap (λ n. drop n (map bool_of s ++ tail)) (sym long) ∙ drop-append_seam (map bool_of s) tail in
+    ap (values_of k (suc (length ss))) (append_assoc (map bool_of s) (flat_of ss) rest)
+    ∙ ap (λ (l : List Bool). map value.Bool l ∷ values_of k (length ss) (drop k (map bool_of s ++ tail))) front
+    ∙ ap (λ (l : List Value). l ∷ values_of k (length ss) (drop k (map bool_of s ++ tail))) (bools_back s)
+    ∙ ap (λ (l : List Bool). s ∷ values_of k (length ss) l) back
+    ∙ ap (λ (l : List (List Value)). s ∷ l) (flat_back k ss rest each)
 
 pub length_flat : (k : ℕ) (ss : List (List Value)) → Each k ss → length (flat_of ss) ≡ length ss * k
 unfolding flat_of

@@ -1,69 +1,101 @@
--- What edges of a graph say of states: the value of each slot is that of an edge.
-use Rattle.std.specs.Prelude.{ℕ, Bool, true, false, ◌&&◌, cond, List, map, All}
+-- What edges of a graph say of states, of outcomes and of the outcomes of nodes.
+use Rattle.std.specs.Prelude.{◌≡◌, ℕ, Bool, false, cond, List, [], length, map, All}
 use Rattle.std.specs.Bool.{beq}
+use Rattle.std.specs.List.{list_all, zip}
 use Rattle.bit_graph.specs.declared.edge.Edge.{Edge}
 use Rattle.bit_graph.specs.declared.edge.Node.{Node}
-use Rattle.bit_graph.specs.Meaning.{edge_value, Stands, Denotes}
-use Rattle.smv_tree.specs.declared.tree.Assignment.{Assignment}
-use Rattle.smv_tree.specs.declared.tree.Constraint.{Constraint}
+use Rattle.bit_graph.specs.Meaning.{edge_value, Consistent, Denotes, Stands}
 use Rattle.smv_tree.specs.declared.tree.Program.{Program}
 use Rattle.smv_value.specs.declared.value.Value.{Value}
 use Rattle.smv_value.specs.declared.value.Value.TheVariants as value
+use Rattle.smv_scope.specs.declared.item.Item.{Item}
+use Rattle.smv_scope.specs.declared.item.ItemKind.{ItemKind}
+use Rattle.smv_scope.specs.declared.slot.Slot.{Slot}
+use Rattle.smv_scope.specs.Slots.{slots_of}
+use Rattle.smv_meaning.specs.declared.typed.Typed.{Typed}
 use Rattle.smv_meaning.specs.declared.value.Outcome.{Outcome}
 use Rattle.smv_meaning.specs.declared.value.Outcome.TheVariants.{One, Nothing}
-use Rattle.smv_meaning.specs.Programs.{all_assignments, all_constraints}
-use Rattle.smv_meaning.specs.Runs.{allows_first, allows_step, meets_at_first, meets_at_step}
+use Rattle.smv_meaning.specs.Runs.{asks_always, asks_first, asks_step, input_slots, keeps, meets_invariants, state_slots}
+use Rattle.smv_meaning.specs.Tables.{outcome_at, outcomes_of, target_at}
+use Rattle.invariant_queries.specs.declared.asking.When.{When}
+use Rattle.invariant_queries.specs.declared.asking.When.TheVariants.{First, Always, Step}
+use Rattle.invariant_queries.specs.declared.states.Shared.{Shared}
+use Rattle.invariant_queries.specs.declared.states.StateEdges.{StateEdges}
 use Rattle.invariant_queries.specs.declared.truths.Truth.{Truth}
-use Rattle.invariant_queries.specs.declared.edges.Asked.{Asked}
-use Rattle.invariant_queries.specs.declared.edges.Asked.TheVariants.{First, Step}
 
--- the state in which each slot has the value of its edge
+-- the values of the edges, as those of slots
 abbrev pub state_under : (ℕ → Bool) → List Edge → List Value
 state_under v bits = map (λ e. value.Bool (edge_value v e)) bits
+
+-- each edge leads to a node of the graph
+abbrev pub AllStand : List Node → List Edge → Type 0
+AllStand g edges = All (Stands g) edges
 
 -- the outcome is this boolean
 abbrev pub is_one : Bool → Outcome → Bool
 is_one b (One (value.Bool c)) = beq b c
 is_one b Nothing = false
 
--- two edges say what an outcome is: one is true where it is TRUE, the other where it is FALSE
-pub record TellsTruth (g : List Node) (truth : Truth) (outcome : (ℕ → Bool) → Outcome) : Type 0 where
-  pub true_stands : Stands g truth.is_true
-  pub false_stands : Stands g truth.is_false
-  pub true_told : Denotes g truth.is_true (λ v. is_one true (outcome v))
-  pub false_told : Denotes g truth.is_false (λ v. is_one false (outcome v))
-
--- the outcome that two edges say: TRUE where the first is true, FALSE where the second alone is, and else none
-abbrev pub told : (ℕ → Bool) → Truth → Outcome
-told v truth = cond (edge_value v truth.is_true) (One (value.Bool true)) (cond (edge_value v truth.is_false) (One (value.Bool false)) Nothing)
-
--- both edges lead to nodes of the graph
-abbrev pub TruthStands : List Node → Truth → Type 0
-TruthStands g truth = Stands g truth.is_true × Stands g truth.is_false
-
 -- the value as a boolean
 abbrev pub truth_value : Value → Bool
 truth_value (value.Bool b) = b
 
--- each edge leads to a node of the graph
-abbrev pub AllStand : List Node → List Edge → Type 0
-AllStand g edges = All (Stands g) edges
+-- the outcome that two edges say: a value where the first is true, and then that of the second
+abbrev pub told : (ℕ → Bool) → Truth → Outcome
+told v truth = cond (edge_value v truth.known) (One (value.Bool (edge_value v truth.value))) Nothing
 
--- the edges of the states that are asked about stand in the graph
-abbrev pub AskedStand : List Node → Asked → Type 0
-AskedStand g (First bits) = AllStand g bits.now
-AskedStand g (Step bits next) = AllStand g bits.now × AllStand g next.now
+-- both edges lead to nodes of the graph
+abbrev pub TruthStands : List Node → Truth → Type 0
+TruthStands g truth = Stands g truth.known × Stands g truth.value
 
--- what is asked of an assignment: of a first state, or of a step
-abbrev pub meets_asked : Program → (ℕ → Bool) → Asked → Assignment → Bool
-meets_asked p v (First bits) a = meets_at_first p (state_under v bits.now) a.kind a
-meets_asked p v (Step bits next) a = meets_at_step p (state_under v bits.now) (state_under v next.now) a.kind a
+-- two edges say what an outcome is
+pub record TellsTruth (g : List Node) (truth : Truth) (outcome : (ℕ → Bool) → Outcome) : Type 0 where
+  pub stands : TruthStands g truth
+  pub told : (v : ℕ → Bool) → Consistent v g → told v truth ≡ outcome v
 
--- what is asked of a constraint: of a first state, or of a step
-abbrev pub allows_asked : Program → (ℕ → Bool) → Asked → Constraint → Bool
-allows_asked p v (First bits) c = allows_first p (state_under v bits.now) c.kind c
-allows_asked p v (Step bits next) c = allows_step p (state_under v bits.now) (state_under v next.now) c.kind c
+-- the outcomes that truths say
+abbrev pub all_told : (ℕ → Bool) → List Truth → List Outcome
+all_told v truths = map (told v) truths
 
--- all that is asked: of the assignments, and of the constraints
-abbrev pub all_asked : Program → (ℕ → Bool) → Asked → Bool
-all_asked p v asked = all_assignments (meets_asked p v asked) p && all_constraints (allows_asked p v asked) p
+-- the edges of all of them lead to nodes of the graph
+abbrev pub TruthsStand : List Node → List Truth → Type 0
+TruthsStand g truths = All (TruthStands g) truths
+
+-- they say what these outcomes are
+pub record TellsEach (g : List Node) (truths : List Truth) (outcomes : (ℕ → Bool) → List Outcome) : Type 0 where
+  pub stand : TruthsStand g truths
+  pub told : (v : ℕ → Bool) → Consistent v g → all_told v truths ≡ outcomes v
+
+-- what an item asks: of a first state, of both states of a step, or of the step
+abbrev pub asks : When → Outcome → Outcome → ItemKind → Bool
+asks First = asks_first
+asks Always = asks_always
+asks Step = asks_step
+
+-- what items ask, where their targets have outcomes of the one list and their values of the other
+abbrev pub all_asked : When → List Outcome → List Outcome → List Item → Bool
+all_asked when there here items = list_all (λ (x : Item). asks when (target_at there x.target) (outcome_at here x.value) x.kind) items
+
+-- each frozen slot keeps its value, where the slots of a state have these values and those
+abbrev pub all_kept : List Slot → List Value → List Value → Bool
+all_kept slots s t = list_all (λ (x : (Slot × Value) × Value). keeps x.0.0 x.0.1 x.1) (zip (zip slots s) t)
+
+-- so many slots has a state, and so many input slots are there
+abbrev pub state_width : Program → ℕ
+state_width p = length (state_slots (slots_of p))
+
+abbrev pub input_width : Program → ℕ
+input_width p = length (input_slots (slots_of p))
+
+-- what the edges of all states of a run share: the slots of a state, and the truths of the nodes where there is none
+pub record Supports (g : List Node) (typed : Typed) (shared : Shared) : Type 0 where
+  pub slots : shared.slots ≡ state_slots (slots_of typed.scope.program)
+  pub nowhere : TellsEach g shared.nowhere (λ v. outcomes_of (slots_of typed.scope.program) [] [] [] typed.nodes)
+
+-- a state's edges: one for each of its slots, the truths of the nodes there, and what is asked of both states of a step
+pub record TellsState (g : List Node) (typed : Typed) (state : StateEdges) : Type 0 where
+  pub bits : AllStand g state.bits
+  pub width : length state.bits ≡ state_width typed.scope.program
+  pub truths : TellsEach g state.truths (λ v. outcomes_of (slots_of typed.scope.program) (state_under v state.bits) [] [] typed.nodes)
+  pub stands : Stands g state.invariants
+  pub invariants : Denotes g state.invariants (λ v. meets_invariants typed.scope.program (state_under v state.bits))

@@ -1,13 +1,14 @@
 //! What is said of a specification.
 
-ghost use Rattle.std.specs.Prelude.{◌≡◌, ◌<◌, ◌^◌, IfOk};
+ghost use Rattle.std.specs.Prelude.{◌≡◌, IfOk};
+ghost use Rattle.smv_scope.specs.Items.{item_by};
 ghost use Rattle.invariant_queries.specs.Deciding.{IsDecided, IsNotInductive, IsUnbrokenWithin};
 
 use crate::cause::Cause;
 use crate::unrolling::{Induction, Unrolled, is_inductive, unroll};
 use effort_purse::Purse;
-use smv_meaning::{State, Typed};
-use smv_tree::Specification;
+use smv_meaning::{Inputs, State, Typed};
+use smv_scope::Item;
 use sqlite_items::Items;
 use std::alloc::{AllocError, Global};
 
@@ -17,59 +18,60 @@ pub enum Decision {
     /// No run breaks it.
     True,
     /// This run breaks it.
-    False(Items<State>),
+    False {
+        states: Items<State>,
+        inputs: Items<Inputs>,
+    },
     /// It is not known, for this cause.
     Unknown(Cause),
 }
 
 /// Decides an invariant by queries that the purse pays, in this order: is it broken in a first state; does a step lead
-/// from a state in which it is true to one in which it is false, else no run breaks it; do runs of 1, 2, .. steps
+/// from a state in which it is not FALSE to one in which it is, else no run breaks it; do runs of 1, 2, .. steps
 /// break it, up to the bound.
-#[tactic(auto, using(crate::proofs::InductionLaws::broken, crate::proofs::InductionLaws::within_one, crate::proofs::InductionLaws::unbroken))]
+#[tactic(auto, using(crate::proofs::InductionLaws::broken, crate::proofs::InductionLaws::within_none))]
 pub fn decide<Q: Purse>(
     alloc: Global,
     typed: &Typed,
-    spec: &Specification,
+    spec: &Item,
     bound: usize,
     purse: &mut Q,
 ) -> Result<Decision, AllocError>
-    requires bound { bound < 2 ^ 32 }
     requires ready { Q.ready purse.old }
-    ensures found { IfOk result (IsDecided typed.now.program spec.now (Q.budget purse.old) bound (Q.spent purse.new)) }
+    ensures found { IfOk result (IsDecided typed.now.scope.program (item_by typed.now.nodes spec.now) (Q.budget purse.old) bound (Q.spent purse.new)) }
     ensures ready { Q.ready purse.new }
     ensures budget { Q.budget purse.new ≡ Q.budget purse.old }
 {
-    match unroll(alloc, typed, &spec.formula, 1, purse)? {
-        Unrolled::Run(states) => return Ok(Decision::False(states)),
+    match unroll(alloc, typed, spec.value, 0, purse)? {
+        Unrolled::Run { states, inputs } => return Ok(Decision::False { states, inputs }),
         Unrolled::Spent { drawn, budget } => return Ok(spent(drawn, budget)),
         Unrolled::Nothing => {}
     }
-    match is_inductive(alloc, typed, &spec.formula, purse)? {
+    match is_inductive(alloc, typed, spec.value, purse)? {
         Induction::Holds => Ok(Decision::True),
         Induction::Spent { drawn, budget } => Ok(spent(drawn, budget)),
         Induction::Fails => unroll_to(alloc, typed, spec, bound, purse),
     }
 }
 
-// Looks for runs of two states, three, and so on, up to the bound.
+// Looks for runs of one step, two, and so on, up to the bound.
 fn unroll_to<Q: Purse>(
     alloc: Global,
     typed: &Typed,
-    spec: &Specification,
+    spec: &Item,
     bound: usize,
     purse: &mut Q,
 ) -> Result<Decision, AllocError>
-    requires bound { bound < 2 ^ 32 }
     requires ready { Q.ready purse.old }
-    requires within { IsUnbrokenWithin typed.now.program spec.now 1 }
-    requires not_inductive { IsNotInductive typed.now.program spec.now }
-    ensures found { IfOk result (IsDecided typed.now.program spec.now (Q.budget purse.old) bound (Q.spent purse.new)) }
+    requires within { IsUnbrokenWithin typed.now.scope.program (item_by typed.now.nodes spec.now) 0 }
+    requires not_inductive { IsNotInductive typed.now.scope.program (item_by typed.now.nodes spec.now) }
+    ensures found { IfOk result (IsDecided typed.now.scope.program (item_by typed.now.nodes spec.now) (Q.budget purse.old) bound (Q.spent purse.new)) }
     ensures ready { Q.ready purse.new }
     ensures budget { Q.budget purse.new ≡ Q.budget purse.old }
 {
     for steps in 0..bound {
-        match unroll(alloc, typed, &spec.formula, steps + 2, purse)? {
-            Unrolled::Run(states) => return Ok(Decision::False(states)),
+        match unroll(alloc, typed, spec.value, steps + 1, purse)? {
+            Unrolled::Run { states, inputs } => return Ok(Decision::False { states, inputs }),
             Unrolled::Spent { drawn, budget } => return Ok(spent(drawn, budget)),
             Unrolled::Nothing => {}
         }

@@ -2,18 +2,26 @@
 //! up to a bound (Sheeran, Singh, Stålmarck 2000; Biere and others 1999).
 #![tactic(auto)]
 
+mod asking;
 mod cause;
 mod deciding;
-mod edges;
 mod frames;
+mod runs;
+mod states;
+mod tables;
 #[cfg(test)]
 mod tests;
 mod truths;
 mod unrolling;
 
+pub use asking::{When, all_asked, all_kept};
 pub use cause::Cause;
 pub use deciding::{Decision, decide};
-pub use edges::{first_edge, step_edge};
-pub use frames::make_frames;
-pub use truths::{Truth, truth_of};
+pub use frames::{Layout, layout_of};
+pub use runs::{RunEdges, broken_run_edge, broken_step_edge};
+pub use states::{
+    Shared, StateEdges, false_edge, first_edge, shared_edges, state_edges, step_edge,
+};
+pub use tables::{nowhere, table};
+pub use truths::Truth;
 pub use unrolling::{Induction, Unrolled, is_inductive, unroll};

@@ -1,17 +1,17 @@
-//! The queries: is there a run of so many states that breaks the expression, and does a step break it.
+//! The queries: is there a run of so many steps that breaks the expression, and does a step break it.
 
-ghost use Rattle.std.specs.Prelude.{◌≡◌, ◌<◌, drop, length, map, take, IfOk};
+ghost use Rattle.std.specs.Prelude.{◌≡◌, drop, map, take, IfOk};
 ghost use Rattle.smv_value.specs.declared.value.Value.TheVariants.{Bool};
-ghost use Rattle.smv_meaning.specs.Programs.{slots_of};
-ghost use Rattle.invariant_queries.specs.Frames.{states_of};
+ghost use Rattle.smv_scope.specs.Resolved.{part_of};
+ghost use Rattle.invariant_queries.specs.Frames.{values_of};
 ghost use Rattle.invariant_queries.specs.Unrolling.{TellsInduction, Unrolls};
 
-use crate::frames::{broken_run_edge, make_frames, two_states_edge};
+use crate::frames::layout_of;
+use crate::runs::{broken_run_edge, broken_step_edge};
 use bit_graph::Graph;
 use edge_query::{Found, satisfy};
 use effort_purse::Purse;
-use smv_meaning::{State, Typed, slots};
-use smv_tree::Expr;
+use smv_meaning::{Inputs, State, Typed};
 use smv_value::Value;
 use sqlite_items::Items;
 use std::alloc::{AllocError, Global};
@@ -20,17 +20,23 @@ use std::alloc::{AllocError, Global};
 #[derive(Debug, Drop)]
 pub enum Unrolled {
     /// A run, in whose last state the expression is FALSE.
-    Run(Items<State>),
+    Run {
+        states: Items<State>,
+        inputs: Items<Inputs>,
+    },
     /// There is none of this length.
     Nothing,
     /// The purse was spent before it was known.
-    Spent { drawn: u64, budget: u64 },
+    Spent {
+        drawn: u64,
+        budget: u64,
+    },
 }
 
 /// What a query about one step finds.
 #[derive(Clone, Copy, Debug, PartialEq, Eq)]
 pub enum Induction {
-    /// No step leads from a state in which the expression is TRUE to one in which it is FALSE.
+    /// No step leads from a state in which the expression is not FALSE to one in which it is.
     Holds,
     /// Some step does.
     Fails,
@@ -38,57 +44,62 @@ pub enum Induction {
     Spent { drawn: u64, budget: u64 },
 }
 
-/// Whether there is a run of this many states in whose last state the expression is FALSE.
+/// Whether there is a run of this many steps in whose last state the node of this number is FALSE.
 pub fn unroll<Q: Purse>(
     alloc: Global,
     typed: &Typed,
-    e: &Expr,
-    states: usize,
+    e: usize,
+    steps: usize,
     purse: &mut Q,
 ) -> Result<Unrolled, AllocError>
-    requires some { 0 < states }
-    requires ready { Q.ready purse.old }
-    ensures found { IfOk result (Unrolls typed.now.program e.now states (Q.budget purse.old) (Q.spent purse.new)) }
+    requires { Q.ready purse.old }
+    ensures found { IfOk result (Unrolls typed.now.scope.program (part_of typed.now.nodes e) steps (Q.budget purse.old) (Q.spent purse.new)) }
     ensures kept { Q.kept purse.old purse.new }
     ensures ready { Q.ready purse.new }
     ensures budget { Q.budget purse.new ≡ Q.budget purse.old }
 {
-    let width = slots(typed).len();
-    let frames = make_frames(alloc, width, states)?;
-    let Some(inputs) = width.checked_mul(states) else {
-        return Err(AllocError);
-    };
-    let mut graph = Graph::new(alloc, inputs, 0)?;
-    let root = broken_run_edge(&mut graph, typed, e, frames.as_slice())?;
+    let layout = layout_of(alloc, typed, steps)?;
+    let mut graph = Graph::new(alloc, layout.size, 0)?;
+    let states = layout.states.as_slice();
+    let root = broken_run_edge(
+        alloc,
+        &mut graph,
+        typed,
+        e,
+        states,
+        layout.inputs.as_slice(),
+    )?;
     graph.one_way();
-    match satisfy(alloc, &graph, inputs, &[root], purse)? {
+    match satisfy(alloc, &graph, layout.size, &[root], purse)? {
         Found::Values(values) => {
-            let run = states_of(alloc, width, states, values.as_slice())?;
-            Ok(Unrolled::Run(run))
+            let given = split(values.as_slice(), layout.held).1;
+            let states = values_of(alloc, layout.width, layout.states.len(), values.as_slice())?;
+            let inputs = values_of(alloc, layout.input_width, steps, given)?;
+            Ok(Unrolled::Run { states, inputs })
         }
         Found::Nothing => Ok(Unrolled::Nothing),
         Found::Spent { drawn, budget } => Ok(Unrolled::Spent { drawn, budget }),
     }
 }
 
-// The states whose values these are, `width` for each.
-#[tactic(auto, using(crate::proofs::Decoding::states_more))]
-fn states_of(
+// `count` lists of `width` values each.
+#[tactic(auto, using(crate::proofs::Decoding::values_more))]
+fn values_of(
     alloc: Global,
     width: usize,
     count: usize,
     values: &[bool],
-) -> Result<Items<State>, AllocError>
-    ensures { IfOk result (λ states. states ≡ states_of width count values.now) }
+) -> Result<Items<Items<Value>>, AllocError>
+    ensures { IfOk result (λ lists. lists ≡ values_of width count values.now) }
 {
-    let mut states = Vec::new(alloc);
+    let mut lists = Vec::new(alloc);
     let mut rest = values;
     for i in 0..count {
         let (here, after) = split(rest, width);
-        states.push(state_of(alloc, here)?)?;
+        lists.push(list_of(alloc, here)?)?;
         rest = after;
     }
-    Ok(Items::from_vec(states))
+    Ok(Items::from_vec(lists))
 }
 
 // The first values, so many if there are, and the others.
@@ -103,39 +114,43 @@ fn split(values: &[bool], width: usize) -> (&[bool], &[bool])
     }
 }
 
-// The state with these values.
-fn state_of(alloc: Global, values: &[bool]) -> Result<State, AllocError>
-    ensures { IfOk result (λ state. state ≡ map Bool values.now) }
+// The booleans as values.
+fn list_of(alloc: Global, values: &[bool]) -> Result<Items<Value>, AllocError>
+    ensures { IfOk result (λ list. list ≡ map Bool values.now) }
 {
-    let mut state = Vec::new(alloc);
+    let mut list = Vec::new(alloc);
     for b in values {
-        state.push(Value::Bool(*b))?;
+        list.push(Value::Bool(*b))?;
     }
-    Ok(Items::from_vec(state))
+    Ok(Items::from_vec(list))
 }
 
-/// Whether a step leads from a state in which the expression is TRUE to one in which it is FALSE.
+/// Whether a step leads from a state in which the node of this number is not FALSE to one in which it is.
 pub fn is_inductive<Q: Purse>(
     alloc: Global,
     typed: &Typed,
-    e: &Expr,
+    e: usize,
     purse: &mut Q,
 ) -> Result<Induction, AllocError>
     requires { Q.ready purse.old }
-    ensures found { IfOk result (TellsInduction typed.now.program e.now (Q.budget purse.old) (Q.spent purse.new)) }
+    ensures found { IfOk result (TellsInduction typed.now.scope.program (part_of typed.now.nodes e) (Q.budget purse.old) (Q.spent purse.new)) }
     ensures kept { Q.kept purse.old purse.new }
     ensures ready { Q.ready purse.new }
     ensures budget { Q.budget purse.new ≡ Q.budget purse.old }
 {
-    let width = slots(typed).len();
-    let frames = make_frames(alloc, width, 2)?;
-    let Some(inputs) = width.checked_mul(2) else {
-        return Err(AllocError);
-    };
-    let mut graph = Graph::new(alloc, inputs, 0)?;
-    let root = two_states_edge(&mut graph, typed, e, frames.as_slice())?;
+    let layout = layout_of(alloc, typed, 1)?;
+    let mut graph = Graph::new(alloc, layout.size, 0)?;
+    let states = layout.states.as_slice();
+    let root = broken_step_edge(
+        alloc,
+        &mut graph,
+        typed,
+        e,
+        states,
+        layout.inputs.as_slice(),
+    )?;
     graph.one_way();
-    match satisfy(alloc, &graph, inputs, &[root], purse)? {
+    match satisfy(alloc, &graph, layout.size, &[root], purse)? {
         Found::Values(_) => Ok(Induction::Fails),
         Found::Nothing => Ok(Induction::Holds),
         Found::Spent { drawn, budget } => Ok(Induction::Spent { drawn, budget }),

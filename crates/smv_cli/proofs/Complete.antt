@@ -2,7 +2,7 @@
 use Rattle.std.proofs.Common.{◌≡◌, ◌⊎◌, inl, inr, ℕ, zero, suc, ◌≤◌, List, [], ◌∷◌, sym, subst, ◌∙◌, arith, refl, Some, None, IfSome}
 use Rattle.std.specs.Prelude.{fold}
 use Rattle.std.specs.declared.option.Option.{Option}
-use Rattle.command_words.specs.declared.command.Effort.{Effort}
+use Rattle.command_words.specs.declared.command.Command.{Command}
 use Rattle.command_words.specs.Grammar.{IsCommandLine}
 use Rattle.smv_tree.specs.declared.refusal.Refusal.{Refusal}
 use Rattle.smv_front.specs.Sources.{IsRefusedBy}
@@ -11,7 +11,7 @@ use Rattle.smv_cli.specs.declared.record.Verdict.{Verdict}
 use Rattle.smv_cli.specs.declared.record.Verdict.TheVariants.{True, False, Unknown}
 use Rattle.smv_cli.specs.declared.record.Record.{Record}
 use Rattle.smv_cli.specs.Records.{at_least_unknown, status_with, status_of}
-use Rattle.smv_cli.specs.Report.{IsSomeModel, CheckStage, nothing, refused, judging, judged, Stage, begun, check, usage, Answered}
+use Rattle.smv_cli.specs.Report.{IsSomeModel, CommandStage, nothing, refused, judging, judged, listed, Stage, begun, said, usage, Answered}
 
 not_refused : (bytes : List ℕ) (r : Refusal) → IsSomeModel bytes → IsRefusedBy bytes r → ⊥
 not_refused bytes r (p, model) h = never_both bytes p r model h
@@ -31,17 +31,18 @@ status_small a [] h = h
 status_small a (r ∷ rs) h = status_small (status_with a r.verdict) rs (status_with_small a r.verdict h)
 
 module _ (bytes t : List ℕ) (s : Option ℕ) (n : ℕ) where
-  model_status : (effort : Effort) → s ≡ Some n → IsSomeModel bytes → CheckStage effort bytes t s → n ≤ 2
-  model_status effort e model (nothing a b) = let h : None ≡ Some n = sym b ∙ e in cc
-  model_status effort e model (refused r h a b) = absurd (not_refused bytes r model h)
-  model_status effort e model (judging p records j a b) = let h : None ≡ Some n = sym b ∙ e in cc
-  model_status effort e model (judged p records j k a b) =
+  model_status : (command : Command) → s ≡ Some n → IsSomeModel bytes → CommandStage command bytes t s → n ≤ 2
+  model_status command e model (nothing a b) = let h : None ≡ Some n = sym b ∙ e in cc
+  model_status command e model (refused r h a b) = absurd (not_refused bytes r model h)
+  model_status command e model (judging effort p records is j a b) = let h : None ≡ Some n = sym b ∙ e in cc
+  model_status command e model (judged effort p records is j k a b) =
       let h : status_of records ≡ n = cc in
       subst (λ (m : ℕ). m ≤ 2) h (status_small 0 records (omega arith))
+  model_status command e model (listed p is m a b) = let h : Some 0 ≡ Some n = sym b ∙ e in let same : 0 ≡ n = cc in omega (arith, same)
 
   words_status : (words : List (List ℕ)) → s ≡ Some n → IsCommandLine words → IsSomeModel bytes → Stage words bytes t s → n ≤ 2
   words_status words e inside model (begun a b) = let h : None ≡ Some n = sym b ∙ e in cc
-  words_status words e inside model (check effort said stage) = model_status effort e model stage
+  words_status words e inside model (said command says stage) = model_status command e model stage
   words_status words e inside model (usage outside a b) = absurd (outside inside)
 
 answered_status : (words : List (List ℕ)) (bytes : List ℕ) (before now : Option (List ℕ)) (n : ℕ) → IsCommandLine words → IsSomeModel bytes → Answered (Stage words) (Some bytes) before now n → n ≤ 2

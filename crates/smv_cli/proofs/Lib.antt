@@ -1,5 +1,6 @@
 pub mod Complete
 pub mod Known
+pub mod Listings
 pub mod Recording
 pub mod Reports
 pub mod Writing

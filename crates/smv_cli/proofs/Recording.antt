@@ -9,7 +9,7 @@ use Rattle.std.proofs.KnownBytes.{Appends-trans}
 use Rattle.std.specs.Io.KnownBytes.{Appends}
 use Rattle.command_words.specs.declared.command.Effort.{Effort}
 use Rattle.smv_tree.specs.declared.tree.Program.{Program}
-use Rattle.smv_tree.specs.declared.tree.Specification.{Specification}
+use Rattle.smv_scope.specs.Items.{ResolvedItem}
 use Rattle.smv_cli.specs.declared.record.Record.{Record}
 use Rattle.smv_cli.specs.Streams.{AppendsFront}
 use Rattle.smv_cli.specs.Records.{IsPaid, RightFrom, Recorded, RecordedPart, status_with}
@@ -24,12 +24,12 @@ pub AppendsFront-whole : (old new : Option (List ℕ)) (piece : List ℕ) → Ap
 AppendsFront-whole old new piece took = (length piece, subst (Appends old new) (sym (take_all (length piece) piece (omega arith))) took)
 
 module _ (p : Program) (effort : Effort) where
-  RightFrom-more : (i : ℕ) (xs ys : List Specification) (rs : List Record) → RightFrom p effort i xs rs → RightFrom p effort i (xs ++ ys) rs
+  RightFrom-more : (i : ℕ) (xs ys : List ResolvedItem) (rs : List Record) → RightFrom p effort i xs rs → RightFrom p effort i (xs ++ ys) rs
   RightFrom-more i xs ys [] h = tt
   RightFrom-more i [] ys (r ∷ rs) h = absurd h
   RightFrom-more i (x ∷ xs) ys (r ∷ rs) (h, k) = (h, RightFrom-more (i + 1) xs ys rs k)
 
-  RightFrom-push : (i : ℕ) (xs : List Specification) (x : Specification) (rs : List Record) (r : Record) → RightFrom p effort i xs rs → length rs ≡ length xs
+  RightFrom-push : (i : ℕ) (xs : List ResolvedItem) (x : ResolvedItem) (rs : List Record) (r : Record) → RightFrom p effort i xs rs → length rs ≡ length xs
       → IsPaid p effort (i + length xs) x r → RightFrom p effort i (xs ++ x ∷ []) (rs ++ r ∷ [])
   RightFrom-push i [] x [] r h e k = (subst (λ (n : ℕ). IsPaid p effort n x r) (omega arith) k, tt)
   RightFrom-push i [] x (q ∷ rs) r h e k = absurd h
@@ -47,20 +47,20 @@ status-push : (a : ℕ) (rs : List Record) (r : Record) → fold with_record a (
 status-push a [] r = refl
 status-push a (q ∷ rs) r = status-push (with_record a q) rs r
 
-module _ (p : Program) (effort : Effort) (specs : List Specification) (i : ℕ) where
+module _ (p : Program) (effort : Effort) (specs : List ResolvedItem) (i : ℕ) where
   right-whole : (rs : List Record) → RightFrom p effort 1 (take i specs) rs → RightFrom p effort 1 specs rs
-  right-whole rs right = subst (λ (xs : List Specification). RightFrom p effort 1 xs rs) (take-append-drop i specs) (RightFrom-more p effort 1 (take i specs) (drop i specs) rs right)
+  right-whole rs right = subst (λ (xs : List ResolvedItem). RightFrom p effort 1 xs rs) (take-append-drop i specs) (RightFrom-more p effort 1 (take i specs) (drop i specs) rs right)
 
   -- right records of the first i specifications and one more
-  right-push : (rs : List Record) (spec : Specification) (r : Record) → i < length specs → IsPaid p effort (i + 1) (get_or specs i spec) r
+  right-push : (rs : List Record) (spec : ResolvedItem) (r : Record) → i < length specs → IsPaid p effort (i + 1) (get_or specs i spec) r
       → RightFrom p effort 1 (take i specs) rs → length rs ≡ length (take i specs) → RightFrom p effort 1 (take (i + 1) specs) (rs ++ r ∷ [])
   right-push rs spec r h k right each =
       let front : take (i + 1) specs ≡ take i specs ++ get_or specs i spec ∷ [] = take_more specs i spec h in
       let n : i + 1 ≡ 1 + length (take i specs) = omega (arith, length-take i specs) in
-      subst (λ (xs : List Specification). RightFrom p effort 1 xs (rs ++ r ∷ [])) (sym front)
+      subst (λ (xs : List ResolvedItem). RightFrom p effort 1 xs (rs ++ r ∷ [])) (sym front)
       (RightFrom-push p effort 1 (take i specs) (get_or specs i spec) rs r right each (subst (λ (m : ℕ). IsPaid p effort m (get_or specs i spec) r) n k))
 
-  pub Recorded-push : (spec : Specification) (r : Record) (old mid new : Option (List ℕ)) (status next : ℕ) → i < length specs
+  pub Recorded-push : (spec : ResolvedItem) (r : Record) (old mid new : Option (List ℕ)) (status next : ℕ) → i < length specs
       → IsPaid p effort (i + 1) (get_or specs i spec) r → Recorded p effort (take i specs) old mid status → Appends mid new (record_text r)
       → next ≡ status_with status r.verdict → Recorded p effort (take (i + 1) specs) old new next
   Recorded-push spec r old mid new status next h k so_far took e = record {
@@ -78,7 +78,7 @@ module _ (p : Program) (effort : Effort) (specs : List Specification) (i : ℕ) 
     took = AppendsFront-whole old new (flat_map record_text so_far.records) so_far.took;
   }
 
-pub RecordedPart-push : (p : Program) (effort : Effort) (specs : List Specification) (i : ℕ) (spec : Specification) (r : Record) (old mid new : Option (List ℕ)) (status : ℕ) → i < length specs
+pub RecordedPart-push : (p : Program) (effort : Effort) (specs : List ResolvedItem) (i : ℕ) (spec : ResolvedItem) (r : Record) (old mid new : Option (List ℕ)) (status : ℕ) → i < length specs
     → IsPaid p effort (i + 1) (get_or specs i spec) r → Recorded p effort (take i specs) old mid status → AppendsFront mid new (record_text r)
     → RecordedPart p effort specs old new
 RecordedPart-push p effort specs i spec r old mid new status h k so_far took = record {

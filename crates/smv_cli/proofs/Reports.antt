@@ -1,7 +1,7 @@
 -- From what the calls below say to a report.
 use Rattle.std.proofs.Common.{◌≡◌, ℕ, ◌≤◌, ◌<◌, List, [], ◌++◌, length, take, sym, ap, subst, ◌∙◌, arith, refl, length-take, take_all, Some, None, Result, Ok, Err, IfOk, inl, inr}
 use Rattle.command_words.specs.declared.command.Command.{Command}
-use Rattle.command_words.specs.declared.command.Command.TheVariants.{Check}
+use Rattle.command_words.specs.declared.command.Command.TheVariants.{Check, Flat}
 use Rattle.command_words.specs.declared.command.Effort.{Effort}
 use Rattle.command_words.specs.Grammar.{IsCommandLine, Says}
 use Rattle.outside.specs.declared.Stop.{Stop}
@@ -16,48 +16,58 @@ use Rattle.smv_tree.specs.declared.tree.Program.{Program}
 use Rattle.smv_tree.specs.Texts.{refusal_text}
 use Rattle.smv_text.specs.Texts.{IsBrokenAt, IsBrokenFirst}
 use Rattle.smv_front.specs.Sources.{IsModel, IsRefusedBy, in_text, in_grammar, in_types, in_assignments}
-use Rattle.smv_meaning.specs.Programs.{specifications_of}
+use Rattle.smv_meaning.specs.Runs.{specifications_of}
 use Rattle.smv_cli.specs.declared.record.Record.{Record}
 use Rattle.smv_cli.specs.Streams.{AppendsFront, ReadsFirst}
 use Rattle.smv_cli.specs.Records.{Recorded, RecordedPart}
+use Rattle.smv_cli.specs.Listing.{listing_text}
 use Rattle.smv_cli.specs.Texts.{record_text, usage_text}
-use Rattle.smv_cli.specs.Report.{IsJudged, CheckStage, nothing, refused, judging, judged, Stage, begun, check, usage, Held, Answered, Begun, CheckDone, CheckPart}
+use Rattle.smv_cli.specs.Report.{IsJudged, CommandStage, nothing, refused, judging, judged, listed, Stage, begun, said, usage, Held, Answered, Begun, CommandDone, CommandPart}
 
-module _ (effort : Effort) where
-  pub refused-done : (bytes : List ℕ) (r : Refusal) (old new : Option (List ℕ)) → IsRefusedBy bytes r → Appends old new (refusal_text r) → CheckDone effort bytes old new 3
+module _ (command : Command) where
+  pub refused-done : (bytes : List ℕ) (r : Refusal) (old new : Option (List ℕ)) → IsRefusedBy bytes r → Appends old new (refusal_text r) → CommandDone command bytes old new 3
   refused-done bytes r old new h took = record { text = refusal_text r; took = took; stage = refused r h refl refl }
 
-  pub refused-part : (bytes : List ℕ) (r : Refusal) (old new : Option (List ℕ)) → IsRefusedBy bytes r → AppendsFront old new (refusal_text r) → CheckPart effort bytes old new
+  pub refused-part : (bytes : List ℕ) (r : Refusal) (old new : Option (List ℕ)) → IsRefusedBy bytes r → AppendsFront old new (refusal_text r) → CommandPart command bytes old new
   refused-part bytes r old new h took = record { text = refusal_text r; status = Some 3; took = took; stage = refused r h refl refl }
 
-  pub judged-done : (bytes : List ℕ) (p : Program) (old new : Option (List ℕ)) (status : ℕ) → IsModel bytes p
-      → Recorded p effort (specifications_of p) old new status → CheckDone effort bytes old new status
-  judged-done bytes p old new status model made = record {
+  pub judged-done : (effort : Effort) → command ≡ Check effort → (bytes : List ℕ) (p : Program) (old new : Option (List ℕ)) (status : ℕ) → IsModel bytes p
+      → Recorded p effort (specifications_of p) old new status → CommandDone command bytes old new status
+  judged-done effort is bytes p old new status model made = record {
     text = flat_map record_text made.records;
     took = made.took;
-    stage = judged p made.records (record { model = model; right = made.right }) made.each refl (ap Some made.worst);
+    stage = judged effort p made.records is (record { model = model; right = made.right }) made.each refl (ap Some made.worst);
   }
 
-  pub judged-part : (bytes : List ℕ) (p : Program) (old new : Option (List ℕ)) → IsModel bytes p
-      → RecordedPart p effort (specifications_of p) old new → CheckPart effort bytes old new
-  judged-part bytes p old new model made = record {
+  pub judged-part : (effort : Effort) → command ≡ Check effort → (bytes : List ℕ) (p : Program) (old new : Option (List ℕ)) → IsModel bytes p
+      → RecordedPart p effort (specifications_of p) old new → CommandPart command bytes old new
+  judged-part effort is bytes p old new model made = record {
     text = flat_map record_text made.records;
     status = None;
     took = made.took;
-    stage = judging p made.records (record { model = model; right = made.right }) refl refl;
+    stage = judging effort p made.records is (record { model = model; right = made.right }) refl refl;
   }
 
-  pub nothing-part : (bytes : List ℕ) (old : Option (List ℕ)) → CheckPart effort bytes old old
+  pub listed-part : command ≡ Flat → (bytes : List ℕ) (p : Program) (old new : Option (List ℕ)) → IsModel bytes p → AppendsFront old new (listing_text p) → CommandPart command bytes old new
+  listed-part is bytes p old new model took = record { text = listing_text p; status = Some 0; took = took; stage = listed p is model refl refl }
+
+  pub nothing-part : (bytes : List ℕ) (old : Option (List ℕ)) → CommandPart command bytes old old
   nothing-part bytes old = record { text = []; status = None; took = (0, Appends-nil old); stage = nothing refl refl }
 
-  pub judged-result : (bytes : List ℕ) (p : Program) (old new : Option (List ℕ)) (result : Result ℕ Stop) → IsModel bytes p
-      → IfOk result (λ status. Recorded p effort (specifications_of p) old new status) → IfOk result (λ status. CheckDone effort bytes old new status)
-  judged-result bytes p old new (Ok status) model made = judged-done bytes p old new status model made
-  judged-result bytes p old new (Err e) model made = tt
+  pub judged-result : (effort : Effort) → command ≡ Check effort → (bytes : List ℕ) (p : Program) (old new : Option (List ℕ)) (result : Result ℕ Stop) → IsModel bytes p
+      → IfOk result (λ status. Recorded p effort (specifications_of p) old new status) → IfOk result (λ status. CommandDone command bytes old new status)
+  judged-result effort is bytes p old new (Ok status) model made = judged-done effort is bytes p old new status model made
+  judged-result effort is bytes p old new (Err e) model made = tt
+
+  pub listed-result : command ≡ Flat → (bytes : List ℕ) (p : Program) (old new : Option (List ℕ)) (result : Result ℕ Stop) → IsModel bytes p
+      → IfOk result (λ status. (status ≡ 0) × Appends old new (listing_text p)) → IfOk result (λ status. CommandDone command bytes old new status)
+  listed-result is bytes p old new (Ok status) model (zero_is, took) =
+      subst (λ (n : ℕ). CommandDone command bytes old new n) (sym zero_is) (record { text = listing_text p; took = took; stage = listed p is model refl refl })
+  listed-result is bytes p old new (Err e) model made = tt
 
   pub refused-result : (bytes : List ℕ) (r : Refusal) (old new : Option (List ℕ)) (result : Result ℕ Stop) → IsRefusedBy bytes r
-      → IfOk result (λ status. (status ≡ 3) × Appends old new (refusal_text r)) → IfOk result (λ status. CheckDone effort bytes old new status)
-  refused-result bytes r old new (Ok status) h (three, took) = subst (λ (n : ℕ). CheckDone effort bytes old new n) (sym three) (refused-done bytes r old new h took)
+      → IfOk result (λ status. (status ≡ 3) × Appends old new (refusal_text r)) → IfOk result (λ status. CommandDone command bytes old new status)
+  refused-result bytes r old new (Ok status) h (three, took) = subst (λ (n : ℕ). CommandDone command bytes old new n) (sym three) (refused-done bytes r old new h took)
   refused-result bytes r old new (Err e) h made = tt
 
 -- a text that was read up to one byte past the limit deserves what the whole deserves
@@ -90,23 +100,24 @@ unfolding held
 is_held None text = tt
 is_held (Some all) text = refl
 
-module _ (effort : Effort) where
-  judged-whole : (text all : List ℕ) (p : Program) (records : List Record) → text ≡ take 16777217 all → IsJudged text p effort records → IsJudged all p effort records
-  judged-whole text all p records e j = same_bytes (λ t. IsJudged t p effort records) text all e j.model.spelled.text.0 j
+module _ (command : Command) where
+  judged-whole : (effort : Effort) (text all : List ℕ) (p : Program) (records : List Record) → text ≡ take 16777217 all → IsJudged text p effort records → IsJudged all p effort records
+  judged-whole effort text all p records e j = same_bytes (λ t. IsJudged t p effort records) text all e j.model.spelled.text.0 j
 
-  stage-whole : (text all t : List ℕ) (s : Option ℕ) → text ≡ take 16777217 all → CheckStage effort text t s → CheckStage effort all t s
+  stage-whole : (text all t : List ℕ) (s : Option ℕ) → text ≡ take 16777217 all → CommandStage command text t s → CommandStage command all t s
   stage-whole text all t s e (nothing a b) = nothing a b
   stage-whole text all t s e (refused r h a b) = refused r (refused-whole text all r e h) a b
-  stage-whole text all t s e (judging p records j a b) = judging p records (judged-whole text all p records e j) a b
-  stage-whole text all t s e (judged p records j n a b) = judged p records (judged-whole text all p records e j) n a b
+  stage-whole text all t s e (judging effort p records is j a b) = judging effort p records is (judged-whole effort text all p records e j) a b
+  stage-whole text all t s e (judged effort p records is j n a b) = judged effort p records is (judged-whole effort text all p records e j) n a b
+  stage-whole text all t s e (listed p is model a b) = listed p is (same_bytes (λ x. IsModel x p) text all e model.spelled.text.0 model) a b
 
-  stage-held : (left : Option (List ℕ)) (text t : List ℕ) (s : Option ℕ) → ReadsFirst 16777217 left text → CheckStage effort text t s → CheckStage effort (held left text) t s
+  stage-held : (left : Option (List ℕ)) (text t : List ℕ) (s : Option ℕ) → ReadsFirst 16777217 left text → CommandStage command text t s → CommandStage command (held left text) t s
   unfolding held
   stage-held None text t s r h = h
   stage-held (Some all) text t s r h = stage-whole text all t s r h
 
-  pub done-answered : (left old new : Option (List ℕ)) (text : List ℕ) (status : ℕ) → ReadsFirst 16777217 left text → CheckDone effort text old new status
-      → Answered (CheckStage effort) left old new status
+  pub done-answered : (left old new : Option (List ℕ)) (text : List ℕ) (status : ℕ) → ReadsFirst 16777217 left text → CommandDone command text old new status
+      → Answered (CommandStage command) left old new status
   done-answered left old new text status r done = record {
     bytes = held left text;
     held = is_held left text;
@@ -115,7 +126,7 @@ module _ (effort : Effort) where
     whole = stage-held left text done.text (Some status) r done.stage;
   }
 
-  pub part-begun : (left old new : Option (List ℕ)) (text : List ℕ) → ReadsFirst 16777217 left text → CheckPart effort text old new → Begun (CheckStage effort) left old new
+  pub part-begun : (left old new : Option (List ℕ)) (text : List ℕ) → ReadsFirst 16777217 left text → CommandPart command text old new → Begun (CommandStage command) left old new
   part-begun left old new text r done = record {
     bytes = held left text;
     held = is_held left text;
@@ -125,7 +136,7 @@ module _ (effort : Effort) where
     part = stage-held left text done.text done.status r done.stage;
   }
 
-  pub nothing-begun : (left old : Option (List ℕ)) → Begun (CheckStage effort) left old old
+  pub nothing-begun : (left old : Option (List ℕ)) → Begun (CommandStage command) left old old
   nothing-begun left old = record {
     bytes = held left [];
     held = is_held left [];
@@ -135,21 +146,13 @@ module _ (effort : Effort) where
     part = nothing refl refl;
   }
 
--- the effort of a command
-pub effort_in : Command → Effort
-effort_in (Check effort) = effort
-
-pub is_check : (command : Command) → command ≡ Check (effort_in command)
-unfolding effort_in
-is_check (Check effort) = refl
-
 module _ (words : List (List ℕ)) (left old : Option (List ℕ)) where
   -- a report of the command that the words say
-  pub check-answered : (effort : Effort) (new : Option (List ℕ)) (status : ℕ) → Says words (Check effort) → Answered (CheckStage effort) left old new status → Answered (Stage words) left old new status
-  check-answered effort new status said done = record { bytes = done.bytes; held = done.held; text = done.text; took = done.took; whole = check effort said done.whole }
+  pub said-answered : (command : Command) (new : Option (List ℕ)) (status : ℕ) → Says words command → Answered (CommandStage command) left old new status → Answered (Stage words) left old new status
+  said-answered command new status says done = record { bytes = done.bytes; held = done.held; text = done.text; took = done.took; whole = said command says done.whole }
 
-  pub check-begun : (effort : Effort) (new : Option (List ℕ)) → Says words (Check effort) → Begun (CheckStage effort) left old new → Begun (Stage words) left old new
-  check-begun effort new said done = record { bytes = done.bytes; held = done.held; text = done.text; status = done.status; took = done.took; part = check effort said done.part }
+  pub said-begun : (command : Command) (new : Option (List ℕ)) → Says words command → Begun (CommandStage command) left old new → Begun (Stage words) left old new
+  said-begun command new says done = record { bytes = done.bytes; held = done.held; text = done.text; status = done.status; took = done.took; part = said command says done.part }
 
   pub unread-begun : Begun (Stage words) left old old
   unread-begun = record {

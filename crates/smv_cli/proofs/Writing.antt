@@ -4,7 +4,8 @@ use Rattle.std.proofs.lemmas.List.{take_more}
 use Rattle.std.proofs.Math.Seq.{take-nil}
 use Rattle.std.specs.List.{zip}
 use Rattle.smv_value.specs.declared.value.Value.{Value}
-use Rattle.smv_cli.specs.Texts.{binding_text, more_bindings, state_line, states_text}
+use Rattle.smv_cli.specs.declared.record.Trace.{Trace}
+use Rattle.smv_cli.specs.Texts.{binding_text, moment_text, more_bindings, states_text}
 
 more_bindings-push : (bs : List (List ℕ × Value)) (b : List ℕ × Value) → more_bindings (bs ++ b ∷ []) ≡ more_bindings bs ++ (codes ", " ++ binding_text b)
 more_bindings-push [] b = append-nil (codes ", " ++ binding_text b)
@@ -35,18 +36,18 @@ pub bindings_whole : (names : List (List ℕ)) (values : List Value) (n : ℕ) �
     → more_bindings (take n (zip names values)) ≡ more_bindings (zip names values)
 bindings_whole names values n h = ap more_bindings (zip-whole names values n h)
 
-states_text-push : (names : List (List ℕ)) (k : ℕ) (ss : List (List Value)) (s : List Value)
-    → states_text names k (ss ++ s ∷ []) ≡ states_text names k ss ++ state_line names (k + length ss) s
-states_text-push names k [] s = append-nil (state_line names k s) ∙ ap (λ n. state_line names n s) (let e : k ≡ k + 0 = omega arith in e)
-states_text-push names k (t ∷ ss) s =
-    ap (λ (l : List ℕ). state_line names k t ++ l)
-    (states_text-push names (k + 1) ss s ∙ ap (λ n. states_text names (k + 1) ss ++ state_line names n s) (let e : (k + 1) + length ss ≡ k + suc (length ss) = omega arith in e))
-    ∙ sym (append_assoc (state_line names k t) (states_text names (k + 1) ss) (state_line names (k + suc (length ss)) s))
+states_text-push : (trace : Trace) (k : ℕ) (ss : List (List Value)) (s : List Value)
+    → states_text trace k (ss ++ s ∷ []) ≡ states_text trace k ss ++ moment_text trace (k + length ss) s
+states_text-push trace k [] s = append-nil (moment_text trace k s) ∙ ap (λ n. moment_text trace n s) (let e : k ≡ k + 0 = omega arith in e)
+states_text-push trace k (t ∷ ss) s =
+    ap (λ (l : List ℕ). moment_text trace k t ++ l)
+    (states_text-push trace (k + 1) ss s ∙ ap (λ n. states_text trace (k + 1) ss ++ moment_text trace n s) (let e : (k + 1) + length ss ≡ k + suc (length ss) = omega arith in e))
+    ∙ sym (append_assoc (moment_text trace k t) (states_text trace (k + 1) ss) (moment_text trace (k + suc (length ss)) s))
 
-pub states_more : (names : List (List ℕ)) (ss : List (List Value)) (i : ℕ) (s : List Value) → i < length ss
-    → states_text names 0 (take i ss) ++ state_line names i (get_or ss i s) ≡ states_text names 0 (take (i + 1) ss)
-states_more names ss i s h =
+pub states_more : (trace : Trace) (ss : List (List Value)) (i : ℕ) (s : List Value) → i < length ss
+    → states_text trace 0 (take i ss) ++ moment_text trace i (get_or ss i s) ≡ states_text trace 0 (take (i + 1) ss)
+states_more trace ss i s h =
     let front : take (i + 1) ss ≡ take i ss ++ get_or ss i s ∷ [] = take_more ss i s h in
     let n : i ≡ 0 + length (take i ss) = omega (arith, length-take i ss) in
-    ap (λ m. states_text names 0 (take i ss) ++ state_line names m (get_or ss i s)) n
-    ∙ sym (states_text-push names 0 (take i ss) (get_or ss i s)) ∙ ap (states_text names 0) (sym front)
+    ap (λ m. states_text trace 0 (take i ss) ++ moment_text trace m (get_or ss i s)) n
+    ∙ sym (states_text-push trace 0 (take i ss) (get_or ss i s)) ∙ ap (states_text trace 0) (sym front)

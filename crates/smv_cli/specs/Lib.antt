@@ -1,3 +1,4 @@
+pub mod Listing
 pub mod Records
 pub mod Report
 pub mod Streams

@@ -2,15 +2,17 @@
 use Rattle.std.specs.Prelude.{◌≡◌, ℕ, List, [], length, IfSome, Option, None, Some}
 use Rattle.std.specs.List.{flat_map}
 use Rattle.std.specs.Io.KnownBytes.{Appends}
-use Rattle.command_words.specs.declared.command.Command.TheVariants.{Check}
+use Rattle.command_words.specs.declared.command.Command.{Command}
+use Rattle.command_words.specs.declared.command.Command.TheVariants.{Check, Flat}
 use Rattle.command_words.specs.declared.command.Effort.{Effort}
 use Rattle.command_words.specs.Grammar.{IsCommandLine, Says}
 use Rattle.smv_tree.specs.declared.refusal.Refusal.{Refusal}
 use Rattle.smv_tree.specs.declared.tree.Program.{Program}
 use Rattle.smv_tree.specs.Texts.{refusal_text}
 use Rattle.smv_front.specs.Sources.{IsModel, IsRefusedBy}
-use Rattle.smv_meaning.specs.Programs.{specifications_of}
+use Rattle.smv_meaning.specs.Runs.{specifications_of}
 use Rattle.smv_cli.specs.declared.record.Record.{Record}
+use Rattle.smv_cli.specs.Listing.{listing_text}
 use Rattle.smv_cli.specs.Records.{RightFrom, status_of}
 use Rattle.smv_cli.specs.Streams.{AppendsFront}
 use Rattle.smv_cli.specs.Texts.{record_text, usage_text}
@@ -20,20 +22,22 @@ pub record IsJudged (bytes : List ℕ) (p : Program) (effort : Effort) (records 
   pub model : IsModel bytes p
   pub right : RightFrom p effort 1 (specifications_of p) records
 
--- The text of the first parts of a report on these bytes with this effort, a part being a line of refusal or a record,
--- and the status of the report once it is whole.
-pub data CheckStage (effort : Effort) (bytes text : List ℕ) (status : Option ℕ) : Type 0 where
-  nothing : text ≡ [] → status ≡ None → CheckStage effort bytes text status
-  refused : (r : Refusal) → IsRefusedBy bytes r → text ≡ refusal_text r → status ≡ Some 3 → CheckStage effort bytes text status
-  judging : (p : Program) (records : List Record) → IsJudged bytes p effort records → text ≡ flat_map record_text records → status ≡ None → CheckStage effort bytes text status
-  judged : (p : Program) (records : List Record) → IsJudged bytes p effort records → length records ≡ length (specifications_of p)
-      → text ≡ flat_map record_text records → status ≡ Some (status_of records) → CheckStage effort bytes text status
+-- The text of the first parts of what a command reports on these bytes, and the status of the report once it is whole. A part
+-- is a line of refusal; a record, where the command is `check`; or the listing of slots and items, where it is `flat`.
+pub data CommandStage (command : Command) (bytes text : List ℕ) (status : Option ℕ) : Type 0 where
+  nothing : text ≡ [] → status ≡ None → CommandStage command bytes text status
+  refused : (r : Refusal) → IsRefusedBy bytes r → text ≡ refusal_text r → status ≡ Some 3 → CommandStage command bytes text status
+  judging : (effort : Effort) (p : Program) (records : List Record) → command ≡ Check effort → IsJudged bytes p effort records
+      → text ≡ flat_map record_text records → status ≡ None → CommandStage command bytes text status
+  judged : (effort : Effort) (p : Program) (records : List Record) → command ≡ Check effort → IsJudged bytes p effort records
+      → length records ≡ length (specifications_of p) → text ≡ flat_map record_text records → status ≡ Some (status_of records) → CommandStage command bytes text status
+  listed : (p : Program) → command ≡ Flat → IsModel bytes p → text ≡ listing_text p → status ≡ Some 0 → CommandStage command bytes text status
 
--- The same for any words: the report with the effort that the words say; the line of usage where they are no command
--- line; or nothing yet.
+-- The same for any words: what the command reports that they say; the line of usage where they are no command line; or
+-- nothing yet.
 pub data Stage (words : List (List ℕ)) (bytes text : List ℕ) (status : Option ℕ) : Type 0 where
   begun : text ≡ [] → status ≡ None → Stage words bytes text status
-  check : (effort : Effort) → Says words (Check effort) → CheckStage effort bytes text status → Stage words bytes text status
+  said : (command : Command) → Says words command → CommandStage command bytes text status → Stage words bytes text status
   usage : (IsCommandLine words → ⊥) → text ≡ usage_text → status ≡ Some 4 → Stage words bytes text status
 
 -- the bytes are those that the source held, as far as it tells
@@ -58,17 +62,17 @@ pub record Begun (stage : List ℕ → List ℕ → Option ℕ → Type 0) (left
   pub part : stage bytes text status
 
 -- what the sink took is a report on these bytes
-pub record CheckDone (effort : Effort) (bytes : List ℕ) (before now : Option (List ℕ)) (status : ℕ) : Type 0 where
+pub record CommandDone (command : Command) (bytes : List ℕ) (before now : Option (List ℕ)) (status : ℕ) : Type 0 where
   pub text : List ℕ
   pub took : Appends before now text
-  pub stage : CheckStage effort bytes text (Some status)
+  pub stage : CommandStage command bytes text (Some status)
 
 -- what the sink took is a prefix of a report on these bytes
-pub record CheckPart (effort : Effort) (bytes : List ℕ) (before now : Option (List ℕ)) : Type 0 where
+pub record CommandPart (command : Command) (bytes : List ℕ) (before now : Option (List ℕ)) : Type 0 where
   pub text : List ℕ
   pub status : Option ℕ
   pub took : AppendsFront before now text
-  pub stage : CheckStage effort bytes text status
+  pub stage : CommandStage command bytes text status
 
 -- the bytes are a model of some program
 abbrev pub IsSomeModel : List ℕ → Type 0

@@ -2,6 +2,7 @@
 #![tactic(auto)]
 
 mod judging;
+mod listing;
 mod print;
 mod record;
 mod streams;

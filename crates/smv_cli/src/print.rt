@@ -1,7 +1,9 @@
 //! Parts of a report, each written when it is made.
-ghost use Rattle.std.specs.Prelude.{◌≡◌, ◌<◌, ◌≤◌, ◌^◌, map, IfSome, IfOk, OnOk, IsErrOf};
+ghost use Rattle.std.specs.Prelude.{◌≡◌, ◌≤◌, map, IfSome, IfOk, OnOk, IsErrOf};
 ghost use Rattle.std.specs.Io.KnownBytes.{Appends};
 ghost use Rattle.outside.specs.Causes.{Rose};
+ghost use Rattle.smv_scope.specs.declared.item.ItemKind.TheVariants as item;
+ghost use Rattle.smv_scope.specs.Items.{item_by};
 ghost use Rattle.smv_cli.specs.Streams.{AppendsFront};
 ghost use Rattle.smv_cli.specs.Records.{IsPaid, Recorded, RecordedPart, status_with};
 
@@ -12,7 +14,8 @@ use command_words::Effort;
 use effort_purse::PlainPurse;
 use outside::{Sink, Stop};
 use smv_meaning::Typed;
-use smv_tree::Specification;
+use smv_scope::{Item, ItemKind};
+use smv_tree::SpecificationKind;
 use std::alloc::{AllocError, Global};
 use std::fmt;
 
@@ -47,14 +50,15 @@ fn judge_anew(
     alloc: Global,
     typed: &Typed,
     number: usize,
-    spec: &Specification,
+    kind: SpecificationKind,
+    spec: &Item,
     effort: &Effort,
 ) -> Result<Record, AllocError>
-    requires { effort.now.bound < 2 ^ 32 }
-    ensures { IfOk result (IsPaid typed.now.program effort.now number spec.now) }
+    requires { spec.now.kind ≡ item.Specification kind }
+    ensures { IfOk result (IsPaid typed.now.scope.program effort.now number (item_by typed.now.nodes spec.now)) }
 {
     let mut purse = PlainPurse::new(effort.conflicts);
-    judge(alloc, typed, number, spec, effort.bound, &mut purse)
+    judge(alloc, typed, number, kind, spec, effort.bound, &mut purse)
 }
 
 /// Writes the record of each specification of a program, one by one, each when it is made. The answer is 1 where one
@@ -63,19 +67,21 @@ pub fn put_records<K: Sink>(
     alloc: Global,
     sink: &mut K,
     typed: &Typed,
-    specs: &[&Specification],
+    specs: &[Item],
     effort: &Effort,
 ) -> Result<u8, Stop>
-    requires { effort.now.bound < 2 ^ 32 }
-    ensures ok { IfOk result (λ status. Recorded typed.now.program effort.now (map (λ s. s.now) specs.now) (K.taken sink.old) (K.taken sink.new) status) }
+    ensures ok { IfOk result (λ status. Recorded typed.now.scope.program effort.now (map (item_by typed.now.nodes) specs.now) (K.taken sink.old) (K.taken sink.new) status) }
     ensures small { IfOk result (λ status. status ≤ 2) }
-    ensures part { RecordedPart typed.now.program effort.now (map (λ s. s.now) specs.now) (K.taken sink.old) (K.taken sink.new) }
+    ensures part { RecordedPart typed.now.scope.program effort.now (map (item_by typed.now.nodes) specs.now) (K.taken sink.old) (K.taken sink.new) }
     ensures later { K.faults sink.old ≤ K.faults sink.new }
     ensures failed { IsErrOf result Stop.Failed → Rose (K.faults sink.old) (K.faults sink.new) }
 {
     let mut status = 0;
-    'specs: for i in 0..specs.len() {
-        let Ok(made) = judge_anew(alloc, typed, i + 1, specs[i], effort) else {
+    'specs: for (i, spec) in specs.iter().enumerate() {
+        let ItemKind::Specification(kind) = spec.kind else {
+            return Err(Stop::NoMemory);
+        };
+        let Ok(made) = judge_anew(alloc, typed, i + 1, kind, spec, effort) else {
             return Err(Stop::NoMemory);
         };
         put(alloc, sink, &made)?;

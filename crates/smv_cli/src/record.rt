@@ -1,23 +1,26 @@
 //! The records of a report: what is said of each specification, with the run that breaks it.
 
-ghost use Rattle.std.specs.Prelude.{Some};
+ghost use Rattle.std.specs.Prelude.{Some, slice_get};
 ghost use Rattle.std.specs.Fmt.{WritesOnOk};
 ghost use Rattle.std.specs.List.{zip};
-ghost use Rattle.smv_cli.specs.Texts.{bindings_text, more_bindings, record_text, state_line, trace_text};
+ghost use Rattle.smv_cli.specs.Texts.{bindings_text, input_line, inputs_text, moment_text, more_bindings, record_text, state_line, trace_text};
 
 use invariant_queries::Cause;
 use plain_text::Text;
-use smv_meaning::State;
+use smv_meaning::{Inputs, State};
 use smv_tree::SpecificationKind;
 use smv_value::Value;
 use sqlite_items::Items;
 use std::fmt;
 
-/// A run as it is printed: the names of the slots, and the states in their order.
+/// A run as it is printed: the names of the slots of a state and of the input slots, the states in their order, and the inputs
+/// of the step from each but the last.
 #[derive(Debug, Drop)]
 pub struct Trace {
     pub names: Items<Text>,
+    pub input_names: Items<Text>,
     pub states: Items<State>,
+    pub inputs: Items<Inputs>,
 }
 
 /// What is said of a specification.
@@ -55,6 +58,78 @@ impl fmt::Display for StateLine<'_> {
         write!(f, "--@ state {number}:")?;
         write_bindings(f, self.names, self.state.as_slice())?;
         writeln!(f)
+    }
+}
+
+// The line of the inputs of one step.
+#[derive(Drop)]
+struct InputLine<'a> {
+    number: usize,
+    names: &'a [Text],
+    inputs: &'a Inputs,
+}
+
+impl fmt::Display for InputLine<'_> {
+    ghost output = { λ l. Some (input_line l.names.now l.number l.inputs.now) };
+
+    fn fmt<W: fmt::Write>(&self, f: &mut fmt::Formatter<W>) -> fmt::Result {
+        let number = self.number;
+        write!(f, "--@ input {number}:")?;
+        write_bindings(f, self.names, self.inputs.as_slice())?;
+        writeln!(f)
+    }
+}
+
+// The line of one state of a trace, and that of the inputs of the step from it.
+#[derive(Drop)]
+struct MomentLines<'a> {
+    number: usize,
+    trace: &'a Trace,
+    state: &'a State,
+}
+
+impl fmt::Display for MomentLines<'_> {
+    ghost output = { λ m. Some (moment_text m.trace.now m.number m.state.now) };
+
+    fn fmt<W: fmt::Write>(&self, f: &mut fmt::Formatter<W>) -> fmt::Result {
+        let (number, state) = (self.number, self.state);
+        let line = StateLine {
+            number,
+            names: self.trace.names.as_slice(),
+            state,
+        };
+        write!(f, "{line}")?;
+        write_inputs(
+            f,
+            number,
+            self.trace.input_names.as_slice(),
+            self.trace.inputs.as_slice(),
+        )
+    }
+}
+
+// The line of the inputs of the step of this number, if there is one, and there are input slots.
+fn write_inputs<W: fmt::Write>(
+    f: &mut fmt::Formatter<W>,
+    number: usize,
+    names: &[Text],
+    inputs: &[Inputs],
+) -> fmt::Result
+    ensures { WritesOnOk W.Write.write_str_gives f.old result (inputs_text names.now number (slice_get inputs.now number)) f.new }
+{
+    if names.is_empty() {
+        return Ok(());
+    }
+    match inputs.get(number) {
+        None => Ok(()),
+        Some(inputs) => {
+            let line = InputLine {
+                number,
+                names,
+                inputs,
+            };
+            write!(f, "{line}")
+        }
     }
 }
 
@@ -103,14 +178,14 @@ impl fmt::Display for TraceLines<'_> {
     fn fmt<W: fmt::Write>(&self, f: &mut fmt::Formatter<W>) -> fmt::Result {
         let number = self.number;
         writeln!(f, "--@ spec {number}")?;
-        for (number, state) in self.trace.states.as_slice().iter().enumerate() {
-            let names = self.trace.names.as_slice();
-            let line = StateLine {
+        let trace = self.trace;
+        for (number, state) in trace.states.as_slice().iter().enumerate() {
+            let lines = MomentLines {
                 number,
-                names,
+                trace,
                 state,
             };
-            write!(f, "{line}")?;
+            write!(f, "{lines}")?;
         }
         Ok(())
     }

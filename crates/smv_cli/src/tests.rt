@@ -77,6 +77,9 @@ const SPENT: &str = "-- spec 1 INVARSPEC is unknown: conflicts 0 of 0\n";
 
 const SHORT: &str = "-- spec 1 INVARSPEC is unknown: bound 0\n";
 
+const LISTED: &str =
+    "-- slot 0 state x : boolean\n-- item 0 init at 3:8 of main\n-- item 1 next at 3:26 of main\n";
+
 const USAGE: &str = "-- usage: smvcheck check | recheck | flat | self N SEED\n";
 
 // Whether each line and text is answered so, however the text and the report are cut into reads and writes.
@@ -128,7 +131,7 @@ fn first_wrong<R: Threads + Wait + Sync>(
 const TWO: &str =
     "MODULE main\nVAR a : boolean; b : boolean;\nASSIGN init(a) := FALSE; init(b) := FALSE; next(a) := b; next(b) := FALSE;\nINVARSPEC !a\n";
 
-const CASES: [Case; 42] = [
+const CASES: [Case; 43] = [
     // Command lines.
     ("check", STANDING, TRUE, 0),
     ("check", TOGGLING, BROKEN, 1),
@@ -144,6 +147,10 @@ const CASES: [Case; 42] = [
     ("check --bound 10001", STANDING, USAGE, 4),
     ("check --conflicts 1099511627777", STANDING, USAGE, 4),
     ("check --help", STANDING, USAGE, 4),
+    ("flat", STANDING, LISTED, 0),
+    ("flat flat", STANDING, USAGE, 4),
+    ("flat --bound 1", STANDING, USAGE, 4),
+    ("flat check", STANDING, USAGE, 4),
     ("--version", STANDING, USAGE, 4),
     // Verdicts.
     // a is TRUE in no state that is reached, and one step from where b is TRUE would break it.
@@ -222,12 +229,6 @@ const CASES: [Case; 42] = [
     ),
     (
         "check",
-        "MODULE main\nMODULE m\n",
-        "-- refused 203 Unsupported at 2:1: MODULE\n",
-        3,
-    ),
-    (
-        "check",
         "MODULE main\nVAR x : boolean\nINIT x\n",
         "-- refused 201 Unexpected at 3:1: INIT\n",
         3,
@@ -258,12 +259,6 @@ const CASES: [Case; 42] = [
     ),
     (
         "check",
-        "MODULE main\nVAR x : boolean;\nINIT next(x)\n",
-        "-- refused 406 NextHere at 3:6\n",
-        3,
-    ),
-    (
-        "check",
         "MODULE main\nVAR x : boolean; y : boolean;\nASSIGN x := y; y := x;\n",
         "-- refused 502 AssignCycle at 3:8: x, y, x\n",
         3,
@@ -288,17 +283,504 @@ const CASES: [Case; 42] = [
         "-- refused 201 Unexpected at 1:28: end\n",
         3,
     ),
-    (
-        "check",
-        "MODULE main(a)\n",
-        "-- refused 302 MainHasParameters at 1:13\n",
-        3,
-    ),
 ];
 
 #[test]
 fn cases(rt: HostRuntime) -> Result<(), Fail> {
     let wrong = first_wrong(&rt, rt.alloc(), &CASES)?;
+    assert_eq!(rt; wrong, None);
+    Ok(())
+}
+
+// One row for each rule of modules, names, kinds and assignments; places and details were worked out by hand.
+const RULES: [Case; 59] = [
+    (
+        "check",
+        "MODULE m\nMODULE main\nMODULE m\n",
+        "-- refused 303 DuplicateModule at 3:1: m\n",
+        3,
+    ),
+    // Of no module `main` it is told after that.
+    (
+        "check",
+        "MODULE m MODULE m",
+        "-- refused 303 DuplicateModule at 1:10: m\n",
+        3,
+    ),
+    ("check", "MODULE m\n", "-- refused 301 NoMain at 1:1\n", 3),
+    (
+        "check",
+        "MODULE main(a, b)\n",
+        "-- refused 302 MainHasParameters at 1:13\n",
+        3,
+    ),
+    // A module that is not reached, too.
+    (
+        "check",
+        "MODULE m(a, b, a)\nMODULE main\n",
+        "-- refused 305 DuplicateName at 1:16: a\n",
+        3,
+    ),
+    (
+        "check",
+        "MODULE m(a)\nDEFINE a := TRUE;\nMODULE main\n",
+        "-- refused 305 DuplicateName at 2:8: a\n",
+        3,
+    ),
+    (
+        "check",
+        "MODULE main\nVAR x : boolean; x : m;\n",
+        "-- refused 305 DuplicateName at 2:18: x\n",
+        3,
+    ),
+    (
+        "check",
+        "MODULE main\nVAR a : m;\nMODULE m\nVAR b : n;\n",
+        "-- refused 306 UnknownModule at 4:9: n\n",
+        3,
+    ),
+    (
+        "check",
+        "MODULE m\nVAR b : n;\nMODULE main\nVAR c : o; a : m;\n",
+        "-- refused 306 UnknownModule at 2:9: n\n",
+        3,
+    ),
+    // A module that is not reached has no instance.
+    ("check", "MODULE m\nVAR b : n;\nMODULE main\n", "", 0),
+    (
+        "check",
+        "MODULE m\nVAR a : m;\nMODULE main\nVAR b : m;\n",
+        "-- refused 308 ModuleCycle at 2:5: a\n",
+        3,
+    ),
+    (
+        "check",
+        "MODULE a\nVAR x : boolean; y : b;\nMODULE b\nVAR z : a;\nMODULE main\nVAR z : b;\n",
+        "-- refused 308 ModuleCycle at 2:18: y\n",
+        3,
+    ),
+    (
+        "check",
+        "MODULE main\nVAR x : main(TRUE);\n",
+        "-- refused 308 ModuleCycle at 2:5: x\n",
+        3,
+    ),
+    (
+        "check",
+        "MODULE m(a)\nMODULE main\nVAR x : boolean; y : m(x, x);\n",
+        "-- refused 307 ArgumentCount at 3:22: m\n",
+        3,
+    ),
+    (
+        "check",
+        "MODULE m(a)\nMODULE main\nVAR y : m;\n",
+        "-- refused 307 ArgumentCount at 3:9: m\n",
+        3,
+    ),
+    (
+        "check",
+        "MODULE main\nVAR a : boolean;\nINVARSPEC a-1\n",
+        "-- refused 304 UnknownName at 3:11: a-1\n",
+        3,
+    ),
+    // The items of `main` come first.
+    (
+        "check",
+        "MODULE m\nINIT z\nMODULE main\nVAR g : m;\nINIT y\n",
+        "-- refused 304 UnknownName at 5:6: y\n",
+        3,
+    ),
+    (
+        "check",
+        "MODULE main\nVAR x : boolean;\nINIT x.y\n",
+        "-- refused 304 UnknownName at 3:6: x\n",
+        3,
+    ),
+    (
+        "check",
+        "MODULE m(p)\nMODULE main\nVAR g : m(TRUE);\nINIT g.p\n",
+        "-- refused 304 UnknownName at 4:8: p\n",
+        3,
+    ),
+    (
+        "check",
+        "MODULE m(p)\nINIT p.x\nMODULE main\nVAR g : m(h); h : n;\nMODULE n\nVAR y : boolean;\n",
+        "-- refused 304 UnknownName at 2:8: x\n",
+        3,
+    ),
+    (
+        "check",
+        "MODULE m(p)\nINIT p.x\nMODULE main\nVAR b : boolean; g : m(b);\n",
+        "-- refused 304 UnknownName at 2:6: p\n",
+        3,
+    ),
+    (
+        "check",
+        "MODULE m(p)\nMODULE main\nVAR g : m(y);\n",
+        "-- refused 304 UnknownName at 3:11: y\n",
+        3,
+    ),
+    (
+        "check",
+        "MODULE main\nDEFINE d := self.e;\n",
+        "-- refused 304 UnknownName at 2:18: e\n",
+        3,
+    ),
+    (
+        "check",
+        "MODULE main\nDEFINE a := b; b := a;\n",
+        "-- refused 309 DefineCycle at 2:8: a\n",
+        3,
+    ),
+    (
+        "check",
+        "MODULE main\nDEFINE c := a; a := b; b := a;\n",
+        "-- refused 309 DefineCycle at 2:16: a\n",
+        3,
+    ),
+    (
+        "check",
+        "MODULE m(p)\nDEFINE d := p;\nMODULE main\nVAR g : m(e);\nDEFINE e := g.d;\n",
+        "-- refused 309 DefineCycle at 5:8: e\n",
+        3,
+    ),
+    (
+        "check",
+        "MODULE m\nMODULE main\nIVAR g : m;\n",
+        "-- refused 401 TypeMismatch at 3:10\n",
+        3,
+    ),
+    (
+        "check",
+        "MODULE m\nMODULE main\nFROZENVAR x : boolean; g : m;\n",
+        "-- refused 401 TypeMismatch at 3:28\n",
+        3,
+    ),
+    (
+        "check",
+        "MODULE m\nMODULE main\nVAR g : m; x : boolean;\nINIT x & g\n",
+        "-- refused 401 TypeMismatch at 4:8\n",
+        3,
+    ),
+    (
+        "check",
+        "MODULE m\nMODULE main\nVAR g : m; x : boolean;\nTRANS next(g)\n",
+        "-- refused 401 TypeMismatch at 4:7\n",
+        3,
+    ),
+    (
+        "check",
+        "MODULE m\nMODULE main\nVAR g : m; x : boolean;\nINVAR !g\n",
+        "-- refused 401 TypeMismatch at 4:7\n",
+        3,
+    ),
+    (
+        "check",
+        "MODULE m\nMODULE main\nVAR g : m; x : boolean;\nINVARSPEC x ? x : g\n",
+        "-- refused 401 TypeMismatch at 4:13\n",
+        3,
+    ),
+    (
+        "check",
+        "MODULE m\nMODULE main\nVAR g : m; x : boolean;\nINVARSPEC g\n",
+        "-- refused 401 TypeMismatch at 4:11\n",
+        3,
+    ),
+    (
+        "check",
+        "MODULE m\nMODULE main\nVAR g : m; x : boolean;\nASSIGN init(g) := TRUE;\n",
+        "-- refused 401 TypeMismatch at 4:8\n",
+        3,
+    ),
+    (
+        "check",
+        "MODULE m\nMODULE main\nVAR g : m; x : boolean;\nASSIGN x := g;\n",
+        "-- refused 401 TypeMismatch at 4:8\n",
+        3,
+    ),
+    (
+        "check",
+        "MODULE main\nVAR x : boolean;\nINIT next(x)\n",
+        "-- refused 406 NextHere at 3:6\n",
+        3,
+    ),
+    (
+        "check",
+        "MODULE main\nVAR x : boolean;\nJUSTICE x | next(x)\n",
+        "-- refused 406 NextHere at 3:13\n",
+        3,
+    ),
+    (
+        "check",
+        "MODULE main\nVAR x : boolean;\nDEFINE d := next(x);\nTRANS d\n",
+        "-- refused 406 NextHere at 3:13\n",
+        3,
+    ),
+    (
+        "check",
+        "MODULE main\nVAR x : boolean;\nTRANS next(x & next(x))\n",
+        "-- refused 406 NextHere at 3:16\n",
+        3,
+    ),
+    (
+        "check",
+        "MODULE m(p)\nTRANS p\nMODULE main\nVAR x : boolean; g : m(next(x));\n",
+        "-- refused 406 NextHere at 4:24\n",
+        3,
+    ),
+    (
+        "check",
+        "MODULE main\nVAR x : boolean; y : boolean;\nASSIGN init(x) := next(y);\n",
+        "-- refused 406 NextHere at 3:19\n",
+        3,
+    ),
+    (
+        "check",
+        "MODULE main\nIVAR i : boolean;\nINIT i\n",
+        "-- refused 407 InputHere at 3:6\n",
+        3,
+    ),
+    (
+        "check",
+        "MODULE main\nIVAR i : boolean;\nINVAR TRUE | i\n",
+        "-- refused 407 InputHere at 3:14\n",
+        3,
+    ),
+    (
+        "check",
+        "MODULE main\nIVAR i : boolean;\nINVARSPEC !i\n",
+        "-- refused 407 InputHere at 3:12\n",
+        3,
+    ),
+    (
+        "check",
+        "MODULE main\nIVAR i : boolean;\nFAIRNESS i\n",
+        "-- refused 407 InputHere at 3:10\n",
+        3,
+    ),
+    (
+        "check",
+        "MODULE main\nIVAR i : boolean;\nTRANS next(i)\n",
+        "-- refused 407 InputHere at 3:12\n",
+        3,
+    ),
+    (
+        "check",
+        "MODULE m\nIVAR i : boolean;\nMODULE main\nVAR x : boolean; g : m;\nASSIGN x := g.i;\n",
+        "-- refused 407 InputHere at 5:13\n",
+        3,
+    ),
+    (
+        "check",
+        "MODULE main\nIVAR i : boolean;\nDEFINE d := !i;\nINVARSPEC d\n",
+        "-- refused 407 InputHere at 3:14\n",
+        3,
+    ),
+    (
+        "check",
+        "MODULE main\nIVAR i : boolean;\nASSIGN i := TRUE;\n",
+        "-- refused 411 NotAssignable at 3:8\n",
+        3,
+    ),
+    (
+        "check",
+        "MODULE main\nDEFINE d := TRUE;\nASSIGN d := TRUE;\n",
+        "-- refused 411 NotAssignable at 3:8\n",
+        3,
+    ),
+    (
+        "check",
+        "MODULE main\nFROZENVAR f : boolean;\nASSIGN next(f) := TRUE;\n",
+        "-- refused 411 NotAssignable at 3:13\n",
+        3,
+    ),
+    (
+        "check",
+        "MODULE main\nFROZENVAR f : boolean;\nASSIGN init(f) := TRUE; f := TRUE;\n",
+        "-- refused 411 NotAssignable at 3:25\n",
+        3,
+    ),
+    (
+        "check",
+        "MODULE m(p)\nASSIGN p := TRUE;\nMODULE main\nVAR x : boolean; g : m(!x);\n",
+        "-- refused 411 NotAssignable at 2:8\n",
+        3,
+    ),
+    // The items of `main` come first.
+    (
+        "check",
+        "MODULE m\nVAR x : boolean;\nASSIGN init(x) := TRUE;\nMODULE main\nVAR g : m;\nASSIGN init(g.x) := FALSE;\n",
+        "-- refused 501 AssignedTwice at 3:8: g.x\n",
+        3,
+    ),
+    (
+        "check",
+        "MODULE m(p)\nASSIGN next(p) := TRUE;\nMODULE main\nVAR x : boolean; a : m(x); b : m(x);\n",
+        "-- refused 501 AssignedTwice at 2:8: x\n",
+        3,
+    ),
+    (
+        "check",
+        "MODULE m(p)\nVAR x : boolean;\nASSIGN x := p;\nMODULE main\nVAR a : m(b.x); b : m(a.x);\n",
+        "-- refused 502 AssignCycle at 3:8: a.x, b.x, a.x\n",
+        3,
+    ),
+    (
+        "check",
+        "MODULE m(p)\nVAR x : boolean;\nASSIGN next(x) := next(p);\nMODULE main\nVAR y : boolean; a : m(y);\nDEFINE d := !a.x;\nASSIGN next(y) := next(d);\n",
+        "-- refused 502 AssignCycle at 7:8: y, a.x, y\n",
+        3,
+    ),
+    (
+        "check",
+        "MODULE main\nVAR x : 0..3;\n",
+        "-- refused 203 Unsupported at 2:9: 0\n",
+        3,
+    ),
+    (
+        "check",
+        "MODULE main\nVAR x : boolean;\nLTLSPEC x\n",
+        "-- refused 203 Unsupported at 3:1: LTLSPEC\n",
+        3,
+    ),
+];
+
+#[test]
+fn rules(rt: HostRuntime) -> Result<(), Fail> {
+    let wrong = first_wrong(&rt, rt.alloc(), &RULES)?;
+    assert_eq!(rt; wrong, None);
+    Ok(())
+}
+
+const MODELS: [Case; 19] = [
+    // An inverter.
+    (
+        "check",
+        "MODULE inv(a)\nDEFINE o := !a;\nMODULE main\nVAR x : boolean; g : inv(x);\nASSIGN init(x) := FALSE; next(x) := g.o;\nINVARSPEC !x\n",
+        "-- spec 1 INVARSPEC is false\n--@ spec 1\n--@ state 0: x = FALSE\n--@ state 1: x = TRUE\n",
+        1,
+    ),
+    (
+        "flat",
+        "MODULE inv(a)\nDEFINE o := !a;\nMODULE main\nVAR x : boolean; g : inv(x);\nASSIGN init(x) := FALSE; next(x) := g.o;\nINVARSPEC !x\n",
+        "-- slot 0 state x : boolean\n-- item 0 init at 5:8 of main\n-- item 1 next at 5:26 of main\n",
+        0,
+    ),
+    // A ring of two cells, each of which is given the variable of the other.
+    (
+        "check",
+        "MODULE cell(before)\nVAR on : boolean;\nASSIGN init(on) := FALSE; next(on) := before;\nMODULE main\nVAR a : cell(b.on); b : cell(!a.on);\nINVARSPEC a.on -> b.on\n",
+        "-- spec 1 INVARSPEC is false\n--@ spec 1\n--@ state 0: a.on = FALSE, b.on = FALSE\n--@ state 1: a.on = FALSE, b.on = TRUE\n--@ state 2: a.on = TRUE, b.on = TRUE\n--@ state 3: a.on = TRUE, b.on = FALSE\n",
+        1,
+    ),
+    // An instance in an instance: its variables come behind.
+    (
+        "check",
+        "MODULE leaf\nVAR x : boolean;\nMODULE branch\nVAR b : leaf; y : boolean;\nASSIGN y := !b.x;\nMODULE main\nVAR a : branch;\nASSIGN init(a.b.x) := TRUE; next(a.b.x) := a.y;\nINVARSPEC a.b.x\n",
+        "-- spec 1 INVARSPEC is false\n--@ spec 1\n--@ state 0: a.y = FALSE, a.b.x = TRUE\n--@ state 1: a.y = TRUE, a.b.x = FALSE\n",
+        1,
+    ),
+    // An instance that is given itself the instance above it.
+    (
+        "check",
+        "MODULE m(p)\nVAR x : boolean;\nASSIGN init(self.x) := FALSE; next(x) := p.x | self.x;\nMODULE main\nVAR x : boolean; g : m(self);\nASSIGN init(x) := TRUE; next(x) := FALSE;\nINVARSPEC self.g.x -> x\n",
+        "-- spec 1 INVARSPEC is false\n--@ spec 1\n--@ state 0: x = TRUE, g.x = FALSE\n--@ state 1: x = FALSE, g.x = TRUE\n",
+        1,
+    ),
+    // A definition that is given, and one behind a parameter; each instance has the specification.
+    (
+        "check",
+        "MODULE watch(p)\nDEFINE seen := p;\nINVARSPEC seen\nMODULE main\nVAR x : boolean; a : watch(d); b : watch(!a.seen);\nDEFINE d := x xor TRUE;\nINIT x\nTRANS next(x)\n",
+        "-- spec 1 INVARSPEC is false\n--@ spec 1\n--@ state 0: x = TRUE\n-- spec 2 INVARSPEC is true\n",
+        1,
+    ),
+    // A variable that is assigned through a parameter.
+    (
+        "check",
+        "MODULE set(p)\nASSIGN init(p) := TRUE; next(p) := FALSE;\nMODULE main\nVAR x : boolean; s : set(x);\nINVARSPEC x\n",
+        "-- spec 1 INVARSPEC is false\n--@ spec 1\n--@ state 0: x = TRUE\n--@ state 1: x = FALSE\n",
+        1,
+    ),
+    // Of first states and of later ones.
+    (
+        "check",
+        "MODULE main\nVAR x : boolean; y : boolean;\nINVAR x != y\nASSIGN init(x) := TRUE; next(x) := FALSE;\nINVARSPEC x | y\nINVARSPEC !y\n",
+        "-- spec 1 INVARSPEC is true\n-- spec 2 INVARSPEC is false\n--@ spec 2\n--@ state 0: x = TRUE, y = FALSE\n--@ state 1: x = FALSE, y = TRUE\n",
+        1,
+    ),
+    // A frozen variable keeps its value.
+    (
+        "check",
+        "MODULE main\nVAR x : boolean;\nFROZENVAR f : boolean;\nASSIGN init(x) := f; next(x) := x;\nINVARSPEC x = f\nINVARSPEC f\n",
+        "-- spec 1 INVARSPEC is true\n-- spec 2 INVARSPEC is false\n--@ spec 2\n--@ state 0: x = FALSE, f = FALSE\n",
+        1,
+    ),
+    (
+        "check",
+        "MODULE main\nFROZENVAR f : boolean;\nASSIGN init(f) := TRUE;\nINVARSPEC f\n",
+        "-- spec 1 INVARSPEC is true\n",
+        0,
+    ),
+    // The inputs of each step.
+    (
+        "check",
+        "MODULE cell(before)\nVAR on : boolean;\nASSIGN init(on) := FALSE; next(on) := before;\nMODULE main\nIVAR press : boolean;\nVAR a : cell(press); b : cell(a.on);\nINVARSPEC !(a.on & b.on)\n",
+        "-- spec 1 INVARSPEC is false\n--@ spec 1\n--@ state 0: a.on = FALSE, b.on = FALSE\n--@ input 0: press = TRUE\n--@ state 1: a.on = TRUE, b.on = FALSE\n--@ input 1: press = TRUE\n--@ state 2: a.on = TRUE, b.on = TRUE\n",
+        1,
+    ),
+    (
+        "check",
+        "MODULE main\nIVAR i : boolean; j : boolean;\nVAR x : boolean;\nINIT !x\nTRANS !next(x) | i & !j\nINVARSPEC !x\nINVARSPEC NAME here := x\n",
+        "-- spec 1 INVARSPEC is false\n--@ spec 1\n--@ state 0: x = FALSE\n--@ input 0: i = TRUE, j = FALSE\n--@ state 1: x = TRUE\n-- spec 2 INVARSPEC is false\n--@ spec 2\n--@ state 0: x = FALSE\n",
+        1,
+    ),
+    // A model without slots of a state.
+    (
+        "check",
+        "MODULE main\nIVAR i : boolean;\nINVARSPEC FALSE\n",
+        "-- spec 1 INVARSPEC is false\n--@ spec 1\n--@ state 0:\n",
+        1,
+    ),
+    // Fairness has no effect on invariants.
+    (
+        "check",
+        "MODULE main\nVAR x : boolean;\nASSIGN init(x) := FALSE; next(x) := !x;\nJUSTICE !x\nFAIRNESS FALSE\nINVARSPEC !x\n",
+        "-- spec 1 INVARSPEC is false\n--@ spec 1\n--@ state 0: x = FALSE\n--@ state 1: x = TRUE\n",
+        1,
+    ),
+    (
+        "check",
+        "MODULE main\nVAR x : boolean; y : boolean;\nASSIGN init(x) := FALSE; init(y) := FALSE; next(x) := y ? x : !x; next(y) := x;\nINVARSPEC x | !y\n",
+        "-- spec 1 INVARSPEC is false\n--@ spec 1\n--@ state 0: x = FALSE, y = FALSE\n--@ state 1: x = TRUE, y = FALSE\n--@ state 2: x = FALSE, y = TRUE\n",
+        1,
+    ),
+    // `? :` goes to the right, and binds tighter than `<->` and less than `|`.
+    (
+        "check",
+        "MODULE main\nVAR a : boolean; b : boolean; c : boolean; d : boolean; e : boolean;\nINVARSPEC (a ? b : c ? d : e) = ((a & b) | (!a & c & d) | (!a & !c & e))\nINVARSPEC (a ? b : c <-> d) = (d = (a & b | !a & c))\nINVARSPEC (a | b ? c : d) = (!a & !b ? d : c)\n",
+        "-- spec 1 INVARSPEC is true\n-- spec 2 INVARSPEC is true\n-- spec 3 INVARSPEC is true\n",
+        0,
+    ),
+    // Slots and items of each kind.
+    (
+        "flat",
+        "MODULE main\nIVAR i : boolean;\nFROZENVAR f : boolean;\nVAR g : m(f); x : boolean;\nDEFINE d := x;\nINIT d\nINVAR f | TRUE\nTRANS i -> next(x)\nJUSTICE x\nFAIRNESS f\nINVARSPEC x\nASSIGN init(x) := TRUE;\nMODULE m(p)\nVAR y : boolean; h : n;\nASSIGN next(y) := p; h.z := y;\nMODULE n\nIVAR j : boolean;\nVAR z : boolean;\nINVARSPEC z\n",
+        "-- slot 0 input i : boolean\n-- slot 1 frozen f : boolean\n-- slot 2 state x : boolean\n-- slot 3 state g.y : boolean\n-- slot 4 input g.h.j : boolean\n-- slot 5 state g.h.z : boolean\n-- item 0 INIT at 6:1 of main\n-- item 1 INVAR at 7:1 of main\n-- item 2 TRANS at 8:1 of main\n-- item 3 JUSTICE at 9:1 of main\n-- item 4 JUSTICE at 10:1 of main\n-- item 5 init at 12:8 of main\n-- item 6 next at 15:8 of g\n-- item 7 now at 15:22 of g\n",
+        0,
+    ),
+    // Nothing to list.
+    ("flat", "MODULE main\nINVARSPEC TRUE\n", "", 0),
+    (
+        "flat",
+        "MODULE main\nINIT y\n",
+        "-- refused 304 UnknownName at 2:6: y\n",
+        3,
+    ),
+];
+
+#[test]
+fn models(rt: HostRuntime) -> Result<(), Fail> {
+    let wrong = first_wrong(&rt, rt.alloc(), &MODELS)?;
     assert_eq!(rt; wrong, None);
     Ok(())
 }
@@ -412,7 +894,19 @@ fn longer_pieces(rt: HostRuntime) -> Result<(), Fail> {
         )?
     );
     let usage = USAGE.as_bytes();
-    assert!(rt; prints(&rt, alloc, &["flat"], standing, 7, Some(0), None, usage, 4)?);
+    assert!(rt;
+        prints(
+            &rt,
+            alloc,
+            &["recheck"],
+            standing,
+            7,
+            Some(0),
+            None,
+            usage,
+            4
+        )?
+    );
     Ok(())
 }
 
@@ -480,5 +974,110 @@ fn a_source_over_the_limit(rt: HostRuntime) -> Result<(), Fail> {
     assert!(rt; are_refused(&rt, alloc, 16_777_217, over)?);
     let fitting = "-- refused 301 NoMain at 1:1\n";
     assert!(rt; are_refused(&rt, alloc, 16_777_216, fitting)?);
+    Ok(())
+}
+
+// Whether this source is answered so, read in one piece.
+fn gives<R: Threads + Wait + Sync>(
+    rt: &R,
+    alloc: Global,
+    text: &String,
+    want: &str,
+    want_status: u8,
+) -> Result<bool, AllocError> {
+    let (text, want) = (text.as_bytes(), want.as_bytes());
+    prints(
+        rt,
+        alloc,
+        &["check"],
+        text,
+        1_000_000,
+        None,
+        None,
+        want,
+        want_status,
+    )
+}
+
+// As many modules, each with two instances of the next, but for the last.
+fn doubled_modules(alloc: Global, count: u32) -> Result<String, AllocError> {
+    let mut text = String::new(alloc);
+    text.push_str("MODULE main VAR a : m1; b : m1;\n")?;
+    for n in 1..count {
+        let line = format!(in alloc; "MODULE m{n} VAR a : m{}; b : m{};\n", n + 1, n + 1)?;
+        text.push_str(line.as_str())?;
+    }
+    let last = format!(in alloc; "MODULE m{count}\n")?;
+    text.push_str(last.as_str())?;
+    Ok(text)
+}
+
+#[test]
+fn too_many_instances(rt: HostRuntime) -> Result<(), Fail> {
+    let alloc = rt.alloc();
+    let fitting = doubled_modules(alloc, 15)?;
+    assert!(rt; gives(&rt, alloc, &fitting, "", 0)?);
+    let over = doubled_modules(alloc, 16)?;
+    let want = "-- refused 311 TooManyInstances at 1:8\n";
+    assert!(rt; gives(&rt, alloc, &over, want, 3)?);
+    Ok(())
+}
+
+// As many variables.
+fn variables(alloc: Global, count: u32) -> Result<String, AllocError> {
+    let mut text = String::new(alloc);
+    text.push_str("MODULE main VAR\n")?;
+    for n in 0..count {
+        let line = format!(in alloc; "x{n} : boolean;\n")?;
+        text.push_str(line.as_str())?;
+    }
+    Ok(text)
+}
+
+#[test]
+fn too_many_slots(rt: HostRuntime) -> Result<(), Fail> {
+    let alloc = rt.alloc();
+    let over = variables(alloc, 65_537)?;
+    let want = "-- refused 312 TooManySlots at 1:1\n";
+    assert!(rt; gives(&rt, alloc, &over, want, 3)?);
+    Ok(())
+}
+
+// As many definitions, each of which names the next, once or twice; the last one names x.
+fn definitions(alloc: Global, count: u32, twice: bool) -> Result<String, AllocError> {
+    let mut text = String::new(alloc);
+    text.push_str("MODULE main VAR x : boolean; DEFINE d0 := d1;\n")?;
+    for n in 1..count {
+        let line = if twice {
+            format!(in alloc; "d{n} := d{} & d{};\n", n + 1, n + 1)?
+        } else {
+            format!(in alloc; "d{n} := d{};\n", n + 1)?
+        };
+        text.push_str(line.as_str())?;
+    }
+    let last = format!(in alloc; "d{count} := x;\nINVARSPEC d0\n")?;
+    text.push_str(last.as_str())?;
+    Ok(text)
+}
+
+const OFF: &str = "-- spec 1 INVARSPEC is false\n--@ spec 1\n--@ state 0: x = FALSE\n";
+
+#[test]
+fn followed_names(rt: HostRuntime) -> Result<(), Fail> {
+    let alloc = rt.alloc();
+    let fitting = definitions(alloc, 1999, false)?;
+    assert!(rt; gives(&rt, alloc, &fitting, OFF, 1)?);
+    let over = definitions(alloc, 2000, false)?;
+    let want = "-- refused 310 UnfoldedDepth at 2002:1\n";
+    assert!(rt; gives(&rt, alloc, &over, want, 3)?);
+    Ok(())
+}
+
+// What stands for 2^40 names is judged in no time.
+#[test]
+fn shared_names(rt: HostRuntime) -> Result<(), Fail> {
+    let alloc = rt.alloc();
+    let text = definitions(alloc, 41, true)?;
+    assert!(rt; gives(&rt, alloc, &text, OFF, 1)?);
     Ok(())
 }

@@ -1,17 +1,19 @@
 //! The top call: from the words and the bytes of a source to the bytes of a report and a status.
-ghost use Rattle.std.specs.Prelude.{◌≡◌, ◌<◌, ◌≤◌, ◌^◌, map, IfOk, IsErrOf, IfSome, ◌⊎◌, ◌≢◌, Some};
+ghost use Rattle.std.specs.Prelude.{◌≡◌, ◌<◌, ◌≤◌, map, IfOk, IsErrOf, IfSome, ◌⊎◌, ◌≢◌, Some};
 ghost use Rattle.std.specs.Io.KnownBytes.{Appends, Keeps};
 ghost use Rattle.command_words.specs.Grammar.{IsCommandLine};
 ghost use Rattle.outside.specs.Causes.{Rose};
 ghost use Rattle.smv_tree.specs.Texts.{refusal_text};
-ghost use Rattle.smv_meaning.specs.Programs.{specifications_of};
+ghost use Rattle.smv_meaning.specs.Runs.{specifications_of};
+ghost use Rattle.smv_cli.specs.Listing.{listing_text};
 ghost use Rattle.smv_cli.specs.Records.{Recorded, RecordedPart};
-ghost use Rattle.smv_cli.specs.Report.{Answered, Begun, CheckDone, CheckPart, CheckStage, IsSomeModel, Stage};
+ghost use Rattle.smv_cli.specs.Report.{Answered, Begun, CommandDone, CommandPart, CommandStage, IsSomeModel, Stage};
 ghost use Rattle.smv_cli.specs.Streams.{AppendsFront};
 ghost use Rattle.smv_cli.specs.Texts.{usage_text};
 
+use crate::listing::listing;
 use crate::print::{put, put_records};
-use crate::streams::{SourceStop, read_all};
+use crate::streams::{SourceStop, read_all, write_all};
 use command_words::{Command, Effort, WordsStop, read_words};
 use outside::{Gate, OpenGate, Sink, Source, Stop, SureSink, SureSource};
 use smv_front::read_model;
@@ -44,40 +46,54 @@ fn report_model<K: Sink>(
     typed: &Typed,
     effort: &Effort,
 ) -> Result<u8, Stop>
-    requires { effort.now.bound < 2 ^ 32 }
-    ensures ok { IfOk result (λ status. Recorded typed.now.program effort.now (specifications_of typed.now.program) (K.taken sink.old) (K.taken sink.new) status) }
+    ensures ok { IfOk result (λ status. Recorded typed.now.scope.program effort.now (specifications_of typed.now.scope.program) (K.taken sink.old) (K.taken sink.new) status) }
     ensures small { IfOk result (λ status. status ≤ 2) }
-    ensures part { RecordedPart typed.now.program effort.now (specifications_of typed.now.program) (K.taken sink.old) (K.taken sink.new) }
+    ensures part { RecordedPart typed.now.scope.program effort.now (specifications_of typed.now.scope.program) (K.taken sink.old) (K.taken sink.new) }
     ensures later { K.faults sink.old ≤ K.faults sink.new }
     ensures failed { IsErrOf result Stop.Failed → Rose (K.faults sink.old) (K.faults sink.new) }
 {
-    let Ok(specs) = specifications(alloc, &typed.program) else {
+    let Ok(specs) = specifications(alloc, typed) else {
         return Err(Stop::NoMemory);
     };
-    put_records(alloc, sink, typed, &specs, effort)
+    put_records(alloc, sink, typed, specs.as_slice(), effort)
 }
 
-// Reports on a text, and gives the status.
-fn report<K: Sink>(alloc: Global, sink: &mut K, text: &[u8], effort: &Effort) -> Result<u8, Stop>
-    requires { effort.now.bound < 2 ^ 32 }
-    ensures ok { IfOk result (λ status. CheckDone effort.now text.now (K.taken sink.old) (K.taken sink.new) status) }
+// Writes the slots and items of a model, with status 0.
+fn report_listing<K: Sink>(alloc: Global, sink: &mut K, typed: &Typed) -> Result<u8, Stop>
+    ensures ok { IfOk result (λ status. (status ≡ 0) × Appends (K.taken sink.old) (K.taken sink.new) (listing_text typed.now.scope.program)) }
+    ensures part { AppendsFront (K.taken sink.old) (K.taken sink.new) (listing_text typed.now.scope.program) }
+    ensures later { K.faults sink.old ≤ K.faults sink.new }
+    ensures failed { IsErrOf result Stop.Failed → Rose (K.faults sink.old) (K.faults sink.new) }
+{
+    let Ok(text) = listing(alloc, typed) else {
+        return Err(Stop::NoMemory);
+    };
+    write_all(sink, text.as_slice())?;
+    Ok(0)
+}
+
+// Reports on a text what the command asks for, and gives the status.
+fn report<K: Sink>(alloc: Global, sink: &mut K, text: &[u8], command: &Command) -> Result<u8, Stop>
+    ensures ok { IfOk result (λ status. CommandDone command.now text.now (K.taken sink.old) (K.taken sink.new) status) }
     ensures small { IfOk result (λ status. status ≤ 3) }
-    ensures part { CheckPart effort.now text.now (K.taken sink.old) (K.taken sink.new) }
+    ensures part { CommandPart command.now text.now (K.taken sink.old) (K.taken sink.new) }
     ensures later { K.faults sink.old ≤ K.faults sink.new }
     ensures failed { IsErrOf result Stop.Failed → Rose (K.faults sink.old) (K.faults sink.new) }
 {
     match read_model(alloc, text) {
-        Ok(typed) => report_model(alloc, sink, &typed, effort),
+        Ok(flat) => match command {
+            Command::Check(effort) => report_model(alloc, sink, &flat.typed, effort),
+            Command::Flat => report_listing(alloc, sink, &flat.typed),
+        },
         Err(TextStop::Refused(refusal)) => refuse(alloc, sink, &refusal),
         Err(TextStop::NoMemory) => Err(Stop::NoMemory),
     }
 }
 
-// Reads a model and decides each of its specifications with this effort.
-fn check<S: Source, K: Sink>(alloc: Global, source: &mut S, sink: &mut K, effort: &Effort) -> u8
-    requires { effort.now.bound < 2 ^ 32 }
-    ensures answered { result ≤ 4 → Answered (CheckStage effort.now) (S.left source.old) (K.taken sink.old) (K.taken sink.new) result }
-    ensures begun { 4 < result → Begun (CheckStage effort.now) (S.left source.old) (K.taken sink.old) (K.taken sink.new) }
+// Reads a model, and reports what the command asks for.
+fn answer<S: Source, K: Sink>(alloc: Global, source: &mut S, sink: &mut K, command: &Command) -> u8
+    ensures answered { result ≤ 4 → Answered (CommandStage command.now) (S.left source.old) (K.taken sink.old) (K.taken sink.new) result }
+    ensures begun { 4 < result → Begun (CommandStage command.now) (S.left source.old) (K.taken sink.old) (K.taken sink.new) }
     ensures named { (result ≢ 4) × (result ≤ 7) }
     ensures read_fault { result ≡ 5 → Rose (S.faults source.old) (S.faults source.new) }
     ensures untouched { result ≡ 5 → Keeps (K.taken sink.old) (K.taken sink.new) }
@@ -88,7 +104,7 @@ fn check<S: Source, K: Sink>(alloc: Global, source: &mut S, sink: &mut K, effort
         Err(SourceStop::Failed) => return 5,
         Err(SourceStop::NoMemory) => return 7,
     };
-    match report(alloc, sink, &text, effort) {
+    match report(alloc, sink, &text, command) {
         Ok(status) => status,
         Err(Stop::Failed) => 6,
         Err(Stop::NoMemory) => 7,
@@ -129,7 +145,7 @@ fn perform<'a, S: Source, K: Sink>(
     ensures write_fault { result ≡ 6 → Rose (K.faults sink.old) (K.faults sink.new) }
 {
     match read_words(alloc, words) {
-        Ok(Command::Check(effort)) => check(alloc, source, sink, &effort),
+        Ok(command) => answer(alloc, source, sink, &command),
         Err(WordsStop::Outside) => refuse_words(alloc, sink),
         Err(WordsStop::NoMemory) => 7,
     }

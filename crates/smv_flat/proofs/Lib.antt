@@ -1,4 +1,10 @@
-pub mod Depending
-pub mod Lent
+pub mod Parts
+pub mod Found
+pub mod Listed
 pub mod Marking
-pub mod Naming
+pub mod Rows
+pub mod Reading
+pub mod Leading
+pub mod Depending
+pub mod Rounds
+pub mod Within

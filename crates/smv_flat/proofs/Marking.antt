@@ -1,15 +1,14 @@
 -- What the marks of the slots say after one more assignment.
-use Rattle.std.proofs.Common.{◌≡◌, inl, inr, ℕ, ◌<◌, ◌+◌, Bool, true, false, ◌&&◌, ◌||◌, List, [], ◌∷◌, ◌++◌, length, get_or, set, take, drop, refl, sym, ap, ◌∙◌, eq-eqb, get_or-set_other, drop-cons, add-one, suc, if◌then◌else◌, Option, Some, None}
+use Rattle.std.proofs.Common.{◌≡◌, inl, inr, ℕ, ◌<◌, ◌+◌, Bool, true, false, ◌&&◌, ◌||◌, ◌==◌, List, [], ◌∷◌, ◌++◌, length, get_or, set, take, drop, refl, sym, ap, ◌∙◌, eq-eqb, get_or-set_other, drop-cons, add-one, suc, if◌then◌else◌, Option, Some}
 use Rattle.std.proofs.lemmas.Bool.{cases_eq, ne_eqb}
 use Rattle.std.proofs.lemmas.List.{get_or-set_same, take_more}
 use Rattle.std.proofs.lemmas.List.Folds.{list_any_more}
 use Rattle.smv_tree.specs.declared.refusal.Refusal.{Refusal}
 use Rattle.smv_tree.specs.declared.tree.Program.{Program}
-use Rattle.smv_tree.specs.declared.tree.Assignment.{Assignment}
 use Rattle.smv_tree.specs.declared.tree.AssignmentKind.{AssignmentKind}
 use Rattle.smv_tree.specs.declared.tree.AssignmentKind.TheVariants as side
 use Rattle.smv_flat.specs.declared.twice.Taken.{Taken}
-use Rattle.smv_flat.specs.Assignments.{kinds_meet, same_slot, slot_of, twice, twice_refusal}
+use Rattle.smv_flat.specs.Assignments.{SlotAssignment, kinds_meet, twice, twice_refusal}
 use Rattle.smv_flat.specs.Marks.{Knows, any_meets, free, is_taken, taken_at, taken_by}
 
 or_false : (a : Bool) → a ≡ (a || false)
@@ -39,18 +38,18 @@ both side.Current side.Current false true = refl
 both side.Current side.Current false false = refl
 
 -- one more assignment may meet another
-any_more : (p : Program) (as' : List Assignment) (k m : ℕ) (a : Assignment) (kind : AssignmentKind) → k < length as' → a ≡ get_or as' k a
-    → any_meets p (take (k + 1) as') (Some m) kind ≡ (any_meets p (take k as') (Some m) kind || (same_slot (slot_of p a.target) (Some m) && kinds_meet a.kind kind))
-any_more p as' k m a kind lt is =
-    list_any_more (λ (b : Assignment). same_slot (slot_of p b.target) (Some m) && kinds_meet b.kind kind) as' k a lt
-    ∙ ap (λ (b : Assignment). any_meets p (take k as') (Some m) kind || (same_slot (slot_of p b.target) (Some m) && kinds_meet b.kind kind)) (sym is)
+any_more : (as' : List SlotAssignment) (k m : ℕ) (a : SlotAssignment) (kind : AssignmentKind) → k < length as' → a ≡ get_or as' k a
+    → any_meets (take (k + 1) as') m kind ≡ (any_meets (take k as') m kind || (a.slot == m && kinds_meet a.kind kind))
+any_more as' k m a kind lt is =
+    list_any_more (λ (b : SlotAssignment). b.slot == m && kinds_meet b.kind kind) as' k a lt
+    ∙ ap (λ (b : SlotAssignment). any_meets (take k as') m kind || (b.slot == m && kinds_meet b.kind kind)) (sym is)
 
 -- an assignment of a slot is marked there
-pub knows_more : (p : Program) (ts : List Taken) (as' : List Assignment) (k n : ℕ) (a : Assignment) (t : Taken) → k < length as' → a ≡ get_or as' k a → slot_of p a.target ≡ Some n
-    → t ≡ taken_at ts n → n < length ts → Knows p ts (take k as') → Knows p (set ts n (taken_by t a.kind)) (take (k + 1) as')
-knows_more p ts as' k n a t lt is named here within known m kind =
-    let more = any_more p as' k m a kind lt is in
-    let meet = ap (λ o. any_meets p (take k as') (Some m) kind || (same_slot o (Some m) && kinds_meet a.kind kind)) named in
+pub knows_more : (ts : List Taken) (as' : List SlotAssignment) (k : ℕ) (a : SlotAssignment) (t : Taken) → k < length as' → a ≡ get_or as' k a
+    → t ≡ taken_at ts a.slot → a.slot < length ts → Knows ts (take k as') → Knows (set ts a.slot (taken_by t a.kind)) (take (k + 1) as')
+knows_more ts as' k a t lt is here within known m kind =
+    let n = a.slot in
+    let more = any_more as' k m a kind lt is in
     elim (cases_eq m n) [
       | inl e ↦
           ap (λ s. is_taken (taken_at (set ts n (taken_by t a.kind)) s) kind) e
@@ -58,52 +57,29 @@ knows_more p ts as' k n a t lt is named here within known m kind =
           ∙ both a.kind kind t.first t.next
           ∙ ap (λ x. is_taken x kind || kinds_meet a.kind kind) (here ∙ ap (taken_at ts) (sym e))
           ∙ ap (λ b. b || kinds_meet a.kind kind) (known m kind)
-          ∙ ap (λ b. any_meets p (take k as') (Some m) kind || (b && kinds_meet a.kind kind)) (sym (eq-eqb n m (sym e)))
-          ∙ sym meet ∙ sym more
+          ∙ ap (λ b. any_meets (take k as') m kind || (b && kinds_meet a.kind kind)) (sym (eq-eqb n m (sym e)))
+          ∙ sym more
       | inr ne ↦
           ap (λ x. is_taken x kind) (get_or-set_other ts n m (taken_by t a.kind) free ne) ∙ known m kind
-          ∙ or_false (any_meets p (take k as') (Some m) kind)
-          ∙ ap (λ b. any_meets p (take k as') (Some m) kind || (b && kinds_meet a.kind kind)) (sym (ne_eqb n m (λ e. ne (sym e))))
-          ∙ sym meet ∙ sym more
+          ∙ or_false (any_meets (take k as') m kind)
+          ∙ ap (λ b. any_meets (take k as') m kind || (b && kinds_meet a.kind kind)) (sym (ne_eqb n m (λ e. ne (sym e))))
+          ∙ sym more
     ]
 
--- an assignment of no slot is not marked
-pub knows_same : (p : Program) (ts : List Taken) (as' : List Assignment) (k : ℕ) (a : Assignment) → k < length as' → a ≡ get_or as' k a → slot_of p a.target ≡ None
-    → Knows p ts (take k as') → Knows p ts (take (k + 1) as')
-knows_same p ts as' k a lt is named known m kind =
-    known m kind ∙ or_false (any_meets p (take k as') (Some m) kind)
-    ∙ sym (ap (λ o. any_meets p (take k as') (Some m) kind || (same_slot o (Some m) && kinds_meet a.kind kind)) named) ∙ sym (any_more p as' k m a kind lt is)
-
-same_as_none : (o : Option ℕ) → same_slot o None ≡ false
-same_as_none (Some n) = refl
-same_as_none None = refl
-
--- an assignment of no slot meets none
-pub meets_none : (p : Program) (before : List Assignment) (kind : AssignmentKind) → any_meets p before None kind ≡ false
-meets_none p [] kind = refl
-meets_none p (b ∷ bs) kind =
-    ap (λ x. (x && kinds_meet b.kind kind) || any_meets p bs None kind) (same_as_none (slot_of p b.target)) ∙ meets_none p bs kind
-
--- the mark of its slot tells whether an assignment meets one before it
-pub meets_marked : (p : Program) (ts : List Taken) (before : List Assignment) (n : ℕ) (a : Assignment) (t : Taken) → slot_of p a.target ≡ Some n → t ≡ taken_at ts n
-    → Knows p ts before → any_meets p before (slot_of p a.target) a.kind ≡ is_taken t a.kind
-meets_marked p ts before n a t named here known =
-    ap (λ slot. any_meets p before slot a.kind) named ∙ sym (known n a.kind) ∙ ap (λ x. is_taken x a.kind) (sym here)
-
 -- the search goes on where the next assignment meets none before it
-pub goes_on : (p : Program) (as' : List Assignment) (k : ℕ) (a : Assignment) (r : Option Refusal) → k < length as' → a ≡ get_or as' k a
-    → any_meets p (take k as') (slot_of p a.target) a.kind ≡ false → twice p (take k as') (drop k as') ≡ r → twice p (take (k + 1) as') (drop (k + 1) as') ≡ r
+pub goes_on : (p : Program) (as' : List SlotAssignment) (k : ℕ) (a : SlotAssignment) (r : Option Refusal) → k < length as' → a ≡ get_or as' k a
+    → any_meets (take k as') a.slot a.kind ≡ false → twice p (take k as') (drop k as') ≡ r → twice p (take (k + 1) as') (drop (k + 1) as') ≡ r
 goes_on p as' k a r lt is clear left =
     let turn : drop k as' ≡ a ∷ drop (k + 1) as' = drop-cons as' k a lt ∙ ap (λ y. y ∷ drop (suc k) as') (sym is) ∙ ap (λ n. a ∷ drop n as') (sym (add-one k)) in
     let more : take (k + 1) as' ≡ take k as' ++ a ∷ [] = take_more as' k a lt ∙ ap (λ y. take k as' ++ y ∷ []) (sym is) in
     ap (λ xs. twice p xs (drop (k + 1) as')) more
-    ∙ sym (ap (λ b. if b then Some (twice_refusal p (slot_of p a.target) a) else twice p (take k as' ++ a ∷ []) (drop (k + 1) as')) clear)
+    ∙ sym (ap (λ b. if b then Some (twice_refusal p a) else twice p (take k as' ++ a ∷ []) (drop (k + 1) as')) clear)
     ∙ sym (ap (λ ys. twice p (take k as') ys) turn) ∙ left
 
 -- the search ends where the next assignment meets one before it
-pub ends_here : (p : Program) (as' : List Assignment) (k : ℕ) (a : Assignment) (r : Option Refusal) → k < length as' → a ≡ get_or as' k a
-    → any_meets p (take k as') (slot_of p a.target) a.kind ≡ true → twice p (take k as') (drop k as') ≡ r → r ≡ Some (twice_refusal p (slot_of p a.target) a)
+pub ends_here : (p : Program) (as' : List SlotAssignment) (k : ℕ) (a : SlotAssignment) (r : Option Refusal) → k < length as' → a ≡ get_or as' k a
+    → any_meets (take k as') a.slot a.kind ≡ true → twice p (take k as') (drop k as') ≡ r → r ≡ Some (twice_refusal p a)
 ends_here p as' k a r lt is meets left =
     let turn : drop k as' ≡ a ∷ drop (k + 1) as' = drop-cons as' k a lt ∙ ap (λ y. y ∷ drop (suc k) as') (sym is) ∙ ap (λ n. a ∷ drop n as') (sym (add-one k)) in
     sym left ∙ ap (λ ys. twice p (take k as') ys) turn
-    ∙ ap (λ b. if b then Some (twice_refusal p (slot_of p a.target) a) else twice p (take k as' ++ a ∷ []) (drop (k + 1) as')) meets
+    ∙ ap (λ b. if b then Some (twice_refusal p a) else twice p (take k as' ++ a ∷ []) (drop (k + 1) as')) meets

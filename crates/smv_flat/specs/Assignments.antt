@@ -1,6 +1,6 @@
 -- The rules of assignments: each variable is assigned once at a time, and none depends on itself at one time
 -- (NuSMV 2.6 User Manual, 2.3.8, ASSIGN Constraint; the order of the rules is an own choice of this project).
-use Rattle.std.specs.Prelude.{◌≡◌, ℕ, ◌==◌, Bool, true, false, ◌&&◌, if◌then◌else◌, List, [], ◌∷◌, ◌++◌, length, map, Option, None, Some, slice_get, codes}
+use Rattle.std.specs.Prelude.{◌≡◌, ℕ, ◌==◌, nat_lt, Bool, true, false, not, ◌&&◌, ◌||◌, if◌then◌else◌, List, [], ◌∷◌, ◌++◌, length, map, filter, Option, None, Some, slice_get, codes}
 use Rattle.std.specs.List.{flat_map, list_any, range_with_len}
 use Rattle.digraph.specs.Cycles.{Acyclic, IsLeastRound}
 use Rattle.smv_tree.specs.declared.place.Place.{Place}
@@ -9,30 +9,61 @@ use Rattle.smv_tree.specs.declared.refusal.Rule.TheVariants as rule
 use Rattle.smv_tree.specs.declared.refusal.TextStop.{TextStop}
 use Rattle.smv_tree.specs.declared.refusal.TextStop.TheVariants.{Refused, NoMemory}
 use Rattle.smv_tree.specs.declared.tree.Program.{Program}
-use Rattle.smv_tree.specs.declared.tree.Assignment.{Assignment}
 use Rattle.smv_tree.specs.declared.tree.AssignmentKind.{AssignmentKind}
 use Rattle.smv_tree.specs.declared.tree.AssignmentKind.TheVariants as side
-use Rattle.smv_tree.specs.declared.tree.ChainOperator.{ChainOperator}
-use Rattle.smv_tree.specs.declared.tree.Expr.{Expr, Expr-F, fold-Expr, out-Expr}
 use Rattle.smv_tree.specs.Places.{start}
-use Rattle.smv_meaning.specs.declared.value.Slot.{Slot}
-use Rattle.smv_meaning.specs.Programs.{main_sections, assignments_in, slots_of}
-use Rattle.smv_meaning.specs.Evaluation.{slot_named}
+use Rattle.smv_scope.specs.declared.item.ItemKind.{ItemKind}
+use Rattle.smv_scope.specs.declared.item.ItemKind.TheVariants as item
+use Rattle.smv_scope.specs.declared.slot.Slot.{Slot}
+use Rattle.smv_scope.specs.Items.{ResolvedItem, items_of}
+use Rattle.smv_scope.specs.Paths.{slot_name}
+use Rattle.smv_scope.specs.Resolved.{Resolved}
+use Rattle.smv_scope.specs.Slots.{slots_of}
 use Rattle.smv_flat.specs.declared.time.Time.{Time}
 use Rattle.smv_flat.specs.declared.time.Time.TheVariants as when
 
--- the assignments of a program, in the order of the source
-abbrev pub assignments_of : Program → List Assignment
-assignments_of p = flat_map assignments_in (main_sections p)
+-- An assignment to a slot, and the value that is assigned.
+pub record SlotAssignment : Type 0 where
+  pub slot : ℕ
+  pub kind : AssignmentKind
+  pub place : Place
+  pub value : Resolved
 
--- the slot that a node names
-abbrev pub slot_of_node : List Slot → Expr-F Expr → Option ℕ
-slot_of_node slots (Expr-F.Name place name) = slot_named slots name
-slot_of_node slots other = None
+-- the slot that an expression is, itself or as what a parameter was given; there are so many slots
+abbrev pub assigned_slot : ℕ → Resolved → Option ℕ
+assigned_slot slots (Resolved.Constant place b) = None
+assigned_slot slots (Resolved.Slot place n) = if nat_lt n slots then Some n else None
+assigned_slot slots (Resolved.Whole place i) = None
+assigned_slot slots (Resolved.Given place r) = assigned_slot slots r
+assigned_slot slots (Resolved.Defined place r) = None
+assigned_slot slots (Resolved.Not place r) = None
+assigned_slot slots (Resolved.Next place r) = None
+assigned_slot slots (Resolved.Implies place a b) = None
+assigned_slot slots (Resolved.Link place o a b) = None
+assigned_slot slots (Resolved.Conditional place c a b) = None
+assigned_slot slots Resolved.Stuck = None
 
--- the slot that an expression names
-abbrev pub slot_of : Program → Expr → Option ℕ
-slot_of p e = slot_of_node (slots_of p) (out-Expr e)
+abbrev pub target_slot : ℕ → Option Resolved → Option ℕ
+target_slot slots None = None
+target_slot slots (Some r) = assigned_slot slots r
+
+-- an assignment of the slot, if there is one
+abbrev pub assigning : AssignmentKind → Place → Resolved → Option ℕ → List SlotAssignment
+assigning kind place value None = []
+assigning kind place value (Some n) = record { slot = n; kind = kind; place = place; value = value } ∷ []
+
+-- the assignment that an item of this kind is
+abbrev pub assignment_of : ItemKind → Place → Resolved → Option ℕ → List SlotAssignment
+assignment_of (item.Assignment kind) place value slot = assigning kind place value slot
+assignment_of (item.Constraint kind) place value slot = []
+assignment_of (item.Specification kind) place value slot = []
+
+abbrev pub assignment_in : ℕ → ResolvedItem → List SlotAssignment
+assignment_in slots x = assignment_of x.kind x.place x.value (target_slot slots x.target)
+
+-- the assignments to slots of a program, in the order of its items
+abbrev pub assignments_of : Program → List SlotAssignment
+assignments_of p = flat_map (assignment_in (length (slots_of p))) (items_of p)
 
 -- two assignments of one slot meet where they speak of the same time
 abbrev pub kinds_meet : AssignmentKind → AssignmentKind → Bool
@@ -44,54 +75,48 @@ kinds_meet side.Next side.Next = true
 kinds_meet side.Next side.Current = true
 kinds_meet side.Current other = true
 
--- both are slots, and the same one
-abbrev pub same_slot : Option ℕ → Option ℕ → Bool
-same_slot (Some a) (Some b) = a == b
-same_slot (Some a) None = false
-same_slot None b = false
-
 -- both assign one slot, at the same time
-abbrev pub assignments_meet : Program → Assignment → Assignment → Bool
-assignments_meet p a b = same_slot (slot_of p a.target) (slot_of p b.target) && kinds_meet a.kind b.kind
+abbrev pub assignments_meet : SlotAssignment → SlotAssignment → Bool
+assignments_meet a b = a.slot == b.slot && kinds_meet a.kind b.kind
 
--- the name of a slot
-abbrev pub name_in : Option Slot → List ℕ
-name_in None = []
-name_in (Some slot) = slot.name
+abbrev pub name_in : Program → Option Slot → List ℕ
+name_in p None = []
+name_in p (Some slot) = slot_name p slot
 
--- the name of the slot of this number
-abbrev pub name_of_slot : Program → Option ℕ → List ℕ
-name_of_slot p None = []
-name_of_slot p (Some n) = name_in (slice_get (slots_of p) n)
+-- the name of the slot of this number, as it is printed
+abbrev pub name_of_slot : Program → ℕ → List ℕ
+name_of_slot p n = name_in p (slice_get (slots_of p) n)
 
 -- the refusal of an assignment to a slot that is assigned before
-abbrev pub twice_refusal : Program → Option ℕ → Assignment → Refusal
-twice_refusal p slot a = record { rule = rule.AssignedTwice; place = a.place; detail = Some (name_of_slot p slot) }
+abbrev pub twice_refusal : Program → SlotAssignment → Refusal
+twice_refusal p a = record { rule = rule.AssignedTwice; place = a.place; detail = Some (name_of_slot p a.slot) }
 
 -- the refusal of the first assignment that meets one before it, where those before are given
-abbrev pub twice : Program → List Assignment → List Assignment → Option Refusal
+abbrev pub twice : Program → List SlotAssignment → List SlotAssignment → Option Refusal
 twice p before [] = None
 twice p before (a ∷ as') =
-    if list_any (λ (b : Assignment). assignments_meet p b a) before
-    then Some (twice_refusal p (slot_of p a.target) a)
+    if list_any (λ (b : SlotAssignment). assignments_meet b a) before
+    then Some (twice_refusal p a)
     else twice p (before ++ a ∷ []) as'
 
 -- the refusal of the first of the program's assignments that meets one before it
 abbrev pub assigned_twice : Program → Option Refusal
 assigned_twice p = twice p [] (assignments_of p)
 
--- the names that a node reads in the present state, or in the next one, where those of its parts are known
-abbrev pub reads_of_node : Expr-F (Bool → List (List ℕ)) → Bool → List (List ℕ)
-reads_of_node (Expr-F.Bool place b) ahead = []
-reads_of_node (Expr-F.Name place name) ahead = if ahead then [] else name ∷ []
-reads_of_node (Expr-F.Not place e) ahead = e ahead
-reads_of_node (Expr-F.Next place e) ahead = if ahead then e false else []
-reads_of_node (Expr-F.Implies place a b) ahead = a ahead ++ b ahead
-reads_of_node (Expr-F.Chain first links) ahead = first ahead ++ flat_map (λ (link : Place × ChainOperator × (Bool → List (List ℕ))). (link.2) ahead) links
-
--- the same of a whole expression
-unfoldable pub names_read : Expr → Bool → List (List ℕ)
-names_read e = fold-Expr (Bool → List (List ℕ)) reads_of_node e
+-- Whether an expression reads a slot in the present state, or where it looks ahead, in the next one. What stands under
+-- `next` is read in the next state; all branches are read, and what names stand for.
+abbrev pub occurs : Bool → ℕ → Resolved → Bool
+occurs ahead y (Resolved.Constant place b) = false
+occurs ahead y (Resolved.Slot place n) = not ahead && n == y
+occurs ahead y (Resolved.Whole place i) = false
+occurs ahead y (Resolved.Given place r) = occurs ahead y r
+occurs ahead y (Resolved.Defined place r) = occurs ahead y r
+occurs ahead y (Resolved.Not place r) = occurs ahead y r
+occurs ahead y (Resolved.Next place r) = ahead && occurs false y r
+occurs ahead y (Resolved.Implies place a b) = occurs ahead y a || occurs ahead y b
+occurs ahead y (Resolved.Link place o a b) = occurs ahead y a || occurs ahead y b
+occurs ahead y (Resolved.Conditional place c a b) = occurs ahead y c || (occurs ahead y a || occurs ahead y b)
+occurs ahead y Resolved.Stuck = false
 
 -- whether an assignment gives a value of this time: of first states, or of next ones
 abbrev pub speaks_of : Time → AssignmentKind → Bool
@@ -108,52 +133,43 @@ looks_ahead side.Init = false
 looks_ahead side.Next = true
 looks_ahead side.Current = false
 
--- the slot, if there is one
-abbrev pub some_only : Option ℕ → List ℕ
-some_only None = []
-some_only (Some n) = n ∷ []
+-- the assignment gives slot x a value of this time
+abbrev pub gives : Time → ℕ → SlotAssignment → Bool
+gives time x a = speaks_of time a.kind && a.slot == x
 
--- the slots of these names
-abbrev pub slots_named : List Slot → List (List ℕ) → List ℕ
-slots_named slots names = flat_map (λ name. some_only (slot_named slots name)) names
+-- the assignment gives slot x a value of this time, which depends on that of slot y
+abbrev pub ties : Time → ℕ → ℕ → SlotAssignment → Bool
+ties time x y a = gives time x a && occurs (looks_ahead a.kind) y a.value
 
--- the slots whose values of its own time the right side reads
-abbrev pub slots_read : Program → Assignment → List ℕ
-slots_read p a = slots_named (slots_of p) (names_read a.value (looks_ahead a.kind))
+-- by one of these assignments, the value of slot x at this time depends on that of slot y
+abbrev pub depends : Time → List SlotAssignment → ℕ → ℕ → Bool
+depends time as' x y = list_any (ties time x y) as'
 
--- the slot to which the assignment gives a value of this time
-abbrev pub assigned_slot : Program → Time → Assignment → Option ℕ
-assigned_slot p time a = if speaks_of time a.kind then slot_of p a.target else None
+-- the numbers of the slots
+abbrev pub slot_numbers : Program → List ℕ
+slot_numbers p = range_with_len 0 (length (slots_of p))
 
--- the assignment gives the slot a value of this time
-abbrev pub assigns : Program → Time → ℕ → Assignment → Bool
-assigns p time n a = same_slot (assigned_slot p time a) (Some n)
-
--- the slots that the value of a slot at this time depends on by an assignment
-abbrev pub reads_for : Program → Time → ℕ → Assignment → List ℕ
-reads_for p time n a = if assigns p time n a then slots_read p a else []
-
--- the slots that the value of a slot at this time depends on
+-- the slots that the value of slot x at this time depends on
 abbrev pub depends_on : Program → Time → ℕ → List ℕ
-depends_on p time n = flat_map (reads_for p time n) (assignments_of p)
+depends_on p time x = filter (depends time (assignments_of p) x) (slot_numbers p)
 
 -- the graph of dependencies between slots at this time
 abbrev pub dependencies : Program → Time → List (List ℕ)
-dependencies p time = map (depends_on p time) (range_with_len 0 (length (slots_of p)))
+dependencies p time = map (depends_on p time) (slot_numbers p)
 
--- the place of the first assignment that gives the slot a value of this time
-abbrev pub place_of_assignment : Program → Time → ℕ → List Assignment → Place
-place_of_assignment p time n [] = start
-place_of_assignment p time n (a ∷ as') = if assigns p time n a then a.place else place_of_assignment p time n as'
+-- the place of the first assignment that gives slot x a value of this time
+abbrev pub place_of_assignment : Time → ℕ → List SlotAssignment → Place
+place_of_assignment time x [] = start
+place_of_assignment time x (a ∷ as') = if gives time x a then a.place else place_of_assignment time x as'
 
 -- names, each with a comma behind it
 abbrev pub listed_names : Program → List ℕ → List ℕ
-listed_names p ns = flat_map (λ n. name_of_slot p (Some n) ++ codes ", ") ns
+listed_names p ns = flat_map (λ n. name_of_slot p n ++ codes ", ") ns
 
 -- a cycle as it is printed: it ends with its first slot again
 abbrev pub path_text : Program → List ℕ → List ℕ
 path_text p [] = []
-path_text p (n ∷ ns) = listed_names p (n ∷ ns) ++ name_of_slot p (Some n)
+path_text p (n ∷ ns) = listed_names p (n ∷ ns) ++ name_of_slot p n
 
 -- the slot with which a cycle begins
 abbrev pub first_slot : List ℕ → ℕ
@@ -163,7 +179,7 @@ first_slot (n ∷ ns) = n
 -- the refusal of a cycle of this time
 abbrev pub cycle_refusal : Program → Time → List ℕ → Refusal
 cycle_refusal p time round =
-    record { rule = rule.AssignCycle; place = place_of_assignment p time (first_slot round) (assignments_of p); detail = Some (path_text p round) }
+    record { rule = rule.AssignCycle; place = place_of_assignment time (first_slot round) (assignments_of p); detail = Some (path_text p round) }
 
 -- the refusal tells a cycle of this time, which passes each slot once and begins with the first of them
 abbrev pub TellsCycle : Program → Time → Refusal → Type 0

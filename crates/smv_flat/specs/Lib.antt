@@ -1,2 +1,3 @@
 pub mod Assignments
+pub mod Graph
 pub mod Marks

@@ -1,12 +1,10 @@
 -- The times at which a slot is assigned so far.
-use Rattle.std.specs.Prelude.{◌≡◌, ℕ, Bool, true, false, ◌&&◌, ◌||◌, List, Option, Some, slice_index_or}
+use Rattle.std.specs.Prelude.{◌≡◌, ℕ, ◌==◌, Bool, true, false, ◌&&◌, ◌||◌, List, slice_index_or}
 use Rattle.std.specs.List.{list_any}
-use Rattle.smv_tree.specs.declared.tree.Program.{Program}
-use Rattle.smv_tree.specs.declared.tree.Assignment.{Assignment}
 use Rattle.smv_tree.specs.declared.tree.AssignmentKind.{AssignmentKind}
 use Rattle.smv_tree.specs.declared.tree.AssignmentKind.TheVariants as side
 use Rattle.smv_flat.specs.declared.twice.Taken.{Taken}
-use Rattle.smv_flat.specs.Assignments.{kinds_meet, same_slot, slot_of}
+use Rattle.smv_flat.specs.Assignments.{SlotAssignment, kinds_meet}
 
 -- the slot is not assigned
 abbrev pub free : Taken
@@ -28,10 +26,10 @@ taken_by taken side.Current = record { first = true; next = true }
 abbrev pub taken_at : List Taken → ℕ → Taken
 taken_at taken n = slice_index_or taken n free
 
--- one of these assignments meets an assignment of this kind to the slot
-abbrev pub any_meets : Program → List Assignment → Option ℕ → AssignmentKind → Bool
-any_meets p before slot kind = list_any (λ (b : Assignment). same_slot (slot_of p b.target) slot && kinds_meet b.kind kind) before
+-- one of these assignments meets an assignment of this kind to slot n
+abbrev pub any_meets : List SlotAssignment → ℕ → AssignmentKind → Bool
+any_meets before n kind = list_any (λ (b : SlotAssignment). b.slot == n && kinds_meet b.kind kind) before
 
 -- the marks say which assignments would meet one of these
-abbrev pub Knows : Program → List Taken → List Assignment → Type 0
-Knows p taken before = (n : ℕ) (kind : AssignmentKind) → is_taken (taken_at taken n) kind ≡ any_meets p before (Some n) kind
+abbrev pub Knows : List Taken → List SlotAssignment → Type 0
+Knows taken before = (n : ℕ) (kind : AssignmentKind) → is_taken (taken_at taken n) kind ≡ any_meets before n kind

@@ -1,10 +1,10 @@
 //! The rules of assignments, in their order.
 
-ghost use Rattle.std.specs.Prelude.{◌<◌, ◌^◌, length, IfErr, OnOk};
-ghost use Rattle.smv_meaning.specs.Programs.{slots_of};
+ghost use Rattle.std.specs.Prelude.{◌≡◌, IfErr, IfOk};
+ghost use Rattle.std.proofs.Props.{props};
 ghost use Rattle.smv_flat.specs.Assignments.{AreAssignable, IsAssignmentStop};
 
-use crate::assignments::assignments_of;
+use crate::assigned::assignments_of;
 use crate::cycles::refuse_cycle;
 use crate::time::Time;
 use crate::twice::refuse_twice;
@@ -12,8 +12,16 @@ use smv_meaning::Typed;
 use smv_tree::TextStop;
 use std::alloc::Global;
 
-/// Whether a program is assignable: each variable is assigned once at a time, and none depends on itself at one time
-/// (NuSMV 2.6 User Manual, 2.3.8, ASSIGN Constraint; the order of the rules is an own choice of this project).
+/// A program whose assignments give each variable at most one value at a time, and none in a circle. Its items stand flat, for
+/// all instances; their nodes hold each definition of each instance once.
+#[derive(Debug, Drop)]
+pub struct Flat {
+    pub typed: Typed,
+    pub ghost assignable: { AreAssignable typed.scope.program } by { Prim.hlevel props },
+}
+
+/// A program that is assignable (NuSMV 2.6 User Manual, 2.3.8, ASSIGN Constraint; the order of the rules is an own choice of
+/// this project).
 ///
 /// # Errors
 ///
@@ -22,14 +30,14 @@ use std::alloc::Global;
 /// - `Refused` by 502 AssignCycle where values of first states depend on each other in a cycle, or else those of next
 ///   states. The detail is a cycle that passes each variable once, from its first variable in the order of declaration
 ///   round to that one again; the place is that of the first assignment to it that speaks of this time.
-/// - `NoMemory` where memory was refused.
-pub fn check_assignments(alloc: Global, typed: &Typed) -> Result<(), TextStop>
-    requires { length (slots_of typed.now.program) < 2 ^ 32 }
-    ensures right { OnOk result (AreAssignable typed.now.program) }
-    ensures refused { IfErr result (IsAssignmentStop typed.now.program) }
+/// - `NoMemory` where memory was refused, or where 2^30 nodes or more would have to be numbered.
+pub fn flatten(alloc: Global, typed: Typed) -> Result<Flat, TextStop>
+    ensures same { IfOk result (λ flat. flat.typed ≡ typed) }
+    ensures refused { IfErr result (IsAssignmentStop typed.scope.program) }
 {
-    let all = assignments_of(alloc, &typed.program)?;
-    refuse_twice(alloc, typed, &all)?;
-    refuse_cycle(alloc, typed, Time::First, &all)?;
-    refuse_cycle(alloc, typed, Time::Next, &all)
+    let all = assignments_of(alloc, &typed)?;
+    refuse_twice(alloc, &typed, &all)?;
+    refuse_cycle(alloc, &typed, Time::First, &all)?;
+    refuse_cycle(alloc, &typed, Time::Next, &all)?;
+    Ok(Flat { typed })
 }

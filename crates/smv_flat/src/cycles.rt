@@ -1,42 +1,63 @@
 //! Slots that depend on themselves at one time.
 
-ghost use Rattle.std.specs.Prelude.{◌≡◌, ◌<◌, ◌^◌, length, map, IfErr, IfOk, OnOk};
+ghost use Rattle.std.specs.Prelude.{◌≡◌, map, IfErr, IfOk, OnOk};
 ghost use Rattle.digraph.specs.Cycles.{Acyclic};
-ghost use Rattle.smv_meaning.specs.Programs.{slots_of};
 ghost use Rattle.smv_flat.specs.Assignments.{IsCycleStop, assignments_of, cycle_refusal, dependencies, path_text, place_of_assignment};
+ghost use Rattle.smv_flat.specs.Graph.{assigned_by, slots_among};
 
-use crate::assignments::{assigns, name_of_slot};
-use crate::graph::dependencies;
-use crate::time::Time;
+use crate::assigned::Assigned;
+use crate::graph::whole_graph;
+use crate::names::name_of_slot;
+use crate::time::{Time, gives};
 use digraph::least_round;
 use plain_text::Text;
 use smv_meaning::Typed;
-use smv_tree::{Assignment, Place, Refusal, Rule, TextStop};
+use smv_scope::Scope;
+use smv_tree::{Place, Refusal, Rule, TextStop};
+use sqlite_items::Items;
 use std::alloc::{AllocError, Global};
+
+// More slots, or more nodes, are not numbered in one graph.
+const MOST: usize = 0x4000_0000;
 
 /// Refuses a cycle among the values of this time.
 pub fn refuse_cycle(
     alloc: Global,
     typed: &Typed,
     time: Time,
-    all: &[&Assignment],
+    all: &[Assigned],
 ) -> Result<(), TextStop>
-    requires all { map (λ a. a.now) all.now ≡ assignments_of typed.now.program }
-    requires few { length (slots_of typed.now.program) < 2 ^ 32 }
-    ensures right { OnOk result (Acyclic (dependencies typed.now.program time)) }
-    ensures refused { IfErr result (IsCycleStop typed.now.program time) }
+    requires { map (assigned_by typed.now.nodes) all.now ≡ assignments_of typed.now.scope.program }
+    ensures right { OnOk result (Acyclic (dependencies typed.now.scope.program time)) }
+    ensures refused { IfErr result (IsCycleStop typed.now.scope.program time) }
 {
-    let graph = dependencies(alloc, typed, time, all)?;
+    let slots = typed.scope.slots.len();
+    let nodes = typed.nodes.as_slice();
+    if slots >= MOST || nodes.len() >= MOST {
+        return Err(TextStop::NoMemory);
+    }
+    let graph = whole_graph(alloc, slots, nodes, time, all)?;
     match least_round(alloc, &graph)? {
         None => Ok(()),
-        Some(round) => Err(TextStop::Refused(cycle_refusal(
-            alloc,
-            typed,
-            time,
-            all,
-            round.as_slice(),
-        )?)),
+        Some(round) => {
+            let path = slots_among(alloc, slots, round.as_slice())?;
+            let refusal = cycle_refusal(alloc, typed, time, all, path.as_slice())?;
+            Err(TextStop::Refused(refusal))
+        }
     }
+}
+
+// Those of these numbers that are slots.
+fn slots_among(alloc: Global, slots: usize, vs: &[usize]) -> Result<Items<usize>, AllocError>
+    ensures { IfOk result (λ ns. ns ≡ slots_among slots vs.now) }
+{
+    let mut ns = Items::new(alloc);
+    for v in vs {
+        if *v < slots {
+            ns.push(*v)?;
+        }
+    }
+    Ok(ns)
 }
 
 // The refusal of a cycle of this time, at the place of its first slot's assignment.
@@ -44,14 +65,14 @@ fn cycle_refusal(
     alloc: Global,
     typed: &Typed,
     time: Time,
-    all: &[&Assignment],
+    all: &[Assigned],
     round: &[usize],
 ) -> Result<Refusal, AllocError>
-    requires { map (λ a. a.now) all.now ≡ assignments_of typed.now.program }
-    ensures { IfOk result (λ r. r ≡ cycle_refusal typed.now.program time round.now) }
+    requires { map (assigned_by typed.now.nodes) all.now ≡ assignments_of typed.now.scope.program }
+    ensures { IfOk result (λ r. r ≡ cycle_refusal typed.now.scope.program time round.now) }
 {
     let first = round.first().copied().unwrap_or(0);
-    let path = path_text(alloc, typed, round)?;
+    let path = path_text(alloc, &typed.scope, round)?;
     Ok(Refusal {
         rule: Rule::AssignCycle,
         place: place_of_assignment(typed, time, first, all),
@@ -59,12 +80,12 @@ fn cycle_refusal(
     })
 }
 
-// The place of the first assignment that gives the slot a value of this time.
-fn place_of_assignment(typed: &Typed, time: Time, n: usize, all: &[&Assignment]) -> Place
-    ensures { result ≡ place_of_assignment typed.now.program time n (map (λ a. a.now) all.now) }
+// The place of the first assignment that gives slot x a value of this time.
+fn place_of_assignment(typed: &Typed, time: Time, x: usize, all: &[Assigned]) -> Place
+    ensures { result ≡ place_of_assignment time x (map (assigned_by typed.now.nodes) all.now) }
 {
     for a in all {
-        if assigns(typed, time, n, a) {
+        if gives(time, x, *a) {
             return a.place;
         }
     }
@@ -72,16 +93,18 @@ fn place_of_assignment(typed: &Typed, time: Time, n: usize, all: &[&Assignment])
 }
 
 // A cycle as it is printed: it ends with its first slot again.
-fn path_text(alloc: Global, typed: &Typed, round: &[usize]) -> Result<Text, AllocError>
-    ensures { IfOk result (λ t. t ≡ path_text typed.now.program round.now) }
+fn path_text(alloc: Global, scope: &Scope, round: &[usize]) -> Result<Text, AllocError>
+    ensures { IfOk result (λ t. t ≡ path_text scope.now.program round.now) }
 {
     let mut path = String::new(alloc);
     for n in round {
-        path.push_str(name_of_slot(typed, *n))?;
+        let name = name_of_slot(alloc, scope, *n)?;
+        path.push_str(name.as_str())?;
         path.push_str(", ")?;
     }
     if let Some(first) = round.first() {
-        path.push_str(name_of_slot(typed, *first))?;
+        let name = name_of_slot(alloc, scope, *first)?;
+        path.push_str(name.as_str())?;
     }
     Text::from_str(alloc, path.as_str())
 }

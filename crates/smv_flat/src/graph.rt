@@ -1,30 +1,50 @@
-//! The dependencies between slots at one time.
+//! Slots and nodes as one graph.
 
-ghost use Rattle.std.specs.Prelude.{◌≡◌, [], length, map, replicate, IfOk};
-ghost use Rattle.smv_flat.specs.Assignments.{assignments_of, dependencies};
+ghost use Rattle.std.specs.Prelude.{◌≡◌, ◌<◌, ◌≤◌, ◌^◌, ◌++◌, [], if◌then◌else◌, false, length, replicate, slice_get, Some, IfOk, OnOk};
+ghost use Rattle.smv_flat.specs.Graph.{part_below, row, rows, slot_read, slot_rows, whole_graph};
 
-use crate::assignments::assigned_slot;
-use crate::reads::push_reads;
-use crate::time::{Time, looks_ahead};
-use smv_meaning::{Typed, slots};
-use smv_tree::Assignment;
+use crate::assigned::Assigned;
+use crate::time::{Time, looks_ahead, speaks_of};
+use smv_scope::Node;
 use sqlite_items::Items;
 use std::alloc::{AllocError, Global};
 
-/// For each slot, the slots that its value of this time depends on.
-pub fn dependencies(
+/// The graph of so many slots and of these nodes at this time.
+#[tactic(auto, unfolding(crate::specs::Graph::whole_graph))]
+pub fn whole_graph(
     alloc: Global,
-    typed: &Typed,
+    slots: usize,
+    nodes: &[Node],
     time: Time,
-    all: &[&Assignment],
+    all: &[Assigned],
 ) -> Result<Vec<Items<usize>>, AllocError>
-    requires { map (λ a. a.now) all.now ≡ assignments_of typed.now.program }
-    ensures { IfOk result (λ g. g.items ≡ dependencies typed.now.program time) }
+    requires slots { slots < 2 ^ 30 }
+    requires nodes { length nodes.now < 2 ^ 30 }
+    ensures { IfOk result (λ g. g.items ≡ whole_graph slots nodes.now time all.now) }
 {
-    let mut graph = empty_lists(alloc, slots(typed).len())?;
+    let mut graph = slot_rows(alloc, slots, nodes.len(), time, all)?;
+    push_rows(alloc, slots, nodes, false, &mut graph)?;
+    push_rows(alloc, slots, nodes, true, &mut graph)?;
+    Ok(graph)
+}
+
+// For each slot, where the values stand that it is assigned.
+fn slot_rows(
+    alloc: Global,
+    slots: usize,
+    nodes: usize,
+    time: Time,
+    all: &[Assigned],
+) -> Result<Vec<Items<usize>>, AllocError>
+    requires slots { slots < 2 ^ 30 }
+    requires nodes { nodes < 2 ^ 30 }
+    ensures { IfOk result (λ g. g.items ≡ slot_rows slots nodes time all.now) }
+{
+    let mut graph = empty_lists(alloc, slots)?;
     for a in all {
-        if let Some(n) = assigned_slot(typed, time, a) {
-            push_reads(slots(typed), &a.value, looks_ahead(a.kind), &mut graph[n])?;
+        if speaks_of(time, a.kind) && a.slot < slots {
+            let list = &mut graph[a.slot];
+            push_part(list, slots, nodes, nodes, looks_ahead(a.kind), a.value)?;
         }
     }
     Ok(graph)
@@ -38,4 +58,147 @@ fn empty_lists(alloc: Global, count: usize) -> Result<Vec<Items<usize>>, AllocEr
         lists.push(Items::new(alloc))?;
     }
     Ok(lists)
+}
+
+// Adds what each node leads to, read in the present state or looking ahead.
+fn push_rows(
+    alloc: Global,
+    slots: usize,
+    nodes: &[Node],
+    ahead: bool,
+    graph: &mut Vec<Items<usize>>,
+) -> Result<(), AllocError>
+    requires slots { slots < 2 ^ 30 }
+    requires nodes { length nodes.now < 2 ^ 30 }
+    ensures { OnOk result (graph.new.items ≡ graph.old.items ++ rows slots nodes.now ahead) }
+{
+    for k in 0..nodes.len() {
+        let list = row(alloc, slots, nodes, ahead, k)?;
+        graph.push(list)?;
+    }
+    Ok(())
+}
+
+// What the node of number k leads to.
+fn row(
+    alloc: Global,
+    slots: usize,
+    nodes: &[Node],
+    ahead: bool,
+    k: usize,
+) -> Result<Items<usize>, AllocError>
+    requires slots { slots < 2 ^ 30 }
+    requires nodes { length nodes.now < 2 ^ 30 }
+    requires within { k < length nodes.now }
+    ensures { IfOk result (λ list. list ≡ row slots (length nodes.now) ahead k (slice_get nodes.now k)) }
+{
+    let mut list = Items::new(alloc);
+    if let Some(node) = nodes.get(k) {
+        push_reads(&mut list, slots, nodes.len(), ahead, k, *node)?;
+    }
+    Ok(list)
+}
+
+fn push_reads(
+    list: &mut Items<usize>,
+    slots: usize,
+    nodes: usize,
+    ahead: bool,
+    k: usize,
+    node: Node,
+) -> Result<(), AllocError>
+    requires slots { slots < 2 ^ 30 }
+    requires nodes { nodes < 2 ^ 30 }
+    requires within { k < nodes }
+    ensures { OnOk result (list.new ≡ list.old ++ row slots nodes ahead k (Some node)) }
+{
+    match node {
+        Node::Constant(..) => Ok(()),
+        Node::Slot(_, n) => push_slot(list, slots, ahead, n),
+        Node::Whole(..) => Ok(()),
+        Node::Given(_, a) => push_part(list, slots, nodes, k, ahead, a),
+        Node::Defined(_, a) => push_part(list, slots, nodes, k, ahead, a),
+        Node::Not(_, a) => push_part(list, slots, nodes, k, ahead, a),
+        Node::Next(_, a) => push_next(list, slots, nodes, k, ahead, a),
+        Node::Implies(_, a, b) => push_both(list, slots, nodes, k, ahead, a, b),
+        Node::Link(_, _, a, b) => push_both(list, slots, nodes, k, ahead, a, b),
+        Node::Conditional(_, c, a, b) => {
+            push_part(list, slots, nodes, k, ahead, c)?;
+            push_both(list, slots, nodes, k, ahead, a, b)
+        }
+    }
+}
+
+// Adds a slot that is read in the present state.
+fn push_slot(list: &mut Items<usize>, slots: usize, ahead: bool, n: usize) -> Result<(), AllocError>
+    ensures { OnOk result (list.new ≡ list.old ++ slot_read slots ahead n) }
+{
+    if !ahead && n < slots {
+        list.push(n)
+    } else {
+        Ok(())
+    }
+}
+
+// Adds what stands under `next`, which is read in the present state, where the node looks ahead.
+fn push_next(
+    list: &mut Items<usize>,
+    slots: usize,
+    nodes: usize,
+    limit: usize,
+    ahead: bool,
+    a: usize,
+) -> Result<(), AllocError>
+    requires slots { slots < 2 ^ 30 }
+    requires nodes { nodes < 2 ^ 30 }
+    requires within { limit ≤ nodes }
+    ensures { OnOk result (list.new ≡ list.old ++ (if ahead then part_below slots nodes limit (false, a) else [])) }
+{
+    if ahead {
+        push_part(list, slots, nodes, limit, false, a)
+    } else {
+        Ok(())
+    }
+}
+
+fn push_both(
+    list: &mut Items<usize>,
+    slots: usize,
+    nodes: usize,
+    limit: usize,
+    ahead: bool,
+    a: usize,
+    b: usize,
+) -> Result<(), AllocError>
+    requires slots { slots < 2 ^ 30 }
+    requires nodes { nodes < 2 ^ 30 }
+    requires within { limit ≤ nodes }
+    ensures { OnOk result (list.new ≡ (list.old ++ part_below slots nodes limit (ahead, a)) ++ part_below slots nodes limit (ahead, b)) }
+{
+    push_part(list, slots, nodes, limit, ahead, a)?;
+    push_part(list, slots, nodes, limit, ahead, b)
+}
+
+// Adds where a part stands, if it lies below the limit.
+fn push_part(
+    list: &mut Items<usize>,
+    slots: usize,
+    nodes: usize,
+    limit: usize,
+    ahead: bool,
+    part: usize,
+) -> Result<(), AllocError>
+    requires slots { slots < 2 ^ 30 }
+    requires nodes { nodes < 2 ^ 30 }
+    requires within { limit ≤ nodes }
+    ensures { OnOk result (list.new ≡ list.old ++ part_below slots nodes limit (ahead, part)) }
+{
+    if part >= limit {
+        return Ok(());
+    }
+    if ahead {
+        list.push(slots + nodes + part)
+    } else {
+        list.push(slots + part)
+    }
 }

@@ -1,13 +1,14 @@
 //! Slots that are assigned twice.
 
-ghost use Rattle.std.specs.Prelude.{◌≡◌, None, Some, length, map, replicate, IfErr, IfOk, OnOk};
+ghost use Rattle.std.specs.Prelude.{◌≡◌, None, length, map, replicate, IfErr, IfOk, OnOk};
 ghost use Rattle.smv_flat.specs.Assignments.{IsTwiceStop, assigned_twice, assignments_of, twice_refusal};
+ghost use Rattle.smv_flat.specs.Graph.{assigned_by};
 ghost use Rattle.smv_flat.specs.Marks.{free, is_taken, taken_by};
 
-use crate::assignments::{name_of_slot, slot_of};
-use plain_text::Text;
-use smv_meaning::{Typed, slots};
-use smv_tree::{Assignment, AssignmentKind, Refusal, Rule, TextStop};
+use crate::assigned::Assigned;
+use crate::names::name_of_slot;
+use smv_meaning::Typed;
+use smv_tree::{AssignmentKind, Refusal, Rule, TextStop};
 use std::alloc::{AllocError, Global};
 
 /// The times at which a slot is assigned.
@@ -18,33 +19,25 @@ pub struct Taken {
 }
 
 /// Refuses the first assignment that meets one before it: both give one slot a value of the same time.
-pub fn refuse_twice(alloc: Global, typed: &Typed, all: &[&Assignment]) -> Result<(), TextStop>
-    requires { map (λ a. a.now) all.now ≡ assignments_of typed.now.program }
-    ensures right { OnOk result (assigned_twice typed.now.program ≡ None) }
-    ensures refused { IfErr result (IsTwiceStop typed.now.program) }
+pub fn refuse_twice(alloc: Global, typed: &Typed, all: &[Assigned]) -> Result<(), TextStop>
+    requires { map (assigned_by typed.now.nodes) all.now ≡ assignments_of typed.now.scope.program }
+    ensures right { OnOk result (assigned_twice typed.now.scope.program ≡ None) }
+    ensures refused { IfErr result (IsTwiceStop typed.now.scope.program) }
 {
-    let mut taken = free_slots(alloc, slots(typed).len())?;
+    let mut taken = free_slots(alloc, typed.scope.slots.len())?;
     for a in all {
-        if let Some(n) = slot_of(typed, &a.target) {
-            if is_taken(taken[n], a.kind) {
-                return Err(TextStop::Refused(twice_refusal(alloc, typed, n, a)?));
-            }
-            taken[n] = taken_by(taken[n], a.kind);
+        if is_taken(taken[a.slot], a.kind) {
+            return Err(TextStop::Refused(twice_refusal(alloc, typed, *a)?));
         }
+        taken[a.slot] = taken_by(taken[a.slot], a.kind);
     }
     Ok(())
 }
 
-// The refusal of an assignment of the slot.
-fn twice_refusal(
-    alloc: Global,
-    typed: &Typed,
-    n: usize,
-    a: &Assignment,
-) -> Result<Refusal, AllocError>
-    ensures { IfOk result (λ r. r ≡ twice_refusal typed.now.program (Some n) a.now) }
+fn twice_refusal(alloc: Global, typed: &Typed, a: Assigned) -> Result<Refusal, AllocError>
+    ensures { IfOk result (λ r. r ≡ twice_refusal typed.now.scope.program (assigned_by typed.now.nodes a)) }
 {
-    let name = Text::from_str(alloc, name_of_slot(typed, n))?;
+    let name = name_of_slot(alloc, &typed.scope, a.slot)?;
     Ok(Refusal {
         rule: Rule::AssignedTwice,
         place: a.place,

@@ -1,5 +1,5 @@
 -- Bytes are a model of one program at most, and are not refused where they are one.
-use Rattle.std.proofs.Common.{◌≡◌, ℕ, List, [], ◌∷◌, Option, None, Some, sym, subst, ◌∙◌}
+use Rattle.std.proofs.Common.{◌≡◌, ℕ, List, [], ◌∷◌, Option, None, Some, Result, Ok, Err, sym, subst, ◌∙◌}
 use Rattle.digraph.specs.Cycles.{Acyclic, IsRound, IsLeastRound}
 use Rattle.smv_tree.specs.declared.token.Tokens.{Tokens}
 use Rattle.smv_tree.specs.declared.refusal.Refusal.{Refusal}
@@ -10,7 +10,9 @@ use Rattle.smv_text.specs.Texts.{IsText, IsTextStop}
 use Rattle.smv_text.proofs.Cuts as text
 use Rattle.smv_parse.proofs.ParsedOnce as parse
 use Rattle.smv_parse.specs.Spelling.{IsSpelling, IsRefusedTokens, IsParseStop}
-use Rattle.smv_types.specs.Rules.{types_refusal, IsTypesStop}
+use Rattle.smv_types.specs.Rules.{types_verdict}
+use Rattle.smv_types.specs.Verdicts.{Gives}
+use Rattle.smv_types.proofs.Once.{judged_once}
 use Rattle.smv_flat.specs.declared.time.Time.{Time}
 use Rattle.smv_flat.specs.declared.time.Time.TheVariants as when
 use Rattle.smv_flat.specs.Assignments.{TellsCycle, dependencies, AreAssignable, IsRefusedByAssignments, twice_assigned, first_cycle, next_cycle, IsAssignmentStop}
@@ -25,15 +27,16 @@ pub grammar_stop : (bytes : List ℕ) (tokens : Tokens) (stop : TextStop) → Is
 grammar_stop bytes tokens (Refused r) t h = in_grammar tokens t h
 grammar_stop bytes tokens NoMemory t h = h
 
-pub types_stop : (bytes : List ℕ) (tokens : Tokens) (p : Program) (stop : TextStop) → IsText bytes tokens → IsSpelling tokens.items p → IsTypesStop p stop → IsSourceStop bytes stop
-types_stop bytes tokens p (Refused r) t s h = in_types tokens p (record { text = t; spelled = s }) h
-types_stop bytes tokens p NoMemory t s h = h
+pub types_stop : (A : Type 0) (bytes : List ℕ) (tokens : Tokens) (p : Program) (stop : TextStop) → IsText bytes tokens → IsSpelling tokens.items p
+    → (let answer : Result A TextStop = Err stop in Gives answer (types_verdict p)) → IsSourceStop bytes stop
+types_stop A bytes tokens p (Refused r) t s h = in_types tokens p (record { text = t; spelled = s }) h
+types_stop A bytes tokens p NoMemory t s h = h
 
-pub assignments_stop : (bytes : List ℕ) (tokens : Tokens) (p q : Program) (stop : TextStop) → IsText bytes tokens → IsSpelling tokens.items p → types_refusal p ≡ None → q ≡ p → IsAssignmentStop q stop → IsSourceStop bytes stop
+pub assignments_stop : (bytes : List ℕ) (tokens : Tokens) (p q : Program) (stop : TextStop) → IsText bytes tokens → IsSpelling tokens.items p → types_verdict p None → q ≡ p → IsAssignmentStop q stop → IsSourceStop bytes stop
 assignments_stop bytes tokens p q (Refused r) t s n e h = in_assignments tokens p (record { text = t; spelled = s }) n (subst (λ (u : Program). IsRefusedByAssignments u r) e h)
 assignments_stop bytes tokens p q NoMemory t s n e h = h
 
-pub model_read : (bytes : List ℕ) (tokens : Tokens) (p q : Program) → IsText bytes tokens → IsSpelling tokens.items p → types_refusal p ≡ None → q ≡ p → AreAssignable q → IsModel bytes q
+pub model_read : (bytes : List ℕ) (tokens : Tokens) (p q : Program) → IsText bytes tokens → IsSpelling tokens.items p → types_verdict p None → q ≡ p → AreAssignable q → IsModel bytes q
 model_read bytes tokens p q t s n e a =
     subst (λ (u : Program). IsModel bytes u) (sym e) (record { tokens = tokens; spelled = record { text = t; spelled = s }; typed = n; assignable = subst AreAssignable e a })
 
@@ -65,6 +68,7 @@ never_both bytes p r m (in_text h) = text.never_both bytes m.tokens r m.spelled.
 never_both bytes p r m (in_grammar tokens t h) =
     parse.never_both m.tokens p r m.spelled.spelled (subst (λ (v : Tokens). IsRefusedTokens v r) (text.one_text bytes tokens m.tokens t m.spelled.text) h)
 never_both bytes p r m (in_types tokens q s h) =
-    none_some (types_refusal p) r m.typed (subst (λ (v : Program). types_refusal v ≡ Some r) (spelled_once bytes tokens m.tokens q p s m.spelled) h)
+    let same : types_verdict p (Some r) = subst (λ (v : Program). types_verdict v (Some r)) (spelled_once bytes tokens m.tokens q p s m.spelled) h in
+    let e : None ≡ Some r = judged_once p None (Some r) m.typed same in cc
 never_both bytes p r m (in_assignments tokens q s n h) =
     assignable_apart p r m.assignable (subst (λ (v : Program). IsRefusedByAssignments v r) (spelled_once bytes tokens m.tokens q p s m.spelled) h)

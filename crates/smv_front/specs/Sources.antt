@@ -7,7 +7,7 @@ use Rattle.smv_tree.specs.declared.refusal.TextStop.TheVariants.{Refused, NoMemo
 use Rattle.smv_tree.specs.declared.tree.Program.{Program}
 use Rattle.smv_text.specs.Texts.{IsText, IsRefusedText}
 use Rattle.smv_parse.specs.Spelling.{IsSpelling, IsRefusedTokens}
-use Rattle.smv_types.specs.Rules.{types_refusal}
+use Rattle.smv_types.specs.Rules.{types_verdict}
 use Rattle.smv_flat.specs.Assignments.{AreAssignable, IsRefusedByAssignments}
 
 -- The bytes spell the program: they have these tokens, and the tokens spell it.
@@ -19,7 +19,7 @@ pub record Spells (bytes : List ℕ) (tokens : Tokens) (p : Program) : Type 0 wh
 pub record IsModel (bytes : List ℕ) (p : Program) : Type 0 where
   pub tokens : Tokens
   pub spelled : Spells bytes tokens p
-  pub typed : types_refusal p ≡ None
+  pub typed : types_verdict p None
   pub assignable : AreAssignable p
 
 -- The bytes are refused so, by the first rule that they break, at its first place: a rule of tokens; where they have tokens, a
@@ -27,8 +27,8 @@ pub record IsModel (bytes : List ℕ) (p : Program) : Type 0 where
 pub data IsRefusedBy (bytes : List ℕ) (r : Refusal) : Type 0 where
   in_text : IsRefusedText bytes r → IsRefusedBy bytes r
   in_grammar : (tokens : Tokens) → IsText bytes tokens → IsRefusedTokens tokens r → IsRefusedBy bytes r
-  in_types : (tokens : Tokens) (p : Program) → Spells bytes tokens p → types_refusal p ≡ Some r → IsRefusedBy bytes r
-  in_assignments : (tokens : Tokens) (p : Program) → Spells bytes tokens p → types_refusal p ≡ None → IsRefusedByAssignments p r → IsRefusedBy bytes r
+  in_types : (tokens : Tokens) (p : Program) → Spells bytes tokens p → types_verdict p (Some r) → IsRefusedBy bytes r
+  in_assignments : (tokens : Tokens) (p : Program) → Spells bytes tokens p → types_verdict p None → IsRefusedByAssignments p r → IsRefusedBy bytes r
 
 -- the bytes are refused so; or memory was refused, which may come at any time
 abbrev pub IsSourceStop : List ℕ → TextStop → Type 0

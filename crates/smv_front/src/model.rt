@@ -3,8 +3,7 @@
 ghost use Rattle.std.specs.Prelude.{IfOk, IfErr};
 ghost use Rattle.smv_front.specs.Sources.{IsModel, IsSourceStop};
 
-use smv_flat::check_assignments;
-use smv_meaning::Typed;
+use smv_flat::{Flat, flatten};
 use smv_parse::parse;
 use smv_text::tokens;
 use smv_tree::TextStop;
@@ -14,16 +13,15 @@ use std::alloc::Global;
 /// The model that the bytes of a source are (NuSMV 2.6 User Manual, chapter 2, as far as the language goes today).
 ///
 /// Bytes that are none are refused by the first rule that they break, at that rule's first place: by the rules of tokens
-/// (105, 101 to 104), of the grammar (203, then 201 and 202), of names and kinds (301, 302, 305, 306, 308, 304, 312, 406) and of
+/// (105, 101 to 104), of the grammar (203, then 201 and 202), of names and kinds (303, 301, 302, 305, 306, 308, 307, 311, 304, 309, 310, 401 of declarations, 312; then 411, 407, 406 and 401 of expressions, item by item) and of
 /// assignments (501, 502), in this order. Memory may be refused at any time.
 #[tactic(auto, using(crate::proofs::OfSources::text_stop, crate::proofs::OfSources::grammar_stop, crate::proofs::OfSources::types_stop, crate::proofs::OfSources::assignments_stop, crate::proofs::OfSources::model_read))]
-pub fn read_model(alloc: Global, text: &[u8]) -> Result<Typed, TextStop>
-    ensures model { IfOk result (λ typed. IsModel text.now typed.program) }
+pub fn read_model(alloc: Global, text: &[u8]) -> Result<Flat, TextStop>
+    ensures model { IfOk result (λ flat. IsModel text.now flat.typed.scope.program) }
     ensures refused { IfErr result (IsSourceStop text.now) }
 {
     let tokens = tokens(alloc, text)?;
     let program = parse(alloc, &tokens)?;
     let typed = check(alloc, program)?;
-    check_assignments(alloc, &typed)?;
-    Ok(typed)
+    flatten(alloc, typed)
 }

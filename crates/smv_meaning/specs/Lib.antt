@@ -1,3 +1,4 @@
-pub mod Programs
-pub mod Evaluation
+pub mod Values
 pub mod Runs
+pub mod Tables
+pub mod Answers

@@ -1,31 +1,38 @@
--- States, first states, steps and runs of a program, and what breaks an invariant.
-use Rattle.std.specs.Prelude.{ℕ, ◌+◌, ◌-◌, ◌<◌, Bool, true, false, ◌&&◌, ◌==◌, List, [], length, IsTrue, slice_index_or}
+-- States, first states, steps and runs of a program, and what breaks an invariant (NuSMV 2.6 User Manual, 2.3, 2.4.2).
+use Rattle.std.specs.Prelude.{◌≡◌, ℕ, ◌+◌, ◌<◌, Bool, true, false, not, ◌&&◌, ◌||◌, ◌==◌, List, [], length, filter, Option, None, Some, IsTrue, slice_index_or}
 use Rattle.std.specs.List.{list_all, zip}
 use mathlib.Core.Bool.{beq}
 use Rattle.smv_tree.specs.declared.tree.Program.{Program}
-use Rattle.smv_tree.specs.declared.tree.Assignment.{Assignment}
-use Rattle.smv_tree.specs.declared.tree.AssignmentKind.{AssignmentKind}
-use Rattle.smv_tree.specs.declared.tree.AssignmentKind.TheVariants.{Init, Next, Current}
-use Rattle.smv_tree.specs.declared.tree.Constraint.{Constraint}
-use Rattle.smv_tree.specs.declared.tree.ConstraintKind.{ConstraintKind}
+use Rattle.smv_tree.specs.declared.tree.AssignmentKind.TheVariants as side
 use Rattle.smv_tree.specs.declared.tree.ConstraintKind.TheVariants as asked
-use Rattle.smv_tree.specs.declared.tree.Expr.{Expr}
-use Rattle.smv_tree.specs.declared.tree.Specification.{Specification}
+use Rattle.smv_tree.specs.declared.tree.VariableKind.{VariableKind}
+use Rattle.smv_tree.specs.declared.tree.VariableKind.TheVariants as sort
 use Rattle.smv_value.specs.declared.value.Value.{Value}
 use Rattle.smv_value.specs.declared.value.Value.TheVariants as value
-use Rattle.smv_meaning.specs.declared.value.ValueType.{ValueType}
-use Rattle.smv_meaning.specs.declared.value.ValueType.TheVariants.{Boolean}
+use Rattle.smv_scope.specs.declared.item.ItemKind.{ItemKind}
+use Rattle.smv_scope.specs.declared.item.ItemKind.TheVariants as item
+use Rattle.smv_scope.specs.declared.slot.Slot.{Slot}
+use Rattle.smv_scope.specs.declared.slot.ValueType.{ValueType}
+use Rattle.smv_scope.specs.declared.slot.ValueType.TheVariants.{Boolean}
+use Rattle.smv_scope.specs.Items.{ResolvedItem, items_of}
+use Rattle.smv_scope.specs.Resolved.{Resolved}
+use Rattle.smv_scope.specs.Slots.{slots_of, is_input}
 use Rattle.smv_meaning.specs.declared.value.Outcome.{Outcome}
 use Rattle.smv_meaning.specs.declared.value.Outcome.TheVariants.{One, Nothing}
-use Rattle.smv_meaning.specs.declared.value.Slot.{Slot}
-use Rattle.smv_meaning.specs.Programs.{slots_of, all_assignments, all_constraints}
-use Rattle.smv_meaning.specs.Evaluation.{outcome_of, evaluation_of, IsFalseIn}
+use Rattle.smv_meaning.specs.Values.{outcome, outcome_in}
 
 -- the value is one of the type's (manual 2.1, Types Overview)
 abbrev pub in_type : Value → ValueType → Bool
 in_type (value.Bool b) Boolean = true
 
--- one value of its type for each slot
+-- the slots of a state, and the input slots
+abbrev pub state_slots : List Slot → List Slot
+state_slots slots = filter (λ (slot : Slot). not (is_input slot.kind)) slots
+
+abbrev pub input_slots : List Slot → List Slot
+input_slots slots = filter (λ (slot : Slot). is_input slot.kind) slots
+
+-- one value of its type for each of these slots
 abbrev pub fits : List Slot → List Value → Bool
 fits slots s = (length slots == length s) && list_all (λ (pair : Slot × Value). in_type pair.1 pair.0.declared) (zip slots s)
 
@@ -38,75 +45,121 @@ takes (One v) (One w) = same_value v w
 takes (One v) Nothing = false
 takes Nothing e = false
 
--- in the state, the variable has the value of the expression
-abbrev pub has_value : Program → List Value → Expr → Outcome → Bool
-has_value p s target outcome = takes (evaluation_of p s target) outcome
-
--- what `x := e` asks of a state (manual 2.3.8, ASSIGN Constraint)
-abbrev pub holds_in : Program → List Value → Assignment → Bool
-holds_in p s a = has_value p s a.target (evaluation_of p s a.value)
-
--- what an assignment asks of a first state: `init(x) := e`, and `x := e` (manual 2.3.8)
-abbrev pub meets_at_first : Program → List Value → AssignmentKind → Assignment → Bool
-meets_at_first p s Init a = holds_in p s a
-meets_at_first p s Next a = true
-meets_at_first p s Current a = holds_in p s a
-
--- What an assignment asks of a step: `next(x) := e` gives x in the next state the value of e in this one; `x := e` holds in
--- both states (manual 2.3.8).
-abbrev pub meets_at_step : Program → List Value → List Value → AssignmentKind → Assignment → Bool
-meets_at_step p s t Init a = true
-meets_at_step p s t Next a = has_value p t a.target (outcome_of p s t a.value)
-meets_at_step p s t Current a = holds_in p s a && holds_in p t a
+-- the outcome of what is assigned, in a state; nothing has none
+abbrev pub outcome_of_target : List Slot → List Value → Option Resolved → Outcome
+outcome_of_target slots s None = Nothing
+outcome_of_target slots s (Some target) = outcome_in slots s target
 
 -- the outcome is TRUE
 abbrev pub is_true : Outcome → Bool
 is_true (One (value.Bool b)) = b
 is_true Nothing = false
 
--- what a constraint asks of a first state (manual 2.3.5, INIT Constraint)
-abbrev pub allows_first : Program → List Value → ConstraintKind → Constraint → Bool
-allows_first p s asked.Init c = is_true (evaluation_of p s c.formula)
-allows_first p s asked.Trans c = true
+-- What an item asks of a first state, by the outcomes of what it assigns and of its value there: `init(x) := e`, `x := e`
+-- (manual 2.3.8), INIT (2.3.5) and INVAR (2.3.6).
+abbrev pub asks_first : Outcome → Outcome → ItemKind → Bool
+asks_first x e (item.Assignment side.Init) = takes x e
+asks_first x e (item.Assignment side.Current) = takes x e
+asks_first x e (item.Assignment side.Next) = true
+asks_first x e (item.Constraint asked.Init) = is_true e
+asks_first x e (item.Constraint asked.Invar) = is_true e
+asks_first x e (item.Constraint asked.Trans) = true
+asks_first x e (item.Constraint asked.Justice) = true
+asks_first x e (item.Specification kind) = true
 
--- what a constraint asks of a step (manual 2.3.7, TRANS Constraint)
-abbrev pub allows_step : Program → List Value → List Value → ConstraintKind → Constraint → Bool
-allows_step p s t asked.Init c = true
-allows_step p s t asked.Trans c = is_true (outcome_of p s t c.formula)
+-- What an item asks of both states of a step, by its outcomes there: `x := e` and INVAR.
+abbrev pub asks_always : Outcome → Outcome → ItemKind → Bool
+asks_always x e (item.Assignment side.Init) = true
+asks_always x e (item.Assignment side.Current) = takes x e
+asks_always x e (item.Assignment side.Next) = true
+asks_always x e (item.Constraint asked.Init) = true
+asks_always x e (item.Constraint asked.Invar) = is_true e
+asks_always x e (item.Constraint asked.Trans) = true
+asks_always x e (item.Constraint asked.Justice) = true
+asks_always x e (item.Specification kind) = true
 
--- the values are what the assignments and constraints ask of a first state
-abbrev pub may_start : Program → List Value → Bool
-may_start p s = all_assignments (λ (a : Assignment). meets_at_first p s a.kind a) p && all_constraints (λ (c : Constraint). allows_first p s c.kind c) p
+-- What an item asks of a step, by the outcome of what it assigns in the next state and of its value in this one:
+-- `next(x) := e` gives x in the next state the value of e in this one (manual 2.3.8), and TRANS (2.3.7).
+abbrev pub asks_step : Outcome → Outcome → ItemKind → Bool
+asks_step x e (item.Assignment side.Init) = true
+asks_step x e (item.Assignment side.Current) = true
+asks_step x e (item.Assignment side.Next) = takes x e
+asks_step x e (item.Constraint asked.Init) = true
+asks_step x e (item.Constraint asked.Invar) = true
+asks_step x e (item.Constraint asked.Trans) = is_true e
+asks_step x e (item.Constraint asked.Justice) = true
+asks_step x e (item.Specification kind) = true
 
--- the values are what the assignments and constraints ask of a step
-abbrev pub may_follow : Program → List Value → List Value → Bool
-may_follow p s t = all_assignments (λ (a : Assignment). meets_at_step p s t a.kind a) p && all_constraints (λ (c : Constraint). allows_step p s t c.kind c) p
+abbrev pub allows_first : List Slot → List Value → ResolvedItem → Bool
+allows_first slots s x = asks_first (outcome_of_target slots s x.target) (outcome_in slots s x.value) x.kind
 
+abbrev pub allows_always : List Slot → List Value → ResolvedItem → Bool
+allows_always slots s x = asks_always (outcome_of_target slots s x.target) (outcome_in slots s x.value) x.kind
+
+abbrev pub allows_step : List Slot → List Value → List Value → List Value → ResolvedItem → Bool
+allows_step slots s u t x = asks_step (outcome_of_target slots t x.target) (outcome slots s u t x.value) x.kind
+
+-- the state has what the invariants of the program ask of each state
+abbrev pub meets_invariants : Program → List Value → Bool
+meets_invariants p s = list_all (allows_always (slots_of p) s) (items_of p)
+
+abbrev pub is_frozen : VariableKind → Bool
+is_frozen sort.Frozen = true
+is_frozen other = false
+
+-- a slot that is frozen has the same value in both states (manual 2.3.1, Frozen Variables)
+abbrev pub keeps : Slot → Value → Value → Bool
+keeps slot v w = not (is_frozen slot.kind) || same_value v w
+
+-- each frozen slot keeps its value
+abbrev pub keeps_frozen : List Slot → List Value → List Value → Bool
+keeps_frozen slots s t = list_all (λ (x : (Slot × Value) × Value). keeps x.0.0 x.0.1 x.1) (zip (zip (state_slots slots) s) t)
+
+-- values of their types for the slots of a state
+abbrev pub is_state : Program → List Value → Bool
+is_state p s = fits (state_slots (slots_of p)) s
+
+-- values of their types for the input slots
+abbrev pub are_inputs : Program → List Value → Bool
+are_inputs p u = fits (input_slots (slots_of p)) u
+
+-- a state with what the program asks of a first one
 abbrev pub is_first_state : Program → List Value → Bool
-is_first_state p s = fits (slots_of p) s && may_start p s
+is_first_state p s = is_state p s && list_all (allows_first (slots_of p) s) (items_of p)
 
-abbrev pub is_step : Program → List Value → List Value → Bool
-is_step p s t = (fits (slots_of p) s && fits (slots_of p) t) && may_follow p s t
+-- from a state to the next with these inputs, with what the program asks of a step and of both its states
+abbrev pub is_step : Program → List Value → List Value → List Value → Bool
+is_step p s u t =
+    (is_state p s && are_inputs p u && is_state p t) && keeps_frozen (slots_of p) s t
+    && list_all (allows_step (slots_of p) s u t) (items_of p) && (meets_invariants p s && meets_invariants p t)
 
 -- a first state of the program
 abbrev pub IsFirstState : Program → List Value → Type 0
 IsFirstState p s = IsTrue (is_first_state p s)
 
--- a step of the program, from a state to the next
-abbrev pub IsStep : Program → List Value → List Value → Type 0
-IsStep p s t = IsTrue (is_step p s t)
+-- a step of the program with these inputs, from a state to the next
+abbrev pub IsStep : Program → List Value → List Value → List Value → Type 0
+IsStep p s u t = IsTrue (is_step p s u t)
 
--- the i-th state of a run
-abbrev pub state_at : List (List Value) → ℕ → List Value
-state_at states i = slice_index_or states i []
+-- the i-th of these states or inputs
+abbrev pub at_time : List (List Value) → ℕ → List Value
+at_time values i = slice_index_or values i []
 
--- a run of any length: a first state, and then steps
-pub record IsRun (p : Program) (states : List (List Value)) : Type 0 where
-  pub some : 0 < length states
-  pub first : IsFirstState p (state_at states 0)
-  pub steps : (i : ℕ) → i + 1 < length states → IsStep p (state_at states i) (state_at states (i + 1))
+-- a run of any length: a first state, and then steps, each with its inputs
+pub record IsRun (p : Program) (states inputs : List (List Value)) : Type 0 where
+  pub long : length states ≡ length inputs + 1
+  pub first : IsFirstState p (at_time states 0)
+  pub steps : (i : ℕ) → i < length inputs → IsStep p (at_time states i) (at_time inputs i) (at_time states (i + 1))
 
--- the run ends in a state in which the specification is false (manual 2.4.2, Invariant Specifications)
-pub record Breaks (p : Program) (spec : Specification) (states : List (List Value)) : Type 0 where
-  pub run : IsRun p states
-  pub broken : IsFalseIn p (state_at states (length states - 1)) spec.formula
+abbrev pub is_claim : ItemKind → Bool
+is_claim (item.Specification kind) = true
+is_claim other = false
+
+-- the specifications of a program, in the order of its items
+abbrev pub specifications_of : Program → List ResolvedItem
+specifications_of p = filter (λ (x : ResolvedItem). is_claim x.kind) (items_of p)
+
+-- the run ends in a state in which the specification is FALSE (manual 2.4.2, Invariant Specifications)
+pub record Breaks (p : Program) (spec : ResolvedItem) (states inputs : List (List Value)) : Type 0 where
+  pub run : IsRun p states inputs
+  pub broken : outcome_in (slots_of p) (at_time states (length inputs)) spec.value ≡ One (value.Bool false)

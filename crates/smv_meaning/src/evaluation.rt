@@ -1,30 +1,155 @@
-//! The value of an expression in a state.
+//! The values of expressions.
 
-ghost use Rattle.std.specs.Prelude.{◌≡◌, []};
-ghost use Rattle.smv_tree.specs.declared.tree.Expr.{out-Expr};
-ghost use Rattle.smv_value.specs.Operators.{negation, implication};
-ghost use Rattle.smv_meaning.specs.Evaluation.{outcome_of, on_one, on_both, operation, chained, outcome_of_node, outcome_within, slot_named, one_or_nothing, value_named};
+ghost use Rattle.std.specs.Prelude.{◌≡◌, ◌∷◌, [], List, map, take, IfOk};
+ghost use Rattle.smv_value.specs.declared.value.Value.{Value};
+ghost use Rattle.smv_value.specs.Operators.{implication, negation};
+ghost use Rattle.smv_scope.specs.Slots.{item_of};
+ghost use Rattle.smv_meaning.specs.Answers.{Evaluates};
+ghost use Rattle.smv_meaning.specs.Tables.{outcome_at, outcome_by, outcomes_of};
+ghost use Rattle.smv_meaning.specs.Values.{chosen, on_both, on_one, one_or_nothing, operation};
 
-use crate::{Outcome, Slot, Typed};
-use plain_text::Text;
-use smv_tree::{ChainOperator, Expr, Place};
+use crate::{Inputs, Outcome, State};
+use smv_scope::{Node, ResolveStop, Scope, Slot, resolve_expression};
+use smv_tree::{ChainOperator, Expr, VariableKind};
 use smv_value::{Value, and, equal, iff, implies, not, not_equal, or, xnor, xor};
+use std::alloc::{AllocError, Global};
 
-/// Parts and names are followed to this depth.
-const DEPTH_LIMIT: usize = 2000;
-
-/// The outcome of an expression in a state, with the next state; that is empty where there is none.
-pub fn eval(typed: &Typed, e: &Expr, s: &[Value], next: &[Value]) -> Outcome
-    ensures { result ≡ outcome_of typed.now.program s.now next.now e.now }
+/// The outcome of an expression that stands in the instance of this number, in a state with inputs and the next state; each
+/// of these is empty where there is none. The error is that a part of the expression is stuck, or want of memory.
+pub fn eval(
+    alloc: Global,
+    scope: &Scope,
+    at: usize,
+    e: &Expr,
+    s: &State,
+    u: &Inputs,
+    next: &State,
+) -> Result<Outcome, ResolveStop>
+    ensures { Evaluates scope.now.program at e.now s.now u.now next.now result }
 {
-    outcome_within(typed.slots.as_slice(), DEPTH_LIMIT, s, next, e)
+    let single = resolve_expression(alloc, scope, at, e)?;
+    let outcomes = outcomes(
+        alloc,
+        scope.slots.as_slice(),
+        single.nodes.as_slice(),
+        s.as_slice(),
+        u.as_slice(),
+        next.as_slice(),
+    )?;
+    Ok(outcome_at(outcomes.as_slice(), single.root))
 }
 
-/// The number of the slot of this name, if there is one.
-pub fn slot_named(slots: &[Slot], name: &Text) -> Option<usize>
-    ensures { result ≡ slot_named slots.now name.now }
+/// The outcome of each node, in a state with inputs and the next state; each of these is empty where there is none.
+pub fn outcomes(
+    alloc: Global,
+    slots: &[Slot],
+    nodes: &[Node],
+    s: &[Value],
+    u: &[Value],
+    next: &[Value],
+) -> Result<Vec<Outcome>, AllocError>
+    ensures { IfOk result (λ outcomes. outcomes.items ≡ outcomes_of slots.now s.now u.now next.now nodes.now) }
 {
-    slots.iter().position(|slot| slot.name.is(name))
+    let nowhere = nowhere(alloc, slots, nodes)?;
+    let later = outcomes_before(alloc, slots, nodes, next, &[], nowhere.as_slice())?;
+    let here = outcomes_before(alloc, slots, nodes, s, u, later.as_slice())?;
+    Ok(here)
+}
+
+// The outcome of each node where there is no state.
+fn nowhere(alloc: Global, slots: &[Slot], nodes: &[Node]) -> Result<Vec<Outcome>, AllocError>
+    ensures { IfOk result (λ outcomes. outcomes.items ≡ outcomes_of slots.now [] [] [] nodes.now) }
+{
+    let mut made = Vec::new(alloc);
+    for node in nodes {
+        let outcome = outcome_by(slots, &[], &[], made.as_slice(), made.as_slice(), node);
+        made.push(outcome)?;
+    }
+    Ok(made)
+}
+
+// The outcome of each node in a state with inputs, where `later` has those in the next state.
+fn outcomes_before(
+    alloc: Global,
+    slots: &[Slot],
+    nodes: &[Node],
+    s: &[Value],
+    u: &[Value],
+    later: &[Outcome],
+) -> Result<Vec<Outcome>, AllocError>
+    ensures { IfOk result (λ outcomes. (t : List Value) → later.now ≡ outcomes_of slots.now t [] [] nodes.now
+        → outcomes.items ≡ outcomes_of slots.now s.now u.now t nodes.now) }
+{
+    let mut made = Vec::new(alloc);
+    for (i, node) in nodes.iter().enumerate() {
+        let outcome = outcome_by(slots, s, u, made.as_slice(), first(later, i), node);
+        made.push(outcome)?;
+    }
+    Ok(made)
+}
+
+// The first outcomes, so many if there are.
+fn first(outcomes: &[Outcome], count: usize) -> &[Outcome]
+    ensures { result.now ≡ take count outcomes.now }
+{
+    if count < outcomes.len() {
+        &outcomes[..count]
+    } else {
+        outcomes
+    }
+}
+
+/// The outcome of the node of this number.
+pub fn outcome_at(outcomes: &[Outcome], k: usize) -> Outcome
+    ensures { result ≡ outcome_at outcomes.now k }
+{
+    match outcomes.get(k) {
+        None => Outcome::Nothing,
+        Some(outcome) => *outcome,
+    }
+}
+
+// The outcome of a node, by those of the nodes before it.
+fn outcome_by(
+    slots: &[Slot],
+    s: &[Value],
+    u: &[Value],
+    here: &[Outcome],
+    later: &[Outcome],
+    node: &Node,
+) -> Outcome
+    ensures { result ≡ outcome_by slots.now s.now u.now here.now later.now node.now }
+{
+    match *node {
+        Node::Constant(_, b) => Outcome::One(Value::Bool(b)),
+        Node::Slot(_, n) => one_or_nothing(item_of(slots, s, u, n)),
+        Node::Whole(..) => Outcome::Nothing,
+        Node::Given(_, a) | Node::Defined(_, a) => outcome_at(here, a),
+        Node::Not(_, a) => negated(outcome_at(here, a)),
+        Node::Next(_, a) => outcome_at(later, a),
+        Node::Implies(_, a, b) => implied(outcome_at(here, a), outcome_at(here, b)),
+        Node::Link(_, operator, a, b) => {
+            linked(operator, outcome_at(here, a), outcome_at(here, b))
+        }
+        Node::Conditional(_, c, a, b) => chosen(
+            outcome_at(here, c),
+            outcome_at(here, a),
+            outcome_at(here, b),
+        ),
+    }
+}
+
+// The value that a state and inputs give to the slot of this number.
+fn item_of(slots: &[Slot], s: &[Value], u: &[Value], n: usize) -> Option<Value>
+    ensures { result ≡ item_of slots.now s.now u.now n }
+{
+    match slots.get(n) {
+        None => None,
+        Some(slot) => match slot.kind {
+            VariableKind::Input => u.get(slot.index).copied(),
+            VariableKind::State | VariableKind::Frozen => s.get(slot.index).copied(),
+        },
+    }
 }
 
 fn one_or_nothing(v: Option<Value>) -> Outcome
@@ -33,16 +158,6 @@ fn one_or_nothing(v: Option<Value>) -> Outcome
     match v {
         None => Outcome::Nothing,
         Some(v) => Outcome::One(v),
-    }
-}
-
-// The value that a state gives to the variable of this name.
-fn value_named(slots: &[Slot], s: &[Value], name: &Text) -> Outcome
-    ensures { result ≡ value_named slots.now s.now name.now }
-{
-    match slot_named(slots, name) {
-        None => Outcome::Nothing,
-        Some(i) => one_or_nothing(s.get(i).copied()),
     }
 }
 
@@ -93,53 +208,13 @@ fn linked(operator: ChainOperator, a: Outcome, b: Outcome) -> Outcome
     }
 }
 
-// The outcome of an expression whose parts nest at most this deep.
-#[cycle(eval)]
-fn outcome_within(slots: &[Slot], depth: usize, s: &[Value], next: &[Value], e: &Expr) -> Outcome
-    ensures { result ≡ outcome_within slots.now depth s.now next.now e.now }
+// The branch that is taken by the value of the condition, if it has one.
+fn chosen(condition: Outcome, a: Outcome, b: Outcome) -> Outcome
+    ensures { result ≡ chosen condition a b }
 {
-    if depth == 0 {
-        return Outcome::Nothing;
+    match condition {
+        Outcome::One(Value::Bool(true)) => a,
+        Outcome::One(Value::Bool(false)) => b,
+        Outcome::Nothing => Outcome::Nothing,
     }
-    outcome_of_node(slots, depth - 1, s, next, e)
-}
-
-#[cycle(eval)]
-fn outcome_of_node(slots: &[Slot], depth: usize, s: &[Value], next: &[Value], e: &Expr) -> Outcome
-    ensures { result ≡ outcome_of_node slots.now (outcome_within slots.now depth) s.now next.now (out-Expr e.now) }
-{
-    match e {
-        Expr::Bool(_, b) => Outcome::One(Value::Bool(*b)),
-        Expr::Name(_, name) => value_named(slots, s, name),
-        Expr::Not(_, a) => negated(outcome_within(slots, depth, s, next, a.get())),
-        Expr::Next(_, a) => outcome_within(slots, depth, next, &[], a.get()),
-        Expr::Implies(_, a, b) => implied(
-            outcome_within(slots, depth, s, next, a.get()),
-            outcome_within(slots, depth, s, next, b.get()),
-        ),
-        Expr::Chain(first, links) => {
-            let first = outcome_within(slots, depth, s, next, first.get());
-            chained(slots, depth, s, next, first, links.as_slice())
-        }
-    }
-}
-
-// The outcome of a chain, from left to right, where that of its first operand is known.
-#[cycle(eval)]
-fn chained(
-    slots: &[Slot],
-    depth: usize,
-    s: &[Value],
-    next: &[Value],
-    first: Outcome,
-    links: &[(Place, ChainOperator, Expr)],
-) -> Outcome
-    ensures { result ≡ chained (outcome_within slots.now depth s.now next.now) first links.now }
-{
-    let mut outcome = first;
-    for link in links {
-        let operand = outcome_within(slots, depth, s, next, &link.2);
-        outcome = linked(link.1, outcome, operand);
-    }
-    outcome
 }

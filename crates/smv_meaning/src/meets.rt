@@ -1,33 +1,170 @@
 //! First states and steps.
 
-ghost use Rattle.std.specs.Prelude.{◌≡◌, ◌&&◌};
+ghost use Rattle.std.specs.Prelude.{◌≡◌, ◌&&◌, [], IfOk};
 ghost use Rattle.std.specs.List.{list_all, zip};
-ghost use Rattle.smv_tree.specs.declared.tree.Assignment.{Assignment};
-ghost use Rattle.smv_meaning.specs.declared.value.Slot.{Slot};
-ghost use Rattle.smv_tree.specs.declared.tree.Constraint.{Constraint};
 ghost use Rattle.smv_value.specs.declared.value.Value.{Value};
-ghost use Rattle.smv_meaning.specs.Programs.{all_assignments, all_constraints, assignments_in, constraints_in, slots_of};
-ghost use Rattle.smv_meaning.specs.Runs.{allows_first, allows_step, fits, has_value, holds_in, in_type, is_first_state, is_step, is_true, may_follow, may_start, meets_at_first, meets_at_step, takes};
+ghost use Rattle.smv_scope.specs.declared.slot.Slot.{Slot};
+ghost use Rattle.smv_scope.specs.Slots.{slots_of};
+ghost use Rattle.smv_scope.specs.Items.{items_of};
+ghost use Rattle.smv_meaning.specs.Runs.{allows_first, allows_step, are_inputs, asks_always, asks_first, asks_step, fits, in_type, is_first_state, is_frozen, is_state, is_step, is_true, keeps, keeps_frozen, meets_invariants, same_value, takes};
+ghost use Rattle.smv_meaning.specs.Tables.{always_allowed, first_allowed, outcomes_of, step_allowed, target_at};
 
-use crate::evaluation::eval;
-use crate::layout::{assignments_in, constraint_in, main_sections};
-use crate::{Outcome, Slot, State, Typed, ValueType};
-use smv_tree::{Assignment, AssignmentKind, Constraint, ConstraintKind, Expr, Section};
+use crate::evaluation::{outcome_at, outcomes};
+use crate::readers::{input_slots, state_slots};
+use crate::{Inputs, Outcome, State, Typed};
+use smv_scope::{Item, ItemKind, Slot, ValueType};
+use smv_tree::{AssignmentKind, ConstraintKind, VariableKind};
 use smv_value::Value;
+use std::alloc::{AllocError, Global};
 
 /// Whether the state is a first state of the program.
-pub fn meets_init(typed: &Typed, s: &State) -> bool
-    ensures { result ≡ is_first_state typed.now.program s.now }
+pub fn meets_init(alloc: Global, typed: &Typed, s: &State) -> Result<bool, AllocError>
+    ensures { IfOk result (λ met. met ≡ is_first_state typed.now.scope.program s.now) }
 {
-    fits(typed.slots.as_slice(), s.as_slice()) && may_start(typed, s.as_slice())
+    let is_state = is_state(alloc, typed, s.as_slice())?;
+    let allowed = all_allow_first(alloc, typed, s.as_slice())?;
+    Ok(is_state && allowed)
 }
 
-/// Whether the program has a step from the first state to the second.
-pub fn meets_step(typed: &Typed, s: &State, next: &State) -> bool
-    ensures { result ≡ is_step typed.now.program s.now next.now }
+/// Whether the values have what the invariants of the program ask of each state. Whether they are of the types of the slots
+/// is not asked here.
+pub fn meets_inv(alloc: Global, typed: &Typed, s: &State) -> Result<bool, AllocError>
+    ensures { IfOk result (λ met. met ≡ meets_invariants typed.now.scope.program s.now) }
 {
-    both_fit(typed, s.as_slice(), next.as_slice())
-        && may_follow(typed, s.as_slice(), next.as_slice())
+    let here = outcomes_in(alloc, typed, s.as_slice())?;
+    Ok(always_allowed(here.as_slice(), typed.items.as_slice()))
+}
+
+/// Whether the program has a step with these inputs from the first state to the second.
+pub fn meets_step(
+    alloc: Global,
+    typed: &Typed,
+    s: &State,
+    u: &Inputs,
+    next: &State,
+) -> Result<bool, AllocError>
+    ensures { IfOk result (λ met. met ≡ is_step typed.now.scope.program s.now u.now next.now) }
+{
+    let typed_right = are_step_values(alloc, typed, s.as_slice(), u.as_slice(), next.as_slice())?;
+    let kept = keeps_frozen(alloc, typed, s.as_slice(), next.as_slice())?;
+    let allowed = all_allow_step(alloc, typed, s.as_slice(), u.as_slice(), next.as_slice())?;
+    let here_met = meets_inv(alloc, typed, s)?;
+    let next_met = meets_inv(alloc, typed, next)?;
+    Ok(typed_right && kept && allowed && (here_met && next_met))
+}
+
+// Whether there is one value of its type for each slot of the state.
+fn is_state(alloc: Global, typed: &Typed, s: &[Value]) -> Result<bool, AllocError>
+    ensures { IfOk result (λ met. met ≡ is_state typed.now.scope.program s.now) }
+{
+    let slots = state_slots(alloc, &typed.scope)?;
+    Ok(fits(slots.as_slice(), s))
+}
+
+// Whether there is one value of its type for each input slot.
+fn are_inputs(alloc: Global, typed: &Typed, u: &[Value]) -> Result<bool, AllocError>
+    ensures { IfOk result (λ met. met ≡ are_inputs typed.now.scope.program u.now) }
+{
+    let slots = input_slots(alloc, &typed.scope)?;
+    Ok(fits(slots.as_slice(), u))
+}
+
+// Whether the values are two states with inputs.
+fn are_step_values(
+    alloc: Global,
+    typed: &Typed,
+    s: &[Value],
+    u: &[Value],
+    next: &[Value],
+) -> Result<bool, AllocError>
+    ensures { IfOk result (λ met. met ≡ (is_state typed.now.scope.program s.now && are_inputs typed.now.scope.program u.now && is_state typed.now.scope.program next.now)) }
+{
+    let first = is_state(alloc, typed, s)?;
+    let inputs = are_inputs(alloc, typed, u)?;
+    let second = is_state(alloc, typed, next)?;
+    Ok(first && inputs && second)
+}
+
+// Whether each frozen slot keeps its value.
+fn keeps_frozen(
+    alloc: Global,
+    typed: &Typed,
+    s: &[Value],
+    next: &[Value],
+) -> Result<bool, AllocError>
+    ensures { IfOk result (λ met. met ≡ keeps_frozen (slots_of typed.now.scope.program) s.now next.now) }
+{
+    let slots = state_slots(alloc, &typed.scope)?;
+    Ok(all_keep(slots.as_slice(), s, next))
+}
+
+fn all_keep(slots: &[Slot], s: &[Value], next: &[Value]) -> bool
+    ensures { result ≡ list_all (λ (x : (Slot × Value) × Value). keeps x.0.0 x.0.1 x.1) (zip (zip slots.now s.now) next.now) }
+{
+    slots
+        .iter()
+        .zip(s)
+        .zip(next)
+        .all(|((slot, a), b)| keeps(*slot, *a, *b))
+}
+
+fn keeps(slot: Slot, a: Value, b: Value) -> bool
+    ensures { result ≡ keeps slot a b }
+{
+    !is_frozen(slot.kind) || same_value(a, b)
+}
+
+fn is_frozen(kind: VariableKind) -> bool
+    ensures { result ≡ is_frozen kind }
+{
+    match kind {
+        VariableKind::Frozen => true,
+        VariableKind::State | VariableKind::Input => false,
+    }
+}
+
+// The outcomes of the nodes in a state alone.
+fn outcomes_in(alloc: Global, typed: &Typed, s: &[Value]) -> Result<Vec<Outcome>, AllocError>
+    ensures { IfOk result (λ here. here.items ≡ outcomes_of (slots_of typed.now.scope.program) s.now [] [] typed.now.nodes) }
+{
+    outcomes(
+        alloc,
+        typed.scope.slots.as_slice(),
+        typed.nodes.as_slice(),
+        s,
+        &[],
+        &[],
+    )
+}
+
+// Whether the items allow the state as a first one.
+fn all_allow_first(alloc: Global, typed: &Typed, s: &[Value]) -> Result<bool, AllocError>
+    ensures { IfOk result (λ met. met ≡ list_all (allows_first (slots_of typed.now.scope.program) s.now) (items_of typed.now.scope.program)) }
+{
+    let here = outcomes_in(alloc, typed, s)?;
+    Ok(first_allowed(here.as_slice(), typed.items.as_slice()))
+}
+
+// Whether the items allow the step.
+fn all_allow_step(
+    alloc: Global,
+    typed: &Typed,
+    s: &[Value],
+    u: &[Value],
+    next: &[Value],
+) -> Result<bool, AllocError>
+    ensures { IfOk result (λ met. met ≡ list_all (allows_step (slots_of typed.now.scope.program) s.now u.now next.now) (items_of typed.now.scope.program)) }
+{
+    let later = outcomes_in(alloc, typed, next)?;
+    let here = outcomes(
+        alloc,
+        typed.scope.slots.as_slice(),
+        typed.nodes.as_slice(),
+        s,
+        u,
+        next,
+    )?;
+    Ok(step_allowed(here.as_slice(), later.as_slice(), typed.items.as_slice()))
 }
 
 // Whether the values are one of its type for each slot.
@@ -35,26 +172,6 @@ fn fits(slots: &[Slot], s: &[Value]) -> bool
     ensures { result ≡ fits slots.now s.now }
 {
     slots.len() == s.len() && all_in_type(slots, s)
-}
-
-fn both_fit(typed: &Typed, s: &[Value], next: &[Value]) -> bool
-    ensures { result ≡ (fits (slots_of typed.now.program) s.now && fits (slots_of typed.now.program) next.now) }
-{
-    fits(typed.slots.as_slice(), s) && fits(typed.slots.as_slice(), next)
-}
-
-// Whether the values are what the assignments and constraints ask of a first state.
-fn may_start(typed: &Typed, s: &[Value]) -> bool
-    ensures { result ≡ may_start typed.now.program s.now }
-{
-    all_meet_first(typed, s) && all_allow_first(typed, s)
-}
-
-// Whether the values are what the assignments and constraints ask of a step.
-fn may_follow(typed: &Typed, s: &[Value], next: &[Value]) -> bool
-    ensures { result ≡ may_follow typed.now.program s.now next.now }
-{
-    all_meet_step(typed, s, next) && all_allow_step(typed, s, next)
 }
 
 fn all_in_type(slots: &[Slot], s: &[Value]) -> bool
@@ -66,72 +183,6 @@ fn all_in_type(slots: &[Slot], s: &[Value]) -> bool
         .all(|(slot, v)| in_type(*v, slot.declared))
 }
 
-fn all_meet_first(typed: &Typed, s: &[Value]) -> bool
-    ensures { result ≡ all_assignments (λ (a : Assignment). meets_at_first typed.now.program s.now a.kind a) typed.now.program }
-{
-    main_sections(&typed.program)
-        .iter()
-        .all(|section| section_meets_first(typed, s, section))
-}
-
-fn section_meets_first(typed: &Typed, s: &[Value], section: &Section) -> bool
-    ensures { result ≡ list_all (λ (a : Assignment). meets_at_first typed.now.program s.now a.kind a) (assignments_in section.now) }
-{
-    assignments_in(section)
-        .iter()
-        .all(|a| meets_at_first(typed, s, a))
-}
-
-fn all_meet_step(typed: &Typed, s: &[Value], next: &[Value]) -> bool
-    ensures { result ≡ all_assignments (λ (a : Assignment). meets_at_step typed.now.program s.now next.now a.kind a) typed.now.program }
-{
-    main_sections(&typed.program)
-        .iter()
-        .all(|section| section_meets_step(typed, s, next, section))
-}
-
-fn section_meets_step(typed: &Typed, s: &[Value], next: &[Value], section: &Section) -> bool
-    ensures { result ≡ list_all (λ (a : Assignment). meets_at_step typed.now.program s.now next.now a.kind a) (assignments_in section.now) }
-{
-    assignments_in(section)
-        .iter()
-        .all(|a| meets_at_step(typed, s, next, a))
-}
-
-fn all_allow_first(typed: &Typed, s: &[Value]) -> bool
-    ensures { result ≡ all_constraints (λ (c : Constraint). allows_first typed.now.program s.now c.kind c) typed.now.program }
-{
-    main_sections(&typed.program)
-        .iter()
-        .all(|section| section_allows_first(typed, s, section))
-}
-
-fn section_allows_first(typed: &Typed, s: &[Value], section: &Section) -> bool
-    ensures { result ≡ list_all (λ (c : Constraint). allows_first typed.now.program s.now c.kind c) (constraints_in section.now) }
-{
-    match constraint_in(section) {
-        None => true,
-        Some(constraint) => allows_first(typed, s, constraint),
-    }
-}
-
-fn all_allow_step(typed: &Typed, s: &[Value], next: &[Value]) -> bool
-    ensures { result ≡ all_constraints (λ (c : Constraint). allows_step typed.now.program s.now next.now c.kind c) typed.now.program }
-{
-    main_sections(&typed.program)
-        .iter()
-        .all(|section| section_allows_step(typed, s, next, section))
-}
-
-fn section_allows_step(typed: &Typed, s: &[Value], next: &[Value], section: &Section) -> bool
-    ensures { result ≡ list_all (λ (c : Constraint). allows_step typed.now.program s.now next.now c.kind c) (constraints_in section.now) }
-{
-    match constraint_in(section) {
-        None => true,
-        Some(constraint) => allows_step(typed, s, next, constraint),
-    }
-}
-
 fn in_type(v: Value, declared: ValueType) -> bool
     ensures { result ≡ in_type v declared }
 {
@@ -140,47 +191,56 @@ fn in_type(v: Value, declared: ValueType) -> bool
     }
 }
 
+fn same_value(a: Value, b: Value) -> bool
+    ensures { result ≡ same_value a b }
+{
+    match (a, b) {
+        (Value::Bool(a), Value::Bool(b)) => a == b,
+    }
+}
+
+// What the items ask of a first state, by the outcomes there.
+fn first_allowed(here: &[Outcome], items: &[Item]) -> bool
+    ensures { result ≡ first_allowed here.now items.now }
+{
+    items.iter().all(|x| asks_first(target_at(here, x.target), outcome_at(here, x.value), x.kind))
+}
+
+// What the items ask of both states of a step, by the outcomes there.
+fn always_allowed(here: &[Outcome], items: &[Item]) -> bool
+    ensures { result ≡ always_allowed here.now items.now }
+{
+    items.iter().all(|x| asks_always(target_at(here, x.target), outcome_at(here, x.value), x.kind))
+}
+
+// What the items ask of a step, by the outcomes in the step and in the next state.
+fn step_allowed(here: &[Outcome], later: &[Outcome], items: &[Item]) -> bool
+    ensures { result ≡ step_allowed here.now later.now items.now }
+{
+    items.iter().all(|x| asks_step(
+        target_at(later, x.target),
+        outcome_at(here, x.value),
+        x.kind,
+    ))
+}
+
+fn target_at(outcomes: &[Outcome], target: Option<usize>) -> Outcome
+    ensures { result ≡ target_at outcomes.now target }
+{
+    match target {
+        None => Outcome::Nothing,
+        Some(k) => outcome_at(outcomes, k),
+    }
+}
+
 // Whether the variable has the value of the expression.
 fn takes(variable: Outcome, expression: Outcome) -> bool
     ensures { result ≡ takes variable expression }
 {
     match (variable, expression) {
-        (Outcome::One(Value::Bool(a)), Outcome::One(Value::Bool(b))) => a == b,
+        (Outcome::One(a), Outcome::One(b)) => same_value(a, b),
         (Outcome::One(_), Outcome::Nothing) => false,
         (Outcome::Nothing, _) => false,
-    }
-}
-
-// Whether the variable has, in the state, the value of the outcome.
-fn has_value(typed: &Typed, s: &[Value], target: &Expr, outcome: Outcome) -> bool
-    ensures { result ≡ has_value typed.now.program s.now target.now outcome }
-{
-    takes(eval(typed, target, s, &[]), outcome)
-}
-
-// Whether `x := e` holds in the state.
-fn holds_in(typed: &Typed, s: &[Value], a: &Assignment) -> bool
-    ensures { result ≡ holds_in typed.now.program s.now a.now }
-{
-    has_value(typed, s, &a.target, eval(typed, &a.value, s, &[]))
-}
-
-fn meets_at_first(typed: &Typed, s: &[Value], a: &Assignment) -> bool
-    ensures { result ≡ meets_at_first typed.now.program s.now a.now.kind a.now }
-{
-    match a.kind {
-        AssignmentKind::Init | AssignmentKind::Current => holds_in(typed, s, a),
-        AssignmentKind::Next => true,
-    }
-}
-
-fn meets_at_step(typed: &Typed, s: &[Value], next: &[Value], a: &Assignment) -> bool
-    ensures { result ≡ meets_at_step typed.now.program s.now next.now a.now.kind a.now }
-{
-    match a.kind {
-        AssignmentKind::Init => true,
-        AssignmentKind::Next => has_value(typed, next, &a.target, eval(typed, &a.value, s, next)),
-        AssignmentKind::Current => holds_in(typed, s, a) && holds_in(typed, next, a),
     }
 }
 
@@ -193,20 +253,42 @@ fn is_true(outcome: Outcome) -> bool
     }
 }
 
-fn allows_first(typed: &Typed, s: &[Value], c: &Constraint) -> bool
-    ensures { result ≡ allows_first typed.now.program s.now c.now.kind c.now }
+fn asks_first(x: Outcome, e: Outcome, kind: ItemKind) -> bool
+    ensures { result ≡ asks_first x e kind }
 {
-    match c.kind {
-        ConstraintKind::Init => is_true(eval(typed, &c.formula, s, &[])),
-        ConstraintKind::Trans => true,
+    match kind {
+        ItemKind::Assignment(AssignmentKind::Init | AssignmentKind::Current) => takes(x, e),
+        ItemKind::Assignment(AssignmentKind::Next) => true,
+        ItemKind::Constraint(ConstraintKind::Init | ConstraintKind::Invar) => is_true(e),
+        ItemKind::Constraint(ConstraintKind::Trans | ConstraintKind::Justice) => true,
+        ItemKind::Specification(_) => true,
     }
 }
 
-fn allows_step(typed: &Typed, s: &[Value], next: &[Value], c: &Constraint) -> bool
-    ensures { result ≡ allows_step typed.now.program s.now next.now c.now.kind c.now }
+fn asks_always(x: Outcome, e: Outcome, kind: ItemKind) -> bool
+    ensures { result ≡ asks_always x e kind }
 {
-    match c.kind {
-        ConstraintKind::Init => true,
-        ConstraintKind::Trans => is_true(eval(typed, &c.formula, s, next)),
+    match kind {
+        ItemKind::Assignment(AssignmentKind::Current) => takes(x, e),
+        ItemKind::Assignment(AssignmentKind::Init | AssignmentKind::Next) => true,
+        ItemKind::Constraint(ConstraintKind::Invar) => is_true(e),
+        ItemKind::Constraint(
+            ConstraintKind::Init | ConstraintKind::Trans | ConstraintKind::Justice,
+        ) => true,
+        ItemKind::Specification(_) => true,
+    }
+}
+
+fn asks_step(x: Outcome, e: Outcome, kind: ItemKind) -> bool
+    ensures { result ≡ asks_step x e kind }
+{
+    match kind {
+        ItemKind::Assignment(AssignmentKind::Next) => takes(x, e),
+        ItemKind::Assignment(AssignmentKind::Init | AssignmentKind::Current) => true,
+        ItemKind::Constraint(ConstraintKind::Trans) => is_true(e),
+        ItemKind::Constraint(
+            ConstraintKind::Init | ConstraintKind::Invar | ConstraintKind::Justice,
+        ) => true,
+        ItemKind::Specification(_) => true,
     }
 }

@@ -1,16 +1,18 @@
-//! A program with its slots.
+//! A program with its instances, its slots and its items.
 
-ghost use Rattle.std.specs.Prelude.{◌≡◌};
-ghost use Rattle.smv_meaning.specs.Programs.{slots_of};
+ghost use Rattle.std.specs.Prelude.{◌≡◌, map};
+ghost use Rattle.std.proofs.Props.{props};
+ghost use Rattle.smv_scope.specs.Items.{item_by, items_of};
+ghost use Rattle.smv_scope.proofs.Sets.{Resolved-set};
 
-use crate::Slot;
-use smv_tree::Program;
+use smv_scope::{Item, Node, Scope};
 use sqlite_items::Items;
 
-/// A program with the slots of its variables, in the order of the source.
+/// A program with its instances, its slots, and its items in the order of the source, whose expressions are nodes of one list.
 #[derive(Debug, Drop)]
 pub struct Typed {
-    pub program: Program,
-    pub slots: Items<Slot>,
-    pub ghost laid_out: { slots ≡ slots_of program },
+    pub scope: Scope,
+    pub nodes: Items<Node>,
+    pub items: Items<Item>,
+    pub ghost resolved: { map (item_by nodes) items ≡ items_of scope.program } by { Prim.hlevel (props, Resolved-set) },
 }

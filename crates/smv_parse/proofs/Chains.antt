@@ -1,6 +1,5 @@
 -- How a phrase of a rank is read by its operands.
 use Rattle.std.proofs.Common.{◌≡◌, ℕ, zero, suc, Bool, true, false, cond, List, [], ◌∷◌, length, map, Ok, Err, refl, ap}
-use Rattle.phrase_forms.specs.declared.fault.Fault.{Fault}
 use Rattle.phrase_forms.specs.Forms.{Form, Read, head, token, many, many_at, to, named, ◌⨾◌, ◌>>=◌}
 use Rattle.smv_tree.specs.declared.place.Place.{Place}
 use Rattle.smv_tree.specs.declared.token.Token.{Token}
@@ -9,7 +8,7 @@ use Rattle.smv_tree.specs.declared.tree.Expr.{Expr}
 use Rattle.smv_tree.specs.declared.tree.Expr.TheVariants as expr
 use Rattle.smv_parse.specs.declared.expressions.Rank.{Rank}
 use Rattle.smv_parse.specs.declared.expressions.Rank.TheVariants as rank
-use Rattle.smv_parse.specs.Expressions.{begins_operand, chain, chain_of, link_of, operand, equality, conjunction, disjunction, equivalence, is_zero}
+use Rattle.smv_parse.specs.Expressions.{begins_operand, chain, chain_of, link_of, operand, equality, conjunction, disjunction, conditional, equivalence, is_zero}
 use Rattle.smv_parse.specs.Ranks.{is_operator_of, goes_on_operand_of, under, operand_within, phrase_within, link_within, links_within}
 
 -- an operand and the links behind it
@@ -83,4 +82,4 @@ unfolding phrase_within operand_within links_within link_within equality conjunc
 phrase_reads rank.Equality room ts = chain_reads (is_operator_of rank.Equality) (goes_on_operand_of rank.Equality) (operand (is_zero room) (under room)) ts
 phrase_reads rank.Conjunction room ts = chain_reads (is_operator_of rank.Conjunction) (goes_on_operand_of rank.Conjunction) (equality (is_zero room) (under room)) ts
 phrase_reads rank.Disjunction room ts = chain_reads (is_operator_of rank.Disjunction) (goes_on_operand_of rank.Disjunction) (conjunction (is_zero room) (under room)) ts
-phrase_reads rank.Equivalence room ts = chain_reads (is_operator_of rank.Equivalence) (goes_on_operand_of rank.Equivalence) (disjunction (is_zero room) (under room)) ts
+phrase_reads rank.Equivalence room ts = chain_reads (is_operator_of rank.Equivalence) (goes_on_operand_of rank.Equivalence) (conditional (is_zero room) (under room)) ts

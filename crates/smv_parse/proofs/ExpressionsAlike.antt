@@ -1,15 +1,18 @@
 -- What is read of an expression does not depend on the levels that are too many.
 use Rattle.std.proofs.Common.{◌≡◌, ℕ, zero, suc, Bool, true, false, List, refl}
-use Rattle.phrase_forms.specs.Forms.{Form, token, then, no_token, named, to, ◌⨾◌}
+use Rattle.phrase_forms.specs.Forms.{Form, token, then, named, to, ◌⨾◌, ◌▹◌}
 use Rattle.phrase_forms.proofs.Alike.{Alike, same_form, then_reads, opened, to_alike, or_alike, maybe_alike, many_alike, named_alike}
 use Rattle.smv_tree.specs.declared.token.Token.{Token}
 use Rattle.smv_tree.specs.declared.token.TokenKind.TheVariants as kind
 use Rattle.smv_tree.specs.declared.tree.Expr.{Expr}
+use Rattle.smv_tree.specs.declared.tree.Expr.TheVariants as expr
 use Rattle.smv_tree.specs.Kinds.{is_kind}
-use Rattle.smv_parse.specs.Expressions.{Phrases, just, is_leaf, leaf_of, begins_operand, is_equality, is_conjunction, is_disjunction, is_equivalence, goes_on_equality, goes_on_conjunction, goes_on_disjunction, goes_on_equivalence, goes_on_expression, chain, chain_of, parenthesised, primary, operand, equality, conjunction, disjunction, equivalence, implication, known, over, beyond, phrases}
+use Rattle.smv_parse.specs.Names.{just, name}
+use Rattle.smv_parse.specs.Expressions.{Phrases, is_constant, constant_of, begins_operand, is_equality, is_conjunction, is_disjunction, is_equivalence, goes_on_operand, goes_on_equality, goes_on_conjunction, goes_on_disjunction, goes_on_conditional, goes_on_equivalence, goes_on_expression, chain, chain_of, parenthesised, primary, operand, equality, conjunction, disjunction, branches, conditional, equivalence, implication, known, over, beyond, phrases}
 
 pub record AllAlike (q r : Phrases) : Type 0 where
   pub expression : Alike q.expression r.expression
+  pub conditional : Alike q.conditional r.conditional
   pub operand : Alike q.operand r.operand
 
 chain_alike : (is_operator m : Token → Bool) (a b : Form Token Expr) → Alike a b → Alike (chain is_operator m a) (chain is_operator m b)
@@ -43,7 +46,7 @@ module _ (closed : Bool) (q r : Phrases) (h : closed ≡ false → AllAlike q r)
 
   primary_alike : Alike (primary closed (known q)) (primary closed (known r))
   unfolding primary
-  primary_alike = or_alike _ _ _ _ (same_form (to leaf_of (token false is_leaf))) (or_alike _ _ _ _ parenthesised_alike (to_alike _ next_alike) (λ t. refl)) (λ t. refl)
+  primary_alike = or_alike _ _ _ _ (same_form (to constant_of (token false is_constant))) (or_alike _ _ _ _ (same_form (to expr.Name name)) (or_alike _ _ _ _ parenthesised_alike (to_alike _ next_alike) (λ t. refl)) (λ t. refl)) (λ t. refl)
 
   operand_alike : Alike (operand closed (known q)) (operand closed (known r))
   unfolding operand primary
@@ -51,7 +54,7 @@ module _ (closed : Bool) (q r : Phrases) (h : closed ≡ false → AllAlike q r)
 
   equality_alike : Alike (equality closed (known q)) (equality closed (known r))
   unfolding equality
-  equality_alike = chain_alike is_equality no_token _ _ operand_alike
+  equality_alike = chain_alike is_equality goes_on_operand _ _ operand_alike
 
   conjunction_alike : Alike (conjunction closed (known q)) (conjunction closed (known r))
   unfolding conjunction
@@ -61,9 +64,26 @@ module _ (closed : Bool) (q r : Phrases) (h : closed ≡ false → AllAlike q r)
   unfolding disjunction
   disjunction_alike = chain_alike is_disjunction goes_on_conjunction _ _ conjunction_alike
 
+  -- what stands behind "?"
+  abbrev chosen : Phrases → Form Token (Expr × Expr)
+  chosen under = under.expression ⨾ just kind.Colon ▹ under.conditional
+
+  chosen_reads : closed ≡ false → (ts : List Token) → (chosen (known q)).parse ts ≡ (chosen (known r)).parse ts
+  chosen_reads unlocked =
+      let behind = opened false (is_kind kind.Colon) (known q).conditional (known r).conditional (λ e. (h unlocked).conditional.parse) in
+      then_reads _ _ _ _ (expression_same unlocked) (to_alike _ behind)
+
+  branches_alike : Alike (branches closed (known q)) (branches closed (known r))
+  branches_alike = opened closed (is_kind kind.Question) (chosen (known q)) (chosen (known r)) chosen_reads
+
+  conditional_alike : Alike (conditional closed (known q)) (conditional closed (known r))
+  unfolding conditional
+  conditional_alike =
+      to_alike _ (record { parse = then_reads _ _ _ _ (named_alike begins_operand goes_on_disjunction disjunction_alike) (maybe_alike _ _ branches_alike); first = λ t. refl })
+
   equivalence_alike : Alike (equivalence closed (known q)) (equivalence closed (known r))
   unfolding equivalence
-  equivalence_alike = chain_alike is_equivalence goes_on_disjunction _ _ disjunction_alike
+  equivalence_alike = chain_alike is_equivalence goes_on_conditional _ _ conditional_alike
 
   implication_alike : Alike (implication closed (known q)) (implication closed (known r))
   unfolding implication
@@ -74,7 +94,7 @@ module _ (closed : Bool) (q r : Phrases) (h : closed ≡ false → AllAlike q r)
       })
 
   over_alike : AllAlike (over closed q) (over closed r)
-  over_alike = record { expression = implication_alike; operand = operand_alike }
+  over_alike = record { expression = implication_alike; conditional = conditional_alike; operand = operand_alike }
 
 pub phrases_alike : (room past past' : ℕ) → AllAlike (phrases past (suc room)) (phrases past' (suc room))
 unfolding phrases

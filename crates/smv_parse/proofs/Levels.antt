@@ -1,27 +1,24 @@
 -- How a phrase is read by those under it.
-use Rattle.std.proofs.Common.{◌≡◌, ℕ, zero, suc, ◌-◌, ◌<◌, Bool, true, false, cond, List, [], ◌∷◌, length, map, Option, Some, None, Ok, Err, refl, sym, ap, ◌∙◌, arith}
-use Rattle.std.specs.Prelude.{◌||◌}
-use Rattle.phrase_forms.specs.declared.fault.Fault.{Fault}
+use Rattle.std.proofs.Common.{◌≡◌, ℕ, zero, suc, ◌-◌, ◌<◌, Bool, true, false, cond, List, [], ◌∷◌, Option, Some, None, Ok, Err, refl, ap, arith}
 use Rattle.phrase_forms.specs.declared.fault.Fault.TheVariants.{Unexpected, TooDeep}
-use Rattle.phrase_forms.specs.Forms.{Form, Read, head, one, token, maybe, many, many_at, to, named, ◌⨾◌, ◌>>=◌}
-use Rattle.smv_tree.specs.declared.place.Place.{Place}
+use Rattle.phrase_forms.specs.Forms.{Form, Read, head, one, maybe, ◌⨾◌, ◌>>=◌}
 use Rattle.smv_tree.specs.declared.token.Token.{Token}
 use Rattle.smv_tree.specs.declared.token.TokenKind.TheVariants as kind
-use Rattle.smv_tree.specs.declared.tree.ChainOperator.{ChainOperator}
 use Rattle.smv_tree.specs.declared.tree.Expr.{Expr}
 use Rattle.smv_tree.specs.declared.tree.Expr.TheVariants as expr
 use Rattle.smv_tree.specs.Kinds.{is_kind}
-use Rattle.smv_parse.specs.declared.expressions.Rank.{Rank}
 use Rattle.smv_parse.specs.declared.expressions.Rank.TheVariants as rank
-use Rattle.smv_parse.specs.Expressions.{just, opening, begins_operand, parenthesised, chain, chain_of, link_of, operand, equality, conjunction, disjunction, equivalence, implication, implication_of, is_zero, phrases, expression_within}
-use Rattle.smv_parse.specs.Ranks.{is_operator_of, goes_on_operand_of, under, operand_within, phrase_within, link_within, links_within}
+use Rattle.smv_parse.specs.Names.{just, opening}
+use Rattle.smv_parse.specs.Expressions.{parenthesised, operand, conditional, equivalence, implication, implication_of, is_zero, phrases, expression_within}
+use Rattle.smv_parse.specs.Ranks.{under, phrase_within}
+use Rattle.smv_parse.proofs.OfNames.{begins_same}
 
-bind_bind : {A B C : Type 0} (r : Read Token A) (f : A × List Token → Read Token B) (g : B × List Token → Read Token C) → ((r >>= f) >>= g) ≡ (r >>= λ x. f x >>= g)
+pub bind_bind : {A B C : Type 0} (r : Read Token A) (f : A × List Token → Read Token B) (g : B × List Token → Read Token C) → ((r >>= f) >>= g) ≡ (r >>= λ x. f x >>= g)
 bind_bind (Ok x) f g = refl
 bind_bind (Err e) f g = refl
 
 -- behind an opening token, two readings that are the same where a level may be opened
-opening_same : {B : Type 0} (closed : Bool) (p : Token → Bool) (ts : List Token) (f g : Token × List Token → Read Token B) → (closed ≡ false → (x : Token × List Token) → f x ≡ g x)
+pub opening_same : {B : Type 0} (closed : Bool) (p : Token → Bool) (ts : List Token) (f g : Token × List Token → Read Token B) → (closed ≡ false → (x : Token × List Token) → f x ≡ g x)
     → (one closed p ts >>= f) ≡ (one closed p ts >>= g)
 opening_same closed p [] f g h = refl
 opening_same closed p (t ∷ ts) f g h = go (p t) closed refl
@@ -31,10 +28,28 @@ opening_same closed p (t ∷ ts) f g h = go (p t) closed refl
     go true false e = h e (t, ts)
     go false c e = refl
 
-under_expression : (room : ℕ) (ts : List Token) → is_zero room ≡ false → (under room).expression.parse ts ≡ (expression_within 0 (room - 1)).parse ts
+abbrev with_no_level : Bool → Token → List Token → Read Token Token
+with_no_level b t ts = cond b (Err (TooDeep, t ∷ ts)) (Err (Unexpected, t ∷ ts))
+
+no_level : (b : Bool) (t : Token) (ts : List Token) (x : Token × List Token) → with_no_level b t ts ≡ Ok x → ⊥
+no_level true t ts x e = cc
+no_level false t ts x e = cc
+
+-- where a level was opened, one was left
+pub room_left : (closed : Bool) (room : ℕ) (p : Token → Bool) (ts : List Token) (x : Token × List Token) → closed ≡ is_zero room → one closed p ts ≡ Ok x → 0 < room
+room_left closed zero p [] x same e = absurd cc
+room_left closed zero p (t ∷ ts) x same e = absurd (no_level (p t) t ts x (rw same at e))
+room_left closed (suc n) p ts x same e = omega arith
+
+pub under_expression : (room : ℕ) (ts : List Token) → is_zero room ≡ false → (under room).expression.parse ts ≡ (expression_within 0 (room - 1)).parse ts
 unfolding expression_within phrases
 under_expression zero ts h = absurd cc
 under_expression (suc n) ts h = let m : suc n - 1 ≡ n = omega arith in rw m refl
+
+pub under_conditional : (room : ℕ) (ts : List Token) → is_zero room ≡ false → (under room).conditional.parse ts ≡ (conditional (is_zero (room - 1)) (under (room - 1))).parse ts
+unfolding phrases
+under_conditional zero ts h = absurd cc
+under_conditional (suc n) ts h = let m : suc n - 1 ≡ n = omega arith in rw m refl
 
 pub under_operand : (room : ℕ) (ts : List Token) → 0 < room → (operand (is_zero (room - 1)) (under (room - 1))).parse ts ≡ (under room).operand.parse ts
 unfolding phrases
@@ -74,16 +89,8 @@ module _ (room : ℕ) where
   abbrev whole : Read Token (Expr × Option (Token × Expr)) → Read Token Expr
   whole read = read >>= λ y. Ok (implication_of y.0, y.1)
 
-  alone : (b : Bool) → (b || false) ≡ b
-  alone true = refl
-  alone false = refl
-
-  begins_same : (ts : List Token) → head right.first ts ≡ head (is_kind kind.Implies) ts
-  begins_same [] = refl
-  begins_same (t ∷ ts) = alone (is_kind kind.Implies t)
-
   right_reads : (x : Expr) (ts : List Token) → whole (beside x ((maybe right).parse ts)) ≡ implied (x, ts)
-  right_reads x ts = rw (begins_same ts) (go (head (is_kind kind.Implies) ts))
+  right_reads x ts = rw (begins_same (is_kind kind.Implies) ts) (go (head right.first ts))
     where
       go : (b : Bool) → whole (beside x (cond b (some (right.parse ts)) (none ts)))
           ≡ cond b ((opening (is_zero room) kind.Implies).parse ts >>= λ y. with_right x y.0 ((expression_within 0 (room - 1)).parse y.1)) (Ok (x, ts))

@@ -1,9 +1,11 @@
 pub mod KindNumbers
 pub mod EachKind
+pub mod OfNames
 pub mod OfExpressions
 pub mod ExpressionsAlike
 pub mod OfRanks
 pub mod Levels
+pub mod Conditionals
 pub mod Chains
 pub mod Links
 pub mod OfPrograms

@@ -1,10 +1,9 @@
 -- The loop over the operators of a rank and their right operands.
-use Rattle.std.proofs.Common.{◌≡◌, ℕ, ◌<◌, Bool, true, false, List, [], ◌∷◌, ◌++◌, length, Ok, Err, refl, sym, ap, ◌∙◌, inl, inr, arith}
+use Rattle.std.proofs.Common.{◌≡◌, ℕ, ◌<◌, Bool, true, false, List, [], ◌∷◌, ◌++◌, length, Ok, refl, sym, ap, ◌∙◌, inl, inr, arith}
 use Rattle.std.proofs.lemmas.List.{length-append}
 use Rattle.std.specs.Prelude.{◌||◌}
-use Rattle.phrase_forms.specs.declared.fault.Fault.{Fault}
-use Rattle.phrase_forms.specs.Forms.{Form, Read, head, ◌>>=◌}
-use Rattle.phrase_forms.proofs.Lawful.{Took, Lawful}
+use Rattle.phrase_forms.specs.Forms.{Form, Read, head}
+use Rattle.phrase_forms.proofs.Lawful.{Lawful}
 use Rattle.phrase_forms.proofs.Loops.{with_front, loop_on, many_fails, loop_ends}
 use Rattle.smv_tree.specs.declared.place.Place.{Place}
 use Rattle.smv_tree.specs.declared.token.Token.{Token}

@@ -1,7 +1,7 @@
 -- The forms of expressions keep the laws of forms.
 use Rattle.std.proofs.Common.{◌≡◌, ℕ, zero, suc, Bool, true, false, refl, sym, ◌∙◌}
 use Rattle.std.specs.Prelude.{◌||◌}
-use Rattle.phrase_forms.specs.Forms.{Form, token, no_token, named, to, ◌⨾◌}
+use Rattle.phrase_forms.specs.Forms.{Form, token, named, to, ◌⨾◌}
 use Rattle.phrase_forms.proofs.Alike.{Alike, named_alike}
 use Rattle.phrase_forms.proofs.Lawful.{Lawful}
 use Rattle.phrase_forms.proofs.OfToken.{token_lawful}
@@ -12,19 +12,13 @@ use Rattle.phrase_forms.proofs.OfTo.{to_lawful}
 use Rattle.phrase_forms.proofs.OfMany.{many_lawful}
 use Rattle.phrase_forms.proofs.OfNamed.{Fine, named_lawful}
 use Rattle.smv_tree.specs.declared.token.Token.{Token}
-use Rattle.smv_tree.specs.declared.token.TokenKind.{TokenKind}
 use Rattle.smv_tree.specs.declared.token.TokenKind.TheVariants as kind
 use Rattle.smv_tree.specs.declared.tree.Expr.{Expr}
-use Rattle.smv_tree.specs.Kinds.{is_kind}
-use Rattle.smv_parse.specs.Expressions.{Phrases, just, opening, is_leaf, leaf_of, begins_operand, is_equality, is_conjunction, is_disjunction, is_equivalence, goes_on_equality, goes_on_conjunction, goes_on_disjunction, goes_on_equivalence, goes_on_expression, chain, parenthesised, primary, operand, equality, conjunction, disjunction, equivalence, implication, known, over, is_zero, beyond, phrases, expression_within}
+use Rattle.smv_parse.specs.Names.{just, opening, member, name}
+use Rattle.smv_parse.specs.Expressions.{Phrases, is_constant, constant_of, begins_operand, is_equality, is_conjunction, is_disjunction, is_equivalence, goes_on_operand, goes_on_equality, goes_on_conjunction, goes_on_disjunction, goes_on_conditional, goes_on_equivalence, goes_on_expression, chain, parenthesised, primary, operand, equality, conjunction, disjunction, branches, conditional, equivalence, implication, known, over, is_zero, beyond, phrases, expression_within}
 use Rattle.smv_parse.proofs.EachKind.{token_at, apart, within}
+use Rattle.smv_parse.proofs.OfNames.{just_lawful, opening_lawful, name_lawful}
 use Rattle.smv_parse.proofs.ExpressionsAlike.{phrases_alike}
-
-pub just_lawful : (k : TokenKind) → is_kind k (token_at k) ≡ true → Lawful (just k)
-just_lawful k e = token_lawful false (is_kind k) (token_at k) e
-
-pub opening_lawful : (closed : Bool) (k : TokenKind) → is_kind k (token_at k) ≡ true → Lawful (opening closed k)
-opening_lawful closed k e = token_lawful closed (is_kind k) (token_at k) e
 
 or_false : (b : Bool) → (b || false) ≡ b
 or_false true = refl
@@ -56,7 +50,7 @@ module _ (is_operator m : Token → Bool) (a : Form Token Expr) (fine : Fine beg
     full = refl;
   }
 
-module _ (closed : Bool) (under : Phrases) (le : Lawful (known under).expression) (lo : Lawful (known under).operand) where
+module _ (closed : Bool) (under : Phrases) (le : Lawful (known under).expression) (lc : Lawful (known under).conditional) (lo : Lawful (known under).operand) where
   abbrev p : Phrases
   p = known under
 
@@ -65,29 +59,29 @@ module _ (closed : Bool) (under : Phrases) (le : Lawful (known under).expression
       to_lawful _ _ (then_lawful _ _ (opening_lawful closed kind.LeftParen refl) (to_lawful _ _ (then_lawful _ _ le (just_lawful kind.RightParen refl) (apart _ _ (λ t. refl) (λ t. refl) refl))) (λ t e. refl))
 
   primary_lawful : Lawful (primary closed p)
-  unfolding primary
+  unfolding primary name member
   primary_lawful =
-      or_lawful _ _ (to_lawful _ _ (token_lawful false is_leaf (token_at kind.True) refl))
+      or_lawful _ _ (to_lawful _ _ (token_lawful false is_constant (token_at kind.True) refl))
+      (or_lawful _ _ (to_lawful _ _ name_lawful)
       (or_lawful _ _ parenthesised_lawful (to_lawful _ _ (then_lawful _ _ (just_lawful kind.Next refl) parenthesised_lawful (λ t e. refl))) refl refl (apart _ _ (λ t. refl) (λ t. refl) refl))
+      refl refl (apart _ _ (λ t. refl) (λ t. refl) refl))
       refl refl (apart _ _ (λ t. refl) (λ t. refl) refl)
 
   not_lawful : Lawful (opening closed kind.Not ⨾ p.operand)
   not_lawful = then_lawful _ _ (opening_lawful closed kind.Not refl) lo (λ t e. refl)
 
-  pub operand_fine : Fine begins_operand no_token (operand closed p)
-  unfolding operand primary
+  pub operand_fine : Fine begins_operand goes_on_operand (operand closed p)
+  unfolding operand primary name member
   operand_fine = record {
     lawful = or_lawful _ _ (to_lawful _ _ not_lawful) primary_lawful refl refl (apart _ _ (λ t. refl) (λ t. refl) refl);
     first = within _ _ (λ t. refl) (λ t. refl) refl;
-    more = λ t e. e;
+    more = within _ _ (λ t. refl) (λ t. refl) refl;
     full = refl;
   }
 
   pub equality_fine : Fine begins_operand goes_on_equality (equality closed p)
   unfolding equality
-  equality_fine =
-      let c = chain_fine is_equality no_token (operand closed p) operand_fine (token_at kind.Equal) refl (λ t e. refl) in
-      record { lawful = c.lawful; first = c.first; more = λ t e. sym (or_false (is_equality t)) ∙ c.more t e; full = c.full }
+  equality_fine = chain_fine is_equality goes_on_operand (operand closed p) operand_fine (token_at kind.Equal) refl (apart _ _ (λ t. refl) (λ t. refl) refl)
 
   pub conjunction_fine : Fine begins_operand goes_on_conjunction (conjunction closed p)
   unfolding conjunction
@@ -97,9 +91,23 @@ module _ (closed : Bool) (under : Phrases) (le : Lawful (known under).expression
   unfolding disjunction
   disjunction_fine = chain_fine is_disjunction goes_on_conjunction (conjunction closed p) conjunction_fine (token_at kind.Or) refl (apart _ _ (λ t. refl) (λ t. refl) refl)
 
+  branches_lawful : Lawful (branches closed p)
+  branches_lawful =
+      let behind = to_lawful _ _ (then_lawful _ _ (just_lawful kind.Colon refl) lc (λ t e. refl)) in
+      then_lawful _ _ (opening_lawful closed kind.Question refl) (then_lawful _ _ le behind (apart _ _ (λ t. refl) (λ t. refl) refl)) (λ t e. refl)
+
+  pub conditional_fine : Fine begins_operand goes_on_conditional (conditional closed p)
+  unfolding conditional
+  conditional_fine = record {
+    lawful = to_lawful _ _ (then_lawful _ _ (named_lawful disjunction_fine) (maybe_lawful _ branches_lawful refl) (apart _ _ (λ t. refl) (λ t. refl) refl));
+    first = within _ _ (λ t. refl) (λ t. refl) refl;
+    more = within _ _ (λ t. refl) (λ t. refl) refl;
+    full = refl;
+  }
+
   pub equivalence_fine : Fine begins_operand goes_on_equivalence (equivalence closed p)
   unfolding equivalence
-  equivalence_fine = chain_fine is_equivalence goes_on_disjunction (disjunction closed p) disjunction_fine (token_at kind.Iff) refl (apart _ _ (λ t. refl) (λ t. refl) refl)
+  equivalence_fine = chain_fine is_equivalence goes_on_conditional (conditional closed p) conditional_fine (token_at kind.Iff) refl (apart _ _ (λ t. refl) (λ t. refl) refl)
 
   pub implication_fine : Fine begins_operand goes_on_expression (implication closed p)
   unfolding implication
@@ -112,9 +120,10 @@ module _ (closed : Bool) (under : Phrases) (le : Lawful (known under).expression
 
 pub record Sound (p : Phrases) : Type 0 where
   pub expression : Fine begins_operand goes_on_expression p.expression
-  pub operand : Fine begins_operand no_token p.operand
+  pub conditional : Fine begins_operand goes_on_conditional p.conditional
+  pub operand : Fine begins_operand goes_on_operand p.operand
 
-deepest_fine : (m : Token → Bool) → Fine begins_operand m (to leaf_of (token false (is_kind kind.True)))
+deepest_fine : (m : Token → Bool) → Fine begins_operand m (to constant_of (just kind.True))
 deepest_fine m = record {
   lawful = to_lawful _ _ (just_lawful kind.True refl);
   first = within _ _ (λ t. refl) (λ t. refl) refl;
@@ -125,12 +134,13 @@ deepest_fine m = record {
 over_sound : (closed : Bool) (under : Phrases) → Sound under → Sound (over closed under)
 over_sound closed under s =
     let le = named_lawful s.expression in
+    let lc = named_lawful s.conditional in
     let lo = named_lawful s.operand in
-    record { expression = implication_fine closed under le lo; operand = operand_fine closed under le lo }
+    record { expression = implication_fine closed under le lc lo; conditional = conditional_fine closed under le lc lo; operand = operand_fine closed under le lc lo }
 
 beyond_sound : (past : ℕ) → Sound (beyond past)
 unfolding beyond
-beyond_sound zero = record { expression = deepest_fine goes_on_expression; operand = deepest_fine no_token }
+beyond_sound zero = record { expression = deepest_fine goes_on_expression; conditional = deepest_fine goes_on_conditional; operand = deepest_fine goes_on_operand }
 beyond_sound (suc past) = over_sound true (beyond past) (beyond_sound past)
 
 pub phrases_sound : (past room : ℕ) → Sound (phrases past room)

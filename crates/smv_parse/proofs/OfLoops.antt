@@ -1,7 +1,7 @@
 -- Loops that read a phrase as often as it stands, as the code has them.
-use Rattle.std.proofs.Common.{◌≡◌, ℕ, ◌<◌, true, false, List, [], ◌∷◌, ◌++◌, length, Ok, sym, ap, ◌∙◌, inl, inr, arith}
+use Rattle.std.proofs.Common.{◌≡◌, ℕ, ◌<◌, true, false, List, [], ◌∷◌, ◌++◌, length, Ok, Err, refl, sym, ap, ◌∙◌, inl, inr, arith}
 use Rattle.std.proofs.lemmas.List.{length-append}
-use Rattle.phrase_forms.specs.Forms.{Form, Read, head, many}
+use Rattle.phrase_forms.specs.Forms.{Form, Read, head, many, to, ◌>>=◌}
 use Rattle.phrase_forms.proofs.Lawful.{Lawful}
 use Rattle.phrase_forms.proofs.Loops as phrase
 use Rattle.phrase_forms.proofs.Loops.{with_front, many_fails}
@@ -9,8 +9,11 @@ use Rattle.smv_tree.specs.declared.token.Token.{Token}
 use Rattle.smv_parse.specs.declared.reading.Stop.{Stop}
 use Rattle.smv_parse.specs.declared.reading.Stop.TheVariants.{Refused, NoMemory}
 use Rattle.smv_parse.specs.Reading.{Stops}
-use Rattle.smv_parse.specs.Programs.{declaration, assignment, section_form, module_form}
-use Rattle.smv_parse.proofs.OfPrograms.{declaration_lawful, declarations_full, declarations_apart, assignment_lawful, assignments_full, assignments_apart, section_lawful, sections_full, sections_apart, module_lawful, modules_full, modules_apart}
+use Rattle.smv_parse.specs.Names.{identifier, member}
+use Rattle.smv_parse.specs.Expressions.{expression_within}
+use Rattle.smv_parse.specs.Programs.{further, listed, under_one, parameter_of, declaration, definition, assignment, section_form, module_form}
+use Rattle.smv_parse.proofs.OfNames.{member_lawful, member_full, member_apart}
+use Rattle.smv_parse.proofs.OfPrograms.{further_argument_lawful, arguments_apart, further_parameter_lawful, parameters_apart, declaration_lawful, declarations_full, declarations_apart, definition_lawful, definitions_full, definitions_apart, assignment_lawful, assignments_full, assignments_apart, section_lawful, sections_full, sections_apart, module_lawful, modules_full, modules_apart}
 
 -- A form that may stand any number of times in a row.
 pub record Repeats {A : Type 0} (a : Form Token A) : Type 0 where
@@ -53,8 +56,35 @@ module _ {A : Type 0} (a : Form Token A) (repeats : Repeats a) where
       let took = repeats.lawful.ok tokens x rest e in
       omega (arith, ap length took.split, length-append took.pre rest, takes_one took.pre x took.spelt)
 
+-- a first phrase is read, and those behind commas are still to come
+module _ {A : Type 0} (a : Form Token A) where
+  abbrev beside : A → Read Token (List A) → Read Token (A × List A)
+  beside x read = read >>= λ y. Ok ((x, y.0), y.1)
+
+  abbrev joined : Read Token (A × List A) → Read Token (List A)
+  joined read = read >>= λ z. Ok (z.0.0 ∷ z.0.1, z.1)
+
+  join : (x : A) (read : Read Token (List A)) → with_front (x ∷ []) read ≡ joined (beside x read)
+  join x (Ok y) = refl
+  join x (Err e) = refl
+
+  pub listed_begins : (tokens : List Token) (x : A) (rest : List Token) → a.parse tokens ≡ Ok (x, rest) → Totals (further a) (x ∷ []) rest ((listed a).parse tokens)
+  listed_begins tokens x rest e = rw e (join x ((many (further a)).parse rest))
+
+pub members : Repeats member
+members = record { lawful = member_lawful; full = member_full; apart = member_apart }
+
+pub arguments : Repeats (further (expression_within 0 under_one))
+arguments = record { lawful = further_argument_lawful; full = refl; apart = arguments_apart }
+
+pub parameters : Repeats (further (to parameter_of identifier))
+parameters = record { lawful = further_parameter_lawful; full = refl; apart = parameters_apart }
+
 pub declarations : Repeats (declaration 0)
 declarations = record { lawful = declaration_lawful 0; full = declarations_full 0; apart = declarations_apart 0 }
+
+pub definitions : Repeats (definition 0)
+definitions = record { lawful = definition_lawful 0; full = definitions_full 0; apart = definitions_apart 0 }
 
 pub assignments : Repeats (assignment 0)
 assignments = record { lawful = assignment_lawful 0; full = assignments_full 0; apart = assignments_apart 0 }

@@ -1,5 +1,5 @@
 -- What is read from tokens is what they spell, and what is refused is refused as it is to be.
-use Rattle.std.proofs.Common.{◌≡◌, false, List, None, Ok, Err, subst}
+use Rattle.std.proofs.Common.{◌≡◌, List, None, Ok, Err, subst}
 use Rattle.phrase_forms.specs.declared.fault.Fault.{Fault}
 use Rattle.phrase_forms.specs.Language.{read_all}
 use Rattle.phrase_forms.proofs.OfLevels.{found, refused_within}
@@ -12,17 +12,17 @@ use Rattle.smv_parse.specs.Spelling.{first_unsupported, IsSpelling, fault_refusa
 use Rattle.smv_parse.proofs.OfPrograms.{program_lawful, program_alike}
 
 -- what is read where nothing goes beyond the language is spelled
-pub read_spelled : (tokens : List Token) (p : Program) → first_unsupported false tokens ≡ None → read_all (program 0) tokens ≡ Ok p → IsSpelling tokens p
+pub read_spelled : (tokens : List Token) (p : Program) → first_unsupported tokens ≡ None → read_all (program 0) tokens ≡ Ok p → IsSpelling tokens p
 read_spelled tokens p supported e = record { supported = supported; spelled = found program program_lawful program_alike tokens p e }
 
-told : (tokens : Tokens) (fault : Fault) (rest : List Token) (refusal : Refusal) → first_unsupported false tokens.items ≡ None → read_all (program 0) tokens.items ≡ Err (fault, rest)
+told : (tokens : Tokens) (fault : Fault) (rest : List Token) (refusal : Refusal) → first_unsupported tokens.items ≡ None → read_all (program 0) tokens.items ≡ Err (fault, rest)
     → refusal ≡ fault_refusal fault rest tokens.end → IsRefusedTokens tokens refusal
 told tokens fault rest refusal supported e is =
     let refused = refused_within program program_lawful program_alike tokens.items fault rest e in
     rw supported (record { fault = fault; before = refused.before; rest = rest; split = refused.split; refused = refused.why; told = is })
 
 -- a fault is told where nothing goes beyond the language
-pub told_fault : (tokens : Tokens) (items : List Token) (fault : Fault) (rest : List Token) (refusal : Refusal) → items ≡ tokens.items → first_unsupported false items ≡ None
+pub told_fault : (tokens : Tokens) (items : List Token) (fault : Fault) (rest : List Token) (refusal : Refusal) → items ≡ tokens.items → first_unsupported items ≡ None
     → read_all (program 0) items ≡ Err (fault, rest) → refusal ≡ fault_refusal fault rest tokens.end → IsRefusedTokens tokens refusal
 told_fault tokens items fault rest refusal same supported e is =
     told tokens fault rest refusal (rw same at supported) (let P : List Token → Type 0 = λ ts. read_all (program 0) ts ≡ Err (fault, rest) in subst P same e) is

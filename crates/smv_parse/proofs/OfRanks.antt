@@ -1,22 +1,23 @@
 -- The phrases of each rank keep the laws of forms.
-use Rattle.std.proofs.Common.{◌≡◌, ℕ, Bool, true, false, List, [], refl}
-use Rattle.phrase_forms.specs.Forms.{Form, token}
+use Rattle.std.proofs.Common.{◌≡◌, ℕ, true, false, refl}
 use Rattle.phrase_forms.proofs.Lawful.{Lawful}
 use Rattle.phrase_forms.proofs.OfTo.{to_lawful}
 use Rattle.phrase_forms.proofs.OfNamed.{Fine, named_lawful}
 use Rattle.smv_tree.specs.declared.token.Token.{Token}
 use Rattle.smv_tree.specs.declared.token.TokenKind.TheVariants as kind
-use Rattle.smv_tree.specs.declared.tree.Expr.{Expr}
 use Rattle.smv_parse.specs.declared.expressions.Rank.{Rank}
 use Rattle.smv_parse.specs.declared.expressions.Rank.TheVariants as rank
-use Rattle.smv_parse.specs.Expressions.{begins_operand, is_equality, is_zero, phrases}
+use Rattle.smv_parse.specs.Expressions.{begins_operand, is_zero, phrases}
 use Rattle.smv_parse.specs.Ranks.{is_operator_of, goes_on_operand_of, operand_within, under, link_within}
 use Rattle.smv_parse.proofs.EachKind.{token_at, apart}
-use Rattle.smv_parse.proofs.OfExpressions.{Sound, phrases_sound, operand_fine, equality_fine, conjunction_fine, disjunction_fine, link_lawful, link_apart}
+use Rattle.smv_parse.proofs.OfExpressions.{phrases_sound, operand_fine, equality_fine, conjunction_fine, conditional_fine, link_lawful, link_apart}
 
 module _ (room : ℕ) where
   expression_law : Lawful (under room).expression
   expression_law = named_lawful (phrases_sound 0 room).expression
+
+  conditional_law : Lawful (under room).conditional
+  conditional_law = named_lawful (phrases_sound 0 room).conditional
 
   operand_law : Lawful (under room).operand
   operand_law = named_lawful (phrases_sound 0 room).operand
@@ -24,10 +25,10 @@ module _ (room : ℕ) where
   -- an operand of a rank keeps the laws
   pub operand_within_fine : (r : Rank) → Fine begins_operand (goes_on_operand_of r) (operand_within r room)
   unfolding operand_within
-  operand_within_fine rank.Equality = operand_fine (is_zero room) (phrases 0 room) expression_law operand_law
-  operand_within_fine rank.Conjunction = equality_fine (is_zero room) (phrases 0 room) expression_law operand_law
-  operand_within_fine rank.Disjunction = conjunction_fine (is_zero room) (phrases 0 room) expression_law operand_law
-  operand_within_fine rank.Equivalence = disjunction_fine (is_zero room) (phrases 0 room) expression_law operand_law
+  operand_within_fine rank.Equality = operand_fine (is_zero room) (phrases 0 room) expression_law conditional_law operand_law
+  operand_within_fine rank.Conjunction = equality_fine (is_zero room) (phrases 0 room) expression_law conditional_law operand_law
+  operand_within_fine rank.Disjunction = conjunction_fine (is_zero room) (phrases 0 room) expression_law conditional_law operand_law
+  operand_within_fine rank.Equivalence = conditional_fine (is_zero room) (phrases 0 room) expression_law conditional_law operand_law
 
 -- an operator of a rank
 operator_at : Rank → Token
@@ -44,7 +45,7 @@ operator_is rank.Disjunction = refl
 operator_is rank.Equivalence = refl
 
 operator_apart : (r : Rank) (t : Token) → is_operator_of r t ≡ true → goes_on_operand_of r t ≡ false
-operator_apart rank.Equality = λ t e. refl
+operator_apart rank.Equality = apart _ _ (λ t. refl) (λ t. refl) refl
 operator_apart rank.Conjunction = apart _ _ (λ t. refl) (λ t. refl) refl
 operator_apart rank.Disjunction = apart _ _ (λ t. refl) (λ t. refl) refl
 operator_apart rank.Equivalence = apart _ _ (λ t. refl) (λ t. refl) refl
@@ -57,9 +58,9 @@ pub link_ends : (r : Rank) (room : ℕ) (t : Token) → (link_within r room).fir
 unfolding link_within
 link_ends r room = link_apart (is_operator_of r) (goes_on_operand_of r) _ (operand_within_fine room r) (operator_at r) (operator_is r) (operator_apart r)
 
--- a number for each rank, which falls from a phrase to its operands
+-- a number for each rank, which falls from a phrase to its operands; conditionals stand between two ranks
 abbrev pub height : Rank → ℕ
 height rank.Equality = 0
 height rank.Conjunction = 1
 height rank.Disjunction = 2
-height rank.Equivalence = 3
+height rank.Equivalence = 4

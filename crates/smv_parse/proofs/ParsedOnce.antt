@@ -1,5 +1,5 @@
 -- Tokens spell one program, or are refused in one way, and never both.
-use Rattle.std.proofs.Common.{◌≡◌, false, List, Option, Some, None, Result, Ok, Err, refl, sym, ap, subst, ◌∙◌, inl, inr}
+use Rattle.std.proofs.Common.{◌≡◌, List, Option, Some, None, Result, Ok, Err, refl, sym, ap, subst, ◌∙◌, inl, inr}
 use Rattle.std.specs.Prelude.{◌⊎◌}
 use Rattle.phrase_forms.specs.declared.fault.Fault.{Fault}
 use Rattle.phrase_forms.specs.Language.{read_all}
@@ -30,7 +30,7 @@ refused_for_once None tokens r s w v = faulty_once tokens r s w v
 
 -- the tokens are refused in one way at most
 pub refusal_once : (tokens : Tokens) (r s : Refusal) → IsRefusedTokens tokens r → IsRefusedTokens tokens s → r ≡ s
-refusal_once tokens r s w v = refused_for_once (first_unsupported false tokens.items) tokens r s w v
+refusal_once tokens r s w v = refused_for_once (first_unsupported tokens.items) tokens r s w v
 
 faulty_not_spelled : (tokens : Tokens) (p : Program) (r : Refusal) → IsSpelling tokens.items p → IsFaulty tokens r → ⊥
 faulty_not_spelled tokens p r s w =
@@ -43,20 +43,20 @@ refused_for_not_spelled None tokens p r e s w = faulty_not_spelled tokens p r s 
 
 -- tokens that spell a program are not refused
 pub never_both : (tokens : Tokens) (p : Program) (r : Refusal) → IsSpelling tokens.items p → IsRefusedTokens tokens r → ⊥
-never_both tokens p r s w = refused_for_not_spelled (first_unsupported false tokens.items) tokens p r s.supported s w
+never_both tokens p r s w = refused_for_not_spelled (first_unsupported tokens.items) tokens p r s.supported s w
 
 -- a program that the tokens spell, or how they are refused
 abbrev pub Either : Tokens → Type 0
 Either tokens = ((p : Program) × IsSpelling tokens.items p) ⊎ ((r : Refusal) × IsRefusedTokens tokens r)
 
-read_either : (tokens : Tokens) → first_unsupported false tokens.items ≡ None → (read : Result Program (Fault × List Token)) → read_all (program 0) tokens.items ≡ read → Either tokens
+read_either : (tokens : Tokens) → first_unsupported tokens.items ≡ None → (read : Result Program (Fault × List Token)) → read_all (program 0) tokens.items ≡ read → Either tokens
 read_either tokens supported (Ok p) e = inl (p, read_spelled tokens.items p supported e)
 read_either tokens supported (Err w) e = inr (fault_refusal w.0 w.1 tokens.end, told_fault tokens tokens.items w.0 w.1 (fault_refusal w.0 w.1 tokens.end) refl supported e refl)
 
-found_either : (tokens : Tokens) (unsupported : Option Token) → first_unsupported false tokens.items ≡ unsupported → Either tokens
+found_either : (tokens : Tokens) (unsupported : Option Token) → first_unsupported tokens.items ≡ unsupported → Either tokens
 found_either tokens (Some t) e = inr (unsupported_refusal t, rw e refl)
 found_either tokens None e = read_either tokens e (read_all (program 0) tokens.items) refl
 
 -- tokens spell a program or are refused
 pub one_of_both : (tokens : Tokens) → Either tokens
-one_of_both tokens = found_either tokens (first_unsupported false tokens.items) refl
+one_of_both tokens = found_either tokens (first_unsupported tokens.items) refl

@@ -1,6 +1,6 @@
 -- The expressions of the language (NuSMV 2.6 User Manual, 2.2). The levels of precedence are an own choice of this project.
-use Rattle.std.specs.Prelude.{ℕ, zero, suc, Bool, true, false, ◌||◌, if◌then◌else◌, List, [], ◌∷◌, map, Option, None, Some}
-use Rattle.phrase_forms.specs.Forms.{Form, token, or, maybe, many, to, named, no_token, ◌⨾◌, ◌▹◌, ◌◃◌}
+use Rattle.std.specs.Prelude.{ℕ, zero, suc, Bool, true, false, ◌||◌, List, [], ◌∷◌, map, Option, None, Some}
+use Rattle.phrase_forms.specs.Forms.{Form, token, or, maybe, many, to, named, ◌⨾◌, ◌▹◌, ◌◃◌}
 use Rattle.smv_tree.specs.declared.place.Place.{Place}
 use Rattle.smv_tree.specs.declared.token.Token.{Token}
 use Rattle.smv_tree.specs.declared.token.TokenKind.{TokenKind}
@@ -9,31 +9,25 @@ use Rattle.smv_tree.specs.declared.tree.ChainOperator.{ChainOperator}
 use Rattle.smv_tree.specs.declared.tree.ChainOperator.TheVariants as operator
 use Rattle.smv_tree.specs.declared.tree.Expr.{Expr}
 use Rattle.smv_tree.specs.declared.tree.Expr.TheVariants as expr
-use Rattle.smv_tree.specs.Kinds.{is_kind, is_identifier}
-
--- one token of this kind
-abbrev pub just : TokenKind → Form Token Token
-just k = token false (is_kind k)
-
--- one token of this kind, which opens a level
-abbrev pub opening : Bool → TokenKind → Form Token Token
-opening closed k = token closed (is_kind k)
+use Rattle.smv_tree.specs.Kinds.{is_kind}
+use Rattle.smv_parse.specs.Names.{just, opening, begins_name, name}
 
 -- the phrases that stand under a level
 pub record Phrases : Type 1 where
   pub expression : Form Token Expr
+  pub conditional : Form Token Expr
   pub operand : Form Token Expr
 
--- a constant or a name
-abbrev pub is_leaf : Token → Bool
-is_leaf t = is_kind kind.True t || is_kind kind.False t || is_identifier t
+-- TRUE or FALSE
+abbrev pub is_constant : Token → Bool
+is_constant t = is_kind kind.True t || is_kind kind.False t
 
-abbrev pub leaf_of : Token → Expr
-leaf_of t = if is_identifier t then expr.Name t.place t.text else expr.Bool t.place (is_kind kind.True t)
+abbrev pub constant_of : Token → Expr
+constant_of t = expr.Bool t.place (is_kind kind.True t)
 
 -- the tokens that an operand, and so any expression, begins with
 abbrev pub begins_operand : Token → Bool
-begins_operand t = is_leaf t || is_kind kind.LeftParen t || is_kind kind.Next t || is_kind kind.Not t
+begins_operand t = is_constant t || begins_name t || is_kind kind.LeftParen t || is_kind kind.Next t || is_kind kind.Not t
 
 -- the operators of each level of precedence
 abbrev pub is_equality : Token → Bool
@@ -49,8 +43,11 @@ abbrev pub is_equivalence : Token → Bool
 is_equivalence t = is_kind kind.Iff t
 
 -- the tokens that go on a phrase of each level
+abbrev pub goes_on_operand : Token → Bool
+goes_on_operand t = is_kind kind.Dot t
+
 abbrev pub goes_on_equality : Token → Bool
-goes_on_equality t = is_equality t
+goes_on_equality t = is_equality t || goes_on_operand t
 
 abbrev pub goes_on_conjunction : Token → Bool
 goes_on_conjunction t = is_conjunction t || goes_on_equality t
@@ -58,8 +55,11 @@ goes_on_conjunction t = is_conjunction t || goes_on_equality t
 abbrev pub goes_on_disjunction : Token → Bool
 goes_on_disjunction t = is_disjunction t || goes_on_conjunction t
 
+abbrev pub goes_on_conditional : Token → Bool
+goes_on_conditional t = is_kind kind.Question t || goes_on_disjunction t
+
 abbrev pub goes_on_equivalence : Token → Bool
-goes_on_equivalence t = is_equivalence t || goes_on_disjunction t
+goes_on_equivalence t = is_equivalence t || goes_on_conditional t
 
 abbrev pub goes_on_expression : Token → Bool
 goes_on_expression t = is_kind kind.Implies t || goes_on_equivalence t
@@ -86,6 +86,13 @@ chain_of (first, link ∷ links) = expr.Chain first (map link_of (link ∷ links
 abbrev pub chain : (Token → Bool) → (Token → Bool) → Form Token Expr → Form Token Expr
 chain is_operator m operand = to chain_of (named begins_operand m operand ⨾ many (token false is_operator ⨾ named begins_operand m operand))
 
+abbrev pub chosen_by : Expr → Token × (Expr × Expr) → Expr
+chosen_by condition x = expr.Conditional x.0.place condition x.1.0 x.1.1
+
+abbrev pub conditional_of : Expr × Option (Token × (Expr × Expr)) → Expr
+conditional_of (e, None) = e
+conditional_of (e, Some x) = chosen_by e x
+
 abbrev pub implication_of : Expr × Option (Token × Expr) → Expr
 implication_of (e, None) = e
 implication_of (e, Some x) = expr.Implies x.0.place e x.1
@@ -94,19 +101,20 @@ implication_of (e, Some x) = expr.Implies x.0.place e x.1
 abbrev pub parenthesised : Bool → Form Token Expr → Form Token Expr
 parenthesised closed e = opening closed kind.LeftParen ▹ e ◃ just kind.RightParen
 
--- a constant, a name, "(" expression ")", or "next" "(" expression ")"
+-- TRUE or FALSE, a name, "(" expression ")", or "next" "(" expression ")"
 unfoldable pub primary : Bool → Phrases → Form Token Expr
 primary closed under =
-    or (to leaf_of (token false is_leaf))
+    or (to constant_of (token false is_constant))
+    (or (to expr.Name name)
     (or (parenthesised closed under.expression)
-    (to (λ x. expr.Next x.0.place x.1) (just kind.Next ⨾ parenthesised closed under.expression)))
+    (to (λ x. expr.Next x.0.place x.1) (just kind.Next ⨾ parenthesised closed under.expression))))
 
 -- "!" operand, or a primary expression
 unfoldable pub operand : Bool → Phrases → Form Token Expr
 operand closed under = or (to (λ x. expr.Not x.0.place x.1) (opening closed kind.Not ⨾ under.operand)) (primary closed under)
 
 unfoldable pub equality : Bool → Phrases → Form Token Expr
-equality closed under = chain is_equality no_token (operand closed under)
+equality closed under = chain is_equality goes_on_operand (operand closed under)
 
 unfoldable pub conjunction : Bool → Phrases → Form Token Expr
 conjunction closed under = chain is_conjunction goes_on_equality (equality closed under)
@@ -114,8 +122,16 @@ conjunction closed under = chain is_conjunction goes_on_equality (equality close
 unfoldable pub disjunction : Bool → Phrases → Form Token Expr
 disjunction closed under = chain is_disjunction goes_on_conjunction (conjunction closed under)
 
+-- "?" expression ":" conditional, both one level deeper
+abbrev pub branches : Bool → Phrases → Form Token (Token × (Expr × Expr))
+branches closed under = opening closed kind.Question ⨾ under.expression ⨾ just kind.Colon ▹ under.conditional
+
+-- a condition, and its branches: what stands behind ":" may have branches itself, so "? :" associates to the right
+unfoldable pub conditional : Bool → Phrases → Form Token Expr
+conditional closed under = to conditional_of (named begins_operand goes_on_disjunction (disjunction closed under) ⨾ maybe (branches closed under))
+
 unfoldable pub equivalence : Bool → Phrases → Form Token Expr
-equivalence closed under = chain is_equivalence goes_on_disjunction (disjunction closed under)
+equivalence closed under = chain is_equivalence goes_on_conditional (conditional closed under)
 
 -- "->" associates to the right: its right side is a whole expression, one level deeper
 unfoldable pub implication : Bool → Phrases → Form Token Expr
@@ -124,15 +140,19 @@ implication closed under =
 
 -- the same phrases, with these tokens for what they begin with and what goes on them
 abbrev pub known : Phrases → Phrases
-known p = record { expression = named begins_operand goes_on_expression p.expression; operand = named begins_operand no_token p.operand }
+known p = record {
+  expression = named begins_operand goes_on_expression p.expression;
+  conditional = named begins_operand goes_on_conditional p.conditional;
+  operand = named begins_operand goes_on_operand p.operand;
+}
 
 -- under the last level of all only TRUE is asked for
 abbrev pub deepest : Phrases
-deepest = let t : Form Token Expr = to leaf_of (token false (is_kind kind.True)) in record { expression = t; operand = t }
+deepest = let t : Form Token Expr = to constant_of (just kind.True) in record { expression = t; conditional = t; operand = t }
 
 -- the phrases over those of the level below; where it is closed, no level may be opened
 abbrev pub over : Bool → Phrases → Phrases
-over closed under = let p = known under in record { expression = implication closed p; operand = operand closed p }
+over closed under = let p = known under in record { expression = implication closed p; conditional = conditional closed p; operand = operand closed p }
 
 abbrev pub is_zero : ℕ → Bool
 is_zero zero = true

@@ -1,3 +1,4 @@
+pub mod Names
 pub mod Expressions
 pub mod Programs
 pub mod Ranks

@@ -1,5 +1,5 @@
 -- Modules and their sections (NuSMV 2.6 User Manual, 2.3), as far as the language goes today.
-use Rattle.std.specs.Prelude.{ℕ, false, List, [], ◌∷◌, Option, None, Some}
+use Rattle.std.specs.Prelude.{ℕ, Bool, false, ◌||◌, List, [], ◌∷◌, Option, None, Some}
 use Rattle.phrase_forms.specs.Forms.{Form, token, or, maybe, many, to, ◌⨾◌, ◌▹◌, ◌◃◌}
 use Rattle.smv_tree.specs.declared.place.Place.{Place}
 use Rattle.smv_tree.specs.declared.token.Token.{Token}
@@ -11,6 +11,9 @@ use Rattle.smv_tree.specs.declared.tree.Parameter.{Parameter}
 use Rattle.smv_tree.specs.declared.tree.Section.{Section}
 use Rattle.smv_tree.specs.declared.tree.Section.TheVariants as section
 use Rattle.smv_tree.specs.declared.tree.Variable.{Variable}
+use Rattle.smv_tree.specs.declared.tree.VariableKind.{VariableKind}
+use Rattle.smv_tree.specs.declared.tree.VariableKind.TheVariants as variable
+use Rattle.smv_tree.specs.declared.tree.Definition.{Definition}
 use Rattle.smv_tree.specs.declared.tree.TypeExpr.{TypeExpr}
 use Rattle.smv_tree.specs.declared.tree.TypeExpr.TheVariants as type
 use Rattle.smv_tree.specs.declared.tree.Assignment.{Assignment}
@@ -21,32 +24,33 @@ use Rattle.smv_tree.specs.declared.tree.ConstraintKind.TheVariants as asked
 use Rattle.smv_tree.specs.declared.tree.SpecificationKind.TheVariants as claim
 use Rattle.smv_tree.specs.declared.tree.Expr.{Expr}
 use Rattle.smv_tree.specs.declared.tree.Expr.TheVariants as expr
-use Rattle.smv_tree.specs.Kinds.{is_identifier}
-use Rattle.smv_parse.specs.Expressions.{just, expression_within, most_levels}
+use Rattle.smv_tree.specs.Kinds.{is_kind}
+use Rattle.smv_parse.specs.Names.{just, identifier, name, place_of}
+use Rattle.smv_parse.specs.Expressions.{expression_within, most_levels}
 
 -- the expressions of a section: all levels may be opened in them, and then `past` that are too many
 abbrev pub expression : ℕ → Form Token Expr
 expression past = expression_within past most_levels
 
-abbrev pub identifier : Form Token Token
-identifier = token false is_identifier
+-- "," phrase
+abbrev pub further : {A : Type 0} → Form Token A → Form Token A
+further phrase = just kind.Comma ▹ phrase
 
--- an identifier as an expression
-abbrev pub name_of : Token → Expr
-name_of t = expr.Name t.place t.text
+-- phrases with commas between them
+abbrev pub listed : {A : Type 0} → Form Token A → Form Token (List A)
+listed phrase = to (λ x. x.0 ∷ x.1) (phrase ⨾ many (further phrase))
 
-abbrev pub nothing_or : {A : Type 0} → Option A → List A
-nothing_or None = []
-nothing_or (Some x) = x ∷ []
+abbrev pub or_none : {A : Type 0} → Option (List A) → List A
+or_none None = []
+or_none (Some xs) = xs
 
--- in parentheses, or nothing
-abbrev pub maybe_in : {A : Type 0} → Option (Option A) → List A
-maybe_in None = []
-maybe_in (Some x) = nothing_or x
+-- phrases with commas between them, or none
+abbrev pub maybe_listed : {A : Type 0} → Form Token A → Form Token (List A)
+maybe_listed phrase = to or_none (maybe (listed phrase))
 
--- "(" .. ")", with one phrase or none in it, or nothing
+-- those in parentheses; or nothing
 abbrev pub bracketed : {A : Type 0} → Form Token A → Form Token (List A)
-bracketed phrase = to maybe_in (maybe (just kind.LeftParen ▹ maybe phrase ◃ just kind.RightParen))
+bracketed phrase = to or_none (maybe (just kind.LeftParen ▹ maybe_listed phrase ◃ just kind.RightParen))
 
 -- the parentheses of an instance open a level
 abbrev pub under_one : ℕ
@@ -59,13 +63,30 @@ instance_type past = to (λ x. type.Instance x.0.place x.0.text x.1) (identifier
 unfoldable pub written_type : ℕ → Form Token TypeExpr
 written_type past = or (to (λ t. type.Boolean t.place) (just kind.Boolean)) (instance_type past)
 
--- name ":" type ";"
+-- identifier ":" type ";"
 unfoldable pub declaration : ℕ → Form Token Variable
 declaration past = to (λ x. record { place = x.0.place; name = x.0.text; declared = x.1 }) (identifier ⨾ just kind.Colon ▹ written_type past ◃ just kind.Semicolon)
 
--- "VAR" and its declarations
+-- "VAR", "IVAR" or "FROZENVAR"
+abbrev pub declares : Token → Bool
+declares t = is_kind kind.Var t || is_kind kind.Ivar t || is_kind kind.FrozenVar t
+
+abbrev pub kind_declared : TokenKind → VariableKind
+kind_declared kind.Ivar = variable.Input
+kind_declared kind.FrozenVar = variable.Frozen
+kind_declared other = variable.State
+
+-- one of those words, and declarations
 unfoldable pub variables : ℕ → Form Token Section
-variables past = to section.Variables (just kind.Var ▹ many (declaration past))
+variables past = to (λ x. section.Variables (kind_declared x.0.kind) x.1) (token false declares ⨾ many (declaration past))
+
+-- identifier ":=" expression ";"
+unfoldable pub definition : ℕ → Form Token Definition
+definition past = to (λ x. record { place = x.0.place; name = x.0.text; body = x.1 }) (identifier ⨾ just kind.Becomes ▹ expression past ◃ just kind.Semicolon)
+
+-- "DEFINE" and its definitions
+unfoldable pub definitions : ℕ → Form Token Section
+definitions past = to section.Definitions (just kind.Define ▹ many (definition past))
 
 -- the left side of an assignment: its place, what it speaks of, and the variable
 abbrev pub Left : Type 0
@@ -73,11 +94,11 @@ Left = Place × AssignmentKind × Expr
 
 -- keyword "(" name ")"
 abbrev pub sided : TokenKind → AssignmentKind → Form Token Left
-sided keyword which = to (λ x. (x.0.place, which, name_of x.1)) (just keyword ⨾ just kind.LeftParen ▹ identifier ◃ just kind.RightParen)
+sided keyword which = to (λ x. (x.0.place, which, expr.Name x.1)) (just keyword ⨾ just kind.LeftParen ▹ name ◃ just kind.RightParen)
 
 -- name, "init" "(" name ")", or "next" "(" name ")"
 unfoldable pub left_side : Form Token Left
-left_side = or (to (λ t. (t.place, side.Current, name_of t)) identifier) (or (sided kind.Init side.Init) (sided kind.Next side.Next))
+left_side = or (to (λ n. (place_of n, side.Current, expr.Name n)) name) (or (sided kind.Init side.Init) (sided kind.Next side.Next))
 
 -- left ":=" expression ";"
 unfoldable pub assignment : ℕ → Form Token Assignment
@@ -92,11 +113,22 @@ assignments past = to section.Assignments (just kind.Assign ▹ many (assignment
 unfoldable pub formula : ℕ → Form Token Expr
 formula past = expression past ◃ maybe (just kind.Semicolon)
 
--- keyword expression
-unfoldable pub constraint : TokenKind → ConstraintKind → ℕ → Form Token Section
-constraint keyword which past = to (λ x. section.Constraint (record { place = x.0.place; kind = which; formula = x.1 })) (just keyword ⨾ formula past)
+-- "INIT", "INVAR", "TRANS", "JUSTICE" or "FAIRNESS"
+abbrev pub constrains : Token → Bool
+constrains t = is_kind kind.InitSection t || is_kind kind.Invar t || is_kind kind.Trans t || is_kind kind.Justice t || is_kind kind.Fairness t
 
--- "NAME" name ":=", which has no effect
+-- "JUSTICE" and "FAIRNESS" say the same
+abbrev pub kind_asked : TokenKind → ConstraintKind
+kind_asked kind.InitSection = asked.Init
+kind_asked kind.Invar = asked.Invar
+kind_asked kind.Trans = asked.Trans
+kind_asked other = asked.Justice
+
+-- one of those words, and a formula
+unfoldable pub constraint : ℕ → Form Token Section
+constraint past = to (λ x. section.Constraint (record { place = x.0.place; kind = kind_asked x.0.kind; formula = x.1 })) (token false constrains ⨾ formula past)
+
+-- "NAME" identifier ":=", which has no effect
 unfoldable pub given_name : Form Token Token
 given_name = just kind.Name ▹ identifier ◃ just kind.Becomes
 
@@ -106,16 +138,15 @@ specification past =
     to (λ x. section.Specification (record { place = x.0.place; kind = claim.Invariant; formula = x.1 })) (just kind.Invarspec ⨾ maybe given_name ▹ formula past)
 
 unfoldable pub section_form : ℕ → Form Token Section
-section_form past =
-    or (variables past) (or (assignments past) (or (constraint kind.InitSection asked.Init past) (or (constraint kind.Trans asked.Trans past) (specification past))))
+section_form past = or (variables past) (or (definitions past) (or (assignments past) (or (constraint past) (specification past))))
 
 abbrev pub parameter_of : Token → Parameter
 parameter_of t = record { place = t.place; name = t.text }
 
--- "MODULE" name, its parameters and its sections
+-- "MODULE", an identifier, its parameters and its sections
 unfoldable pub module_form : ℕ → Form Token Module
 module_form past =
-    to (λ x. record { place = x.0.place; name = x.1.0.text; parameters = x.1.1.0; sections = x.1.1.1 })
+    to (λ x. record { place = x.0.place; name_place = x.1.0.place; name = x.1.0.text; parameters = x.1.1.0; sections = x.1.1.1 })
     (just kind.Module ⨾ identifier ⨾ bracketed (to parameter_of identifier) ⨾ many (section_form past))
 
 -- a program: its modules

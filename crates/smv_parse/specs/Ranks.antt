@@ -1,13 +1,13 @@
 -- The levels of precedence whose operators stand between any number of operands.
 use Rattle.std.specs.Prelude.{ℕ, Bool, false, List}
-use Rattle.phrase_forms.specs.Forms.{Form, token, many, to, named, no_token, ◌⨾◌}
+use Rattle.phrase_forms.specs.Forms.{Form, token, many, to, named, ◌⨾◌}
 use Rattle.smv_tree.specs.declared.place.Place.{Place}
 use Rattle.smv_tree.specs.declared.token.Token.{Token}
 use Rattle.smv_tree.specs.declared.tree.ChainOperator.{ChainOperator}
 use Rattle.smv_tree.specs.declared.tree.Expr.{Expr}
 use Rattle.smv_parse.specs.declared.expressions.Rank.{Rank}
 use Rattle.smv_parse.specs.declared.expressions.Rank.TheVariants as rank
-use Rattle.smv_parse.specs.Expressions.{Phrases, begins_operand, is_equality, is_conjunction, is_disjunction, is_equivalence, goes_on_equality, goes_on_conjunction, goes_on_disjunction, link_of, operand, equality, conjunction, disjunction, equivalence, known, is_zero, phrases}
+use Rattle.smv_parse.specs.Expressions.{Phrases, begins_operand, is_equality, is_conjunction, is_disjunction, is_equivalence, goes_on_operand, goes_on_equality, goes_on_conjunction, goes_on_conditional, link_of, operand, equality, conjunction, disjunction, conditional, equivalence, known, is_zero, phrases}
 
 -- the operators of a rank
 abbrev pub is_operator_of : Rank → Token → Bool
@@ -18,10 +18,10 @@ is_operator_of rank.Equivalence = is_equivalence
 
 -- the tokens that go on an operand of a rank
 abbrev pub goes_on_operand_of : Rank → Token → Bool
-goes_on_operand_of rank.Equality = no_token
+goes_on_operand_of rank.Equality = goes_on_operand
 goes_on_operand_of rank.Conjunction = goes_on_equality
 goes_on_operand_of rank.Disjunction = goes_on_conjunction
-goes_on_operand_of rank.Equivalence = goes_on_disjunction
+goes_on_operand_of rank.Equivalence = goes_on_conditional
 
 -- the phrases under a level, where so many levels may be opened
 abbrev pub under : ℕ → Phrases
@@ -32,7 +32,7 @@ unfoldable pub operand_within : Rank → ℕ → Form Token Expr
 operand_within rank.Equality room = operand (is_zero room) (under room)
 operand_within rank.Conjunction room = equality (is_zero room) (under room)
 operand_within rank.Disjunction room = conjunction (is_zero room) (under room)
-operand_within rank.Equivalence room = disjunction (is_zero room) (under room)
+operand_within rank.Equivalence room = conditional (is_zero room) (under room)
 
 -- a phrase of a rank
 unfoldable pub phrase_within : Rank → ℕ → Form Token Expr

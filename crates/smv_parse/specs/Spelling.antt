@@ -21,12 +21,19 @@ use Rattle.smv_parse.specs.Programs.{program}
 abbrev pub is_in_use : TokenKind → Bool
 is_in_use kind.Module = true
 is_in_use kind.Var = true
+is_in_use kind.Ivar = true
+is_in_use kind.FrozenVar = true
+is_in_use kind.Define = true
 is_in_use kind.Assign = true
 is_in_use kind.InitSection = true
+is_in_use kind.Invar = true
 is_in_use kind.Trans = true
+is_in_use kind.Justice = true
+is_in_use kind.Fairness = true
 is_in_use kind.Invarspec = true
 is_in_use kind.Name = true
 is_in_use kind.Boolean = true
+is_in_use kind.SelfName = true
 is_in_use kind.Init = true
 is_in_use kind.Next = true
 is_in_use kind.True = true
@@ -40,14 +47,17 @@ is_in_use kind.Min = true
 is_in_use kind.Count = true
 is_in_use kind.LeftParen = true
 is_in_use kind.RightParen = true
+is_in_use kind.Comma = true
 is_in_use kind.Semicolon = true
 is_in_use kind.Colon = true
+is_in_use kind.Dot = true
 is_in_use kind.Becomes = true
 is_in_use kind.Equal = true
 is_in_use kind.NotEqual = true
 is_in_use kind.Not = true
 is_in_use kind.And = true
 is_in_use kind.Or = true
+is_in_use kind.Question = true
 is_in_use kind.Implies = true
 is_in_use kind.Iff = true
 is_in_use other = false
@@ -56,19 +66,18 @@ is_in_use other = false
 abbrev pub names_function : Token → Bool
 names_function t = is_kind kind.Abs t || is_kind kind.Max t || is_kind kind.Min t || is_kind kind.Count t
 
--- The token goes beyond the language: it has no place in it, names a function of integers, or begins a second module. The
--- tokens behind it are given, and whether a module begins before it.
-abbrev pub is_unsupported : Bool → Token → List Token → Bool
-is_unsupported begun t rest = not (is_in_use t.kind) || (names_function t && head (is_kind kind.LeftParen) rest) || (begun && is_kind kind.Module t)
+-- The token goes beyond the language: it has no place in it, or names a function of integers. The tokens behind it are given.
+abbrev pub is_unsupported : Token → List Token → Bool
+is_unsupported t rest = not (is_in_use t.kind) || (names_function t && head (is_kind kind.LeftParen) rest)
 
 -- the first token that goes beyond the language
-unfoldable pub first_unsupported : Bool → List Token → Option Token
-first_unsupported begun [] = None
-first_unsupported begun (t ∷ ts) = if is_unsupported begun t ts then Some t else first_unsupported (begun || is_kind kind.Module t) ts
+unfoldable pub first_unsupported : List Token → Option Token
+first_unsupported [] = None
+first_unsupported (t ∷ ts) = if is_unsupported t ts then Some t else first_unsupported ts
 
 -- the tokens spell the program, and none goes beyond the language
 pub record IsSpelling (tokens : List Token) (p : Program) : Type 0 where
-  pub supported : first_unsupported false tokens ≡ None
+  pub supported : first_unsupported tokens ≡ None
   pub spelled : SpellsWithin program 0 tokens p
 
 -- the place of the first token, or of the end
@@ -106,7 +115,7 @@ IsRefusedFor (Some t) tokens refusal = refusal ≡ unsupported_refusal t
 IsRefusedFor None tokens refusal = IsFaulty tokens refusal
 
 abbrev pub IsRefusedTokens : Tokens → Refusal → Type 0
-IsRefusedTokens tokens refusal = IsRefusedFor (first_unsupported false tokens.items) tokens refusal
+IsRefusedTokens tokens refusal = IsRefusedFor (first_unsupported tokens.items) tokens refusal
 
 -- the tokens are refused so, or memory was
 abbrev pub IsParseStop : Tokens → TextStop → Type 0

@@ -1,16 +1,19 @@
 //! Expressions, read from the front of tokens (NuSMV 2.6 User Manual, 2.2).
 
-ghost use Rattle.std.specs.Prelude.{◌≡◌, false, IfOk};
-ghost use Rattle.phrase_forms.specs.Forms.{Form, token, to, head};
-ghost use Rattle.smv_parse.specs.Expressions.{is_leaf, leaf_of, operator_of, parenthesised, primary, operand, implication, is_zero, expression_within};
+ghost use Rattle.std.specs.Prelude.{◌≡◌, false};
+ghost use Rattle.phrase_forms.specs.Forms.{token, to, head};
+ghost use Rattle.smv_tree.specs.declared.tree.Expr.TheVariants as expr;
+ghost use Rattle.smv_parse.specs.Names.{name};
+ghost use Rattle.smv_parse.specs.Expressions.{is_constant, constant_of, begins_operand, operator_of, parenthesised, primary, operand, chosen_by, branches, conditional, is_zero, expression_within};
 ghost use Rattle.smv_parse.specs.Ranks.{is_operator_of, operand_within, phrase_within, under, link_within, links_within};
 ghost use Rattle.smv_parse.specs.Reading.{Gives};
 
-use crate::reading::{Stop, begins, is_identifier, is_kind, just, opening};
+use crate::names::{begins_name, name};
+use crate::reading::{Stop, begins, is_kind, just, opening};
 use phrase_forms::Fault;
 use smv_tree::{ChainOperator, Expr, Place, Token, TokenKind};
 use sqlite_items::{Boxed, Items};
-use std::alloc::{AllocError, Global};
+use std::alloc::Global;
 
 /// A level of precedence whose operators stand between any number of operands, from the tightest on.
 #[derive(Clone, Copy, Debug, PartialEq, Eq)]
@@ -83,32 +86,37 @@ fn is_closed(room: usize) -> bool
     room == 0
 }
 
-/// Whether the token is a constant or a name.
-fn is_leaf(token: &Token) -> bool
-    ensures { result ≡ is_leaf token.now }
+/// Whether the token is `TRUE` or `FALSE`.
+fn is_constant(token: &Token) -> bool
+    ensures { result ≡ is_constant token.now }
 {
-    is_kind(TokenKind::True, token) || is_kind(TokenKind::False, token) || is_identifier(token)
+    is_kind(TokenKind::True, token) || is_kind(TokenKind::False, token)
 }
 
-/// The constant or the name that the token is.
-fn leaf_of(alloc: Global, token: &Token) -> Result<Expr, AllocError>
-    ensures { IfOk result (λ e. e ≡ leaf_of token.now) }
+/// The constant that the token is.
+fn constant_of(token: &Token) -> Expr
+    ensures { result ≡ constant_of token.now }
 {
-    if is_identifier(token) {
-        Ok(Expr::Name(token.place, token.text.copy(alloc)?))
-    } else {
-        Ok(Expr::Bool(token.place, is_kind(TokenKind::True, token)))
-    }
+    Expr::Bool(token.place, is_kind(TokenKind::True, token))
 }
 
-/// A constant or a name.
-fn leaf<'a>(alloc: Global, tokens: &'a [Token]) -> Result<(Expr, &'a [Token]), Stop<'a>>
-    ensures { Gives (λ x. (x.0, x.1.now)) result ((to leaf_of (token false is_leaf)).parse tokens.now) }
+/// Whether an expression begins with this token.
+pub fn begins_operand(token: &Token) -> bool
+    ensures { result ≡ begins_operand token.now }
 {
-    match tokens {
-        [first, rest @ ..] if is_leaf(first) => Ok((leaf_of(alloc, first)?, rest)),
-        _ => Err(Stop::Refused(Fault::Unexpected, tokens)),
-    }
+    is_constant(token)
+        || begins_name(token)
+        || is_kind(TokenKind::LeftParen, token)
+        || is_kind(TokenKind::Next, token)
+        || is_kind(TokenKind::Not, token)
+}
+
+/// A name.
+fn named<'a>(alloc: Global, tokens: &'a [Token]) -> Result<(Expr, &'a [Token]), Stop<'a>>
+    ensures { Gives (λ x. (x.0, x.1.now)) result ((to expr.Name name).parse tokens.now) }
+{
+    let (name, tokens) = name(alloc, tokens)?;
+    Ok((Expr::Name(name), tokens))
 }
 
 /// `(` expression `)`
@@ -127,9 +135,9 @@ fn parenthesised<'a>(
     Ok((inner, tokens))
 }
 
-/// A constant, a name, `(` expression `)`, or `next` `(` expression `)`.
+/// `TRUE`, `FALSE`, a name, `(` expression `)`, or `next` `(` expression `)`.
 #[cycle(expressions)]
-#[tactic(auto, unfolding(crate::specs::Expressions::primary))]
+#[tactic(auto, unfolding(crate::specs::Expressions::primary, crate::specs::Names::name))]
 fn primary<'a>(
     alloc: Global,
     room: usize,
@@ -138,7 +146,8 @@ fn primary<'a>(
     ensures { Gives (λ x. (x.0, x.1.now)) result ((primary (is_zero room) (under room)).parse tokens.now) }
 {
     match tokens {
-        [first, ..] if is_leaf(first) => leaf(alloc, tokens),
+        [first, rest @ ..] if is_constant(first) => Ok((constant_of(first), rest)),
+        [first, ..] if begins_name(first) => named(alloc, tokens),
         [first, ..] if is_kind(TokenKind::LeftParen, first) => parenthesised(alloc, room, tokens),
         _ => {
             let (next, tokens) = just(TokenKind::Next, tokens)?;
@@ -168,7 +177,7 @@ fn operand<'a>(
     Ok((Expr::Not(not.place, denied), tokens))
 }
 
-/// An operand of the rank: a phrase of the rank below.
+/// An operand of the rank: a phrase of the rank below, where a conditional stands below an equivalence.
 #[cycle(expressions)]
 #[tactic(auto, unfolding(crate::specs::Ranks::operand_within, crate::specs::Ranks::phrase_within))]
 fn operand_of<'a>(
@@ -183,7 +192,7 @@ fn operand_of<'a>(
         Rank::Equality => operand(alloc, room, tokens),
         Rank::Conjunction => phrase_of(alloc, Rank::Equality, room, tokens),
         Rank::Disjunction => phrase_of(alloc, Rank::Conjunction, room, tokens),
-        Rank::Equivalence => phrase_of(alloc, Rank::Disjunction, room, tokens),
+        Rank::Equivalence => conditional(alloc, room, tokens),
     }
 }
 
@@ -244,9 +253,63 @@ fn phrase_of<'a>(
     Ok((Expr::Chain(first, links), tokens))
 }
 
+/// `?` expression `:` conditional
+#[cycle(expressions)]
+#[tactic(auto, using(crate::proofs::Conditionals::branches_read))]
+fn branches<'a>(
+    alloc: Global,
+    room: usize,
+    tokens: &'a [Token],
+) -> Result<((&'a Token, Expr, Expr), &'a [Token]), Stop<'a>>
+    ensures { Gives (λ x. ((x.0.0.now, (x.0.1, x.0.2)), x.1.now)) result ((branches (is_zero room) (under room)).parse tokens.now) }
+{
+    let (question, tokens) = opening(is_closed(room), TokenKind::Question, tokens)?;
+    let under = room - 1;
+    let (first, tokens) = expression(alloc, under, tokens)?;
+    let (_, tokens) = just(TokenKind::Colon, tokens)?;
+    let (second, tokens) = conditional(alloc, under, tokens)?;
+    Ok(((question, first, second), tokens))
+}
+
+/// The branches of this condition.
+#[cycle(expressions)]
+fn chosen<'a>(
+    alloc: Global,
+    room: usize,
+    condition: Expr,
+    tokens: &'a [Token],
+) -> Result<(Expr, &'a [Token]), Stop<'a>>
+    ensures { Gives (λ x. (x.0, x.1.now)) result ((to (chosen_by condition) (branches (is_zero room) (under room))).parse tokens.now) }
+{
+    let ((question, first, second), tokens) = branches(alloc, room, tokens)?;
+    let condition = Boxed::new(alloc, condition)?;
+    let first = Boxed::new(alloc, first)?;
+    let second = Boxed::new(alloc, second)?;
+    let chosen = Expr::Conditional(question.place, condition, first, second);
+    Ok((chosen, tokens))
+}
+
+/// A condition, and its branches where a `?` stands behind it.
+#[cycle(expressions)]
+#[tactic(auto, using(crate::proofs::Conditionals::conditional_reads))]
+fn conditional<'a>(
+    alloc: Global,
+    room: usize,
+    tokens: &'a [Token],
+) -> Result<(Expr, &'a [Token]), Stop<'a>>
+    ensures { Gives (λ x. (x.0, x.1.now)) result ((conditional (is_zero room) (under room)).parse tokens.now) }
+{
+    let (condition, tokens) = phrase_of(alloc, Rank::Disjunction, room, tokens)?;
+    if begins(TokenKind::Question, tokens) {
+        chosen(alloc, room, condition, tokens)
+    } else {
+        Ok((condition, tokens))
+    }
+}
+
 /// The expression at the front of the tokens, and the tokens behind it (NuSMV 2.6 User Manual, 2.2, Expressions). At most
-/// `room` levels are open at one place in it: each parenthesis, each `!` and the right side of each `->` opens one, so `->`
-/// associates to the right.
+/// `room` levels are open at one place in it: each parenthesis, each `!`, what stands behind each `?` and the right side of
+/// each `->` opens one, so `? :` and `->` associate to the right.
 ///
 /// It is refused as unexpected from the first token with which the tokens no longer begin an expression, or from their
 /// end; as too deep from the first token that opens a level too many. Memory may be refused at any time.

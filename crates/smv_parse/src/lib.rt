@@ -3,9 +3,11 @@
 
 mod expressions;
 mod laws;
+mod names;
 mod parsing;
 mod programs;
 mod reading;
+mod types;
 mod unsupported;
 
 pub use laws::is_parsed_once;

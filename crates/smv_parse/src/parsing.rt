@@ -87,7 +87,7 @@ fn unsupported_refusal(alloc: Global, token: &Token) -> Result<Refusal, AllocErr
 ///
 /// Tokens that spell no program are refused at one place:
 /// - `Unsupported`: the first token that goes beyond the language, whatever stands before it. It has no place in the
-///   language, names a function of integers before `(`, or begins a second module. Its text is the detail.
+///   language, or names a function of integers before `(`. Its text is the detail.
 /// - `Unexpected`, where none does: the first token with which the tokens no longer begin a program of any depth; its
 ///   text is the detail. Where they begin one and end too early, the end, with the detail `end`.
 /// - `TooDeep`, where none does: the first token that opens a 257th level, if the tokens up to it begin a program of

@@ -1,26 +1,26 @@
-//! Declarations, sections, modules and programs, read from the front of tokens (NuSMV 2.6 User Manual, 2.3).
+//! Sections, modules and programs, read from the front of tokens (NuSMV 2.6 User Manual, 2.3).
 
-ghost use Rattle.std.specs.Prelude.{◌≡◌, IfOk};
-ghost use Rattle.phrase_forms.specs.Forms.{many, maybe, to, head};
+ghost use Rattle.std.specs.Prelude.{◌≡◌, false, IfOk};
+ghost use Rattle.phrase_forms.specs.Forms.{token, many, maybe, to, head};
 ghost use Rattle.std.specs.Option.{option_copied};
-ghost use Rattle.smv_parse.specs.Expressions.{begins_operand, expression_within};
-ghost use Rattle.smv_parse.specs.Programs.{expression, identifier, name_of, nothing_or, bracketed, under_one, instance_type, written_type, declaration, variables, sided, left_side, assignment, assignments, formula, constraint, given_name, specification, section_form, parameter_of, module_form, program};
+ghost use Rattle.smv_parse.specs.Names.{identifier};
+ghost use Rattle.smv_parse.specs.Programs.{expression, further, listed, maybe_listed, bracketed, definition, definitions, sided, left_side, assignment, assignments, formula, constrains, kind_asked, constraint, given_name, specification, section_form, parameter_of, module_form, program};
 ghost use Rattle.smv_parse.specs.Reading.{Gives};
 
 use crate::expressions;
+use crate::names::{begins_name, name, place_of};
 use crate::reading::{Stop, begins, identifier, is_identifier, is_kind, just};
+use crate::types::{declares, variables};
+use phrase_forms::Fault;
 use smv_tree::{
-    Assignment, AssignmentKind, Constraint, ConstraintKind, Expr, Module, Parameter, Place,
-    Program, Section, Specification, SpecificationKind, Token, TokenKind, TypeExpr, Variable,
+    Assignment, AssignmentKind, Constraint, ConstraintKind, Definition, Expr, Module, Parameter,
+    Place, Program, Section, Specification, SpecificationKind, Token, TokenKind,
 };
 use sqlite_items::Items;
 use std::alloc::{AllocError, Global};
 
 /// So many levels may be open in the expression of a section.
 const MOST_LEVELS: usize = 256;
-
-/// So many may be open between the parentheses of an instance, which are a level themselves.
-const UNDER_ONE: usize = 255;
 
 /// The left side of an assignment: its place, what it speaks of, and the variable.
 type Left = (Place, AssignmentKind, Expr);
@@ -32,112 +32,27 @@ fn expression<'a>(alloc: Global, tokens: &'a [Token]) -> Result<(Expr, &'a [Toke
     expressions::expression(alloc, MOST_LEVELS, tokens)
 }
 
-/// The identifier as an expression.
-fn name_of(alloc: Global, token: &Token) -> Result<Expr, AllocError>
-    ensures { IfOk result (λ e. e ≡ name_of token.now) }
-{
-    Ok(Expr::Name(token.place, token.text.copy(alloc)?))
-}
-
-/// Whether an expression begins with this token.
-fn begins_operand(token: &Token) -> bool
-    ensures { result ≡ begins_operand token.now }
-{
-    is_kind(TokenKind::True, token)
-        || is_kind(TokenKind::False, token)
-        || is_identifier(token)
-        || is_kind(TokenKind::LeftParen, token)
-        || is_kind(TokenKind::Next, token)
-        || is_kind(TokenKind::Not, token)
-}
-
-/// What an instance is given between its parentheses: an expression, or nothing.
-#[tactic(auto, unfolding(crate::specs::Expressions::expression_within))]
-fn given<'a>(alloc: Global, tokens: &'a [Token]) -> Result<(Option<Expr>, &'a [Token]), Stop<'a>>
-    ensures { Gives (λ x. (x.0, x.1.now)) result ((maybe (expression_within 0 under_one)).parse tokens.now) }
-{
-    match tokens {
-        [first, ..] if begins_operand(first) => {
-            let (value, tokens) = expressions::expression(alloc, UNDER_ONE, tokens)?;
-            Ok((Some(value), tokens))
-        }
-        _ => Ok((None, tokens)),
-    }
-}
-
-/// The one that there is, or none.
-fn at_most_one<T: Drop>(alloc: Global, one: Option<T>) -> Result<Items<T>, AllocError>
-    ensures { IfOk result (λ all. all ≡ nothing_or one) }
-{
-    let mut all = Items::new(alloc);
-    if let Some(one) = one {
-        all.push(one)?;
-    }
-    Ok(all)
-}
-
-/// `(`, what an instance is given, and `)`; or nothing.
-fn arguments<'a>(alloc: Global, tokens: &'a [Token]) -> Result<(Items<Expr>, &'a [Token]), Stop<'a>>
-    ensures { Gives (λ x. (x.0, x.1.now)) result ((bracketed (expression_within 0 under_one)).parse tokens.now) }
-{
-    if !begins(TokenKind::LeftParen, tokens) {
-        return Ok((Items::new(alloc), tokens));
-    }
-    let (_, tokens) = just(TokenKind::LeftParen, tokens)?;
-    let (given, tokens) = given(alloc, tokens)?;
-    let (_, tokens) = just(TokenKind::RightParen, tokens)?;
-    let arguments = at_most_one(alloc, given)?;
-    Ok((arguments, tokens))
-}
-
-/// The name of a module, and what the instance is given.
-#[tactic(auto, unfolding(crate::specs::Programs::instance_type))]
-fn instance_type<'a>(
-    alloc: Global,
-    tokens: &'a [Token],
-) -> Result<(TypeExpr, &'a [Token]), Stop<'a>>
-    ensures { Gives (λ x. (x.0, x.1.now)) result ((instance_type 0).parse tokens.now) }
-{
-    let (module, tokens) = identifier(tokens)?;
-    let (arguments, tokens) = arguments(alloc, tokens)?;
-    let name = module.text.copy(alloc)?;
-    Ok((TypeExpr::Instance(module.place, name, arguments), tokens))
-}
-
-/// `boolean`, or an instance of a module.
-#[tactic(auto, unfolding(crate::specs::Programs::written_type))]
-fn written_type<'a>(alloc: Global, tokens: &'a [Token]) -> Result<(TypeExpr, &'a [Token]), Stop<'a>>
-    ensures { Gives (λ x. (x.0, x.1.now)) result ((written_type 0).parse tokens.now) }
-{
-    match tokens {
-        [first, rest @ ..] if is_kind(TokenKind::Boolean, first) => {
-            Ok((TypeExpr::Boolean(first.place), rest))
-        }
-        _ => instance_type(alloc, tokens),
-    }
-}
-
-/// Name `:` type `;`
-#[tactic(auto, unfolding(crate::specs::Programs::declaration))]
-fn declaration<'a>(alloc: Global, tokens: &'a [Token]) -> Result<(Variable, &'a [Token]), Stop<'a>>
-    ensures { Gives (λ x. (x.0, x.1.now)) result ((declaration 0).parse tokens.now) }
+/// Identifier `:=` expression `;`
+#[tactic(auto, unfolding(crate::specs::Programs::definition))]
+fn definition<'a>(alloc: Global, tokens: &'a [Token]) -> Result<(Definition, &'a [Token]), Stop<'a>>
+    ensures { Gives (λ x. (x.0, x.1.now)) result ((definition 0).parse tokens.now) }
 {
     let (name, tokens) = identifier(tokens)?;
-    let (_, tokens) = just(TokenKind::Colon, tokens)?;
-    let (declared, tokens) = written_type(alloc, tokens)?;
+    let (_, tokens) = just(TokenKind::Becomes, tokens)?;
+    let (body, tokens) = expression(alloc, tokens)?;
     let (_, tokens) = just(TokenKind::Semicolon, tokens)?;
-    let variable = Variable {
+    let definition = Definition {
         place: name.place,
         name: name.text.copy(alloc)?,
-        declared,
+        body,
     };
-    Ok((variable, tokens))
+    Ok((definition, tokens))
 }
 
-/// Whether a declaration begins here.
-#[tactic(auto, unfolding(crate::specs::Programs::declaration))]
-fn begins_declaration(tokens: &[Token]) -> bool
-    ensures { result ≡ head (declaration 0).first tokens.now }
+/// Whether a definition begins here.
+#[tactic(auto, unfolding(crate::specs::Programs::definition))]
+fn begins_definition(tokens: &[Token]) -> bool
+    ensures { result ≡ head (definition 0).first tokens.now }
 {
     match tokens {
         [first, ..] => is_identifier(first),
@@ -145,31 +60,31 @@ fn begins_declaration(tokens: &[Token]) -> bool
     }
 }
 
-/// As many declarations as there are.
-fn declarations<'a>(
+/// As many definitions as there are.
+fn many_definitions<'a>(
     alloc: Global,
     tokens: &'a [Token],
-) -> Result<(Items<Variable>, &'a [Token]), Stop<'a>>
-    ensures { Gives (λ x. (x.0, x.1.now)) result ((many (declaration 0)).parse tokens.now) }
+) -> Result<(Items<Definition>, &'a [Token]), Stop<'a>>
+    ensures { Gives (λ x. (x.0, x.1.now)) result ((many (definition 0)).parse tokens.now) }
 {
     let mut all = Items::new(alloc);
     let mut rest = tokens;
-    'phrases: while begins_declaration(rest) {
-        let (one, after) = declaration(alloc, rest)?;
+    'phrases: while begins_definition(rest) {
+        let (one, after) = definition(alloc, rest)?;
         all.push(one)?;
         rest = after;
     }
     Ok((all, rest))
 }
 
-/// `VAR` and its declarations.
-#[tactic(auto, unfolding(crate::specs::Programs::variables))]
-fn variables<'a>(alloc: Global, tokens: &'a [Token]) -> Result<(Section, &'a [Token]), Stop<'a>>
-    ensures { Gives (λ x. (x.0, x.1.now)) result ((variables 0).parse tokens.now) }
+/// `DEFINE` and its definitions.
+#[tactic(auto, unfolding(crate::specs::Programs::definitions))]
+fn definitions<'a>(alloc: Global, tokens: &'a [Token]) -> Result<(Section, &'a [Token]), Stop<'a>>
+    ensures { Gives (λ x. (x.0, x.1.now)) result ((definitions 0).parse tokens.now) }
 {
-    let (_, tokens) = just(TokenKind::Var, tokens)?;
-    let (declarations, tokens) = declarations(alloc, tokens)?;
-    Ok((Section::Variables(declarations), tokens))
+    let (_, tokens) = just(TokenKind::Define, tokens)?;
+    let (definitions, tokens) = many_definitions(alloc, tokens)?;
+    Ok((Section::Definitions(definitions), tokens))
 }
 
 /// Keyword `(` name `)`
@@ -183,21 +98,21 @@ fn sided<'a>(
 {
     let (first, tokens) = just(keyword, tokens)?;
     let (_, tokens) = just(TokenKind::LeftParen, tokens)?;
-    let (name, tokens) = identifier(tokens)?;
+    let (target, tokens) = name(alloc, tokens)?;
     let (_, tokens) = just(TokenKind::RightParen, tokens)?;
-    let target = name_of(alloc, name)?;
-    Ok(((first.place, kind, target), tokens))
+    Ok(((first.place, kind, Expr::Name(target)), tokens))
 }
 
 /// Name, `init` `(` name `)`, or `next` `(` name `)`.
-#[tactic(auto, unfolding(crate::specs::Programs::left_side))]
+#[tactic(auto, unfolding(crate::specs::Programs::left_side, crate::specs::Names::name))]
 fn left_side<'a>(alloc: Global, tokens: &'a [Token]) -> Result<(Left, &'a [Token]), Stop<'a>>
     ensures { Gives (λ x. (x.0, x.1.now)) result (left_side.parse tokens.now) }
 {
     match tokens {
-        [first, rest @ ..] if is_identifier(first) => {
-            let target = name_of(alloc, first)?;
-            Ok(((first.place, AssignmentKind::Current, target), rest))
+        [first, ..] if begins_name(first) => {
+            let (target, tokens) = name(alloc, tokens)?;
+            let place = place_of(&target);
+            Ok(((place, AssignmentKind::Current, Expr::Name(target)), tokens))
         }
         [first, ..] if is_kind(TokenKind::Init, first) => {
             sided(alloc, TokenKind::Init, AssignmentKind::Init, tokens)
@@ -225,15 +140,13 @@ fn assignment<'a>(alloc: Global, tokens: &'a [Token]) -> Result<(Assignment, &'a
 }
 
 /// Whether an assignment begins here.
-#[tactic(auto, unfolding(crate::specs::Programs::assignment, crate::specs::Programs::left_side))]
+#[tactic(auto, unfolding(crate::specs::Programs::assignment, crate::specs::Programs::left_side, crate::specs::Names::name))]
 fn begins_assignment(tokens: &[Token]) -> bool
     ensures { result ≡ head (assignment 0).first tokens.now }
 {
     match tokens {
         [first, ..] => {
-            is_identifier(first)
-                || is_kind(TokenKind::Init, first)
-                || is_kind(TokenKind::Next, first)
+            begins_name(first) || is_kind(TokenKind::Init, first) || is_kind(TokenKind::Next, first)
         }
         [] => false,
     }
@@ -278,27 +191,55 @@ fn formula<'a>(alloc: Global, tokens: &'a [Token]) -> Result<(Expr, &'a [Token])
     }
 }
 
-/// Keyword expression
-#[tactic(auto, unfolding(crate::specs::Programs::constraint))]
-fn constraint<'a>(
-    alloc: Global,
-    keyword: TokenKind,
-    kind: ConstraintKind,
-    tokens: &'a [Token],
-) -> Result<(Section, &'a [Token]), Stop<'a>>
-    ensures { Gives (λ x. (x.0, x.1.now)) result ((constraint keyword kind 0).parse tokens.now) }
+/// What a constraint behind this keyword speaks of.
+fn kind_asked(keyword: TokenKind) -> ConstraintKind
+    ensures { result ≡ kind_asked keyword }
 {
-    let (first, tokens) = just(keyword, tokens)?;
+    match keyword {
+        TokenKind::InitSection => ConstraintKind::Init,
+        TokenKind::Invar => ConstraintKind::Invar,
+        TokenKind::Trans => ConstraintKind::Trans,
+        _ => ConstraintKind::Justice,
+    }
+}
+
+/// Whether the token is `INIT`, `INVAR`, `TRANS`, `JUSTICE` or `FAIRNESS`.
+fn constrains(token: &Token) -> bool
+    ensures { result ≡ constrains token.now }
+{
+    is_kind(TokenKind::InitSection, token)
+        || is_kind(TokenKind::Invar, token)
+        || is_kind(TokenKind::Trans, token)
+        || is_kind(TokenKind::Justice, token)
+        || is_kind(TokenKind::Fairness, token)
+}
+
+/// `INIT`, `INVAR`, `TRANS`, `JUSTICE` or `FAIRNESS`.
+fn constraining(tokens: &[Token]) -> Result<(&Token, &[Token]), Stop<'_>>
+    ensures { Gives (λ x. (x.0.now, x.1.now)) result ((token false constrains).parse tokens.now) }
+{
+    match tokens {
+        [first, rest @ ..] if constrains(first) => Ok((first, rest)),
+        _ => Err(Stop::Refused(Fault::Unexpected, tokens)),
+    }
+}
+
+/// `INIT`, `INVAR`, `TRANS`, `JUSTICE` or `FAIRNESS`, and a formula.
+#[tactic(auto, unfolding(crate::specs::Programs::constraint))]
+fn constraint<'a>(alloc: Global, tokens: &'a [Token]) -> Result<(Section, &'a [Token]), Stop<'a>>
+    ensures { Gives (λ x. (x.0, x.1.now)) result ((constraint 0).parse tokens.now) }
+{
+    let (keyword, tokens) = constraining(tokens)?;
     let (formula, tokens) = formula(alloc, tokens)?;
     let constraint = Constraint {
-        place: first.place,
-        kind,
+        place: keyword.place,
+        kind: kind_asked(keyword.kind),
         formula,
     };
     Ok((Section::Constraint(constraint), tokens))
 }
 
-/// `NAME` name `:=`
+/// `NAME` identifier `:=`
 #[tactic(auto, unfolding(crate::specs::Programs::given_name))]
 fn given_name(tokens: &[Token]) -> Result<(&Token, &[Token]), Stop<'_>>
     ensures { Gives (λ x. (x.0.now, x.1.now)) result (given_name.parse tokens.now) }
@@ -340,34 +281,30 @@ fn specification<'a>(alloc: Global, tokens: &'a [Token]) -> Result<(Section, &'a
 }
 
 /// A section of a module.
-#[tactic(auto, unfolding(crate::specs::Programs::section_form, crate::specs::Programs::variables, crate::specs::Programs::assignments, crate::specs::Programs::constraint))]
+#[tactic(auto, unfolding(crate::specs::Programs::section_form, crate::specs::Programs::variables, crate::specs::Programs::definitions, crate::specs::Programs::assignments, crate::specs::Programs::constraint))]
 fn section<'a>(alloc: Global, tokens: &'a [Token]) -> Result<(Section, &'a [Token]), Stop<'a>>
     ensures { Gives (λ x. (x.0, x.1.now)) result ((section_form 0).parse tokens.now) }
 {
     match tokens {
-        [first, ..] if is_kind(TokenKind::Var, first) => variables(alloc, tokens),
+        [first, ..] if declares(first) => variables(alloc, tokens),
+        [first, ..] if is_kind(TokenKind::Define, first) => definitions(alloc, tokens),
         [first, ..] if is_kind(TokenKind::Assign, first) => assignments(alloc, tokens),
-        [first, ..] if is_kind(TokenKind::InitSection, first) => {
-            constraint(alloc, TokenKind::InitSection, ConstraintKind::Init, tokens)
-        }
-        [first, ..] if is_kind(TokenKind::Trans, first) => {
-            constraint(alloc, TokenKind::Trans, ConstraintKind::Trans, tokens)
-        }
+        [first, ..] if constrains(first) => constraint(alloc, tokens),
         _ => specification(alloc, tokens),
     }
 }
 
 /// Whether a section begins here.
-#[tactic(auto, unfolding(crate::specs::Programs::section_form, crate::specs::Programs::variables, crate::specs::Programs::assignments, crate::specs::Programs::constraint, crate::specs::Programs::specification))]
+#[tactic(auto, unfolding(crate::specs::Programs::section_form, crate::specs::Programs::variables, crate::specs::Programs::definitions, crate::specs::Programs::assignments, crate::specs::Programs::constraint, crate::specs::Programs::specification))]
 fn begins_section(tokens: &[Token]) -> bool
     ensures { result ≡ head (section_form 0).first tokens.now }
 {
     match tokens {
         [first, ..] => {
-            is_kind(TokenKind::Var, first)
+            declares(first)
+                || is_kind(TokenKind::Define, first)
                 || is_kind(TokenKind::Assign, first)
-                || is_kind(TokenKind::InitSection, first)
-                || is_kind(TokenKind::Trans, first)
+                || constrains(first)
                 || is_kind(TokenKind::Invarspec, first)
         }
         [] => false,
@@ -391,22 +328,59 @@ fn sections<'a>(
     Ok((all, rest))
 }
 
-/// A parameter of a module, or nothing.
-fn parameter<'a>(
+/// A parameter of a module.
+fn parameter<'a>(alloc: Global, tokens: &'a [Token]) -> Result<(Parameter, &'a [Token]), Stop<'a>>
+    ensures { Gives (λ x. (x.0, x.1.now)) result ((to parameter_of identifier).parse tokens.now) }
+{
+    let (named, tokens) = identifier(tokens)?;
+    let parameter = Parameter {
+        place: named.place,
+        name: named.text.copy(alloc)?,
+    };
+    Ok((parameter, tokens))
+}
+
+/// `,` parameter
+fn further_parameter<'a>(
     alloc: Global,
     tokens: &'a [Token],
-) -> Result<(Option<Parameter>, &'a [Token]), Stop<'a>>
-    ensures { Gives (λ x. (x.0, x.1.now)) result ((maybe (to parameter_of identifier)).parse tokens.now) }
+) -> Result<(Parameter, &'a [Token]), Stop<'a>>
+    ensures { Gives (λ x. (x.0, x.1.now)) result ((further (to parameter_of identifier)).parse tokens.now) }
+{
+    let (_, tokens) = just(TokenKind::Comma, tokens)?;
+    let (parameter, tokens) = parameter(alloc, tokens)?;
+    Ok((parameter, tokens))
+}
+
+/// Parameters with commas between them.
+fn listed_parameters<'a>(
+    alloc: Global,
+    tokens: &'a [Token],
+) -> Result<(Items<Parameter>, &'a [Token]), Stop<'a>>
+    ensures { Gives (λ x. (x.0, x.1.now)) result ((listed (to parameter_of identifier)).parse tokens.now) }
+{
+    let (first, tokens) = parameter(alloc, tokens)?;
+    let mut all = Items::new(alloc);
+    all.push(first)?;
+    let mut rest = tokens;
+    'phrases: while begins(TokenKind::Comma, rest) {
+        let (one, after) = further_parameter(alloc, rest)?;
+        all.push(one)?;
+        rest = after;
+    }
+    Ok((all, rest))
+}
+
+/// Parameters with commas between them, or nothing.
+fn maybe_parameters<'a>(
+    alloc: Global,
+    tokens: &'a [Token],
+) -> Result<(Items<Parameter>, &'a [Token]), Stop<'a>>
+    ensures { Gives (λ x. (x.0, x.1.now)) result ((maybe_listed (to parameter_of identifier)).parse tokens.now) }
 {
     match tokens {
-        [first, rest @ ..] if is_identifier(first) => {
-            let parameter = Parameter {
-                place: first.place,
-                name: first.text.copy(alloc)?,
-            };
-            Ok((Some(parameter), rest))
-        }
-        _ => Ok((None, tokens)),
+        [first, ..] if is_identifier(first) => listed_parameters(alloc, tokens),
+        _ => Ok((Items::new(alloc), tokens)),
     }
 }
 
@@ -421,13 +395,12 @@ fn parameters<'a>(
         return Ok((Items::new(alloc), tokens));
     }
     let (_, tokens) = just(TokenKind::LeftParen, tokens)?;
-    let (parameter, tokens) = parameter(alloc, tokens)?;
+    let (parameters, tokens) = maybe_parameters(alloc, tokens)?;
     let (_, tokens) = just(TokenKind::RightParen, tokens)?;
-    let parameters = at_most_one(alloc, parameter)?;
     Ok((parameters, tokens))
 }
 
-/// `MODULE`, a name, parameters and sections.
+/// `MODULE`, an identifier, parameters and sections.
 #[tactic(auto, unfolding(crate::specs::Programs::module_form))]
 fn module<'a>(alloc: Global, tokens: &'a [Token]) -> Result<(Module, &'a [Token]), Stop<'a>>
     ensures { Gives (λ x. (x.0, x.1.now)) result ((module_form 0).parse tokens.now) }
@@ -438,6 +411,7 @@ fn module<'a>(alloc: Global, tokens: &'a [Token]) -> Result<(Module, &'a [Token]
     let (sections, tokens) = sections(alloc, tokens)?;
     let module = Module {
         place: first.place,
+        name_place: name.place,
         name: name.text.copy(alloc)?,
         parameters,
         sections,

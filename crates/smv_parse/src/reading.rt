@@ -4,8 +4,7 @@ ghost use Rattle.std.specs.Prelude.{◌≡◌, false};
 ghost use Rattle.phrase_forms.specs.Forms.{head};
 ghost use Rattle.smv_tree.specs.Kinds.{is_kind, is_identifier};
 ghost use Rattle.smv_parse.specs.declared.reading.Stop.TheVariants.{NoMemory};
-ghost use Rattle.smv_parse.specs.Expressions.{just, opening};
-ghost use Rattle.smv_parse.specs.Programs.{identifier};
+ghost use Rattle.smv_parse.specs.Names.{just, opening, identifier};
 ghost use Rattle.smv_parse.specs.Reading.{Gives};
 
 use phrase_forms::Fault;

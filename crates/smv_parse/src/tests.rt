@@ -6,20 +6,27 @@ mod programs;
 use plain_text::Text;
 use smv_tree::{Place, Token, TokenKind};
 use sqlite_items::Items;
-use std::alloc::{AllocError, Global};
+use std::alloc::Global;
+use std::test::Fail;
 
 /// The kinds of the words that are no identifiers.
-const KINDS: [(&str, TokenKind); 32] = [
+const KINDS: [(&str, TokenKind); 40] = [
     ("MODULE", TokenKind::Module),
     ("VAR", TokenKind::Var),
     ("IVAR", TokenKind::Ivar),
+    ("FROZENVAR", TokenKind::FrozenVar),
+    ("DEFINE", TokenKind::Define),
     ("ASSIGN", TokenKind::Assign),
     ("INIT", TokenKind::InitSection),
+    ("INVAR", TokenKind::Invar),
     ("TRANS", TokenKind::Trans),
+    ("JUSTICE", TokenKind::Justice),
+    ("FAIRNESS", TokenKind::Fairness),
     ("INVARSPEC", TokenKind::Invarspec),
     ("NAME", TokenKind::Name),
     ("boolean", TokenKind::Boolean),
     ("integer", TokenKind::Unsupported),
+    ("self", TokenKind::SelfName),
     ("init", TokenKind::Init),
     ("next", TokenKind::Next),
     ("TRUE", TokenKind::True),
@@ -33,33 +40,30 @@ const KINDS: [(&str, TokenKind); 32] = [
     (",", TokenKind::Comma),
     (";", TokenKind::Semicolon),
     (":", TokenKind::Colon),
+    (".", TokenKind::Dot),
     (":=", TokenKind::Becomes),
     ("=", TokenKind::Equal),
     ("!=", TokenKind::NotEqual),
     ("!", TokenKind::Not),
     ("&", TokenKind::And),
     ("|", TokenKind::Or),
+    ("?", TokenKind::Question),
     ("->", TokenKind::Implies),
     ("<->", TokenKind::Iff),
     ("+", TokenKind::Plus),
 ];
 
-/// The kind that the table gives a word.
-fn kind_in(table: &[(&str, TokenKind)], word: &str) -> Option<TokenKind> {
-    for (written, kind) in table {
-        if *written == word {
-            return Some(*kind);
+fn kind_of(word: &str) -> TokenKind {
+    for (written, kind) in KINDS {
+        if written == word {
+            return kind;
         }
     }
-    None
-}
-
-fn kind_of(word: &str) -> TokenKind {
-    kind_in(&KINDS, word).unwrap_or(TokenKind::Identifier)
+    TokenKind::Identifier
 }
 
 /// A token of each word between spaces; its column is its number, from 1.
-fn tokens_of(alloc: Global, words: &str) -> Result<Items<Token>, AllocError> {
+fn tokens_of(alloc: Global, words: &str) -> Result<Items<Token>, Fail> {
     let mut tokens = Items::new(alloc);
     for word in words.split_whitespace() {
         let column = tokens.len().saturating_add(1);

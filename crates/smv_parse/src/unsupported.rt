@@ -1,6 +1,6 @@
 //! Tokens that go beyond the language.
 
-ghost use Rattle.std.specs.Prelude.{◌≡◌, false};
+ghost use Rattle.std.specs.Prelude.{◌≡◌};
 ghost use Rattle.std.specs.Option.{option_copied};
 ghost use Rattle.smv_parse.specs.Spelling.{is_in_use, names_function, is_unsupported, first_unsupported};
 
@@ -12,12 +12,19 @@ fn is_in_use(kind: TokenKind) -> bool
     ensures { result ≡ is_in_use kind }
 {
     match kind {
-        // The words of modules and sections.
+        // The words of modules and declarations.
         TokenKind::Module
         | TokenKind::Var
-        | TokenKind::Assign
-        | TokenKind::InitSection
+        | TokenKind::Ivar
+        | TokenKind::FrozenVar
+        | TokenKind::Define
+        | TokenKind::Assign => true,
+        // The words of constraints and specifications.
+        TokenKind::InitSection
+        | TokenKind::Invar
         | TokenKind::Trans
+        | TokenKind::Justice
+        | TokenKind::Fairness
         | TokenKind::Invarspec
         | TokenKind::Name => true,
         // The words of types and expressions.
@@ -33,10 +40,13 @@ fn is_in_use(kind: TokenKind) -> bool
         | TokenKind::Abs
         | TokenKind::Max
         | TokenKind::Min
-        | TokenKind::Count => true,
+        | TokenKind::Count
+        | TokenKind::SelfName
+        | TokenKind::Dot => true,
         // The symbols of sections.
         TokenKind::LeftParen
         | TokenKind::RightParen
+        | TokenKind::Comma
         | TokenKind::Semicolon
         | TokenKind::Colon
         | TokenKind::Becomes => true,
@@ -46,6 +56,7 @@ fn is_in_use(kind: TokenKind) -> bool
         | TokenKind::Not
         | TokenKind::And
         | TokenKind::Or
+        | TokenKind::Question
         | TokenKind::Implies
         | TokenKind::Iff => true,
         _ => false,
@@ -62,27 +73,23 @@ fn names_function(token: &Token) -> bool
         || is_kind(TokenKind::Count, token)
 }
 
-/// Whether the token goes beyond the language, before these tokens; `begun` says whether a module begins before it.
-fn is_unsupported(begun: bool, token: &Token, rest: &[Token]) -> bool
-    ensures { result ≡ is_unsupported begun token.now rest.now }
+/// Whether the token goes beyond the language, before these tokens.
+fn is_unsupported(token: &Token, rest: &[Token]) -> bool
+    ensures { result ≡ is_unsupported token.now rest.now }
 {
-    !is_in_use(token.kind)
-        || names_function(token) && begins(TokenKind::LeftParen, rest)
-        || begun && is_kind(TokenKind::Module, token)
+    !is_in_use(token.kind) || names_function(token) && begins(TokenKind::LeftParen, rest)
 }
 
 /// The first token that goes beyond the language.
 #[tactic(auto, unfolding(crate::specs::Spelling::first_unsupported))]
 pub fn first_unsupported(tokens: &[Token]) -> Option<&Token>
-    ensures { option_copied result ≡ first_unsupported false tokens.now }
+    ensures { option_copied result ≡ first_unsupported tokens.now }
 {
-    let mut begun = false;
     let mut rest = tokens;
     'tokens: while let [token, after @ ..] = rest {
-        if is_unsupported(begun, token, after) {
+        if is_unsupported(token, after) {
             return Some(token);
         }
-        begun = begun || is_kind(TokenKind::Module, token);
         rest = after;
     }
     None

@@ -3,7 +3,7 @@ use Rattle.std.specs.Prelude.{ℕ, List, [], ◌∷◌, ◌++◌, codes, Option,
 use Rattle.std.specs.Fmt.{decimal}
 use Rattle.smv_tree.specs.declared.place.Place.{Place}
 use Rattle.smv_tree.specs.declared.refusal.Rule.{Rule}
-use Rattle.smv_tree.specs.declared.refusal.Rule.TheVariants.{SourceTooLarge, BadByte, OpenComment, BadWordConstant, IntTooLarge, Unexpected, TooDeep, Unsupported, NoMain, MainHasParameters, UnknownName, DuplicateName, UnknownModule, ModuleCycle, TooManySlots, NextHere, AssignedTwice, AssignCycle}
+use Rattle.smv_tree.specs.declared.refusal.Rule.TheVariants.{SourceTooLarge, BadByte, OpenComment, BadWordConstant, IntTooLarge, Unexpected, TooDeep, Unsupported, NoMain, MainHasParameters, DuplicateModule, UnknownName, DuplicateName, UnknownModule, ArgumentCount, ModuleCycle, DefineCycle, UnfoldedDepth, TooManyInstances, TooManySlots, TypeMismatch, NextHere, InputHere, NotAssignable, AssignedTwice, AssignCycle}
 use Rattle.smv_tree.specs.declared.refusal.Refusal.{Refusal}
 use Rattle.smv_tree.specs.declared.tree.SpecificationKind.{SpecificationKind}
 use Rattle.smv_tree.specs.declared.tree.SpecificationKind.TheVariants.{Invariant}
@@ -26,12 +26,20 @@ rule_text TooDeep = codes "202 TooDeep"
 rule_text Unsupported = codes "203 Unsupported"
 rule_text NoMain = codes "301 NoMain"
 rule_text MainHasParameters = codes "302 MainHasParameters"
+rule_text DuplicateModule = codes "303 DuplicateModule"
 rule_text UnknownName = codes "304 UnknownName"
 rule_text DuplicateName = codes "305 DuplicateName"
 rule_text UnknownModule = codes "306 UnknownModule"
+rule_text ArgumentCount = codes "307 ArgumentCount"
 rule_text ModuleCycle = codes "308 ModuleCycle"
+rule_text DefineCycle = codes "309 DefineCycle"
+rule_text UnfoldedDepth = codes "310 UnfoldedDepth"
+rule_text TooManyInstances = codes "311 TooManyInstances"
 rule_text TooManySlots = codes "312 TooManySlots"
+rule_text TypeMismatch = codes "401 TypeMismatch"
 rule_text NextHere = codes "406 NextHere"
+rule_text InputHere = codes "407 InputHere"
+rule_text NotAssignable = codes "411 NotAssignable"
 rule_text AssignedTwice = codes "501 AssignedTwice"
 rule_text AssignCycle = codes "502 AssignCycle"
 

@@ -10,6 +10,7 @@ pub use place::Place;
 pub use refusal::{Refusal, Rule, TextStop};
 pub use token::{Token, TokenKind, Tokens};
 pub use tree::{
-    Assignment, AssignmentKind, ChainOperator, Constraint, ConstraintKind, Expr, Module, Parameter,
-    Program, Section, Specification, SpecificationKind, TypeExpr, Variable,
+    Assignment, AssignmentKind, ChainOperator, Constraint, ConstraintKind, Definition, Expr,
+    Identifier, Module, Name, Parameter, Program, Section, Specification, SpecificationKind, Start,
+    TypeExpr, Variable, VariableKind,
 };

@@ -32,18 +32,34 @@ pub enum Rule {
     NoMain,
     /// The module `main` has parameters.
     MainHasParameters,
+    /// Two modules have one name.
+    DuplicateModule,
     /// A name leads nowhere.
     UnknownName,
     /// A module declares a name twice.
     DuplicateName,
     /// A type names no module.
     UnknownModule,
+    /// An instance is given more or fewer expressions than its module has parameters.
+    ArgumentCount,
     /// A module is an instance of itself.
     ModuleCycle,
+    /// A definition leads to itself.
+    DefineCycle,
+    /// An expression nests too deep, where names are followed.
+    UnfoldedDepth,
+    /// There are more than 100000 instances.
+    TooManyInstances,
     /// There are more than 65536 variables.
     TooManySlots,
+    /// An operand, or what is assigned or claimed, is of another kind.
+    TypeMismatch,
     /// `next` stands where no next value is.
     NextHere,
+    /// An input stands where no step is.
+    InputHere,
+    /// What is assigned is no variable of the state.
+    NotAssignable,
     /// A variable is assigned twice.
     AssignedTwice,
     /// Assignments of one time depend on each other.
@@ -90,12 +106,20 @@ impl fmt::Display for Rule {
             Rule::Unsupported => write!(f, "203 Unsupported"),
             Rule::NoMain => write!(f, "301 NoMain"),
             Rule::MainHasParameters => write!(f, "302 MainHasParameters"),
+            Rule::DuplicateModule => write!(f, "303 DuplicateModule"),
             Rule::UnknownName => write!(f, "304 UnknownName"),
             Rule::DuplicateName => write!(f, "305 DuplicateName"),
             Rule::UnknownModule => write!(f, "306 UnknownModule"),
+            Rule::ArgumentCount => write!(f, "307 ArgumentCount"),
             Rule::ModuleCycle => write!(f, "308 ModuleCycle"),
+            Rule::DefineCycle => write!(f, "309 DefineCycle"),
+            Rule::UnfoldedDepth => write!(f, "310 UnfoldedDepth"),
+            Rule::TooManyInstances => write!(f, "311 TooManyInstances"),
             Rule::TooManySlots => write!(f, "312 TooManySlots"),
+            Rule::TypeMismatch => write!(f, "401 TypeMismatch"),
             Rule::NextHere => write!(f, "406 NextHere"),
+            Rule::InputHere => write!(f, "407 InputHere"),
+            Rule::NotAssignable => write!(f, "411 NotAssignable"),
             Rule::AssignedTwice => write!(f, "501 AssignedTwice"),
             Rule::AssignCycle => write!(f, "502 AssignCycle"),
         }

@@ -20,6 +20,8 @@ pub struct Program {
 pub struct Module {
     /// The place of the keyword.
     pub place: Place,
+    /// The place of the name.
+    pub name_place: Place,
     pub name: Text,
     pub parameters: Items<Parameter>,
     pub sections: Items<Section>,
@@ -35,14 +37,27 @@ pub struct Parameter {
 /// A section of a module.
 #[derive(Debug, Drop)]
 pub enum Section {
-    /// `VAR` and its declarations (manual 2.3.1, State Variables).
-    Variables(Items<Variable>),
+    /// `VAR`, `IVAR` or `FROZENVAR` and its declarations (manual 2.3.1, Variable Declarations).
+    Variables(VariableKind, Items<Variable>),
+    /// `DEFINE` and its definitions (manual 2.3.2).
+    Definitions(Items<Definition>),
     /// `ASSIGN` and its assignments (manual 2.3.8).
     Assignments(Items<Assignment>),
-    /// `INIT` or `TRANS` (manual 2.3.5, 2.3.7).
+    /// `INIT`, `INVAR`, `TRANS` or `JUSTICE` (manual 2.3.5 to 2.3.7, 2.3.9).
     Constraint(Constraint),
     /// A specification (manual 2.4).
     Specification(Specification),
+}
+
+/// What may happen to a variable from a state to the next.
+#[derive(Clone, Copy, Debug, PartialEq, Eq)]
+pub enum VariableKind {
+    /// `VAR`: a part of the state.
+    State,
+    /// `IVAR`: a part of the step, and of no state (manual 2.3.1, Input Variables).
+    Input,
+    /// `FROZENVAR`: a part of the state that no step changes (manual 2.3.1, Frozen Variables).
+    Frozen,
 }
 
 /// A declared variable; its place is that of its name.
@@ -69,11 +84,22 @@ pub enum AssignmentKind {
     Current,
 }
 
-/// What a constraint speaks of: first states, or steps.
+/// A name for an expression; its place is that of the name.
+#[derive(Debug, Drop)]
+pub struct Definition {
+    pub place: Place,
+    pub name: Text,
+    pub body: Expr,
+}
+
+/// What a constraint speaks of: first states, all states, steps, or what comes again and again.
 #[derive(Clone, Copy, Debug, PartialEq, Eq)]
 pub enum ConstraintKind {
     Init,
+    Invar,
     Trans,
+    /// `JUSTICE`, or `FAIRNESS`, which says the same.
+    Justice,
 }
 
 /// A constraint; its place is that of its keyword.
@@ -131,15 +157,40 @@ pub enum ChainOperator {
     NotEqual,
 }
 
+/// An identifier at its place.
+#[derive(Debug, Drop)]
+pub struct Identifier {
+    pub place: Place,
+    pub name: Text,
+}
+
+/// What a name begins with.
+#[derive(Debug, Drop)]
+pub enum Start {
+    /// An identifier, which the module of the instance that the name stands in knows.
+    Own(Identifier),
+    /// `self`: the instance that the name stands in.
+    Itself(Place),
+}
+
+/// A name: its start, and then the members that follow it behind dots (manual 2.3.13, References to Module Components).
+#[derive(Debug, Drop)]
+pub struct Name {
+    pub start: Start,
+    pub members: Items<Identifier>,
+}
+
 /// An expression (manual 2.2). A node's place is that of its operator, or of its first token.
 #[derive(Debug, Drop)]
 pub enum Expr {
     Bool(Place, bool),
-    Name(Place, Text),
+    Name(Name),
     Not(Place, Boxed<Expr>),
     /// The value in the next state.
     Next(Place, Boxed<Expr>),
     Implies(Place, Boxed<Expr>, Boxed<Expr>),
+    /// `condition ? a : b`, at the `?`.
+    Conditional(Place, Boxed<Expr>, Boxed<Expr>, Boxed<Expr>),
     /// A first operand and then, from left to right, operators of one precedence level and their operands.
     Chain(Boxed<Expr>, Items<(Place, ChainOperator, Expr)>),
 }

@@ -1,2 +1,10 @@
 pub mod Adding
-pub mod Occurring
+pub mod Judging
+pub mod Graphs
+pub mod Saying
+pub mod NamesOf
+pub mod OfEntries
+pub mod Once
+pub mod Firsts
+pub mod Ordered
+pub mod Uses

@@ -14,10 +14,3 @@ pub(crate) fn add_name<'a>(names: &mut HashSet<&'a str>, name: &'a Text) -> Resu
 {
     Ok(names.insert(name.as_str())?)
 }
-
-// Whether the name is known.
-pub(crate) fn knows(names: &HashSet<&str>, name: &Text) -> bool
-    ensures { result ≡ knows names.now name.now }
-{
-    names.contains(name.as_str())
-}

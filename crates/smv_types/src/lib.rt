@@ -1,17 +1,23 @@
-//! The rules of names and kinds: a program whose names all lead to variables, or the first rule that it breaks.
+//! The rules of names and kinds: a program whose names all lead to variables, or the first rule that it breaks. The definitions
+//! are in `specs/`.
 #![tactic(auto)]
 
-mod declarations;
+mod declared;
+mod defined;
+mod entries;
+mod graph;
+mod instances;
+mod items;
+mod judged;
+mod kinds;
 mod known;
-mod modules;
+mod law;
+mod limits;
 mod names;
-mod nexts;
+mod occurring;
 mod order;
-mod parts;
+mod reached;
 mod refusals;
-mod slots;
 
+pub use law::is_judged_once;
 pub use order::check;
-
-#[cfg(test)]
-mod tests;

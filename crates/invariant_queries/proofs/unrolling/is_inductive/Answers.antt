@@ -1,62 +1,39 @@
--- The query is about two states.
-use Rattle.std.proofs.Common.{◌≡◌, ◌∙◌, ◌+◌, ◌*◌, ◌≤◌, ℕ, List, [], ◌∷◌, length, map, All, sym, ap, subst, refl, arith}
-use Rattle.bit_graph.specs.declared.edge.Edge.{Edge}
-use Rattle.bit_graph.specs.Meaning.{Denotes, HasInputs}
-use Rattle.smv_meaning.specs.Programs.{slots_of}
-use Rattle.smv_meaning.specs.Runs.{state_at}
-use Rattle.invariant_queries.specs.Edges.{AllStand, state_under}
-use Rattle.invariant_queries.specs.Frames.{frames_from, breaks_in_two, states_of}
+-- The query is about one step.
+use Rattle.std.proofs.Common.{◌∙◌, ◌≤◌, ◌∷◌, [], length, ap, refl, arith}
+use Rattle.bit_graph.specs.Meaning.{HasInputs}
+use Rattle.smv_scope.specs.Resolved.{part_of}
 use Rattle.edge_query.specs.Findings.{Finds}
 use Rattle.edge_query.specs.declared.found.Found.TheVariants.{Values, Nothing}
-use Rattle.invariant_queries.proofs.Encoding.{Each}
-use Rattle.invariant_queries.proofs.Answering.{states_found, no_states}
-use Rattle.invariant_queries.proofs.BrokenRuns.{broken_step_each}
-use Rattle.invariant_queries.proofs.MoreFrames.{frames_stand, frames_each}
+use Rattle.invariant_queries.proofs.MoreFrames.{length_frames}
+use Rattle.invariant_queries.proofs.Queries.{laid_frames, step_found, step_never}
 use Rattle.invariant_queries.proofs.unrolling.is_inductive.Goals as goal
 
-pub two_states_edge-requires-clause-stand : goal.two_states_edge-requires-clause-stand
-two_states_edge-requires-clause-stand g c =
-    let k = length c.slots-width.result.now in
-    let n : ℕ = 2 in
-    let frames : c.as_slice.result.now ≡ frames_from k 0 n = c.as_slice.ensures ∙ c.in_ok-frames.ensures in
-    let room : 0 + n * k ≤ length c.in_ok-graph.graph = omega (arith, c.in_ok-graph.ensures.length, c.in-Some.ensures) in
-    subst (λ (fs : List (List Edge)). All (λ f. AllStand c.in_ok-graph.graph f) fs) (sym frames) (frames_stand c.in_ok-graph.graph k n 0 room)
+pub broken_step_edge-requires-clause-frames : goal.broken_step_edge-requires-clause-frames
+broken_step_edge-requires-clause-frames g c =
+    let room : c.in_ok-layout.layout.size ≤ length c.in_ok-graph.graph = omega (arith, c.in_ok-graph.ensures.length) in
+    laid_frames c.args.typed.now.scope.program 1 c.in_ok-layout.layout c.in_ok-layout.ensures c.as_slice-states.result.now c.as_slice.result.now
+    c.as_slice-states.ensures c.as_slice.ensures c.in_ok-graph.graph room
 
-pub two_states_edge-requires-clause-each : goal.two_states_edge-requires-clause-each
-two_states_edge-requires-clause-each g c =
-    let k = length c.slots-width.result.now in
-    let n : ℕ = 2 in
-    let frames : c.as_slice.result.now ≡ frames_from k 0 n = c.as_slice.ensures ∙ c.in_ok-frames.ensures in
-    let slots : k ≡ length (slots_of c.args.typed.now.program) = ap length c.slots-width.ensures in
-    subst (λ (fs : List (List Edge)). All (λ f. length f ≡ length (slots_of c.args.typed.now.program)) fs) (sym frames)
-    (λ i d h. frames_each k n 0 i d h ∙ slots)
+pub broken_step_edge-requires-clause-one : goal.broken_step_edge-requires-clause-one
+broken_step_edge-requires-clause-one g c =
+    ap length c.as_slice.ensures ∙ ap length c.in_ok-layout.ensures.inputs ∙ length_frames c.in_ok-layout.layout.input_width 1 c.in_ok-layout.layout.held
 
 pub returns-in-Values-clause-found : goal.returns-in-Values-clause-found
 returns-in-Values-clause-found g c =
-    let k = length c.slots-width.result.now in
-    let n : ℕ = 2 in
-    let graph = c.two_states_edge.new.graph in
-    let frames : c.as_slice.result.now ≡ frames_from k 0 n = c.as_slice.ensures ∙ c.in_ok-frames.ensures in
-    let size : n * k ≡ c.in-Some.inputs = omega (arith, c.in-Some.ensures) in
-    let are : HasInputs c.in-Some.inputs graph = c.in_ok-root.ensures.extends.inputs c.in-Some.inputs c.in_ok-graph.ensures.inputs in
-    let told : Denotes graph c.in_ok-root.root (λ v. breaks_in_two c.args.typed.now.program c.args.e.now (map (state_under v) (frames_from k 0 n))) =
-    subst (λ (fs : List (List Edge)). Denotes graph c.in_ok-root.root (λ v. breaks_in_two c.args.typed.now.program c.args.e.now (map (state_under v) fs))) frames c.in_ok-root.ensures.value in
-    let found : Finds graph c.in-Some.inputs (c.in_ok-root.root ∷ []) (g.Q.Purse.budget c.args.purse.now) (g.Q.Purse.spent c.satisfy.new.purse) (Values c.in-Values.field-0) = rw c.in-Values.is at c.in_ok-satisfy.ensures.found in
-    let holds = states_found graph c.one_way.ensures.law k n c.in-Some.inputs are size c.in_ok-root.root (breaks_in_two c.args.typed.now.program c.args.e.now) told c.in-Values.field-0 found.0 found.1 in
-    let states = states_of k n c.in-Values.field-0 in
-    (state_at states 0, state_at states 1, holds)
+    let layout = c.in_ok-layout.layout in
+    let graph = c.broken_step_edge.new.graph in
+    let are : HasInputs layout.size graph = c.in_ok-root.ensures.extends.inputs layout.size c.in_ok-graph.ensures.inputs in
+    let found : Finds graph layout.size (c.in_ok-root.root ∷ []) (g.Q.Purse.budget c.args.purse.now) (g.Q.Purse.spent c.satisfy.new.purse) (Values c.in-Values.field-0) = rw c.in-Values.is at c.in_ok-satisfy.ensures.found in
+    step_found c.args.typed.now.scope.program 1 layout c.in_ok-layout.ensures c.as_slice-states.result.now c.as_slice.result.now c.as_slice-states.ensures c.as_slice.ensures
+    graph c.one_way.ensures.law are c.in_ok-root.root (g.Q.Purse.budget c.args.purse.now) (g.Q.Purse.spent c.satisfy.new.purse) (part_of c.args.typed.now.nodes c.args.e)
+    c.in_ok-root.ensures.value c.in-Values.field-0 found
 
 pub returns-in-Nothing-clause-found : goal.returns-in-Nothing-clause-found
-returns-in-Nothing-clause-found g c = λ s t holds.
-    let k = length c.slots-width.result.now in
-    let n : ℕ = 2 in
-    let graph = c.two_states_edge.new.graph in
-    let frames : c.as_slice.result.now ≡ frames_from k 0 n = c.as_slice.ensures ∙ c.in_ok-frames.ensures in
-    let size : n * k ≡ c.in-Some.inputs = omega (arith, c.in-Some.ensures) in
-    let are : HasInputs c.in-Some.inputs graph = c.in_ok-root.ensures.extends.inputs c.in-Some.inputs c.in_ok-graph.ensures.inputs in
-    let told : Denotes graph c.in_ok-root.root (λ v. breaks_in_two c.args.typed.now.program c.args.e.now (map (state_under v) (frames_from k 0 n))) =
-    subst (λ (fs : List (List Edge)). Denotes graph c.in_ok-root.root (λ v. breaks_in_two c.args.typed.now.program c.args.e.now (map (state_under v) fs))) frames c.in_ok-root.ensures.value in
-    let slots : k ≡ length (slots_of c.args.typed.now.program) = ap length c.slots-width.ensures in
-    let never : Finds graph c.in-Some.inputs (c.in_ok-root.root ∷ []) (g.Q.Purse.budget c.args.purse.now) (g.Q.Purse.spent c.satisfy.new.purse) Nothing = rw c.in-Nothing.is at c.in_ok-satisfy.ensures.found in
-    let each = broken_step_each c.args.typed.now.program c.args.e.now s t holds in
-    no_states graph c.one_way.ensures.law k n c.in-Some.inputs are size c.in_ok-root.root (breaks_in_two c.args.typed.now.program c.args.e.now) told never (s ∷ t ∷ []) refl (subst (λ m. Each m (s ∷ t ∷ [])) (sym slots) each) holds
+returns-in-Nothing-clause-found g c =
+    let layout = c.in_ok-layout.layout in
+    let graph = c.broken_step_edge.new.graph in
+    let are : HasInputs layout.size graph = c.in_ok-root.ensures.extends.inputs layout.size c.in_ok-graph.ensures.inputs in
+    let never : Finds graph layout.size (c.in_ok-root.root ∷ []) (g.Q.Purse.budget c.args.purse.now) (g.Q.Purse.spent c.satisfy.new.purse) Nothing = rw c.in-Nothing.is at c.in_ok-satisfy.ensures.found in
+    step_never c.args.typed.now.scope.program 1 layout c.in_ok-layout.ensures c.as_slice-states.result.now c.as_slice.result.now c.as_slice-states.ensures c.as_slice.ensures
+    graph c.one_way.ensures.law are c.in_ok-root.root (g.Q.Purse.budget c.args.purse.now) (g.Q.Purse.spent c.satisfy.new.purse) (part_of c.args.typed.now.nodes c.args.e)
+    refl c.in_ok-root.ensures.value never

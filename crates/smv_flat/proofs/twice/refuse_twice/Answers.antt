@@ -1,64 +1,68 @@
 -- The marks tell whether an assignment meets one before it.
-use Rattle.std.proofs.Common.{◌≡◌, ◌∙◌, ap, sym, subst, arith, ◌<◌, ◌+◌, List, length, get_or, set, length-set, map, take, true, false, Some}
+use Rattle.std.proofs.Common.{◌≡◌, ◌∙◌, ap, sym, subst, arith, ◌<◌, ◌+◌, length, get_or, set, length-set, map, take, true, false, Some}
 use Rattle.std.proofs.lemmas.List.{get_or_default}
+use Rattle.smv_flat.specs.declared.assigned.Assigned.{Assigned}
 use Rattle.smv_flat.specs.declared.twice.Taken.{Taken}
-use Rattle.smv_flat.specs.Assignments.{assigned_twice, slot_of, twice_refusal}
-use Rattle.smv_flat.specs.Marks.{Knows, any_meets, free, taken_at, taken_by}
-use Rattle.smv_flat.proofs.Lent.{lent_at, lent_within}
-use Rattle.smv_flat.proofs.Marking.{ends_here, goes_on, knows_more, knows_same, meets_marked, meets_none}
+use Rattle.smv_flat.specs.Assignments.{SlotAssignment, assigned_twice}
+use Rattle.smv_flat.specs.Graph.{assigned_by}
+use Rattle.smv_flat.specs.Marks.{Knows, any_meets, free, is_taken, taken_at}
+use Rattle.smv_flat.proofs.Marking.{ends_here, goes_on, knows_more}
+use Rattle.smv_flat.proofs.Within.{nothing, number_within, slot_within, stands_there}
 use Rattle.smv_flat.proofs.twice.refuse_twice.Goals as goal
-use Rattle.smv_flat.proofs.twice.refuse_twice.Goals.{in-Some+else-is_taken, in_default}
+
+pub index-requires : goal.index-requires
+index-requires c =
+    let within = slot_within c.args.typed.now.scope.program c.args.typed.now.nodes c.args.all.now c.requires c.loop-a.a-index c.loop-a-test.true in
+    omega (arith, within)
+
+pub index-requires-in-loop-a : goal.index-requires-in-loop-a
+index-requires-in-loop-a c =
+    let within = slot_within c.args.typed.now.scope.program c.args.typed.now.nodes c.args.all.now c.requires c.loop-a.a-index c.loop-a-test.true in
+    omega (arith, within)
+
+pub index_mut-requires : goal.index_mut-requires
+index_mut-requires c =
+    let within = slot_within c.args.typed.now.scope.program c.args.typed.now.nodes c.args.all.now c.requires c.loop-a.a-index c.loop-a-test.true in
+    omega (arith, within)
 
 pub returns-then-is_taken-clause-refused : goal.returns-then-is_taken-clause-refused
 returns-then-is_taken-clause-refused c =
-    let p = c.args.typed.now.program in
-    let all = map (λ a. a.now) c.args.all.now in
+    let p = c.args.typed.now.scope.program in
+    let nodes = c.args.typed.now.nodes in
+    let all = c.args.all.now in
+    let as' = map (assigned_by nodes) all in
     let k = c.loop-a.a-index in
-    let a = c.a-item.result.now in
+    let a : Assigned = get_or all k nothing in
+    let b : SlotAssignment = assigned_by nodes a in
     let ts = c.loop-a.taken.items in
-    let n = c.in-Some.n in
-    let lt : k < length all = lent_within c.args.all.now k c.loop-a-test.true in
-    let is : a ≡ get_or all k a = lent_at c.args.all.now k c.a-item.result c.loop-a-test.true c.a-item.is in
-    let within : n < length ts = omega (arith, c.in-Some.ensures.within, c.loop-a.invariant.long) in
-    let here : c.index.result.now ≡ taken_at ts n = c.index.ensures ∙ get_or_default ts n c.index.result.now free within in
-    let meets : any_meets p (take k all) (slot_of p a.target) a.kind ≡ true =
-    meets_marked p ts (take k all) n a c.index.result.now (sym c.in-Some.ensures.value) here c.loop-a.invariant.knows ∙ sym c.if-is_taken.ensures in
-    ends_here p all k a (assigned_twice p) lt is meets c.loop-a.invariant.left
-    ∙ ap (λ slot. Some (twice_refusal p slot a)) (sym c.in-Some.ensures.value) ∙ ap (λ r. Some r) (sym c.in_ok-twice_refusal.ensures)
+    let within = slot_within p nodes all c.requires k c.loop-a-test.true in
+    let here : c.index.result.now ≡ taken_at ts a.slot = c.index.ensures ∙ get_or_default ts a.slot _ free (omega (arith, within, c.loop-a.invariant.long)) in
+    let meets : any_meets (take k as') a.slot a.kind ≡ true =
+    sym (c.loop-a.invariant.knows a.slot a.kind) ∙ ap (λ t. is_taken t a.kind) (sym here) ∙ sym c.if-is_taken.ensures in
+    ends_here p as' k b (assigned_twice p) (number_within p nodes all c.requires k c.loop-a-test.true) (stands_there p nodes all c.requires k c.loop-a-test.true) meets c.loop-a.invariant.left
+    ∙ ap (λ r. Some r) (sym c.in_ok-twice_refusal.ensures)
 
 pub loop-a-preserved : goal.loop-a-preserved
 loop-a-preserved c =
-    let p = c.args.typed.now.program in
-    let all = map (λ a. a.now) c.args.all.now in
+    let p = c.args.typed.now.scope.program in
+    let nodes = c.args.typed.now.nodes in
+    let all = c.args.all.now in
+    let as' = map (assigned_by nodes) all in
     let k = c.loop-a.a-index in
-    let a = c.a-item.result.now in
+    let a : Assigned = get_or all k nothing in
+    let b : SlotAssignment = assigned_by nodes a in
     let ts = c.loop-a.taken.items in
-    let lt : k < length all = lent_within c.args.all.now k c.loop-a-test.true in
-    let is : a ≡ get_or all k a = lent_at c.args.all.now k c.a-item.result c.loop-a-test.true c.a-item.is in
-    let P : List Taken → Type 0 = λ marks. Knows p marks (take (k + 1) all) in
-    elim c.match-slot_of.branch [
-      | in-Some+else-is_taken w ↦
-          let n = w.in-Some.n in
-          let named : slot_of p a.target ≡ Some n = sym w.in-Some.ensures.value in
-          let within : n < length ts = omega (arith, w.in-Some.ensures.within, c.loop-a.invariant.long) in
-          let here : w.index.result.now ≡ taken_at ts n = w.index.ensures ∙ get_or_default ts n w.index.result.now free within in
-          let again : w.index-in-Some.result.now ≡ taken_at ts n = w.index-in-Some.ensures ∙ get_or_default ts n w.index-in-Some.result.now free within in
-          let items : c.match-slot_of.taken.items ≡ set ts n (taken_by w.index-in-Some.result.now a.kind) =
-          ap (λ v. v.items) w.taken-is ∙ ap (set ts n) w.taken_by.ensures in
-          let clear : any_meets p (take k all) (slot_of p a.target) a.kind ≡ false =
-          meets_marked p ts (take k all) n a w.index.result.now named here c.loop-a.invariant.knows ∙ sym w.if-is_taken.ensures in
-          record {
-            long = ap length items ∙ length-set ts n (taken_by w.index-in-Some.result.now a.kind) ∙ c.loop-a.invariant.long;
-            knows = subst P (sym items) (knows_more p ts all k n a w.index-in-Some.result.now lt is named again within c.loop-a.invariant.knows);
-            left = goes_on p all k a (assigned_twice p) lt is clear c.loop-a.invariant.left;
-          }
-      | in_default w ↦
-          let named = sym c.slot_of.ensures.value ∙ w.in_default.is in
-          let items : c.match-slot_of.taken.items ≡ ts = ap (λ v. v.items) w.taken-is in
-          let clear : any_meets p (take k all) (slot_of p a.target) a.kind ≡ false = ap (λ slot. any_meets p (take k all) slot a.kind) named ∙ meets_none p (take k all) a.kind in
-          record {
-            long = ap length items ∙ c.loop-a.invariant.long;
-            knows = subst P (sym items) (knows_same p ts all k a lt is named c.loop-a.invariant.knows);
-            left = goes_on p all k a (assigned_twice p) lt is clear c.loop-a.invariant.left;
-          }
-    ]
+    let inside = number_within p nodes all c.requires k c.loop-a-test.true in
+    let is = stands_there p nodes all c.requires k c.loop-a-test.true in
+    let within = slot_within p nodes all c.requires k c.loop-a-test.true in
+    let fits : a.slot < length ts = omega (arith, within, c.loop-a.invariant.long) in
+    let here : c.index.result.now ≡ taken_at ts a.slot = c.index.ensures ∙ get_or_default ts a.slot _ free fits in
+    let again : c.index-in-loop-a.result.now ≡ taken_at ts a.slot = c.index-in-loop-a.ensures ∙ get_or_default ts a.slot _ free fits in
+    let clear : any_meets (take k as') a.slot a.kind ≡ false =
+    sym (c.loop-a.invariant.knows a.slot a.kind) ∙ ap (λ t. is_taken t a.kind) (sym here) ∙ sym c.if-is_taken.ensures in
+    let P : Taken → Type 0 = λ t. Knows (set ts a.slot t) (take (k + 1) as') in
+    record {
+      long = length-set ts a.slot c.taken_by.result ∙ c.loop-a.invariant.long;
+      knows = subst P (sym c.taken_by.ensures) (knows_more ts as' k b c.index-in-loop-a.result.now inside is again fits c.loop-a.invariant.knows);
+      left = goes_on p as' k b (assigned_twice p) inside is clear c.loop-a.invariant.left;
+    }

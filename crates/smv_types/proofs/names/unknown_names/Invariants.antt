@@ -1,10 +1,11 @@
--- What is left of the expressions gives the refusal of all.
-use Rattle.std.proofs.Common.{◌≡◌, Bool, drop}
-use Rattle.smv_tree.specs.declared.tree.Expr.{Expr}
-use Rattle.smv_types.specs.Lent.{knows, read_expressions}
-use Rattle.smv_types.specs.Rules.{first_of, unknown_name_in, unknown_names}
+-- What is left of the instances gives the refusal of all.
+use Rattle.std.proofs.Common.{◌≡◌, drop}
+use Rattle.smv_scope.specs.declared.instance.Instance.{Instance}
+use Rattle.smv_scope.specs.Modules.{sections_of}
+use Rattle.smv_types.specs.Verdicts.{first_of}
+use Rattle.smv_types.specs.Named.{first_instance, unknown_in_sections, unknown_names}
 use Rattle.smv_types.proofs.names.unknown_names.Given as goal
 
-abbrev pub invariant-loop-expression : goal.invariant-loop-expression
-invariant-loop-expression l =
-    first_of (λ (x : Expr × Bool). unknown_name_in (knows l.known) x.0) (read_expressions (drop l.expression-index l.expression-items)) ≡ unknown_names l.typed.program
+abbrev pub invariant-loop-n : goal.invariant-loop-n
+invariant-loop-n l =
+    first_of (λ r. r) (first_instance (λ n (x : Instance). unknown_in_sections l.scope.program n (sections_of l.scope.program x.of_module)) l.n (drop l.n l.x-items)) ≡ unknown_names l.scope.program

@@ -6,4 +6,4 @@ use Rattle.smv_cli.proofs.record.TraceLinesDisplay.fmt.Given as goal
 
 abbrev pub invariant-loop-number : goal.invariant-loop-number
 invariant-loop-number g l =
-    IsPlainFormatter l.initial.f → HasWritten g.W.Write.write_str_gives l.initial.f (states_text l.self.trace.now.names 0 (take l.number l.state-items)) l.f
+    IsPlainFormatter l.initial.f → HasWritten g.W.Write.write_str_gives l.initial.f (states_text l.self.trace.now 0 (take l.number l.state-items)) l.f

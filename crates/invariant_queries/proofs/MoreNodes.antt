@@ -1,0 +1,51 @@
+-- The truth of one node more.
+use Rattle.std.proofs.Common.{◌≡◌, ◌∙◌, ℕ, zero, suc, ◌+◌, ◌<◌, Bool, List, [], ◌∷◌, ◌++◌, take, length, get_or, sym, ap, arith}
+use Rattle.std.proofs.lemmas.List.{map-append, take-map}
+use Rattle.std.proofs.lemmas.List.Elements.{All-append}
+use Rattle.bit_graph.specs.declared.edge.Edge.{Edge}
+use Rattle.bit_graph.specs.declared.edge.Node.{Node}
+use Rattle.bit_graph.specs.Growth.{Extends}
+use Rattle.bit_graph.specs.Meaning.{Consistent}
+use Rattle.smv_value.specs.declared.value.Value.{Value}
+use Rattle.smv_scope.specs.declared.node.Node as scope
+use Rattle.smv_scope.specs.declared.slot.Slot.{Slot}
+use Rattle.smv_meaning.specs.Tables.{outcome_by, outcomes_of}
+use Rattle.smv_meaning.proofs.Tables.{outcomes_next, outcomes_of-take}
+use Rattle.invariant_queries.specs.declared.truths.Truth.{Truth}
+use Rattle.invariant_queries.specs.Edges.{TellsTruth, TruthStands, TruthsStand, all_told, state_under, told}
+
+pub Extends-trans : (f g h : List Node) → Extends f g → Extends g h → Extends f h
+Extends-trans f g h first second = record {
+  longer = omega (arith, first.longer, second.longer);
+  kept = λ v c. first.kept v (second.kept v c);
+  values = λ a e b x. second.values a e b (first.values a e b x);
+  inputs = λ n x. second.inputs n (first.inputs n x);
+}
+
+pub Extends-refl : (g : List Node) → Extends g g
+Extends-refl g = record { longer = omega arith; kept = λ v c. c; values = λ a e b x. x; inputs = λ n x. x }
+
+one_stands : (h : List Node) (truth : Truth) → TruthStands h truth → TruthsStand h (truth ∷ [])
+one_stands h truth stands zero d lt = stands
+one_stands h truth stands (suc k) d lt = absurd (let no : ⊥ = omega (arith, lt) in no)
+
+module _ (g h : List Node) (extends : Extends g h) where
+  pub truths_kept : (truths : List Truth) → TruthsStand g truths → TruthsStand h truths
+  truths_kept truths stand = λ i d lt. let s = stand i d lt in (omega (arith, s.0, extends.longer), omega (arith, s.1, extends.longer))
+
+  pub truths_more : (truths : List Truth) (truth : Truth) → TruthsStand g truths → TruthStands h truth → TruthsStand h (truths ++ truth ∷ [])
+  truths_more truths truth stand stands = All-append (TruthStands h) truths (truth ∷ []) (truths_kept truths stand) (one_stands h truth stands)
+
+  module _ (slots : List Slot) (nodes : List scope.Node) (bits inputs : List Edge) (made later first : List Truth) (i : ℕ) (d : scope.Node) (truth : Truth) where
+    pub table_more : i < length nodes → first ≡ take i later
+        → ((v : ℕ → Bool) (t : List Value) → Consistent v g → all_told v later ≡ outcomes_of slots t [] [] nodes
+        → all_told v made ≡ outcomes_of slots (state_under v bits) (state_under v inputs) t (take i nodes))
+        → TellsTruth h truth (λ v. outcome_by slots (state_under v bits) (state_under v inputs) (all_told v made) (all_told v first) (get_or nodes i d))
+        → (v : ℕ → Bool) (t : List Value) → Consistent v h → all_told v later ≡ outcomes_of slots t [] [] nodes
+        → all_told v (made ++ truth ∷ []) ≡ outcomes_of slots (state_under v bits) (state_under v inputs) t (take (i + 1) nodes)
+    table_more within first_is so_far tells v t c next =
+        map-append (told v) made (truth ∷ [])
+        ∙ outcomes_next slots (state_under v bits) (state_under v inputs) t nodes (all_told v made) (all_told v first) i d (told v truth) within
+        (so_far v t (extends.kept v c) next)
+        (ap (all_told v) first_is ∙ sym (take-map (told v) i later) ∙ ap (take i) next ∙ outcomes_of-take slots t [] [] nodes i (omega (arith, within)))
+        (tells.told v c)

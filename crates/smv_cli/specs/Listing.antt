@@ -1,0 +1,56 @@
+-- The lines of the command `flat`: the slots and the items of a model. An own choice of this project.
+use Rattle.std.specs.Prelude.{ℕ, ◌+◌, List, [], ◌∷◌, ◌++◌, filter, codes, not}
+use Rattle.std.specs.Fmt.{decimal}
+use Rattle.smv_tree.specs.declared.tree.Program.{Program}
+use Rattle.smv_tree.specs.declared.tree.AssignmentKind.TheVariants as side
+use Rattle.smv_tree.specs.declared.tree.ConstraintKind.TheVariants as asked
+use Rattle.smv_tree.specs.declared.tree.VariableKind.{VariableKind}
+use Rattle.smv_tree.specs.declared.tree.VariableKind.TheVariants as sort
+use Rattle.smv_tree.specs.Texts.{kind_text, line_end, place_text}
+use Rattle.smv_scope.specs.declared.item.ItemKind.{ItemKind}
+use Rattle.smv_scope.specs.declared.item.ItemKind.TheVariants as item
+use Rattle.smv_scope.specs.declared.slot.Slot.{Slot}
+use Rattle.smv_scope.specs.declared.slot.ValueType.{ValueType}
+use Rattle.smv_scope.specs.declared.slot.ValueType.TheVariants.{Boolean}
+use Rattle.smv_scope.specs.Items.{ResolvedItem, items_of}
+use Rattle.smv_scope.specs.Paths.{path_of, shown_path, slot_name}
+use Rattle.smv_scope.specs.Slots.{slots_of}
+use Rattle.smv_meaning.specs.Runs.{is_claim}
+
+abbrev pub sort_text : VariableKind → List ℕ
+sort_text sort.State = codes "state"
+sort_text sort.Frozen = codes "frozen"
+sort_text sort.Input = codes "input"
+
+abbrev pub type_text : ValueType → List ℕ
+type_text Boolean = codes "boolean"
+
+abbrev pub item_kind_text : ItemKind → List ℕ
+item_kind_text (item.Constraint asked.Init) = codes "INIT"
+item_kind_text (item.Constraint asked.Invar) = codes "INVAR"
+item_kind_text (item.Constraint asked.Trans) = codes "TRANS"
+item_kind_text (item.Constraint asked.Justice) = codes "JUSTICE"
+item_kind_text (item.Assignment side.Init) = codes "init"
+item_kind_text (item.Assignment side.Next) = codes "next"
+item_kind_text (item.Assignment side.Current) = codes "now"
+item_kind_text (item.Specification kind) = kind_text kind
+
+abbrev pub slot_line : Program → ℕ → Slot → List ℕ
+slot_line p i slot = codes "-- slot " ++ decimal i ++ codes " " ++ sort_text slot.kind ++ codes " " ++ slot_name p slot ++ codes " : " ++ type_text slot.declared ++ line_end
+
+abbrev pub item_line : Program → ℕ → ResolvedItem → List ℕ
+item_line p i x = codes "-- item " ++ decimal i ++ codes " " ++ item_kind_text x.kind ++ codes " at " ++ place_text x.place ++ codes " of " ++ shown_path (path_of p x.at) ++ line_end
+
+-- the lines of these slots, numbered from i on
+abbrev pub slots_text : Program → ℕ → List Slot → List ℕ
+slots_text p i [] = []
+slots_text p i (x ∷ xs) = slot_line p i x ++ slots_text p (i + 1) xs
+
+-- the lines of these items, numbered from i on
+abbrev pub items_text : Program → ℕ → List ResolvedItem → List ℕ
+items_text p i [] = []
+items_text p i (x ∷ xs) = item_line p i x ++ items_text p (i + 1) xs
+
+-- the slots, and the items but for specifications
+abbrev pub listing_text : Program → List ℕ
+listing_text p = slots_text p 0 (slots_of p) ++ items_text p 0 (filter (λ (x : ResolvedItem). not (is_claim x.kind)) (items_of p))

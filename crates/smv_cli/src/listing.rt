@@ -1,0 +1,215 @@
+//! The listing of the slots and items of a model.
+
+ghost use Rattle.std.specs.Prelude.{◌≡◌, ◌++◌, filter, length, map, not, IfOk, IfSome, OnOk, Some, codes};
+ghost use Rattle.std.specs.Fmt.{decimal};
+ghost use Rattle.smv_scope.specs.declared.item.ItemKind.TheVariants as item;
+ghost use Rattle.smv_scope.specs.Items.{ResolvedItem, item_by, items_of};
+ghost use Rattle.smv_scope.specs.Paths.{path_of, shown_path, slot_name};
+ghost use Rattle.smv_scope.specs.Slots.{slots_of};
+ghost use Rattle.smv_tree.specs.Texts.{line_end, place_text};
+ghost use Rattle.smv_meaning.specs.Runs.{is_claim};
+ghost use Rattle.smv_cli.specs.Listing.{item_kind_text, item_line, items_text, listing_text, slot_line, slots_text, sort_text, type_text};
+
+use plain_text::Text;
+use smv_meaning::Typed;
+use smv_scope::{Item, ItemKind, Scope, Slot, ValueType, path_of, slot_name};
+use smv_tree::{AssignmentKind, ConstraintKind, Place, VariableKind};
+use std::alloc::{AllocError, Global};
+use std::fmt;
+
+// The line of a slot.
+#[derive(Drop)]
+struct SlotLine<'a> {
+    number: usize,
+    kind: VariableKind,
+    name: &'a Text,
+    declared: ValueType,
+}
+
+impl fmt::Display for SlotLine<'_> {
+    ghost output = { λ l. Some (codes "-- slot " ++ decimal l.number ++ codes " " ++ sort_text l.kind ++ codes " " ++ l.name.now ++ codes " : " ++ type_text l.declared ++ line_end) };
+
+    fn fmt<W: fmt::Write>(&self, f: &mut fmt::Formatter<W>) -> fmt::Result {
+        let (number, kind, name, declared) = (
+            self.number,
+            sort(self.kind),
+            self.name,
+            type_name(self.declared),
+        );
+        writeln!(f, "-- slot {number} {kind} {name} : {declared}")
+    }
+}
+
+fn sort(kind: VariableKind) -> &'static str
+    ensures { result.now ≡ sort_text kind }
+{
+    match kind {
+        VariableKind::State => "state",
+        VariableKind::Frozen => "frozen",
+        VariableKind::Input => "input",
+    }
+}
+
+fn type_name(declared: ValueType) -> &'static str
+    ensures { result.now ≡ type_text declared }
+{
+    match declared {
+        ValueType::Boolean => "boolean",
+    }
+}
+
+// The line of an item; the path of `main` is empty.
+#[derive(Drop)]
+struct ItemLine<'a> {
+    number: usize,
+    kind: ItemKind,
+    place: Place,
+    path: &'a Text,
+}
+
+impl fmt::Display for ItemLine<'_> {
+    ghost output = { λ l. Some (codes "-- item " ++ decimal l.number ++ codes " " ++ item_kind_text l.kind ++ codes " at " ++ place_text l.place ++ codes " of " ++ shown_path l.path.now ++ line_end) };
+
+    fn fmt<W: fmt::Write>(&self, f: &mut fmt::Formatter<W>) -> fmt::Result {
+        let (number, kind, place, path) = (
+            self.number,
+            item_kind(self.kind),
+            self.place,
+            shown(self.path),
+        );
+        writeln!(f, "-- item {number} {kind} at {place} of {path}")
+    }
+}
+
+fn item_kind(kind: ItemKind) -> &'static str
+    ensures { result.now ≡ item_kind_text kind }
+{
+    match kind {
+        ItemKind::Constraint(kind) => constraint_kind(kind),
+        ItemKind::Assignment(AssignmentKind::Init) => "init",
+        ItemKind::Assignment(AssignmentKind::Next) => "next",
+        ItemKind::Assignment(AssignmentKind::Current) => "now",
+        ItemKind::Specification(_) => "INVARSPEC",
+    }
+}
+
+fn constraint_kind(kind: ConstraintKind) -> &'static str
+    ensures { result.now ≡ item_kind_text (item.Constraint kind) }
+{
+    match kind {
+        ConstraintKind::Init => "INIT",
+        ConstraintKind::Invar => "INVAR",
+        ConstraintKind::Trans => "TRANS",
+        ConstraintKind::Justice => "JUSTICE",
+    }
+}
+
+fn shown(path: &Text) -> &str
+    ensures { result.now ≡ shown_path path.now }
+{
+    if path.as_str().is_empty() {
+        "main"
+    } else {
+        path.as_str()
+    }
+}
+
+/// The lines of the slots of a model and then of its items, but for specifications.
+pub(crate) fn listing(alloc: Global, typed: &Typed) -> Result<Vec<u8>, AllocError>
+    ensures { IfOk result (λ text. text.items ≡ listing_text typed.now.scope.program) }
+{
+    let mut text = Vec::new(alloc);
+    push_slots(alloc, &mut text, &typed.scope, typed.scope.slots.as_slice())?;
+    push_items(alloc, &mut text, typed, typed.items.as_slice())?;
+    Ok(text)
+}
+
+// Adds the lines of these slots, numbered from 0 on.
+fn push_slots(
+    alloc: Global,
+    text: &mut Vec<u8>,
+    scope: &Scope,
+    slots: &[Slot],
+) -> Result<(), AllocError>
+    ensures { OnOk result (text.new.items ≡ text.old.items ++ slots_text scope.now.program 0 slots.now) }
+{
+    for (number, slot) in slots.iter().enumerate() {
+        push_slot(alloc, text, scope, number, slot)?;
+    }
+    Ok(())
+}
+
+fn push_slot(
+    alloc: Global,
+    text: &mut Vec<u8>,
+    scope: &Scope,
+    number: usize,
+    slot: &Slot,
+) -> Result<(), AllocError>
+    ensures { OnOk result (text.new.items ≡ text.old.items ++ slot_line scope.now.program number slot.now) }
+{
+    let name = slot_name(alloc, scope, slot)?;
+    let line = SlotLine {
+        number,
+        kind: slot.kind,
+        name: &name,
+        declared: slot.declared,
+    };
+    push_line(alloc, text, &line)
+}
+
+// Adds the lines of these items but for specifications, numbered from 0 on.
+fn push_items(
+    alloc: Global,
+    text: &mut Vec<u8>,
+    typed: &Typed,
+    items: &[Item],
+) -> Result<(), AllocError>
+    ensures { OnOk result (text.new.items ≡ text.old.items ++ items_text typed.now.scope.program 0 (filter (λ (x : ResolvedItem). not (is_claim x.kind)) (map (item_by typed.now.nodes) items.now))) }
+{
+    let mut number = 0;
+    for item in items {
+        if !is_claim(item.kind) {
+            push_item(alloc, text, &typed.scope, number, item)?;
+            number += 1;
+        }
+    }
+    Ok(())
+}
+
+fn is_claim(kind: ItemKind) -> bool
+    ensures { result ≡ is_claim kind }
+{
+    match kind {
+        ItemKind::Specification(_) => true,
+        ItemKind::Assignment(_) | ItemKind::Constraint(_) => false,
+    }
+}
+
+fn push_item(
+    alloc: Global,
+    text: &mut Vec<u8>,
+    scope: &Scope,
+    number: usize,
+    item: &Item,
+) -> Result<(), AllocError>
+    ensures { (r : ResolvedItem) → r.at ≡ item.now.at → r.kind ≡ item.now.kind → r.place ≡ item.now.place → OnOk result (text.new.items ≡ text.old.items ++ item_line scope.now.program number r) }
+{
+    let path = path_of(alloc, scope, item.at)?;
+    let line = ItemLine {
+        number,
+        kind: item.kind,
+        place: item.place,
+        path: &path,
+    };
+    push_line(alloc, text, &line)
+}
+
+// Adds what is printed of a line.
+fn push_line<D: fmt::Display>(alloc: Global, text: &mut Vec<u8>, line: &D) -> Result<(), AllocError>
+    ensures { OnOk result (IfSome (D.output line.now) (λ printed. text.new.items ≡ text.old.items ++ printed)) }
+{
+    let printed = line.to_string(alloc)?;
+    text.extend_from_slice(printed.as_bytes())?;
+    Ok(())
+}

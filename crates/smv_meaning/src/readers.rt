@@ -1,0 +1,70 @@
+//! Parts of a program that callers look for.
+
+ghost use Rattle.std.specs.Prelude.{◌≡◌, map, IfOk};
+ghost use Rattle.smv_tree.specs.declared.tree.VariableKind.{VariableKind};
+ghost use Rattle.smv_scope.specs.Items.{item_by};
+ghost use Rattle.smv_scope.specs.Slots.{is_input, slots_of};
+ghost use Rattle.smv_meaning.specs.Runs.{input_slots, is_claim, specifications_of, state_slots};
+
+use crate::Typed;
+use smv_scope::{Item, ItemKind, Scope, Slot};
+use smv_tree::VariableKind;
+use sqlite_items::Items;
+use std::alloc::{AllocError, Global};
+
+/// The slots of a state, in their order.
+pub fn state_slots(alloc: Global, scope: &Scope) -> Result<Items<Slot>, AllocError>
+    ensures { IfOk result (λ slots. slots ≡ state_slots (slots_of scope.now.program)) }
+{
+    let mut slots = Vec::new(alloc);
+    for slot in scope.slots.as_slice() {
+        if !is_input(slot.kind) {
+            slots.push(*slot)?;
+        }
+    }
+    Ok(Items::from_vec(slots))
+}
+
+/// The input slots, in their order.
+pub fn input_slots(alloc: Global, scope: &Scope) -> Result<Items<Slot>, AllocError>
+    ensures { IfOk result (λ slots. slots ≡ input_slots (slots_of scope.now.program)) }
+{
+    let mut slots = Vec::new(alloc);
+    for slot in scope.slots.as_slice() {
+        if is_input(slot.kind) {
+            slots.push(*slot)?;
+        }
+    }
+    Ok(Items::from_vec(slots))
+}
+
+/// The specifications of a program, in the order of its items.
+pub fn specifications(alloc: Global, typed: &Typed) -> Result<Items<Item>, AllocError>
+    ensures { IfOk result (λ specs. map (item_by typed.now.nodes) specs ≡ specifications_of typed.now.scope.program) }
+{
+    let mut specifications = Vec::new(alloc);
+    for item in typed.items.as_slice() {
+        if is_claim(item.kind) {
+            specifications.push(*item)?;
+        }
+    }
+    Ok(Items::from_vec(specifications))
+}
+
+fn is_input(kind: VariableKind) -> bool
+    ensures { result ≡ is_input kind }
+{
+    match kind {
+        VariableKind::Input => true,
+        VariableKind::State | VariableKind::Frozen => false,
+    }
+}
+
+fn is_claim(kind: ItemKind) -> bool
+    ensures { result ≡ is_claim kind }
+{
+    match kind {
+        ItemKind::Specification(_) => true,
+        ItemKind::Assignment(_) | ItemKind::Constraint(_) => false,
+    }
+}

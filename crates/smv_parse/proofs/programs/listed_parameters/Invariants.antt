@@ -1,0 +1,12 @@
+use Rattle.std.proofs.Common.{length}
+use Rattle.phrase_forms.specs.Forms.{to}
+use Rattle.smv_parse.specs.Names.{identifier}
+use Rattle.smv_parse.specs.Programs.{further, listed, parameter_of}
+use Rattle.smv_parse.proofs.OfLoops.{Totals}
+use Rattle.smv_parse.proofs.programs.listed_parameters.Given as goal
+
+abbrev pub invariant-phrases : goal.invariant-phrases
+invariant-phrases l = Totals (further (to parameter_of identifier)) l.all l.rest ((listed (to parameter_of identifier)).parse l.fn.tokens)
+
+abbrev pub decreases-phrases : goal.decreases-phrases
+decreases-phrases l = length l.rest

@@ -1,0 +1,11 @@
+use Rattle.std.proofs.Common.{length}
+use Rattle.phrase_forms.specs.Forms.{many}
+use Rattle.smv_parse.specs.Programs.{definition}
+use Rattle.smv_parse.proofs.OfLoops.{Totals}
+use Rattle.smv_parse.proofs.programs.many_definitions.Given as goal
+
+abbrev pub invariant-phrases : goal.invariant-phrases
+invariant-phrases l = Totals (definition 0) l.all l.rest ((many (definition 0)).parse l.fn.tokens)
+
+abbrev pub decreases-phrases : goal.decreases-phrases
+decreases-phrases l = length l.rest

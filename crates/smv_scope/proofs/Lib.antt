@@ -1,0 +1,13 @@
+pub mod Sets
+pub mod Indexing
+pub mod Declaring
+pub mod Following
+pub mod Preorder
+pub mod Variables
+pub mod Pathways
+pub mod Adding
+pub mod Growing
+pub mod Knowing
+pub mod Levels
+pub mod Sharing
+pub mod Whole

@@ -1,0 +1,11 @@
+pub mod Modules
+pub mod Instances
+pub mod Slots
+pub mod Lookup
+pub mod Targets
+pub mod Paths
+pub mod Resolved
+pub mod Finding
+pub mod Items
+pub mod Listing
+pub mod Answers

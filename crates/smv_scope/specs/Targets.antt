@@ -1,0 +1,13 @@
+-- What names lead to, as the code holds it.
+use Rattle.smv_scope.specs.declared.target.NameTarget.{NameTarget}
+use Rattle.smv_scope.specs.declared.target.NameTarget.TheVariants as found
+use Rattle.smv_scope.specs.Lookup.{Target}
+
+-- the same with the expression that is lent
+abbrev pub seen : NameTarget → Target
+seen (found.Slot n) = Target.Slot n
+seen (found.Whole i) = Target.Whole i
+seen (found.Given at k owner e) = Target.Given at k owner e.now
+seen (found.Defined at k e) = Target.Defined at k e.now
+seen found.Unknown = Target.Unknown
+seen found.TooFar = Target.TooFar

@@ -1,0 +1,140 @@
+//! The instances of a program.
+
+ghost use Rattle.std.specs.Prelude.{◌≡◌, ◌≢◌, ◌<◌, ◌≤◌, ◌-◌, ◌++◌, length, map, reverse, IfOk, IfErr, OnOk};
+ghost use Rattle.smv_scope.specs.declared.instance.Instance.{Instance};
+ghost use Rattle.smv_scope.specs.Instances.{child, children, subtree, instances_of, most_instances};
+
+use crate::layout::LayoutStop;
+use crate::modules::{module_named, sections_of, variables_of};
+use crate::{Instance, Parent};
+use smv_tree::{Module, Program, TypeExpr};
+use sqlite_items::Items;
+use std::alloc::{AllocError, Global};
+
+/// A program has at most this many instances.
+const MOST_INSTANCES: usize = 100000;
+
+/// An instance that is to come with those below it, to this depth.
+#[derive(Clone, Copy, Debug, PartialEq, Eq)]
+pub struct Root {
+    pub instance: Instance,
+    pub depth: usize,
+}
+
+/// The instances of a program in preorder.
+pub fn instances_of(alloc: Global, program: &Program) -> Result<Items<Instance>, LayoutStop>
+    ensures ok { IfOk result (λ tree. (tree ≡ instances_of program.now) × (length tree ≤ most_instances)) }
+    ensures err { IfErr result (λ stop. stop ≡ LayoutStop.TooManyInstances → most_instances < length (instances_of program.now)) }
+{
+    let modules = program.modules.as_slice();
+    match module_named(modules, "main") {
+        None => Ok(Items::new(alloc)),
+        Some(main) => subtree(
+            alloc,
+            program,
+            Root {
+                instance: Instance {
+                    of_module: main,
+                    parent: None,
+                },
+                depth: modules.len(),
+            },
+        ),
+    }
+}
+
+// The instances below a root that is the first of all.
+fn subtree(alloc: Global, program: &Program, top: Root) -> Result<Items<Instance>, LayoutStop>
+    ensures ok { IfOk result (λ tree. (tree ≡ subtree program.now top.depth 0 top.instance) × (length tree ≤ most_instances)) }
+    ensures err { IfErr result (λ stop. stop ≡ LayoutStop.TooManyInstances → most_instances < length (subtree program.now top.depth 0 top.instance)) }
+{
+    let mut tree = Items::new(alloc);
+    let mut roots = Items::new(alloc);
+    roots.push(top)?;
+    while let Some(root) = roots.pop() {
+        let at = tree.len();
+        tree.push(root.instance)?;
+        push_children(alloc, &mut roots, program, at, root)?;
+        if MOST_INSTANCES - tree.len() < roots.len() {
+            return Err(LayoutStop::TooManyInstances);
+        }
+    }
+    Ok(tree)
+}
+
+// The children of a root come next, the first of them first.
+fn push_children(
+    alloc: Global,
+    roots: &mut Items<Root>,
+    program: &Program,
+    at: usize,
+    root: Root,
+) -> Result<(), AllocError>
+    ensures leaf { root.depth ≡ 0 → OnOk result (roots.new ≡ roots.old) }
+    ensures branch { root.depth ≢ 0 → OnOk result (reverse roots.new
+        ≡ map (λ (x : Instance). record { instance = x; depth = root.depth - 1 }) (children program.now at root.instance) ++ reverse roots.old) }
+{
+    if root.depth == 0 {
+        return Ok(());
+    }
+    let found = children_of(alloc, program, at, root.instance)?;
+    push_roots(roots, found, root.depth - 1)
+}
+
+fn push_roots(
+    roots: &mut Items<Root>,
+    instances: Items<Instance>,
+    depth: usize,
+) -> Result<(), AllocError>
+    ensures { OnOk result (reverse roots.new
+        ≡ map (λ (x : Instance). record { instance = x; depth = depth }) instances ++ reverse roots.old) }
+{
+    let mut left = instances;
+    while let Some(instance) = left.pop() {
+        roots.push(Root { instance, depth })?;
+    }
+    Ok(())
+}
+
+// The instances that an instance declares.
+fn children_of(
+    alloc: Global,
+    program: &Program,
+    at: usize,
+    x: Instance,
+) -> Result<Items<Instance>, AllocError>
+    ensures { IfOk result (λ all. all ≡ children program.now at x) }
+{
+    let variables = variables_of(alloc, sections_of(program, x.of_module))?;
+    let modules = program.modules.as_slice();
+    let mut all = Items::new(alloc);
+    for (v, variable) in variables.iter().enumerate() {
+        push_child(&mut all, modules, at, v, &variable.1.declared)?;
+    }
+    Ok(all)
+}
+
+// The instance that a variable of this type is, if it is one.
+fn push_child(
+    all: &mut Items<Instance>,
+    modules: &[Module],
+    at: usize,
+    v: usize,
+    declared: &TypeExpr,
+) -> Result<(), AllocError>
+    ensures { OnOk result (all.new ≡ all.old ++ child modules.now at v declared.now) }
+{
+    let TypeExpr::Instance(_, name, _) = declared else {
+        return Ok(());
+    };
+    let Some(of_module) = module_named(modules, name.as_str()) else {
+        return Ok(());
+    };
+    all.push(Instance {
+        of_module,
+        parent: Some(Parent {
+            instance: at,
+            variable: v,
+        }),
+    })
+}

@@ -1,0 +1,81 @@
+//! The names of instances and slots, as they are printed.
+
+ghost use Rattle.std.specs.Prelude.{◌≡◌, ℕ, List, [], map, fold, reverse, string_bytes, IfOk, OnOk};
+ghost use Rattle.std.specs.Borrow.{Bor};
+ghost use Rattle.smv_scope.specs.Paths.{joined, variable_name, path_of, slot_name};
+
+use crate::lookup::{module_at, parent_at};
+use crate::modules::{sections_of, variable_at};
+use crate::{Scope, Slot};
+use plain_text::Text;
+use std::alloc::{AllocError, Global};
+
+/// The names of the variables that lead from `main` to the instance of this number, with dots between; empty for `main`.
+pub fn path_of(alloc: Global, scope: &Scope, at: usize) -> Result<Text, AllocError>
+    ensures { IfOk result (λ path. path ≡ path_of scope.now.program at) }
+{
+    let path = path_to(alloc, scope, at)?;
+    Text::from_str(alloc, path.as_str())
+}
+
+/// The name of a slot, behind the path of its instance.
+pub fn slot_name(alloc: Global, scope: &Scope, slot: &Slot) -> Result<Text, AllocError>
+    ensures { IfOk result (λ name. name ≡ slot_name scope.now.program slot.now) }
+{
+    let mut path = path_to(alloc, scope, slot.instance)?;
+    push_name(
+        &mut path,
+        variable_name(scope, slot.instance, slot.variable),
+    )?;
+    Text::from_str(alloc, path.as_str())
+}
+
+fn path_to(alloc: Global, scope: &Scope, at: usize) -> Result<String, AllocError>
+    ensures { IfOk result (λ path. string_bytes path ≡ path_of scope.now.program at) }
+{
+    let mut path = String::new(alloc);
+    let mut left = names_up(alloc, scope, at)?;
+    while let Some(name) = left.pop() {
+        push_name(&mut path, name)?;
+    }
+    Ok(path)
+}
+
+// The names of the variables that lead from an instance up to `main`.
+fn names_up<'a>(alloc: Global, scope: &'a Scope, at: usize) -> Result<Vec<&'a str>, AllocError>
+    ensures { IfOk result (λ names. fold joined [] (reverse (map (λ (x : Bor (List ℕ)). x.now) names.items)) ≡ path_of scope.now.program at) }
+{
+    let mut names = Vec::new(alloc);
+    let mut here = at;
+    for level in 0..scope.tree.len() {
+        let Some(parent) = parent_at(scope, here) else {
+            return Ok(names);
+        };
+        names.push(variable_name(scope, parent.instance, parent.variable))?;
+        here = parent.instance;
+    }
+    Ok(names)
+}
+
+// A name comes behind a path.
+fn push_name(path: &mut String, name: &str) -> Result<(), AllocError>
+    ensures { OnOk result (string_bytes path.new ≡ joined (string_bytes path.old) name.now) }
+{
+    if !path.is_empty() {
+        path.push_str(".")?;
+    }
+    path.push_str(name)
+}
+
+// The own name of a variable of an instance.
+fn variable_name(scope: &Scope, at: usize, v: usize) -> &str
+    ensures { result.now ≡ variable_name scope.now.program at v }
+{
+    let Some(m) = module_at(scope, at) else {
+        return "";
+    };
+    match variable_at(sections_of(&scope.program, m), v) {
+        None => "",
+        Some(x) => x.name.as_str(),
+    }
+}

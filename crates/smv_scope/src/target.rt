@@ -1,0 +1,29 @@
+//! What names lead to.
+
+use smv_tree::Expr;
+
+/// What a name leads to.
+#[derive(Clone, Copy, Debug)]
+pub enum NameTarget<'a> {
+    /// The slot of this number.
+    Slot(usize),
+    /// The instance of this number.
+    Whole(usize),
+    /// What the parameter of this number of the instance `at` was given, an expression that stands in the instance `owner`.
+    Given {
+        at: usize,
+        parameter: usize,
+        owner: usize,
+        argument: &'a Expr,
+    },
+    /// The body of the definition of this number of the instance `at`.
+    Defined {
+        at: usize,
+        definition: usize,
+        body: &'a Expr,
+    },
+    /// The name leads nowhere.
+    Unknown,
+    /// It leads by more parameters than are followed.
+    TooFar,
+}

@@ -1,8 +1,0 @@
--- What is left of the modules gives the refusal of all.
-use Rattle.std.proofs.Common.{◌≡◌, drop, []}
-use Rattle.smv_tree.specs.declared.tree.Module.{Module}
-use Rattle.smv_types.specs.Rules.{first_of, repeated, declared_names, duplicate_names}
-use Rattle.smv_types.proofs.declarations.duplicate_names.Given as goal
-
-abbrev pub invariant-loop-m : goal.invariant-loop-m
-invariant-loop-m l = first_of (λ (m : Module). repeated [] (declared_names m)) (drop l.m-index l.m-items) ≡ duplicate_names l.program

@@ -1,0 +1,174 @@
+-- The rules of depth, kinds and contexts: an own choice of this project (the kinds are those of manual 2.1 and 2.2).
+use Rattle.std.specs.Prelude.{ℕ, nat_lt, Bool, true, false, not, ◌&&◌, ◌||◌, if◌then◌else◌, List, length, Option, None, Some, slice_get}
+use Rattle.smv_tree.specs.declared.place.Place.{Place}
+use Rattle.smv_tree.specs.declared.refusal.Refusal.{Refusal}
+use Rattle.smv_tree.specs.declared.refusal.Rule.TheVariants as rule
+use Rattle.smv_tree.specs.declared.tree.Program.{Program}
+use Rattle.smv_tree.specs.declared.tree.Variable.{Variable}
+use Rattle.smv_tree.specs.declared.tree.VariableKind.{VariableKind}
+use Rattle.smv_tree.specs.declared.tree.VariableKind.TheVariants as sort
+use Rattle.smv_tree.specs.declared.tree.TypeExpr.{TypeExpr}
+use Rattle.smv_tree.specs.declared.tree.TypeExpr.TheVariants as written
+use Rattle.smv_tree.specs.declared.tree.AssignmentKind.{AssignmentKind}
+use Rattle.smv_tree.specs.declared.tree.AssignmentKind.TheVariants as side
+use Rattle.smv_tree.specs.declared.tree.ConstraintKind.{ConstraintKind}
+use Rattle.smv_tree.specs.declared.tree.ConstraintKind.TheVariants as asked
+use Rattle.smv_tree.specs.Places.{start}
+use Rattle.smv_scope.specs.declared.instance.Instance.{Instance}
+use Rattle.smv_scope.specs.declared.item.ItemKind.{ItemKind}
+use Rattle.smv_scope.specs.declared.item.ItemKind.TheVariants as item
+use Rattle.smv_scope.specs.declared.slot.Slot.{Slot}
+use Rattle.smv_scope.specs.Modules.{variables_of}
+use Rattle.smv_scope.specs.Instances.{instances_of}
+use Rattle.smv_scope.specs.Slots.{slots_of, is_input}
+use Rattle.smv_scope.specs.Resolved.{Resolved}
+use Rattle.smv_scope.specs.Items.{ResolvedItem, items_of, first_stuck}
+use Rattle.smv_types.specs.Verdicts.{or_else, first_of, plain}
+
+abbrev pub deep_at : Option Place → Option Refusal
+deep_at None = None
+deep_at (Some place) = Some (plain rule.UnfoldedDepth place)
+
+-- no item nests too deep, where names are followed
+abbrev pub too_deep : Program → Option Refusal
+too_deep p = deep_at (first_stuck (items_of p))
+
+abbrev pub instance_by : VariableKind → TypeExpr → Option Refusal
+instance_by sort.State declared = None
+instance_by other (written.Boolean place) = None
+instance_by other (written.Instance place name given) = Some (plain rule.TypeMismatch place)
+
+-- `VAR` alone declares instances: refused at the module's name
+abbrev pub instance_among : VariableKind × Variable → Option Refusal
+instance_among v = instance_by v.0 v.1.declared
+
+abbrev pub misdeclared : Program → Option Refusal
+misdeclared p = first_of (λ (x : Instance). first_of instance_among (variables_of p x.of_module)) (instances_of p)
+
+-- a program has at most this many slots: an own choice of this project
+abbrev pub most_slots : ℕ
+most_slots = 65536
+
+-- there are not more
+abbrev pub too_many_slots : Program → Option Refusal
+too_many_slots p = if nat_lt most_slots (length (slots_of p)) then Some (plain rule.TooManySlots start) else None
+
+-- what may stand somewhere: `next`, and inputs
+pub record Context : Type 0 where
+  pub next : Bool
+  pub input : Bool
+
+-- where a step is spoken of (manual 2.3.7, TRANS Constraint), and where a state is
+abbrev pub of_step : Context
+of_step = record { next = true; input = true }
+
+abbrev pub of_state : Context
+of_state = record { next = false; input = false }
+
+-- in what a name stands for there is no `next`
+abbrev pub under_name : Context → Context
+under_name c = record c { next = false }
+
+-- an instance is no value
+abbrev pub is_whole : Resolved → Bool
+is_whole (Resolved.Whole place i) = true
+is_whole (Resolved.Given place r) = is_whole r
+is_whole (Resolved.Defined place r) = is_whole r
+is_whole other = false
+
+-- a place where a value is wanted, and there is none
+abbrev pub mismatch : Place → Bool → Option Refusal
+mismatch place whole = if whole then Some (plain rule.TypeMismatch place) else None
+
+abbrev pub is_input_slot : Option Slot → Bool
+is_input_slot None = false
+is_input_slot (Some slot) = is_input slot.kind
+
+-- an input stands where none may
+abbrev pub input_here : Context → Place → Bool → Option Refusal
+input_here c place input = if input && not c.input then Some (plain rule.InputHere place) else None
+
+-- a `next` stands where none may
+abbrev pub next_here : Context → Place → Option Refusal
+next_here c place = if c.next then None else Some (plain rule.NextHere place)
+
+-- The first refusal in an expression: operands before their operator, from left to right; at an operator contexts before kinds.
+abbrev pub kind_refusal : List Slot → Context → Resolved → Option Refusal
+kind_refusal slots c (Resolved.Constant place b) = None
+kind_refusal slots c (Resolved.Slot place n) = input_here c place (is_input_slot (slice_get slots n))
+kind_refusal slots c (Resolved.Whole place i) = None
+kind_refusal slots c (Resolved.Given place r) = kind_refusal slots (under_name c) r
+kind_refusal slots c (Resolved.Defined place r) = kind_refusal slots (under_name c) r
+kind_refusal slots c (Resolved.Not place r) = or_else (kind_refusal slots c r) (mismatch place (is_whole r))
+kind_refusal slots c (Resolved.Next place r) = or_else (kind_refusal slots of_state r) (or_else (next_here c place) (mismatch place (is_whole r)))
+kind_refusal slots c (Resolved.Implies place a b) = or_else (kind_refusal slots c a) (or_else (kind_refusal slots c b) (mismatch place (is_whole a || is_whole b)))
+kind_refusal slots c (Resolved.Link place o a b) = or_else (kind_refusal slots c a) (or_else (kind_refusal slots c b) (mismatch place (is_whole a || is_whole b)))
+kind_refusal slots c (Resolved.Conditional place d a b) =
+    or_else (kind_refusal slots c d) (or_else (kind_refusal slots c a) (or_else (kind_refusal slots c b) (mismatch place (is_whole d || is_whole a || is_whole b))))
+kind_refusal slots c Resolved.Stuck = None
+
+-- the place of an expression
+abbrev pub place_of : Resolved → Place
+place_of (Resolved.Constant place b) = place
+place_of (Resolved.Slot place n) = place
+place_of (Resolved.Whole place i) = place
+place_of (Resolved.Given place r) = place
+place_of (Resolved.Defined place r) = place
+place_of (Resolved.Not place r) = place
+place_of (Resolved.Next place r) = place
+place_of (Resolved.Implies place a b) = place
+place_of (Resolved.Link place o a b) = place
+place_of (Resolved.Conditional place c a b) = place
+place_of Resolved.Stuck = start
+
+-- a variable of this kind may be assigned so: a frozen one by `init` alone (manual 2.3.8, ASSIGN Constraint)
+abbrev pub takes_assignment : AssignmentKind → VariableKind → Bool
+takes_assignment which sort.State = true
+takes_assignment which sort.Input = false
+takes_assignment side.Init sort.Frozen = true
+takes_assignment side.Next sort.Frozen = false
+takes_assignment side.Current sort.Frozen = false
+
+abbrev pub slot_takes : AssignmentKind → Option Slot → Bool
+slot_takes which None = false
+slot_takes which (Some slot) = takes_assignment which slot.kind
+
+-- What is assigned is a variable, by its name or as a parameter was given it. An instance is told as one of another kind.
+abbrev pub is_assignable : List Slot → AssignmentKind → Resolved → Bool
+is_assignable slots which (Resolved.Slot place n) = slot_takes which (slice_get slots n)
+is_assignable slots which (Resolved.Whole place i) = true
+is_assignable slots which (Resolved.Given place r) = is_assignable slots which r
+is_assignable slots which other = false
+
+abbrev pub target_refusal : List Slot → AssignmentKind → Resolved → Option Refusal
+target_refusal slots which r = if is_assignable slots which r then None else Some (plain rule.NotAssignable (place_of r))
+
+-- what may stand in the value of an assignment: what `next(x) := e` says is of a step
+abbrev pub context_of_side : AssignmentKind → Context
+context_of_side side.Next = of_step
+context_of_side other = of_state
+
+abbrev pub context_of_constraint : ConstraintKind → Context
+context_of_constraint asked.Trans = of_step
+context_of_constraint other = of_state
+
+-- an expression that has to be a boolean
+abbrev pub formula_refusal : List Slot → Context → Resolved → Option Refusal
+formula_refusal slots c r = or_else (kind_refusal slots c r) (mismatch (place_of r) (is_whole r))
+
+abbrev pub assignment_refusal : List Slot → Place → AssignmentKind → Option Resolved → Resolved → Option Refusal
+assignment_refusal slots place which None e = None
+assignment_refusal slots place which (Some target) e =
+    or_else (target_refusal slots which target) (or_else (kind_refusal slots (context_of_side which) e) (mismatch place (is_whole target || is_whole e)))
+
+abbrev pub refusal_by_kind : List Slot → Place → Option Resolved → Resolved → ItemKind → Option Refusal
+refusal_by_kind slots place target e (item.Assignment which) = assignment_refusal slots place which target e
+refusal_by_kind slots place target e (item.Constraint which) = formula_refusal slots (context_of_constraint which) e
+refusal_by_kind slots place target e (item.Specification which) = formula_refusal slots of_state e
+
+-- the first refusal of an item by kinds and contexts
+abbrev pub item_refusal : List Slot → ResolvedItem → Option Refusal
+item_refusal slots x = refusal_by_kind slots x.place x.target x.value x.kind
+
+abbrev pub misused : Program → Option Refusal
+misused p = first_of (item_refusal (slots_of p)) (items_of p)

@@ -1,0 +1,115 @@
+//! The rules of kinds and contexts, over items.
+
+ghost use Rattle.std.specs.Prelude.{◌≡◌, List, Some, map};
+ghost use Rattle.smv_scope.specs.declared.slot.Slot.{Slot};
+ghost use Rattle.smv_scope.specs.Items.{item_by};
+ghost use Rattle.smv_scope.specs.Resolved.{Resolved, parts_of};
+ghost use Rattle.smv_types.specs.Judged.{IsJudged, Tells, as_refusal};
+ghost use Rattle.smv_types.specs.Kinds.{assignment_refusal, context_of_constraint, context_of_side, formula_refusal, is_assignable, item_refusal, kind_refusal, of_state, target_refusal};
+ghost use Rattle.smv_types.specs.Verdicts.{Judges, first_of};
+
+use crate::judged::{Judged, Violation};
+use crate::kinds::{first, judged_at, or_mismatch};
+use crate::refusals::refused;
+use smv_scope::{Item, ItemKind, Node, Slot};
+use smv_tree::{AssignmentKind, ConstraintKind, Place, Rule, TextStop};
+
+// The first item whose expressions are of other kinds, or stand where they may not.
+pub(crate) fn misused(
+    slots: &[Slot],
+    nodes: &[Node],
+    table: &[Judged],
+    items: &[Item],
+) -> Result<(), TextStop>
+    requires { Tells slots.now (parts_of nodes.now) table.now }
+    ensures { Judges result (first_of (item_refusal slots.now) (map (item_by nodes.now) items.now)) }
+{
+    for item in items {
+        if let Some(violation) = item_violation(slots, nodes, table, item) {
+            return Err(refused(violation.rule, violation.place));
+        }
+    }
+    Ok(())
+}
+
+fn item_violation(
+    _slots: &[Slot],
+    _nodes: &[Node],
+    table: &[Judged],
+    item: &Item,
+) -> Option<Violation>
+    requires { Tells _slots.now (parts_of _nodes.now) table.now }
+    ensures { as_refusal result ≡ item_refusal _slots.now (item_by _nodes.now item.now) }
+{
+    let value = judged_at(table, item.value);
+    match item.kind {
+        ItemKind::Assignment(which) => match item.target {
+            None => None,
+            Some(k) => assignment_violation(item.place, which, judged_at(table, k), value),
+        },
+        ItemKind::Constraint(which) => constraint_violation(which, value),
+        ItemKind::Specification(_) => or_mismatch(value.of_state, value.place, value.whole),
+    }
+}
+
+fn assignment_violation(
+    place: Place,
+    which: AssignmentKind,
+    target: Judged,
+    value: Judged,
+) -> Option<Violation>
+    ensures { (slots : List Slot) (r e : Resolved) → IsJudged slots r target → IsJudged slots e value → as_refusal result ≡ assignment_refusal slots place which (Some r) e }
+{
+    first(
+        target_violation(which, target),
+        or_mismatch(
+            value_violation(which, value),
+            place,
+            target.whole || value.whole,
+        ),
+    )
+}
+
+// What is assigned is no variable that may be assigned so.
+fn target_violation(which: AssignmentKind, target: Judged) -> Option<Violation>
+    ensures { (slots : List Slot) (r : Resolved) → IsJudged slots r target → as_refusal result ≡ target_refusal slots which r }
+{
+    if takes(which, target) {
+        None
+    } else {
+        Some(Violation {
+            rule: Rule::NotAssignable,
+            place: target.place,
+        })
+    }
+}
+
+#[tactic(auto, using(crate::proofs::Judging::later_same))]
+fn takes(which: AssignmentKind, target: Judged) -> bool
+    ensures { (slots : List Slot) (r : Resolved) → IsJudged slots r target → result ≡ is_assignable slots which r }
+{
+    match which {
+        AssignmentKind::Init => target.takes_init,
+        AssignmentKind::Next => target.takes_later,
+        AssignmentKind::Current => target.takes_later,
+    }
+}
+
+fn value_violation(which: AssignmentKind, value: Judged) -> Option<Violation>
+    ensures { (slots : List Slot) (e : Resolved) → IsJudged slots e value → as_refusal result ≡ kind_refusal slots (context_of_side which) e }
+{
+    match which {
+        AssignmentKind::Next => value.of_step,
+        AssignmentKind::Init | AssignmentKind::Current => value.of_state,
+    }
+}
+
+fn constraint_violation(which: ConstraintKind, value: Judged) -> Option<Violation>
+    ensures { (slots : List Slot) (e : Resolved) → IsJudged slots e value → as_refusal result ≡ formula_refusal slots (context_of_constraint which) e }
+{
+    let inside = match which {
+        ConstraintKind::Trans => value.of_step,
+        ConstraintKind::Init | ConstraintKind::Invar | ConstraintKind::Justice => value.of_state,
+    };
+    or_mismatch(inside, value.place, value.whole)
+}
