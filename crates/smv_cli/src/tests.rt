@@ -300,7 +300,7 @@ const RULES: [Case; 59] = [
         "-- refused 303 DuplicateModule at 3:1: m\n",
         3,
     ),
-    // Of no module `main` it is told after that.
+    // Two modules of one name are told before a missing `main`.
     (
         "check",
         "MODULE m MODULE m",

@@ -1,6 +1,6 @@
 -- Bytes are a model of one program at most, and are not refused where they are one.
-use Rattle.std.proofs.Common.{◌≡◌, ℕ, List, [], ◌∷◌, Option, None, Some, Result, Ok, Err, sym, subst, ◌∙◌}
-use Rattle.digraph.specs.Cycles.{Acyclic, IsRound, IsLeastRound}
+use Rattle.std.proofs.Common.{◌≡◌, ℕ, List, [], ◌∷◌, Option, None, Some, Result, Err, sym, subst}
+use Rattle.digraph.specs.Cycles.{Acyclic, IsRound}
 use Rattle.smv_tree.specs.declared.token.Tokens.{Tokens}
 use Rattle.smv_tree.specs.declared.refusal.Refusal.{Refusal}
 use Rattle.smv_tree.specs.declared.refusal.TextStop.{TextStop}
