@@ -75,7 +75,7 @@ pub fn resolve<P: Propagator>(
             open -= 1;
             let reasons = trail.reasons[trail.literals[p].var];
             let c = inner.clause(reasons - 1);
-            order.bump_all(c);
+            order.bump_new(c, p, &trail.places, marks);
             let more = mark(c, p, &trail.places, marks, floor, low)?;
             open += more;
         }

@@ -180,6 +180,17 @@ impl Order {
         }
     }
 
+    // Makes those of a clause's variables more active whose places are not marked, but that at `skip`: the ones that
+    // this conflict has not met before.
+    pub fn bump_new(&mut self, c: &[Lit], skip: usize, places: &[usize], marks: &[bool]) {
+        for x in c {
+            let q = entry(places, x.var);
+            if q != skip && q < marks.len() && !marks[q] {
+                self.bump(x.var);
+            }
+        }
+    }
+
     // The steps grow, so that what was bumped long ago counts less.
     pub fn decay(&mut self) {
         let more = self.step / 16;

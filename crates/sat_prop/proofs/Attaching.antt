@@ -1,10 +1,10 @@
-use Rattle.std.proofs.Common.{◌≡◌, ℕ, ◌<◌, ◌≤◌, eqb, true, false, List, [], ◌∷◌, ◌++◌, length, take, get_or, set, refl, sym, subst, ap, ◌∙◌, inl, inr, arith, length-append, length-set}
-use Rattle.std.specs.List.{list_any}
+use Rattle.std.proofs.Common.{◌≡◌, ℕ, ◌<◌, ◌≤◌, ◌*◌, ◌^◌, eqb, true, false, List, [], ◌∷◌, ◌++◌, length, take, get_or, set, refl, sym, subst, ap, ◌∙◌, inl, inr, arith, length-append, length-set}
+use Rattle.std.specs.List.{All, list_any}
 use Rattle.std.proofs.Math.Seq.{get_or-append_seam}
 use Rattle.std.proofs.lemmas.Bool.{cases_Bool, cases_lt, both_ways}
 use Rattle.std.proofs.lemmas.List.{take-take, take_all, take-append-le, get_or_append_left, length-take, length-map, get_or-take}
 use Rattle.clause_core.specs.declared.literal.Lit.{Lit}
-use Rattle.std.proofs.lemmas.List.Elements.{All-contains}
+use Rattle.std.proofs.lemmas.List.Elements.{All-contains, All-weaker}
 use Rattle.clause_core.specs.Literals.{negate, none_lit, at, Within}
 use Rattle.sat_prop.proofs.Sweeps.{contains_among}
 use Rattle.sat_prop.specs.declared.trail.Trail.{Trail}
@@ -14,7 +14,7 @@ use Rattle.sat_prop.specs.Watches.{none_watches, watches_at, TrueIn, Guarded, Ha
 use Rattle.sat_prop.proofs.Ways.{among_take_where, among_take_here, among_where, among_here}
 use Rattle.sat_prop.proofs.Queues.{take_in}
 use Rattle.sat_prop.proofs.Watching.{watch_grows, list_at}
-use Rattle.sat_prop.proofs.Visits.{cell_now, listed_push}
+use Rattle.sat_prop.proofs.Visits.{cell_in, cell_now, listed_push}
 use Rattle.sat_prop.specs.declared.lists.Entry.{Entry}
 use Rattle.sat_prop.specs.Entries.{AllEntries, fits, listed_with, numbers, numbers_of}
 use Rattle.sat_prop.proofs.Listing.{entries_both, entries_more, fits_new, length_both, numbers_push}
@@ -250,3 +250,18 @@ queue_decide cs watches literals l n le ok =
     let h = among_where literals m on in
     among_here (literals ++ l ∷ []) h.0 m (omega (arith, h.1, length-append literals (l ∷ []))) (get_or_append_left literals (l ∷ []) none_lit h.0 h.1 ∙ h.2)) ok in
     subst P (sym (take-append-le n literals (l ∷ []) le)) grown
+
+-- the numbers of a clause's literals, and of its watches, fit a word
+pub clause_low : (vars : ℕ) (c : List Lit) → Within vars c → 2 * vars < 2 ^ 32 → All (λ l. cell l < 2 ^ 32) c
+clause_low vars c within room = All-weaker (λ (l : Lit). l.var < vars) (λ l. cell l < 2 ^ 32) (λ l lt. omega (arith, cell_in l vars lt, room)) c within
+
+pub words_low : (vars : ℕ) (c : List Lit) (w : ℕ) (h : Watches) → Within vars c → 2 * vars < 2 ^ 32 → WatchesSay c w h → (cell h.a < 2 ^ 32) × (cell h.b < 2 ^ 32)
+words_low vars c w h within room said =
+    elim (cases_Bool (is_literal h.a h.b)) [
+      | inl on ↦ (omega (arith, (said.3 on).0), omega (arith, (said.3 on).1))
+      | inr off ↦
+          let both = said.0 off in (
+            omega (arith, cell_in h.a vars (head_cell vars c h.a within both.0), room),
+            omega (arith, cell_in h.b vars (head_cell vars c h.b within both.1), room),
+          )
+    ]

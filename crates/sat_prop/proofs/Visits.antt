@@ -2,7 +2,7 @@ use Rattle.std.proofs.Common.{◌≡◌, ℕ, ◌<◌, ◌≤◌, ◌+◌, ◌-�
 use Rattle.std.specs.List.{list_any}
 use Rattle.std.proofs.Math.Seq.{get_or-append_seam}
 use Rattle.std.proofs.lemmas.Bool.{cases_eq, both_ways}
-use Rattle.std.proofs.lemmas.List.{get_or_append_left, get_or_past, length-take-le, length-take}
+use Rattle.std.proofs.lemmas.List.{get_or_append_left, get_or_default, get_or_past, length-take-le, length-take}
 use Rattle.clause_core.specs.declared.literal.Lit.{Lit}
 use Rattle.clause_core.specs.Literals.{negate, none_lit, at}
 use Rattle.unit_propagation.specs.Values.{holds}
@@ -12,6 +12,8 @@ use Rattle.sat_prop.specs.declared.trail.Trail.{Trail}
 use Rattle.sat_prop.specs.Moves.{Extends}
 use Rattle.sat_prop.specs.Trails.{is_literal, among}
 use Rattle.sat_prop.specs.Watches.{one, none_watches, watches_at, TrueIn, Guarded, HasTwo, WatchesIn, AllWatchesIn, Listed, AllListed, cell, DoneWith, DoneWithBelow, Kept, swap_out, FindingSays}
+use Rattle.sat_prop.specs.Packing.{pair_of, pairs, RowsMatch}
+use Rattle.sat_prop.proofs.Matching.{pair_at}
 use Rattle.sat_prop.proofs.Ways.{lit_is_itself, among_where, among_here, at_take}
 use Rattle.sat_prop.proofs.Watching.{swap_below, list_at, list_where, lists_remove, cell_same, true_grows}
 
@@ -225,12 +227,30 @@ went_grows old new w l on =
     let e : at new.literals.items h.0 ≡ l = sym (at_take new.literals.items (length old.literals.items) h.0 h.1) ∙ ap (λ xs. at xs h.0) w.prefix ∙ h.2 in
     among_here new.literals.items h.0 l (omega (arith, h.1, le)) e
 
-pub move_facts : (cs : List (List Lit)) (t : Trail) (k : ℕ) (g o : Lit) (clause : List Lit) (v : List ℕ) → clause ≡ get_or cs k [] → v ≡ t.values.items →
-    FindingSays (holds v) clause o (Move g) → (among (get_or cs k []) g ≡ true) × (among t.literals.items (negate g) ≡ false) × (is_literal g o ≡ false)
-move_facts cs t k g o clause v ec ev said =
-    let P : List Lit → Type 0 = λ x. among x g ≡ true in
+-- the row of a clause that has two watches has its literals
+pub matched : (cs rows : List (List Lit)) (k : ℕ) → k < length cs → RowsMatch cs rows → HasTwo (watches_at (pairs rows) k) →
+    (l : Lit) → among (get_or rows k []) l ≡ among (get_or cs k []) l
+matched cs rows k lc ok big = let B : Watches → Type 0 = HasTwo in ok k lc (subst B (pair_at rows k) big)
+
+-- which of a row's first two literals is `f`, where the other is `o`
+pub beside_which : (row : List Lit) (f o : Lit) → 1 < length row → HasTwo (pair_of row) × (((pair_of row).a ≡ f) × (o ≡ (pair_of row).b) ⊎ ((pair_of row).b ≡ f) × (o ≡ (pair_of row).a)) →
+    ((at row 0 ≡ f) × (o ≡ at row 1)) ⊎ ((at row 1 ≡ f) × (o ≡ at row 0))
+beside_which row f o two said =
+    let e : get_or row 1 (at row 0) ≡ at row 1 = get_or_default row 1 (at row 0) none_lit two in
+    elim said.1 [
+      | inl w ↦ inl (w.0, w.1 ∙ e)
+      | inr w ↦ inr (sym e ∙ w.0, w.1)
+    ]
+
+pub move_facts : (cs rows : List (List Lit)) (t : Trail) (k j : ℕ) (g o : Lit) (row : List Lit) (v : List ℕ) → row ≡ get_or rows k [] → v ≡ t.values.items →
+    ((l : Lit) → among (get_or rows k []) l ≡ among (get_or cs k []) l) → FindingSays (holds v) row o (Move g j) →
+    (among (get_or cs k []) g ≡ true) × (among t.literals.items (negate g) ≡ false) × (is_literal g o ≡ false)
+    × ((j < length (get_or rows k [])) × (1 < j) × (at (get_or rows k []) j ≡ g))
+move_facts cs rows t k j g o row v er ev same said =
+    let P : List Lit → Type 0 = λ x. (j < length x) × (1 < j) × (at x j ≡ g) in
     let Q : List ℕ → Type 0 = λ x. holds x (negate g) ≡ false in
-    (subst P ec said.0, t.values_ok (negate g) ∙ subst Q ev said.1, said.2)
+    let place : P (get_or rows k []) = subst P er said.0 in
+    (sym (same g) ∙ among_here (get_or rows k []) j g place.0 place.2, t.values_ok (negate g) ∙ subst Q ev said.1, said.2, place)
 
 pub moved : (cs : List (List Lit)) (watches : List Watches) (lists mid last : List (List ℕ)) (literals : List Lit) (f g o : Lit) (k n m i : ℕ) → m ≡ cell g → n ≡ cell f →
     (g ≡ f → ⊥) → (o ≡ f → ⊥) → k < length watches → m < length lists → n < length lists → HasTwo (watches_at watches k) → is_literal g o ≡ false →

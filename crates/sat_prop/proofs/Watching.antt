@@ -1,8 +1,7 @@
-use Rattle.std.proofs.Common.{◌≡◌, ℕ, ◌<◌, ◌+◌, ◌-◌, ◌*◌, Bool, true, false, eqb, List, [], ◌∷◌, ◌++◌, length, take, get_or, refl, sym, subst, ap, ◌∙◌, inl, inr, ◌⊎◌, arith, set, eqb-true, eq-eqb, get_or-set_other, get_or-set_same, length-append, length-set}
+use Rattle.std.proofs.Common.{◌≡◌, ℕ, ◌<◌, ◌+◌, ◌-◌, ◌*◌, Bool, true, false, eqb, List, [], length, take, get_or, refl, sym, subst, ap, ◌∙◌, inl, inr, ◌⊎◌, arith, set, eqb-true, eq-eqb, get_or-set_other, get_or-set_same, length-set}
 use Rattle.std.specs.List.{Contains, list_any}
-use Rattle.std.proofs.Math.Seq.{get_or-append_seam}
 use Rattle.std.proofs.lemmas.Bool.{cases_Bool, cases_eq, cases_lt, both_ways}
-use Rattle.std.proofs.lemmas.List.{get_or_default, get_or_append_left, get_or-take, length-take-le}
+use Rattle.std.proofs.lemmas.List.{get_or_default, get_or-take, length-take-le}
 use Rattle.std.proofs.lemmas.List.Folds.{Any-from_list_any, list_any_at}
 use Rattle.std.proofs.lemmas.List.Elements.{All-contains, All-from_get_or}
 use Rattle.clause_core.specs.declared.literal.Lit.{Lit}
@@ -13,7 +12,7 @@ use Rattle.clause_core.proofs.Lists.{lit_same}
 use Rattle.clause_core.proofs.Lists.{negate_negate}
 use Rattle.sat_prop.specs.declared.watch.Watches.{Watches}
 use Rattle.sat_prop.specs.Trails.{is_literal, among, AtRest}
-use Rattle.sat_prop.specs.Watches.{none_watches, watches_at, TrueIn, Guarded, HasTwo, WatchesIn, AllWatchesIn, AllGuarded, Listed, AllListed, cell, DoneWith, swap_out}
+use Rattle.sat_prop.specs.Watches.{watches_at, TrueIn, Guarded, HasTwo, WatchesIn, AllWatchesIn, AllGuarded, Listed, AllListed, cell, DoneWith, swap_out}
 use Rattle.sat_prop.proofs.Ways.{lit_is_same, lit_is_itself, among_take_where, among_take_here}
 use Rattle.sat_prop.proofs.Sweeps.{contains_among}
 
@@ -89,30 +88,6 @@ watch_grows cs watches s u w g h k lk big =
     let f = h k lk big in
     (λ e. true_grows u w c g (f.0 e), λ e. true_grows u w c g (f.1 e))
 
--- a watch moves from f to a literal that is not false; s is any part of the trail
-pub watch_moves : (cs : List (List Lit)) (watches : List Watches) (k : ℕ) (g : Lit) (s u : List Lit) → k < length watches → HasTwo (watches_at watches k) →
-    among s (negate g) ≡ false → AllGuarded cs watches s u →
-    AllGuarded cs (set watches k (record { a = g; b = (watches_at watches k).b })) s u
-watch_moves cs watches k g s u lh big off h j lj bigj =
-    let new : Watches = record { a = g; b = (watches_at watches k).b } in
-    let c = get_or cs j [] in
-    elim (cases_eq j k) [
-      | inl same ↦
-          let e : watches_at (set watches k new) j ≡ new = rw same (get_or-set_same watches k new none_watches lh) in
-          let P : ℕ → Type 0 = λ x. HasTwo (watches_at watches x) in
-          let old = h j lj (subst P (sym same) big) in
-          let Q : ℕ → Type 0 = λ x. among s (negate (watches_at watches x).b) ≡ true → TrueIn u c in
-          let right : Q k = subst Q same old.1 in
-          let G : Watches → Type 0 = λ x. Guarded s u x c in
-          let here : G new = (λ on. absurd (both_ways _ off on), right) in
-          subst G (sym e) here
-      | inr ne ↦
-          let e : watches_at (set watches k new) j ≡ watches_at watches j = (rw get_or-set_other refl) in
-          let G : Watches → Type 0 = λ x. Guarded s u x c in
-          let B : Watches → Type 0 = HasTwo in
-          subst G (sym e) (h j lj (subst B e bigj))
-    ]
-
 pub last_or_before : (tr : List Lit) (n : ℕ) (l : Lit) → n < length tr → among (take (n + 1) tr) l ≡ true → (among (take n tr) l ≡ true) ⊎ (at tr n ≡ l)
 last_or_before tr n l lt e =
     let h = among_take_where tr (n + 1) l (omega arith) e in
@@ -138,27 +113,6 @@ watch_advances cs watches tr n lt h done k lk big =
         | inr last ↦ d.1 (sym (negate_negate w.b) ∙ ap negate (sym last))
       ],
     )
-
--- a new clause whose watches are not false in s
-pub watch_learns : (cs : List (List Lit)) (watches : List Watches) (c : List Lit) (h : Watches) (s u : List Lit) → length watches ≡ length cs →
-    among s (negate h.a) ≡ false → among s (negate h.b) ≡ false → AllGuarded cs watches s u → AllGuarded (cs ++ c ∷ []) (watches ++ h ∷ []) s u
-watch_learns cs watches c h s u len fa fb old k lk big =
-    elim (cases_lt k (length cs)) [
-      | inl lt ↦
-          let lh : k < length watches = omega arith in
-          let e : watches_at (watches ++ h ∷ []) k ≡ watches_at watches k = get_or_append_left watches (h ∷ []) none_watches k lh in
-          let f : get_or (cs ++ c ∷ []) k [] ≡ get_or cs k [] = get_or_append_left cs (c ∷ []) [] k lt in
-          let G : Watches → Type 0 = λ x. Guarded s u x (get_or (cs ++ c ∷ []) k []) in
-          let H : List Lit → Type 0 = λ x. Guarded s u (watches_at watches k) x in
-          let B : Watches → Type 0 = HasTwo in
-          subst G (sym e) (subst H (sym f) (old k lt (subst B e big)))
-      | inr ge ↦
-          let last : k ≡ length watches = omega (arith, lk, len, length-append cs (c ∷ [])) in
-          let e : watches_at (watches ++ h ∷ []) k ≡ h = rw last (get_or-append_seam watches h [] none_watches) in
-          let G : Watches → Type 0 = λ x. Guarded s u x (get_or (cs ++ c ∷ []) k []) in
-          let here : G h = (λ on. absurd (both_ways _ fa on), λ on. absurd (both_ways _ fb on)) in
-          subst G (sym e) here
-    ]
 
 pub list_at : (xs : List ℕ) (k j : ℕ) → j < length xs → get_or xs j 0 ≡ k → list_any (λ x. eqb x k) xs ≡ true
 list_at xs k j lt e = list_any_at (λ x. eqb x k) xs j 0 lt (eq-eqb _ _ e)

@@ -1,5 +1,5 @@
 -- Watched literals (Moskewicz and others 2001): a clause is looked at only where one of its two watches is false.
-use Rattle.std.specs.Prelude.{◌≡◌, ℕ, ◌+◌, ◌-◌, ◌*◌, ◌<◌, Bool, true, false, List, [], length, take, eqb, slice_set, slice_index, slice_index_or, All}
+use Rattle.std.specs.Prelude.{◌≡◌, ℕ, ◌+◌, ◌-◌, ◌*◌, ◌<◌, Bool, true, false, List, [], length, take, eqb, slice_set, slice_index, slice_index_or, All, Option, MatchOption, ◌⊎◌}
 use Rattle.std.specs.List.{list_any}
 use Rattle.clause_core.specs.declared.literal.Lit.{Lit}
 use Rattle.clause_core.specs.Literals.{negate, none_lit, at}
@@ -69,9 +69,13 @@ DoneWith cs watches tr f k =
 -- false; or `other` is forced; or the clause is false
 abbrev pub FindingSays : (Lit → Bool) → List Lit → Lit → Finding → Type 0
 FindingSays t c other Hit = t other ≡ true
-FindingSays t c other (Move g) = (among c g ≡ true) × (t (negate g) ≡ false) × (is_literal g other ≡ false)
+FindingSays t c other (Move g j) = ((j < length c) × (1 < j) × (at c j ≡ g)) × (t (negate g) ≡ false) × (is_literal g other ≡ false)
 FindingSays t c other (Force) = UnitIn t c other × (t other ≡ false) × (t (negate other) ≡ false)
 FindingSays t c other (False) = AllFalse t c
+
+-- the other watch, where f is one of two different ones
+abbrev pub OtherSays : Watches → Lit → Option Lit → Type 0
+OtherSays h f result = MatchOption result (HasTwo h → (h.a ≡ f → ⊥) × (h.b ≡ f → ⊥)) (λ o. HasTwo h × ((h.a ≡ f) × (o ≡ h.b) ⊎ (h.b ≡ f) × (o ≡ h.a)))
 
 -- a list without its i-th entry, the last one in its place
 abbrev pub swap_out : List ℕ → ℕ → List ℕ
@@ -132,6 +136,7 @@ WatchesSay c w h =
     (HasTwo h → WatchesIn h c)
     × (is_literal h.a h.b ≡ true → HasOneLiteral c)
     × (w < length c → is_literal (at c 0) (at c w) ≡ false → (h.a ≡ at c 0) × (h.b ≡ at c w))
+    × (is_literal h.a h.b ≡ true → (cell h.a ≡ 0) × (cell h.b ≡ 0))
 
 -- no entry of a list is lost
 abbrev pub ListsMore : List (List ℕ) → List (List ℕ) → Type 0

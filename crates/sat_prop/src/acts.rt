@@ -3,10 +3,12 @@ ghost use Rattle.clause_core.specs.Literals.{Within, negate};
 ghost use Rattle.unit_propagation.specs.Values.{holds, unset};
 ghost use Rattle.sat_prop.specs.Trails.{Based, among};
 ghost use Rattle.sat_prop.specs.Entries.{AllEntries, fits, numbers_of};
+ghost use Rattle.sat_prop.specs.Packing.{RowsMatch, pairs};
 ghost use Rattle.sat_prop.specs.Watches.{AllWatchesIn, AllListed, AllGuarded, ShortListed, ShortTrue, LevelsGuarded, Watchable, HasTwo};
 
 use crate::attach::{attach, watches_of};
 use crate::lists::WatchLists;
+use crate::rows::Rows;
 use crate::trail::Trail;
 use crate::watch::Watches;
 use clause_core::{Clauses, Lit};
@@ -50,7 +52,7 @@ fn head_for(trail: &Trail, h: Watches, n: usize) -> usize
 pub fn learn_on(
     clauses: &mut Clauses,
     trail: &Trail,
-    watches: &mut Vec<Watches>,
+    rows: &mut Rows,
     lists: &mut WatchLists,
     short: &mut Vec<usize>,
     head: &mut usize,
@@ -61,33 +63,35 @@ pub fn learn_on(
     requires watch { Watchable trail.now.literals.items trail.now.starts.items c.now w }
     requires based_in { Based trail.now.literals.items trail.now.reasons.items clauses.old }
     requires within_in { All (Within (length trail.now.values.items)) clauses.old }
-    requires room { 2 * length trail.now.values.items < 2 ^ 64 }
-    requires watches_len { length watches.old.items ≡ length clauses.old }
-    requires watches_in { AllWatchesIn clauses.old watches.old.items }
-    requires all_listed { AllListed watches.old.items (numbers_of lists.old) }
+    requires room { 2 * length trail.now.values.items < 2 ^ 32 }
+    requires rows_len { length rows.old ≡ length clauses.old }
+    requires watches_in { AllWatchesIn clauses.old (pairs rows.old) }
+    requires rows_match { RowsMatch clauses.old rows.old }
+    requires all_listed { AllListed (pairs rows.old) (numbers_of lists.old) }
     requires cells { length lists.old ≡ 2 * length trail.now.values.items }
     requires fit { AllEntries (fits clauses.old) lists.old }
-    requires short_listed { ShortListed clauses.old watches.old.items short.old.items }
+    requires short_listed { ShortListed clauses.old (pairs rows.old) short.old.items }
     requires low { head.old ≤ length trail.now.literals.items }
-    requires queue { AllGuarded clauses.old watches.old.items (take head.old trail.now.literals.items) trail.now.literals.items }
-    requires levels { LevelsGuarded clauses.old watches.old.items trail.now.literals.items trail.now.starts.items }
+    requires queue { AllGuarded clauses.old (pairs rows.old) (take head.old trail.now.literals.items) trail.now.literals.items }
+    requires levels { LevelsGuarded clauses.old (pairs rows.old) trail.now.literals.items trail.now.starts.items }
     ensures based_in { Based trail.now.literals.items trail.now.reasons.items clauses.new }
     ensures within_in { All (Within (length trail.now.values.items)) clauses.new }
-    ensures watches_len { length watches.new.items ≡ length clauses.new }
-    ensures watches_in { AllWatchesIn clauses.new watches.new.items }
-    ensures all_listed { AllListed watches.new.items (numbers_of lists.new) }
+    ensures rows_len { length rows.new ≡ length clauses.new }
+    ensures watches_in { AllWatchesIn clauses.new (pairs rows.new) }
+    ensures rows_match { RowsMatch clauses.new rows.new }
+    ensures all_listed { AllListed (pairs rows.new) (numbers_of lists.new) }
     ensures cells { length lists.new ≡ 2 * length trail.now.values.items }
     ensures fit { AllEntries (fits clauses.new) lists.new }
-    ensures short_listed { ShortListed clauses.new watches.new.items short.new.items }
+    ensures short_listed { ShortListed clauses.new (pairs rows.new) short.new.items }
     ensures low { head.new ≤ length trail.now.literals.items }
-    ensures queue { AllGuarded clauses.new watches.new.items (take head.new trail.now.literals.items) trail.now.literals.items }
-    ensures levels { LevelsGuarded clauses.new watches.new.items trail.now.literals.items trail.now.starts.items }
+    ensures queue { AllGuarded clauses.new (pairs rows.new) (take head.new trail.now.literals.items) trail.now.literals.items }
+    ensures levels { LevelsGuarded clauses.new (pairs rows.new) trail.now.literals.items trail.now.starts.items }
     ensures done { OnOk result (clauses.new ≡ clauses.old ++ c.now ∷ []) }
     ensures failed { OnErr result (clauses.new ≡ clauses.old) }
 {
     let h = watches_of(c, w);
     let n = head_for(trail, h, *head);
-    attach(clauses, watches, lists, short, c, h)?;
+    attach(clauses, rows, lists, short, c, h)?;
     *head = n;
     Ok(())
 }
@@ -95,7 +99,7 @@ pub fn learn_on(
 // Sets a literal as a decision.
 pub fn decide_on(
     clauses: &Clauses,
-    watches: &Vec<Watches>,
+    rows: &Rows,
     head: usize,
     trail: &mut Trail,
     l: Lit,
@@ -104,14 +108,14 @@ pub fn decide_on(
     requires off { among trail.old.literals.items l ≡ false }
     requires off_too { among trail.old.literals.items (negate l) ≡ false }
     requires rested { head ≡ length trail.old.literals.items }
-    requires rested_short { ShortTrue clauses.now watches.now.items trail.old.literals.items }
+    requires rested_short { ShortTrue clauses.now (pairs rows.now) trail.old.literals.items }
     requires based_in { Based trail.old.literals.items trail.old.reasons.items clauses.now }
-    requires queue { AllGuarded clauses.now watches.now.items (take head trail.old.literals.items) trail.old.literals.items }
-    requires levels { LevelsGuarded clauses.now watches.now.items trail.old.literals.items trail.old.starts.items }
+    requires queue { AllGuarded clauses.now (pairs rows.now) (take head trail.old.literals.items) trail.old.literals.items }
+    requires levels { LevelsGuarded clauses.now (pairs rows.now) trail.old.literals.items trail.old.starts.items }
     ensures based_in { Based trail.new.literals.items trail.new.reasons.items clauses.now }
     ensures low { head ≤ length trail.new.literals.items }
-    ensures queue { AllGuarded clauses.now watches.now.items (take head trail.new.literals.items) trail.new.literals.items }
-    ensures levels { LevelsGuarded clauses.now watches.now.items trail.new.literals.items trail.new.starts.items }
+    ensures queue { AllGuarded clauses.now (pairs rows.now) (take head trail.new.literals.items) trail.new.literals.items }
+    ensures levels { LevelsGuarded clauses.now (pairs rows.now) trail.new.literals.items trail.new.starts.items }
     ensures literals { OnOk result (trail.new.literals.items ≡ trail.old.literals.items ++ l ∷ []) }
     ensures starts { OnOk result (trail.new.starts.items ≡ trail.old.starts.items ++ length trail.old.literals.items ∷ []) }
     ensures fewer { OnOk result (unset trail.new.values.items < unset trail.old.values.items) }
@@ -122,20 +126,14 @@ pub fn decide_on(
 }
 
 // Takes back decision number `level` and all after it: what is left is at rest.
-pub fn undo_on(
-    clauses: &Clauses,
-    watches: &Vec<Watches>,
-    head: &mut usize,
-    trail: &mut Trail,
-    level: usize,
-)
+pub fn undo_on(clauses: &Clauses, rows: &Rows, head: &mut usize, trail: &mut Trail, level: usize)
     requires level { level < length trail.old.starts.items }
     requires based_in { Based trail.old.literals.items trail.old.reasons.items clauses.now }
-    requires levels { LevelsGuarded clauses.now watches.now.items trail.old.literals.items trail.old.starts.items }
+    requires levels { LevelsGuarded clauses.now (pairs rows.now) trail.old.literals.items trail.old.starts.items }
     ensures based_in { Based trail.new.literals.items trail.new.reasons.items clauses.now }
     ensures low { head.new ≤ length trail.new.literals.items }
-    ensures queue { AllGuarded clauses.now watches.now.items (take head.new trail.new.literals.items) trail.new.literals.items }
-    ensures levels { LevelsGuarded clauses.now watches.now.items trail.new.literals.items trail.new.starts.items }
+    ensures queue { AllGuarded clauses.now (pairs rows.now) (take head.new trail.new.literals.items) trail.new.literals.items }
+    ensures levels { LevelsGuarded clauses.now (pairs rows.now) trail.new.literals.items trail.new.starts.items }
     ensures literals { trail.new.literals.items ≡ take (slice_index trail.old.starts.items level) trail.old.literals.items }
     ensures starts { trail.new.starts.items ≡ take level trail.old.starts.items }
     ensures vars { length trail.new.values.items ≡ length trail.old.values.items }

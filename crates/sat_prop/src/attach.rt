@@ -2,10 +2,12 @@ ghost use Rattle.std.specs.Prelude.{◌+◌, ◌-◌, ◌*◌, ◌^◌, [], ◌�
 ghost use Rattle.clause_core.specs.Literals.{Within, negate};
 ghost use Rattle.sat_prop.specs.Entries.{AllEntries, fits, listed_with, numbers_of};
 ghost use Rattle.sat_prop.specs.declared.lists.Entry.{Entry};
+ghost use Rattle.sat_prop.specs.Packing.{RowsMatch, pairs, row_of};
 ghost use Rattle.sat_prop.specs.Watches.{AllWatchesIn, WatchesIn, AllListed, ShortListed, WatchesSay, ShortMore, InShort, HasTwo, HasOneLiteral, cell};
 ghost use Rattle.sat_prop.specs.Trails.{is_literal};
 
 use crate::lists::{Entry, WatchLists};
+use crate::rows::Rows;
 use crate::watch::{Watches, cell_of};
 use clause_core::{Clauses, Lit};
 use std::alloc::AllocError;
@@ -26,6 +28,7 @@ pub fn watches_of(c: &[Lit], w: usize) -> Watches
 fn pair_of(c: &[Lit]) -> Watches
     ensures two { HasTwo result → WatchesIn result c.now }
     ensures one { is_literal result.a result.b ≡ true → HasOneLiteral c.now }
+    ensures none { is_literal result.a result.b ≡ true → (cell result.a ≡ 0) × (cell result.b ≡ 0) }
 {
     for i in 1..c.len() {
         if !c[i].is_same(c[0]) {
@@ -45,6 +48,9 @@ fn list_both(lists: &mut WatchLists, h: Watches, k: usize) -> Result<(), AllocEr
     requires b_in { 2 * h.b.var + 1 < 2 ^ 64 }
     requires a_cell { cell h.a < length lists.old }
     requires b_cell { cell h.b < length lists.old }
+    requires a_word { cell h.a < 2 ^ 32 }
+    requires b_word { cell h.b < 2 ^ 32 }
+    requires number { k < 2 ^ 32 }
     ensures done { OnOk result (lists.new ≡ listed_with lists.old h k) }
     ensures failed { OnErr result (lists.new ≡ lists.old) }
 {
@@ -88,6 +94,9 @@ fn enlist(
     requires b_in { is_literal h.a h.b ≡ false → 2 * h.b.var + 1 < 2 ^ 64 }
     requires a_cell { is_literal h.a h.b ≡ false → cell h.a < length lists.old }
     requires b_cell { is_literal h.a h.b ≡ false → cell h.b < length lists.old }
+    requires a_word { cell h.a < 2 ^ 32 }
+    requires b_word { cell h.b < 2 ^ 32 }
+    requires number { k < 2 ^ 32 }
     ensures same { is_literal h.a h.b ≡ true → lists.new ≡ lists.old }
     ensures both { OnOk result (HasTwo h → lists.new ≡ listed_with lists.old h k) }
     ensures failed { OnErr result (lists.new ≡ lists.old) }
@@ -119,7 +128,7 @@ fn delist(lists: &mut WatchLists, h: Watches)
 // Adds a clause with its watches.
 pub fn attach(
     clauses: &mut Clauses,
-    watches: &mut Vec<Watches>,
+    rows: &mut Rows,
     lists: &mut WatchLists,
     short: &mut Vec<usize>,
     c: &[Lit],
@@ -129,32 +138,40 @@ pub fn attach(
     requires b_in { is_literal h.a h.b ≡ false → 2 * h.b.var + 1 < 2 ^ 64 }
     requires a_cell { is_literal h.a h.b ≡ false → cell h.a < length lists.old }
     requires b_cell { is_literal h.a h.b ≡ false → cell h.b < length lists.old }
+    requires a_word { cell h.a < 2 ^ 32 }
+    requires b_word { cell h.b < 2 ^ 32 }
+    requires words { All (λ l. cell l < 2 ^ 32) c.now }
     requires two { HasTwo h → WatchesIn h c.now }
     requires one { is_literal h.a h.b ≡ true → HasOneLiteral c.now }
-    requires watches_len { length watches.old.items ≡ length clauses.old }
-    requires watches_in { AllWatchesIn clauses.old watches.old.items }
-    requires all_listed { AllListed watches.old.items (numbers_of lists.old) }
-    requires short_listed { ShortListed clauses.old watches.old.items short.old.items }
+    requires rows_len { length rows.old ≡ length clauses.old }
+    requires watches_in { AllWatchesIn clauses.old (pairs rows.old) }
+    requires rows_match { RowsMatch clauses.old rows.old }
+    requires all_listed { AllListed (pairs rows.old) (numbers_of lists.old) }
+    requires short_listed { ShortListed clauses.old (pairs rows.old) short.old.items }
     requires fit { AllEntries (fits clauses.old) lists.old }
     ensures cells { length lists.new ≡ length lists.old }
     ensures fit { AllEntries (fits clauses.new) lists.new }
-    ensures watches_len { length watches.new.items ≡ length clauses.new }
-    ensures watches_in { AllWatchesIn clauses.new watches.new.items }
-    ensures all_listed { AllListed watches.new.items (numbers_of lists.new) }
-    ensures short_listed { ShortListed clauses.new watches.new.items short.new.items }
+    ensures rows_len { length rows.new ≡ length clauses.new }
+    ensures watches_in { AllWatchesIn clauses.new (pairs rows.new) }
+    ensures rows_match { RowsMatch clauses.new rows.new }
+    ensures all_listed { AllListed (pairs rows.new) (numbers_of lists.new) }
+    ensures short_listed { ShortListed clauses.new (pairs rows.new) short.new.items }
     ensures done { OnOk result (clauses.new ≡ clauses.old ++ c.now ∷ []) }
-    ensures done_watches { OnOk result (watches.new.items ≡ watches.old.items ++ h ∷ []) }
+    ensures done_rows { OnOk result (rows.new ≡ rows.old ++ row_of h c.now ∷ []) }
     ensures failed { OnErr result (clauses.new ≡ clauses.old) }
-    ensures failed_watches { OnErr result (watches.new.items ≡ watches.old.items) }
+    ensures failed_rows { OnErr result (rows.new ≡ rows.old) }
 {
-    let k = watches.len();
+    let k = rows.len();
+    if k >= u32::MAX as usize {
+        return Err(AllocError);
+    }
     enlist(lists, short, h, k)?;
-    if let Err(e) = watches.push(h) {
+    if let Err(e) = rows.push(h, c) {
         delist(lists, h);
-        return Err(e.into());
+        return Err(e);
     }
     if let Err(e) = clauses.push(c) {
-        watches.truncate(k);
+        rows.pop();
         delist(lists, h);
         return Err(e);
     }

@@ -7,6 +7,7 @@ mod attach;
 mod lists;
 mod propagator;
 mod queue;
+mod rows;
 mod scan;
 mod settle;
 mod sweep;
@@ -16,6 +17,7 @@ mod trail;
 mod visit;
 mod watch;
 mod watched;
+mod words;
 
 pub use propagator::Propagator;
 pub use scan::Scan;

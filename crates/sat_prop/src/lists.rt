@@ -1,7 +1,10 @@
-ghost use Rattle.std.specs.Prelude.{◌+◌, ◌-◌, ◌*◌, [], ◌∷◌, ◌≡◌, ◌<◌, ◌≤◌, ℕ, ◌++◌, Bool, true, IfOk, OnOk, OnErr, length, List, take, slice_set, slice_index, slice_index_or};
+ghost use Rattle.std.specs.Prelude.{◌+◌, ◌-◌, ◌*◌, ◌^◌, [], ◌∷◌, ◌≡◌, ◌<◌, ◌≤◌, ℕ, ◌++◌, Bool, true, IfOk, OnOk, OnErr, length, List, take, slice_set, slice_index, slice_index_or};
 ghost use Rattle.sat_prop.specs.Entries.{AllEntries, entry_out, numbers_of};
+ghost use Rattle.sat_prop.specs.Slots.{entry_of};
+ghost use Rattle.sat_prop.specs.Watches.{cell};
 ghost use Rattle.sat_prop.specs.declared.lists.Entry.{Entry};
 
+use crate::words::{literal, word_of};
 use clause_core::Lit;
 use std::alloc::{AllocError, Global};
 use std::marker::Model;
@@ -14,19 +17,39 @@ pub struct Entry {
     pub other: Lit,
 }
 
+// An entry as it is kept, in few bytes.
+#[derive(Clone, Copy, Drop)]
+pub struct Slot {
+    pub clause: u32,
+    pub other: u32,
+}
+
 // For each literal the list of the clauses that watch it.
 #[derive(Drop)]
 pub struct WatchLists {
-    cells: Vec<Vec<Entry>>,
+    cells: Vec<Vec<Slot>>,
 }
 
 impl Model for WatchLists {
     ghost use Rattle.std.specs.Prelude.{List, map};
     ghost use Rattle.sat_prop.specs.declared.lists.Entry.{Entry};
+    ghost use Rattle.sat_prop.specs.Slots.{entries_of};
 
     ghost Value = { List (List Entry) };
 
-    ghost view = { λ s. map (λ v. v.items) s.cells.items };
+    ghost view = { λ s. map (λ v. entries_of v.items) s.cells.items };
+}
+
+// The bytes of an entry.
+fn slot_of(e: Entry) -> Slot
+    requires clause { e.clause < 2 ^ 32 }
+    requires other { cell e.other < 2 ^ 32 }
+    ensures { entry_of result ≡ e }
+{
+    Slot {
+        clause: e.clause as u32,
+        other: word_of(e.other),
+    }
 }
 
 impl WatchLists {
@@ -56,26 +79,37 @@ impl WatchLists {
         requires entry { i < length (slice_index_or self.now c []) }
         ensures clause { result.clause ≡ slice_index (slice_index_or (numbers_of self.now) c []) i }
         ensures fits { (p : Entry → Bool) → AllEntries p self.now → p result ≡ true }
+        ensures low { result.clause < 2 ^ 32 }
     {
-        self.cells[c][i]
+        let slot = self.cells[c][i];
+        Entry {
+            clause: slot.clause as usize,
+            other: literal(slot.other),
+        }
     }
 
     // Writes entry i of list number c.
     pub fn put(&mut self, c: usize, i: usize, e: Entry)
         requires cell { c < length self.old }
         requires entry { i < length (slice_index_or self.old c []) }
+        requires clause { e.clause < 2 ^ 32 }
+        requires other { cell e.other < 2 ^ 32 }
         ensures { self.new ≡ slice_set self.old c (slice_set (slice_index_or self.old c []) i e) }
     {
-        self.cells[c][i] = e;
+        let slot = slot_of(e);
+        self.cells[c][i] = slot;
     }
 
     // Puts an entry at the end of list number c.
     pub fn push(&mut self, c: usize, e: Entry) -> Result<(), AllocError>
-        requires { c < length self.old }
+        requires cell { c < length self.old }
+        requires clause { e.clause < 2 ^ 32 }
+        requires other { cell e.other < 2 ^ 32 }
         ensures done { OnOk result (self.new ≡ slice_set self.old c (slice_index_or self.old c [] ++ e ∷ [])) }
         ensures failed { OnErr result (self.new ≡ self.old) }
     {
-        self.cells[c].push(e)?;
+        let slot = slot_of(e);
+        self.cells[c].push(slot)?;
         Ok(())
     }
 

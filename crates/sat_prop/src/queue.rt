@@ -4,12 +4,13 @@ ghost use Rattle.clause_core.specs.Literals.{Within, negate};
 ghost use Rattle.sat_prop.specs.Trails.{Based, AtRest, among};
 ghost use Rattle.sat_prop.specs.Moves.{Extends, FalseClause};
 ghost use Rattle.sat_prop.specs.Entries.{AllEntries, fits, numbers_of};
+ghost use Rattle.sat_prop.specs.Packing.{RowsMatch, pairs};
 ghost use Rattle.sat_prop.specs.Watches.{AllWatchesIn, AllListed, Kept, KeepsTwo, AllGuarded, ShortDone, ShortListed, ShortTrue, LevelsGuarded};
 
 use crate::lists::WatchLists;
+use crate::rows::Rows;
 use crate::trail::Trail;
 use crate::visit::visit_list;
-use crate::watch::Watches;
 use clause_core::{Clauses, Lit};
 use std::alloc::AllocError;
 use unit_propagation::{Scan, scan_clause};
@@ -18,36 +19,38 @@ use unit_propagation::{Scan, scan_clause};
 pub fn run_queue(
     clauses: &Clauses,
     trail: &mut Trail,
-    watches: &mut Vec<Watches>,
+    rows: &mut Rows,
     lists: &mut WatchLists,
     head: &mut usize,
 ) -> Result<Option<usize>, AllocError>
-    requires short { 2 * length trail.old.values.items < 2 ^ 64 }
+    requires short { 2 * length trail.old.values.items < 2 ^ 32 }
     requires within { All (Within (length trail.old.values.items)) clauses.now }
     requires based { Based trail.old.literals.items trail.old.reasons.items clauses.now }
-    requires watches_len { length watches.old.items ≡ length clauses.now }
-    requires watches_in { AllWatchesIn clauses.now watches.old.items }
-    requires all_listed { AllListed watches.old.items (numbers_of lists.old) }
+    requires rows_len { length rows.old ≡ length clauses.now }
+    requires watches_in { AllWatchesIn clauses.now (pairs rows.old) }
+    requires rows_match { RowsMatch clauses.now rows.old }
+    requires all_listed { AllListed (pairs rows.old) (numbers_of lists.old) }
     requires cells { length lists.old ≡ 2 * length trail.old.values.items }
     requires fit { AllEntries (fits clauses.now) lists.old }
     requires low { head.old ≤ length trail.old.literals.items }
-    requires queue { AllGuarded clauses.now watches.old.items (take head.old trail.old.literals.items) trail.old.literals.items }
+    requires queue { AllGuarded clauses.now (pairs rows.old) (take head.old trail.old.literals.items) trail.old.literals.items }
     ensures based { Based trail.new.literals.items trail.new.reasons.items clauses.now }
     ensures extends { Extends trail.old trail.new }
-    ensures watches_len { length watches.new.items ≡ length clauses.now }
-    ensures watches_in { AllWatchesIn clauses.now watches.new.items }
-    ensures all_listed { AllListed watches.new.items (numbers_of lists.new) }
+    ensures rows_len { length rows.new ≡ length clauses.now }
+    ensures watches_in { AllWatchesIn clauses.now (pairs rows.new) }
+    ensures rows_match { RowsMatch clauses.now rows.new }
+    ensures all_listed { AllListed (pairs rows.new) (numbers_of lists.new) }
     ensures cells { length lists.new ≡ length lists.old }
     ensures fit { AllEntries (fits clauses.now) lists.new }
-    ensures kept { Kept clauses.now watches.old.items watches.new.items trail.old.literals.items }
-    ensures two_kept { KeepsTwo watches.old.items watches.new.items }
+    ensures kept { Kept clauses.now (pairs rows.old) (pairs rows.new) trail.old.literals.items }
+    ensures two_kept { KeepsTwo (pairs rows.old) (pairs rows.new) }
     ensures low { head.new ≤ length trail.new.literals.items }
-    ensures queue { AllGuarded clauses.now watches.new.items (take head.new trail.new.literals.items) trail.new.literals.items }
+    ensures queue { AllGuarded clauses.now (pairs rows.new) (take head.new trail.new.literals.items) trail.new.literals.items }
     ensures says { IfOk result (λ o. MatchOption o (head.new ≡ length trail.new.literals.items) (FalseClause clauses.now trail.new)) }
 {
     'queue: while *head < trail.literals.len() {
         let f = trail.literals[*head].negated();
-        match visit_list(clauses, trail, watches, lists, f)? {
+        match visit_list(clauses, trail, rows, lists, f)? {
             Some(k) => return Ok(Some(k)),
             None => *head += 1,
         }

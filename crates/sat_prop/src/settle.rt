@@ -3,12 +3,13 @@ ghost use Rattle.clause_core.specs.Literals.{Within, negate};
 ghost use Rattle.sat_prop.specs.Trails.{Based, AtRest, among};
 ghost use Rattle.sat_prop.specs.Moves.{Extends, FalseClause};
 ghost use Rattle.sat_prop.specs.Entries.{AllEntries, fits, numbers_of};
+ghost use Rattle.sat_prop.specs.Packing.{RowsMatch, pairs};
 ghost use Rattle.sat_prop.specs.Watches.{AllWatchesIn, AllListed, AllGuarded, ShortListed, ShortTrue, LevelsGuarded};
 
 use crate::lists::WatchLists;
 use crate::queue::{run_queue, sweep_short};
+use crate::rows::Rows;
 use crate::trail::Trail;
-use crate::watch::Watches;
 use clause_core::Clauses;
 use std::alloc::AllocError;
 
@@ -16,16 +17,16 @@ use std::alloc::AllocError;
 fn settle_short(
     clauses: &Clauses,
     trail: &mut Trail,
-    watches: &[Watches],
+    rows: &Rows,
     short: &[usize],
 ) -> Result<Option<usize>, AllocError>
     requires within { All (Within (length trail.old.values.items)) clauses.now }
     requires based { Based trail.old.literals.items trail.old.reasons.items clauses.now }
-    requires short_listed { ShortListed clauses.now watches.now short.now }
-    requires levels { LevelsGuarded clauses.now watches.now trail.old.literals.items trail.old.starts.items }
+    requires short_listed { ShortListed clauses.now (pairs rows.now) short.now }
+    requires levels { LevelsGuarded clauses.now (pairs rows.now) trail.old.literals.items trail.old.starts.items }
     ensures based { Based trail.new.literals.items trail.new.reasons.items clauses.now }
     ensures extends { Extends trail.old trail.new }
-    ensures says { IfOk result (λ o. MatchOption o (ShortTrue clauses.now watches.now trail.new.literals.items) (FalseClause clauses.now trail.new)) }
+    ensures says { IfOk result (λ o. MatchOption o (ShortTrue clauses.now (pairs rows.now) trail.new.literals.items) (FalseClause clauses.now trail.new)) }
 {
     if trail.starts.len() == 0 {
         match sweep_short(clauses, trail, short)? {
@@ -41,39 +42,41 @@ fn settle_short(
 pub fn settle(
     clauses: &Clauses,
     trail: &mut Trail,
-    watches: &mut Vec<Watches>,
+    rows: &mut Rows,
     lists: &mut WatchLists,
     short: &[usize],
     head: &mut usize,
 ) -> Result<Option<usize>, AllocError>
-    requires room { 2 * length trail.old.values.items < 2 ^ 64 }
+    requires room { 2 * length trail.old.values.items < 2 ^ 32 }
     requires within { All (Within (length trail.old.values.items)) clauses.now }
     requires based { Based trail.old.literals.items trail.old.reasons.items clauses.now }
-    requires watches_len { length watches.old.items ≡ length clauses.now }
-    requires watches_in { AllWatchesIn clauses.now watches.old.items }
-    requires all_listed { AllListed watches.old.items (numbers_of lists.old) }
+    requires rows_len { length rows.old ≡ length clauses.now }
+    requires watches_in { AllWatchesIn clauses.now (pairs rows.old) }
+    requires rows_match { RowsMatch clauses.now rows.old }
+    requires all_listed { AllListed (pairs rows.old) (numbers_of lists.old) }
     requires cells { length lists.old ≡ 2 * length trail.old.values.items }
     requires fit { AllEntries (fits clauses.now) lists.old }
-    requires short_listed { ShortListed clauses.now watches.old.items short.now }
+    requires short_listed { ShortListed clauses.now (pairs rows.old) short.now }
     requires low { head.old ≤ length trail.old.literals.items }
-    requires queue { AllGuarded clauses.now watches.old.items (take head.old trail.old.literals.items) trail.old.literals.items }
-    requires levels { LevelsGuarded clauses.now watches.old.items trail.old.literals.items trail.old.starts.items }
+    requires queue { AllGuarded clauses.now (pairs rows.old) (take head.old trail.old.literals.items) trail.old.literals.items }
+    requires levels { LevelsGuarded clauses.now (pairs rows.old) trail.old.literals.items trail.old.starts.items }
     ensures based { Based trail.new.literals.items trail.new.reasons.items clauses.now }
     ensures extends { Extends trail.old trail.new }
-    ensures watches_len { length watches.new.items ≡ length clauses.now }
-    ensures watches_in { AllWatchesIn clauses.now watches.new.items }
-    ensures all_listed { AllListed watches.new.items (numbers_of lists.new) }
+    ensures rows_len { length rows.new ≡ length clauses.now }
+    ensures watches_in { AllWatchesIn clauses.now (pairs rows.new) }
+    ensures rows_match { RowsMatch clauses.now rows.new }
+    ensures all_listed { AllListed (pairs rows.new) (numbers_of lists.new) }
     ensures cells { length lists.new ≡ length lists.old }
     ensures fit { AllEntries (fits clauses.now) lists.new }
-    ensures short_listed { ShortListed clauses.now watches.new.items short.now }
+    ensures short_listed { ShortListed clauses.now (pairs rows.new) short.now }
     ensures low { head.new ≤ length trail.new.literals.items }
-    ensures queue { AllGuarded clauses.now watches.new.items (take head.new trail.new.literals.items) trail.new.literals.items }
-    ensures levels { LevelsGuarded clauses.now watches.new.items trail.new.literals.items trail.new.starts.items }
-    ensures says { IfOk result (λ o. MatchOption o (AtRest clauses.now trail.new.literals.items × ((head.new ≡ length trail.new.literals.items) × ShortTrue clauses.now watches.new.items trail.new.literals.items)) (FalseClause clauses.now trail.new)) }
+    ensures queue { AllGuarded clauses.now (pairs rows.new) (take head.new trail.new.literals.items) trail.new.literals.items }
+    ensures levels { LevelsGuarded clauses.now (pairs rows.new) trail.new.literals.items trail.new.starts.items }
+    ensures says { IfOk result (λ o. MatchOption o (AtRest clauses.now trail.new.literals.items × ((head.new ≡ length trail.new.literals.items) × ShortTrue clauses.now (pairs rows.new) trail.new.literals.items)) (FalseClause clauses.now trail.new)) }
 {
-    match settle_short(clauses, trail, watches, short)? {
+    match settle_short(clauses, trail, rows, short)? {
         Some(k) => Ok(Some(k)),
-        None => match run_queue(clauses, trail, watches, lists, head)? {
+        None => match run_queue(clauses, trail, rows, lists, head)? {
             Some(k) => Ok(Some(k)),
             None => Ok(None),
         },

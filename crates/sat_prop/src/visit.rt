@@ -4,11 +4,13 @@ ghost use Rattle.clause_core.specs.Literals.{Within, negate};
 ghost use Rattle.sat_prop.specs.Trails.{Based, among};
 ghost use Rattle.sat_prop.specs.Moves.{Extends, FalseClause};
 ghost use Rattle.sat_prop.specs.Entries.{AllEntries, fits, numbers_of};
+ghost use Rattle.sat_prop.specs.Packing.{RowsMatch, pairs};
 ghost use Rattle.sat_prop.specs.Watches.{AllWatchesIn, AllListed, Kept, DoneWith, KeepsTwo};
 
 use crate::lists::{Entry, WatchLists};
+use crate::rows::Rows;
 use crate::trail::Trail;
-use crate::watch::{Finding, Watches, cell_of, look_at, other_of};
+use crate::watch::{Finding, cell_of, look_at, other_of};
 use clause_core::{Clauses, Lit};
 use std::alloc::AllocError;
 use unit_propagation::is_set;
@@ -17,30 +19,32 @@ use unit_propagation::is_set;
 pub fn visit_list(
     clauses: &Clauses,
     trail: &mut Trail,
-    watches: &mut Vec<Watches>,
+    rows: &mut Rows,
     lists: &mut WatchLists,
     f: Lit,
 ) -> Result<Option<usize>, AllocError>
-    requires short { 2 * length trail.old.values.items < 2 ^ 64 }
+    requires short { 2 * length trail.old.values.items < 2 ^ 32 }
     requires within { All (Within (length trail.old.values.items)) clauses.now }
     requires based { Based trail.old.literals.items trail.old.reasons.items clauses.now }
-    requires watches_len { length watches.old.items ≡ length clauses.now }
-    requires watches_in { AllWatchesIn clauses.now watches.old.items }
-    requires all_listed { AllListed watches.old.items (numbers_of lists.old) }
+    requires rows_len { length rows.old ≡ length clauses.now }
+    requires watches_in { AllWatchesIn clauses.now (pairs rows.old) }
+    requires rows_match { RowsMatch clauses.now rows.old }
+    requires all_listed { AllListed (pairs rows.old) (numbers_of lists.old) }
     requires cells { length lists.old ≡ 2 * length trail.old.values.items }
     requires fit { AllEntries (fits clauses.now) lists.old }
     requires f_in { f.var < length trail.old.values.items }
     requires off { among trail.old.literals.items (negate f) ≡ true }
     ensures based { Based trail.new.literals.items trail.new.reasons.items clauses.now }
     ensures extends { Extends trail.old trail.new }
-    ensures watches_len { length watches.new.items ≡ length clauses.now }
-    ensures watches_in { AllWatchesIn clauses.now watches.new.items }
-    ensures all_listed { AllListed watches.new.items (numbers_of lists.new) }
+    ensures rows_len { length rows.new ≡ length clauses.now }
+    ensures watches_in { AllWatchesIn clauses.now (pairs rows.new) }
+    ensures rows_match { RowsMatch clauses.now rows.new }
+    ensures all_listed { AllListed (pairs rows.new) (numbers_of lists.new) }
     ensures cells { length lists.new ≡ length lists.old }
     ensures fit { AllEntries (fits clauses.now) lists.new }
-    ensures kept { Kept clauses.now watches.old.items watches.new.items trail.old.literals.items }
-    ensures two_kept { KeepsTwo watches.old.items watches.new.items }
-    ensures says { IfOk result (λ o. MatchOption o ((k : ℕ) → DoneWith clauses.now watches.new.items trail.new.literals.items f k) (FalseClause clauses.now trail.new)) }
+    ensures kept { Kept clauses.now (pairs rows.old) (pairs rows.new) trail.old.literals.items }
+    ensures two_kept { KeepsTwo (pairs rows.old) (pairs rows.new) }
+    ensures says { IfOk result (λ o. MatchOption o ((k : ℕ) → DoneWith clauses.now (pairs rows.new) trail.new.literals.items f k) (FalseClause clauses.now trail.new)) }
 {
     let c = cell_of(f);
     let mut i = 0;
@@ -49,10 +53,10 @@ pub fn visit_list(
         let k = e.clause;
         if is_set(&trail.values, e.other) {
             i += 1;
-        } else if k < watches.len() {
-            match other_of(watches[k], f) {
+        } else if k < rows.len() {
+            match other_of(rows.get(k), f) {
                 None => lists.remove(c, i),
-                Some(o) => match look_at(&trail.values, clauses.get(k), o) {
+                Some(o) => match look_at(&trail.values, rows.get(k), o) {
                     Finding::Hit => {
                         lists.put(
                             c,
@@ -64,7 +68,7 @@ pub fn visit_list(
                         );
                         i += 1;
                     }
-                    Finding::Move(g) => {
+                    Finding::Move(g, j) => {
                         lists.push(
                             cell_of(g),
                             Entry {
@@ -72,7 +76,7 @@ pub fn visit_list(
                                 other: o,
                             },
                         )?;
-                        watches[k] = Watches { a: g, b: o };
+                        rows.rewatch(k, j, o, f);
                         lists.remove(c, i);
                     }
                     Finding::Force => {

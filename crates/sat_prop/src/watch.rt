@@ -1,8 +1,11 @@
-ghost use Rattle.std.specs.Prelude.{◌+◌, ◌-◌, ◌*◌, ◌^◌, [], ◌∷◌, ◌≡◌, ◌<◌, ◌≤◌, ℕ, ◌++◌, true, false, IfOk, OnOk, OnErr, length, take, All, List, Contains, slice_set, slice_index_or, MatchOption, ◌⊎◌};
+ghost use Rattle.std.specs.Prelude.{◌+◌, ◌-◌, ◌*◌, ◌^◌, [], ◌∷◌, ◌≡◌, ◌<◌, ◌≤◌, ℕ, ◌++◌, true, false, IfOk, OnOk, OnErr, length, take, All, List, Contains, map, ⊤, slice_set, slice_index_or, MatchOption, ◌⊎◌};
 ghost use Rattle.unit_propagation.specs.Values.{holds};
-ghost use Rattle.clause_core.specs.Literals.{Within};
-ghost use Rattle.sat_prop.specs.Watches.{FindingSays, cell, HasTwo};
+ghost use Rattle.clause_core.specs.Literals.{Within, negate};
+ghost use Rattle.sat_prop.specs.Words.{literal_of};
+ghost use Rattle.sat_prop.specs.Packing.{pair_of};
+ghost use Rattle.sat_prop.specs.Watches.{FindingSays, OtherSays, cell};
 
+use crate::words::literal;
 use clause_core::Lit;
 use unit_propagation::{is_false, is_set};
 
@@ -18,28 +21,29 @@ pub struct Watches {
 pub enum Finding {
     // Nothing: the other watch is true.
     Hit,
-    // This literal, which is not false, is to be watched.
-    Move(Lit),
+    // This literal, which is not false, is to be watched, and where it stands in the row.
+    Move(Lit, usize),
     // The other watch is to be set.
     Force,
     // The clause is false.
     False,
 }
 
-// Looks at a clause whose watch beside `other` became false.
-pub fn look_at(values: &[u8], c: &[Lit], other: Lit) -> Finding
-    requires within { Within (length values.now) c.now }
-    requires has { Contains c.now other }
-    ensures { FindingSays (holds values.now) c.now other result }
+// Looks at the row of a clause whose watch beside `other` became false.
+pub fn look_at(values: &[u8], row: &[u32], other: Lit) -> Finding
+    requires within { Within (length values.now) (map literal_of row.now) }
+    requires has { Contains (map literal_of row.now) other }
+    requires off { All (λ m. (m ≡ other → ⊥) → holds values.now (negate m) ≡ true) (take 2 (map literal_of row.now)) }
+    ensures { FindingSays (holds values.now) (map literal_of row.now) other result }
 {
     if is_set(values, other) {
         return Finding::Hit;
     }
-    for x in c {
-        let l = *x;
-        if !l.is_same(other) {
-            if !is_false(values, l) {
-                return Finding::Move(l);
+    for j in 2..row.len() {
+        let l = literal(row[j]);
+        if !is_false(values, l) {
+            if !l.is_same(other) {
+                return Finding::Move(l, j);
             }
         }
     }
@@ -58,9 +62,9 @@ pub fn cell_of(l: Lit) -> usize
     if l.positive { 2 * l.var + 1 } else { 2 * l.var }
 }
 
-// The other watch, where f is one of two.
-pub fn other_of(h: Watches, f: Lit) -> Option<Lit>
-    ensures { MatchOption result (HasTwo h → (h.a ≡ f → ⊥) × (h.b ≡ f → ⊥)) (λ o. HasTwo h × ((h.a ≡ f) × (o ≡ h.b) ⊎ (h.b ≡ f) × (o ≡ h.a))) }
+// The other one, where f is one of two different watches.
+fn beside(h: Watches, f: Lit) -> Option<Lit>
+    ensures { OtherSays h f result }
 {
     if h.a.is_same(h.b) {
         None
@@ -70,5 +74,23 @@ pub fn other_of(h: Watches, f: Lit) -> Option<Lit>
         Some(h.a)
     } else {
         None
+    }
+}
+
+// The other watch of a row, where f is one of two.
+pub fn other_of(row: &[u32], f: Lit) -> Option<Lit>
+    ensures says { OtherSays (pair_of (map literal_of row.now)) f result }
+    ensures long { MatchOption result ⊤ (λ _. 1 < length row.now) }
+{
+    if row.len() < 2 {
+        return None;
+    }
+    let h = Watches {
+        a: literal(row[0]),
+        b: literal(row[1]),
+    };
+    match beside(h, f) {
+        Some(o) => Some(o),
+        None => None,
     }
 }

@@ -2,14 +2,15 @@ ghost use Rattle.std.specs.Prelude.{◌+◌, ◌-◌, ◌*◌, ◌^◌, [], ◌�
 ghost use Rattle.clause_core.specs.Literals.{Within};
 ghost use Rattle.sat_prop.specs.Trails.{Based};
 ghost use Rattle.sat_prop.specs.Entries.{AllEntries, fits, numbers_of};
+ghost use Rattle.sat_prop.specs.Packing.{RowsMatch, pairs};
 ghost use Rattle.sat_prop.specs.Watches.{AllWatchesIn, AllListed, AllGuarded, ShortListed, ShortTrue, LevelsGuarded};
 
 use crate::acts::{decide_on, learn_on, undo_on};
 use crate::lists::WatchLists;
 use crate::propagator::Propagator;
+use crate::rows::Rows;
 use crate::settle::settle;
 use crate::trail::Trail;
-use crate::watch::Watches;
 use clause_core::{Clauses, Lit};
 use std::alloc::{AllocError, Global};
 
@@ -19,22 +20,23 @@ use std::alloc::{AllocError, Global};
 pub struct Watched {
     clauses: Clauses,
     trail: Trail,
-    watches: Vec<Watches>,
+    rows: Rows,
     lists: WatchLists,
     short: Vec<usize>,
     head: usize,
     ghost based_in: { Based trail.literals.items trail.reasons.items clauses },
     ghost within_in: { All (Within (length trail.values.items)) clauses },
-    ghost room: { 2 * length trail.values.items < 2 ^ 64 },
-    ghost watches_len: { length watches.items ≡ length clauses },
-    ghost watches_in: { AllWatchesIn clauses watches.items },
-    ghost all_listed: { AllListed watches.items (numbers_of lists) },
+    ghost room: { 2 * length trail.values.items < 2 ^ 32 },
+    ghost rows_len: { length rows ≡ length clauses },
+    ghost watches_in: { AllWatchesIn clauses (pairs rows) },
+    ghost rows_match: { RowsMatch clauses rows },
+    ghost all_listed: { AllListed (pairs rows) (numbers_of lists) },
     ghost cells: { length lists ≡ 2 * length trail.values.items },
     ghost fit: { AllEntries (fits clauses) lists },
-    ghost short_listed: { ShortListed clauses watches.items short.items },
+    ghost short_listed: { ShortListed clauses (pairs rows) short.items },
     ghost low: { head ≤ length trail.literals.items },
-    ghost queue: { AllGuarded clauses watches.items (take head trail.literals.items) trail.literals.items },
-    ghost levels: { LevelsGuarded clauses watches.items trail.literals.items trail.starts.items },
+    ghost queue: { AllGuarded clauses (pairs rows) (take head trail.literals.items) trail.literals.items },
+    ghost levels: { LevelsGuarded clauses (pairs rows) trail.literals.items trail.starts.items },
 }
 
 impl Propagator for Watched {
@@ -42,10 +44,10 @@ impl Propagator for Watched {
 
     ghost trail = { λ s. s.trail };
 
-    ghost rested = { λ s. (s.head ≡ length s.trail.literals.items) × ShortTrue s.clauses s.watches.items s.trail.literals.items };
+    ghost rested = { λ s. (s.head ≡ length s.trail.literals.items) × ShortTrue s.clauses (pairs s.rows) s.trail.literals.items };
 
     fn new(alloc: Global, vars: usize) -> Result<Watched, AllocError> {
-        if vars > usize::MAX / 2 {
+        if vars > u32::MAX as usize / 2 {
             return Err(AllocError);
         }
         let trail = Trail::new(alloc, vars)?;
@@ -53,7 +55,7 @@ impl Propagator for Watched {
         Ok(Watched {
             clauses: Clauses::new(alloc),
             trail,
-            watches: Vec::new(alloc),
+            rows: Rows::new(alloc),
             lists,
             short: Vec::new(alloc),
             head: 0,
@@ -80,7 +82,7 @@ impl Propagator for Watched {
         learn_on(
             &mut self.clauses,
             &self.trail,
-            &mut self.watches,
+            &mut self.rows,
             &mut self.lists,
             &mut self.short,
             &mut self.head,
@@ -90,13 +92,13 @@ impl Propagator for Watched {
     }
 
     fn decide(&mut self, l: Lit) -> Result<(), AllocError> {
-        decide_on(&self.clauses, &self.watches, self.head, &mut self.trail, l)
+        decide_on(&self.clauses, &self.rows, self.head, &mut self.trail, l)
     }
 
     fn undo(&mut self, level: usize) {
         undo_on(
             &self.clauses,
-            &self.watches,
+            &self.rows,
             &mut self.head,
             &mut self.trail,
             level,
@@ -107,7 +109,7 @@ impl Propagator for Watched {
         settle(
             &self.clauses,
             &mut self.trail,
-            &mut self.watches,
+            &mut self.rows,
             &mut self.lists,
             &self.short,
             &mut self.head,

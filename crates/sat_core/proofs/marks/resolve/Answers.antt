@@ -106,7 +106,7 @@ mark-requires-then-marks-p-clause-placed g c =
     let up : c.loop-p.p ≡ p + 1 = omega arith in
     let r = reason_of t cs w p i c.args.floor v (g.met.P.Propagator.based c.args.inner.now) e (omega (arith, c.requires.level)) c.requires.floor (omega arith) lp lv c.if-marks-p.true
     (subst H up c.loop-p.invariant.high) (λ two. omega (arith, two, c.loop-p.invariant.counted, c.if-open-eq1.false)) in
-    let pl : c.deref-then-marks-p.result.now ≡ t.places.items = c.deref-then-marks-p.ensures.value ∙ ap (λ (x : Trail). x.places.items) c.assignment-trail.ensures in
+    let pl : c.deref-then-marks-p-2.result.now ≡ t.places.items = c.deref-then-marks-p-2.ensures.value ∙ ap (λ (x : Trail). x.places.items) c.assignment-trail.ensures in
     let N = length (set v p false) in
     let ln : N ≡ length t.literals.items = length-set v p false ∙ lv in
     let P : List ℕ → Type 0 = λ places. All (λ m. (m.var < length places) × ((get_or places m.var 0 < N) ⊎ (get_or places m.var 0 ≡ p))) c.clause-c.result.now in
@@ -140,7 +140,7 @@ loop-p-preserved-then-marks-p g c =
     let high : NoneFrom v (p + 1) = subst H up c.loop-p.invariant.high in
     let r = reason_of t cs w p i c.args.floor v (g.met.P.Propagator.based c.args.inner.now) e (omega (arith, c.requires.level)) c.requires.floor (omega arith) lp lv c.if-marks-p.true
     high (λ two. omega (arith, two, c.loop-p.invariant.counted, c.if-open-eq1.false)) in
-    let pl : c.deref-then-marks-p.result.now ≡ t.places.items = c.deref-then-marks-p.ensures.value ∙ ap (λ (x : Trail). x.places.items) c.assignment-trail.ensures in
+    let pl : c.deref-then-marks-p-2.result.now ≡ t.places.items = c.deref-then-marks-p-2.ensures.value ∙ ap (λ (x : Trail). x.places.items) c.assignment-trail.ensures in
     let new = c.mark-then-marks-p.new.marks in
     let old = set v p false in
     let k = w - 1 in

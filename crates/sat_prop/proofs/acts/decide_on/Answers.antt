@@ -1,6 +1,7 @@
 use Rattle.std.proofs.Common.{ℕ, ◌∷◌, ◌++◌, List, [], take, arith, subst, sym}
 use Rattle.std.proofs.lemmas.List.{take_all}
 use Rattle.clause_core.specs.declared.literal.Lit.{Lit}
+use Rattle.sat_prop.specs.Packing.{pairs}
 use Rattle.sat_prop.specs.Watches.{LevelsGuarded, AllGuarded}
 use Rattle.sat_prop.proofs.Attaching.{levels_decide, queue_decide}
 use Rattle.sat_prop.proofs.acts.decide_on.Goals as goal
@@ -8,7 +9,7 @@ use Rattle.sat_prop.proofs.acts.decide_on.Goals as goal
 pub returns-in_err-decide-clause-levels : goal.returns-in_err-decide-clause-levels
 returns-in_err-decide-clause-levels c =
     let cs = c.args.clauses.now in
-    let hs = c.args.watches.now.items in
+    let hs = (pairs c.args.rows.now) in
     let said = c.in_err-decide.ensures in
     let P : List Lit → Type 0 = λ x. LevelsGuarded cs hs x c.decide.new.self.starts.items in
     let Q : List ℕ → Type 0 = λ x. LevelsGuarded cs hs c.args.trail.now.literals.items x in
@@ -20,7 +21,7 @@ returns-clause-based_in c = c.in_ok-decide.ensures.based c.args.clauses.now c.re
 pub returns-clause-levels : goal.returns-clause-levels
 returns-clause-levels c =
     let cs = c.args.clauses.now in
-    let hs = c.args.watches.now.items in
+    let hs = (pairs c.args.rows.now) in
     let said = c.in_ok-decide.ensures in
     let literals = c.args.trail.now.literals.items in
     let W : List Lit → Type 0 = λ x. AllGuarded cs hs x literals in
@@ -33,6 +34,6 @@ returns-clause-levels c =
 pub returns-clause-queue : goal.returns-clause-queue
 returns-clause-queue c =
     let cs = c.args.clauses.now in
-    let hs = c.args.watches.now.items in
+    let hs = (pairs c.args.rows.now) in
     let P : List Lit → Type 0 = λ x. AllGuarded cs hs (take c.args.head x) x in
     subst P (sym c.in_ok-decide.ensures.literals) (queue_decide cs hs c.args.trail.now.literals.items c.args.l c.args.head (omega (arith, c.requires.rested)) c.requires.queue)

@@ -1,4 +1,5 @@
 use Rattle.std.proofs.Common.{◌≡◌, ◌≤◌, ◌-◌, [], length, get_or}
+use Rattle.sat_prop.specs.Packing.{RowsMatch, pairs}
 use Rattle.sat_prop.specs.Trails.{Based}
 use Rattle.sat_prop.specs.Moves.{Extends}
 use Rattle.sat_prop.specs.Entries.{AllEntries, fits, numbers_of}
@@ -10,14 +11,15 @@ invariant-visit l =
     record {
       based : Based l.trail.literals.items l.trail.reasons.items l.clauses;
       extends : Extends l.fn.trail l.trail;
-      watches_len : length l.watches.items ≡ length l.clauses;
-      watches_in : AllWatchesIn l.clauses l.watches.items;
-      all_listed : AllListed l.watches.items (numbers_of l.lists);
+      rows_len : length l.rows ≡ length l.clauses;
+      watches_in : AllWatchesIn l.clauses (pairs l.rows);
+      rows_match : RowsMatch l.clauses l.rows;
+      all_listed : AllListed (pairs l.rows) (numbers_of l.lists);
       cells : length l.lists ≡ length l.fn.lists;
       fit : AllEntries (fits l.clauses) l.lists;
-      kept : Kept l.clauses l.fn.watches.items l.watches.items l.fn.trail.literals.items;
-      two_kept : KeepsTwo l.fn.watches.items l.watches.items;
-      done : DoneWithBelow l.clauses l.watches.items l.trail.literals.items l.f (get_or (numbers_of l.lists) l.c []) l.i;
+      kept : Kept l.clauses (pairs l.fn.rows) (pairs l.rows) l.fn.trail.literals.items;
+      two_kept : KeepsTwo (pairs l.fn.rows) (pairs l.rows);
+      done : DoneWithBelow l.clauses (pairs l.rows) l.trail.literals.items l.f (get_or (numbers_of l.lists) l.c []) l.i;
       upper : l.i ≤ length (get_or l.lists l.c []);
     }
 

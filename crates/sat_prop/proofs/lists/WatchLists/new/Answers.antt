@@ -1,10 +1,14 @@
-use Rattle.std.proofs.Common.{◌≡◌, [], List}
-use Rattle.std.proofs.lemmas.List.Elements.{All-map}
+use Rattle.std.proofs.Common.{◌≡◌, [], List, Vec, Global, ap}
+use Rattle.std.proofs.lemmas.List.Elements.{All-map, All-weaker}
 use Rattle.sat_prop.proofs.Cells.{items_of, empties_pass}
 use Rattle.sat_prop.specs.declared.lists.Entry.{Entry}
+use Rattle.sat_prop.specs.declared.lists.Slot.{Slot}
+use Rattle.sat_prop.specs.Slots.{entries_of}
 use Rattle.sat_prop.proofs.lists.WatchLists.new.Goals as goal
 
 pub returns-clause-empty : goal.returns-clause-empty
 returns-clause-empty c p =
     let P : List Entry → Type 0 = λ xs. xs ≡ [] in
-    empties_pass p _ (All-map P items_of c.loop.cells.items c.loop.invariant.empty)
+    let cells = c.loop.cells.items in
+    let none = All-weaker (λ (v : Vec Slot Global). v.items ≡ []) (λ v. items_of v ≡ []) (λ v e. ap entries_of e) cells c.loop.invariant.empty in
+    empties_pass p _ (All-map P items_of cells none)
