@@ -11,7 +11,7 @@ ghost use Rattle.smv_meaning.specs.Runs.{is_claim};
 ghost use Rattle.smv_cli.specs.Listing.{item_kind_text, item_line, items_text, listing_text, slot_line, slots_text, sort_text, type_text};
 
 use plain_text::Text;
-use smv_meaning::Typed;
+use smv_meaning::{Typed, is_claim};
 use smv_scope::{Item, ItemKind, Scope, Slot, ValueType, path_of, slot_name};
 use smv_tree::{AssignmentKind, ConstraintKind, Place, VariableKind};
 use std::alloc::{AllocError, Global};
@@ -175,15 +175,6 @@ fn push_items(
         }
     }
     Ok(())
-}
-
-fn is_claim(kind: ItemKind) -> bool
-    ensures { result ≡ is_claim kind }
-{
-    match kind {
-        ItemKind::Specification(_) => true,
-        ItemKind::Assignment(_) | ItemKind::Constraint(_) => false,
-    }
 }
 
 fn push_item(

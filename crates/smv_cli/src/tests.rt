@@ -591,7 +591,7 @@ const RULES: [Case; 59] = [
     (
         "check",
         "MODULE main\nFROZENVAR f : boolean;\nASSIGN next(f) := TRUE;\n",
-        "-- refused 411 NotAssignable at 3:13\n",
+        "-- refused 411 NotAssignable at 3:8\n",
         3,
     ),
     (
@@ -1043,16 +1043,14 @@ fn too_many_slots(rt: HostRuntime) -> Result<(), Fail> {
     Ok(())
 }
 
-// As many definitions, each of which names the next, once or twice; the last one names x.
-fn definitions(alloc: Global, count: u32, twice: bool) -> Result<String, AllocError> {
+// As many definitions, in each of which the next one stands between these pieces; the last one names x.
+fn definitions(alloc: Global, count: u32, pieces: &[&str]) -> Result<String, AllocError> {
     let mut text = String::new(alloc);
     text.push_str("MODULE main VAR x : boolean; DEFINE d0 := d1;\n")?;
     for n in 1..count {
-        let line = if twice {
-            format!(in alloc; "d{n} := d{} & d{};\n", n + 1, n + 1)?
-        } else {
-            format!(in alloc; "d{n} := d{};\n", n + 1)?
-        };
+        let next = format!(in alloc; "d{}", n + 1)?;
+        let body = pieces.join(alloc, next.as_str())?;
+        let line = format!(in alloc; "d{n} := {body};\n")?;
         text.push_str(line.as_str())?;
     }
     let last = format!(in alloc; "d{count} := x;\nINVARSPEC d0\n")?;
@@ -1062,14 +1060,36 @@ fn definitions(alloc: Global, count: u32, twice: bool) -> Result<String, AllocEr
 
 const OFF: &str = "-- spec 1 INVARSPEC is false\n--@ spec 1\n--@ state 0: x = FALSE\n";
 
+fn chain_gives<R: Threads + Wait + Sync>(
+    rt: &R,
+    alloc: Global,
+    count: u32,
+    pieces: &[&str],
+    want: &str,
+    want_status: u8,
+) -> Result<bool, AllocError> {
+    let text = definitions(alloc, count, pieces)?;
+    gives(rt, alloc, &text, want, want_status)
+}
+
+// Each name that is followed opens a level.
 #[test]
 fn followed_names(rt: HostRuntime) -> Result<(), Fail> {
     let alloc = rt.alloc();
-    let fitting = definitions(alloc, 1999, false)?;
-    assert!(rt; gives(&rt, alloc, &fitting, OFF, 1)?);
-    let over = definitions(alloc, 2000, false)?;
-    let want = "-- refused 310 UnfoldedDepth at 2002:1\n";
-    assert!(rt; gives(&rt, alloc, &over, want, 3)?);
+    assert!(rt; chain_gives(&rt, alloc, 1999, &["", ""], OFF, 1)?);
+    let over = "-- refused 310 UnfoldedDepth at 2002:1\n";
+    assert!(rt; chain_gives(&rt, alloc, 2000, &["", ""], over, 3)?);
+    Ok(())
+}
+
+// Operands open none, and each parenthesis opens one.
+#[test]
+fn levels_of_text(rt: HostRuntime) -> Result<(), Fail> {
+    let alloc = rt.alloc();
+    assert!(rt; chain_gives(&rt, alloc, 1100, &["", " & x"], OFF, 1)?);
+    assert!(rt; chain_gives(&rt, alloc, 1000, &["(", ")"], OFF, 1)?);
+    let over = "-- refused 310 UnfoldedDepth at 1003:1\n";
+    assert!(rt; chain_gives(&rt, alloc, 1001, &["(", ")"], over, 3)?);
     Ok(())
 }
 
@@ -1077,7 +1097,6 @@ fn followed_names(rt: HostRuntime) -> Result<(), Fail> {
 #[test]
 fn shared_names(rt: HostRuntime) -> Result<(), Fail> {
     let alloc = rt.alloc();
-    let text = definitions(alloc, 41, true)?;
-    assert!(rt; gives(&rt, alloc, &text, OFF, 1)?);
+    assert!(rt; chain_gives(&rt, alloc, 41, &["", " & ", ""], OFF, 1)?);
     Ok(())
 }

@@ -15,8 +15,9 @@ use crate::listing::listing;
 use crate::print::{put, put_records};
 use crate::streams::{SourceStop, read_all, write_all};
 use command_words::{Command, Effort, WordsStop, read_words};
+use effort_purse::PlainPurse;
 use outside::{Gate, OpenGate, Sink, Source, Stop, SureSink, SureSource};
-use smv_front::read_model;
+use smv_front::prepare;
 use smv_meaning::{Typed, specifications};
 use smv_tree::{Refusal, TextStop};
 use std::alloc::Global;
@@ -72,6 +73,14 @@ fn report_listing<K: Sink>(alloc: Global, sink: &mut K, typed: &Typed) -> Result
     Ok(0)
 }
 
+// How many tickets preparing a model may draw.
+fn preparing_budget(command: &Command) -> u64 {
+    match command {
+        Command::Check(effort) => effort.conflicts,
+        Command::Flat => 0,
+    }
+}
+
 // Reports on a text what the command asks for, and gives the status.
 fn report<K: Sink>(alloc: Global, sink: &mut K, text: &[u8], command: &Command) -> Result<u8, Stop>
     ensures ok { IfOk result (λ status. CommandDone command.now text.now (K.taken sink.old) (K.taken sink.new) status) }
@@ -80,7 +89,8 @@ fn report<K: Sink>(alloc: Global, sink: &mut K, text: &[u8], command: &Command) 
     ensures later { K.faults sink.old ≤ K.faults sink.new }
     ensures failed { IsErrOf result Stop.Failed → Rose (K.faults sink.old) (K.faults sink.new) }
 {
-    match read_model(alloc, text) {
+    let mut purse = PlainPurse::new(preparing_budget(command));
+    match prepare(alloc, text, &mut purse) {
         Ok(flat) => match command {
             Command::Check(effort) => report_model(alloc, sink, &flat.typed, effort),
             Command::Flat => report_listing(alloc, sink, &flat.typed),

@@ -10,6 +10,6 @@ mod value;
 
 pub use evaluation::{eval, outcomes};
 pub use meets::{meets_init, meets_inv, meets_step};
-pub use readers::{input_slots, specifications, state_slots};
+pub use readers::{input_slots, is_claim, specifications, state_slots};
 pub use typed::Typed;
 pub use value::{Inputs, Outcome, State};

@@ -60,7 +60,8 @@ fn is_input(kind: VariableKind) -> bool
     }
 }
 
-fn is_claim(kind: ItemKind) -> bool
+/// Whether an item of this kind is a specification.
+pub fn is_claim(kind: ItemKind) -> bool
     ensures { result ≡ is_claim kind }
 {
     match kind {

@@ -39,14 +39,14 @@ module _ (closed : Bool) (q r : Phrases) (h : closed ≡ false → AllAlike q r)
   closing_same unlocked = then_reads _ _ _ _ (expression_same unlocked) (same_form (just kind.RightParen))
 
   parenthesised_alike : Alike (parenthesised closed e) (parenthesised closed e')
-  parenthesised_alike = to_alike _ (opened closed (is_kind kind.LeftParen) (to (λ x. x.0) (then e (just kind.RightParen))) (to (λ x. x.0) (then e' (just kind.RightParen))) (λ unlocked ts. rw (closing_same unlocked ts) refl))
+  parenthesised_alike = opened closed (is_kind kind.LeftParen) (to (λ x. x.0) (then e (just kind.RightParen))) (to (λ x. x.0) (then e' (just kind.RightParen))) (λ unlocked ts. rw (closing_same unlocked ts) refl)
 
   next_alike : Alike (just kind.Next ⨾ parenthesised closed e) (just kind.Next ⨾ parenthesised closed e')
   next_alike = opened false (is_kind kind.Next) (parenthesised closed e) (parenthesised closed e') (λ unlocked. parenthesised_alike.parse)
 
   primary_alike : Alike (primary closed (known q)) (primary closed (known r))
   unfolding primary
-  primary_alike = or_alike _ _ _ _ (same_form (to constant_of (token false is_constant))) (or_alike _ _ _ _ (same_form (to expr.Name name)) (or_alike _ _ _ _ parenthesised_alike (to_alike _ next_alike) (λ t. refl)) (λ t. refl)) (λ t. refl)
+  primary_alike = or_alike _ _ _ _ (same_form (to constant_of (token false is_constant))) (or_alike _ _ _ _ (same_form (to expr.Name name)) (or_alike _ _ _ _ (to_alike _ parenthesised_alike) (to_alike _ next_alike) (λ t. refl)) (λ t. refl)) (λ t. refl)
 
   operand_alike : Alike (operand closed (known q)) (operand closed (known r))
   unfolding operand primary

@@ -56,12 +56,12 @@ unfolding phrases
 under_operand zero ts h = absurd (omega arith)
 under_operand (suc n) ts h = let m : suc n - 1 ≡ n = omega arith in rw m refl
 
--- the expression that is closed, and the tokens behind its parenthesis
-abbrev closing : Read Token Expr → Read Token Expr
-closing read = read >>= λ y. (just kind.RightParen).parse y.1 >>= λ z. Ok (y.0, z.1)
+-- the opening token and the expression that is closed, and the tokens behind its parenthesis
+abbrev closing : Token → Read Token Expr → Read Token (Token × Expr)
+closing parenthesis read = read >>= λ y. (just kind.RightParen).parse y.1 >>= λ z. Ok ((parenthesis, y.0), z.1)
 
-pub parenthesised_reads : (room : ℕ) (ts : List Token) → (parenthesised (is_zero room) (under room).expression).parse ts ≡ ((opening (is_zero room) kind.LeftParen).parse ts >>= λ x. closing ((expression_within 0 (room - 1)).parse x.1))
-parenthesised_reads room ts = simp bind_bind (opening_same (is_zero room) (is_kind kind.LeftParen) ts (λ x. closing ((under room).expression.parse x.1)) (λ x. closing ((expression_within 0 (room - 1)).parse x.1)) (λ h x. ap closing (under_expression room x.1 h)))
+pub parenthesised_reads : (room : ℕ) (ts : List Token) → (parenthesised (is_zero room) (under room).expression).parse ts ≡ ((opening (is_zero room) kind.LeftParen).parse ts >>= λ x. closing x.0 ((expression_within 0 (room - 1)).parse x.1))
+parenthesised_reads room ts = simp bind_bind (opening_same (is_zero room) (is_kind kind.LeftParen) ts (λ x. closing x.0 ((under room).expression.parse x.1)) (λ x. closing x.0 ((expression_within 0 (room - 1)).parse x.1)) (λ h x. ap (closing x.0) (under_expression room x.1 h)))
 
 module _ (room : ℕ) where
   -- the right side of "->", with its left side

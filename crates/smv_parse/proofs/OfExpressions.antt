@@ -56,14 +56,14 @@ module _ (closed : Bool) (under : Phrases) (le : Lawful (known under).expression
 
   parenthesised_lawful : Lawful (parenthesised closed p.expression)
   parenthesised_lawful =
-      to_lawful _ _ (then_lawful _ _ (opening_lawful closed kind.LeftParen refl) (to_lawful _ _ (then_lawful _ _ le (just_lawful kind.RightParen refl) (apart _ _ (λ t. refl) (λ t. refl) refl))) (λ t e. refl))
+      then_lawful _ _ (opening_lawful closed kind.LeftParen refl) (to_lawful _ _ (then_lawful _ _ le (just_lawful kind.RightParen refl) (apart _ _ (λ t. refl) (λ t. refl) refl))) (λ t e. refl)
 
   primary_lawful : Lawful (primary closed p)
   unfolding primary name member
   primary_lawful =
       or_lawful _ _ (to_lawful _ _ (token_lawful false is_constant (token_at kind.True) refl))
       (or_lawful _ _ (to_lawful _ _ name_lawful)
-      (or_lawful _ _ parenthesised_lawful (to_lawful _ _ (then_lawful _ _ (just_lawful kind.Next refl) parenthesised_lawful (λ t e. refl))) refl refl (apart _ _ (λ t. refl) (λ t. refl) refl))
+      (or_lawful _ _ (to_lawful _ _ parenthesised_lawful) (to_lawful _ _ (then_lawful _ _ (just_lawful kind.Next refl) parenthesised_lawful (λ t e. refl))) refl refl (apart _ _ (λ t. refl) (λ t. refl) refl))
       refl refl (apart _ _ (λ t. refl) (λ t. refl) refl))
       refl refl (apart _ _ (λ t. refl) (λ t. refl) refl)
 

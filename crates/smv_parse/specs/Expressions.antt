@@ -97,17 +97,24 @@ abbrev pub implication_of : Expr × Option (Token × Expr) → Expr
 implication_of (e, None) = e
 implication_of (e, Some x) = expr.Implies x.0.place e x.1
 
--- "(" expression ")"
-abbrev pub parenthesised : Bool → Form Token Expr → Form Token Expr
-parenthesised closed e = opening closed kind.LeftParen ▹ e ◃ just kind.RightParen
+-- "(" expression ")", the opening token and what stands behind it
+abbrev pub parenthesised : Bool → Form Token Expr → Form Token (Token × Expr)
+parenthesised closed e = opening closed kind.LeftParen ⨾ e ◃ just kind.RightParen
+
+abbrev pub group_of : Token × Expr → Expr
+group_of x = expr.Group x.0.place x.1
+
+-- "next" and what it is of, in parentheses
+abbrev pub next_of : Token × (Token × Expr) → Expr
+next_of x = expr.Next x.0.place x.1.1
 
 -- TRUE or FALSE, a name, "(" expression ")", or "next" "(" expression ")"
 unfoldable pub primary : Bool → Phrases → Form Token Expr
 primary closed under =
     or (to constant_of (token false is_constant))
     (or (to expr.Name name)
-    (or (parenthesised closed under.expression)
-    (to (λ x. expr.Next x.0.place x.1) (just kind.Next ⨾ parenthesised closed under.expression))))
+    (or (to group_of (parenthesised closed under.expression))
+    (to next_of (just kind.Next ⨾ parenthesised closed under.expression))))
 
 -- "!" operand, or a primary expression
 unfoldable pub operand : Bool → Phrases → Form Token Expr

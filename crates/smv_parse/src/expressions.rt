@@ -4,7 +4,7 @@ ghost use Rattle.std.specs.Prelude.{◌≡◌, false};
 ghost use Rattle.phrase_forms.specs.Forms.{token, to, head};
 ghost use Rattle.smv_tree.specs.declared.tree.Expr.TheVariants as expr;
 ghost use Rattle.smv_parse.specs.Names.{name};
-ghost use Rattle.smv_parse.specs.Expressions.{is_constant, constant_of, begins_operand, operator_of, parenthesised, primary, operand, chosen_by, branches, conditional, is_zero, expression_within};
+ghost use Rattle.smv_parse.specs.Expressions.{is_constant, constant_of, begins_operand, operator_of, parenthesised, group_of, primary, operand, chosen_by, branches, conditional, is_zero, expression_within};
 ghost use Rattle.smv_parse.specs.Ranks.{is_operator_of, operand_within, phrase_within, under, link_within, links_within};
 ghost use Rattle.smv_parse.specs.Reading.{Gives};
 
@@ -119,20 +119,34 @@ fn named<'a>(alloc: Global, tokens: &'a [Token]) -> Result<(Expr, &'a [Token]), 
     Ok((Expr::Name(name), tokens))
 }
 
-/// `(` expression `)`
+/// `(` expression `)`: the opening token and the expression.
 #[cycle(expressions)]
 #[tactic(auto, using(crate::proofs::Levels::parenthesised_reads))]
 fn parenthesised<'a>(
     alloc: Global,
     room: usize,
     tokens: &'a [Token],
-) -> Result<(Expr, &'a [Token]), Stop<'a>>
-    ensures { Gives (λ x. (x.0, x.1.now)) result ((parenthesised (is_zero room) (under room).expression).parse tokens.now) }
+) -> Result<((&'a Token, Expr), &'a [Token]), Stop<'a>>
+    ensures { Gives (λ x. ((x.0.0.now, x.0.1), x.1.now)) result ((parenthesised (is_zero room) (under room).expression).parse tokens.now) }
 {
-    let (_, tokens) = opening(is_closed(room), TokenKind::LeftParen, tokens)?;
+    let (parenthesis, tokens) = opening(is_closed(room), TokenKind::LeftParen, tokens)?;
     let (inner, tokens) = expression(alloc, room - 1, tokens)?;
     let (_, tokens) = just(TokenKind::RightParen, tokens)?;
-    Ok((inner, tokens))
+    Ok(((parenthesis, inner), tokens))
+}
+
+/// An expression in parentheses.
+#[cycle(expressions)]
+fn group<'a>(
+    alloc: Global,
+    room: usize,
+    tokens: &'a [Token],
+) -> Result<(Expr, &'a [Token]), Stop<'a>>
+    ensures { Gives (λ x. (x.0, x.1.now)) result ((to group_of (parenthesised (is_zero room) (under room).expression)).parse tokens.now) }
+{
+    let ((parenthesis, inner), tokens) = parenthesised(alloc, room, tokens)?;
+    let inner = Boxed::new(alloc, inner)?;
+    Ok((Expr::Group(parenthesis.place, inner), tokens))
 }
 
 /// `TRUE`, `FALSE`, a name, `(` expression `)`, or `next` `(` expression `)`.
@@ -148,10 +162,10 @@ fn primary<'a>(
     match tokens {
         [first, rest @ ..] if is_constant(first) => Ok((constant_of(first), rest)),
         [first, ..] if begins_name(first) => named(alloc, tokens),
-        [first, ..] if is_kind(TokenKind::LeftParen, first) => parenthesised(alloc, room, tokens),
+        [first, ..] if is_kind(TokenKind::LeftParen, first) => group(alloc, room, tokens),
         _ => {
             let (next, tokens) = just(TokenKind::Next, tokens)?;
-            let (inner, tokens) = parenthesised(alloc, room, tokens)?;
+            let ((_, inner), tokens) = parenthesised(alloc, room, tokens)?;
             let inner = Boxed::new(alloc, inner)?;
             Ok((Expr::Next(next.place, inner), tokens))
         }

@@ -13,7 +13,7 @@ use Rattle.smv_scope.specs.Resolved.{Resolved, part_of}
 use Rattle.smv_scope.specs.Finding.{Settles, Grows, Known, shared_eq, AllKnown}
 
 Known_grown : (p : Program) {old new : List Node} (x : Shared) (found : Found) → Grows old new → Known p old x found → Known p new x found
-Known_grown p x found g k = (omega (arith, k.0, g.longer), record { value = λ d l. k.1.value d l ∙ sym (g.kept found.node k.0); stuck = k.1.stuck })
+Known_grown p x found g k = (omega (arith, k.0, g.longer), record { value = λ n d w l. k.1.value n d w l ∙ sym (g.kept found.node k.0); stuck = k.1.stuck })
 
 pub AllKnown_grown : (p : Program) (old new : Work) → new.known ≡ old.known → Grows old.nodes new.nodes → AllKnown p old → AllKnown p new
 unfolding AllKnown

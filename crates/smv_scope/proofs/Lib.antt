@@ -1,5 +1,8 @@
 pub mod Sets
 pub mod Indexing
+pub mod Firsts
+pub mod Spots
+pub mod Tables
 pub mod Declaring
 pub mod Following
 pub mod Preorder
@@ -9,5 +12,6 @@ pub mod Adding
 pub mod Growing
 pub mod Knowing
 pub mod Levels
+pub mod NodesOf
 pub mod Sharing
 pub mod Whole

@@ -13,23 +13,24 @@ use Rattle.smv_scope.specs.declared.work.Halt.TheVariants as halt
 use Rattle.smv_scope.specs.Modules.{definitions_of}
 use Rattle.smv_scope.specs.Instances.{module_at}
 use Rattle.smv_scope.specs.Lookup.{Target, body_target, given_by, parent_at}
-use Rattle.smv_scope.specs.Resolved.{Resolved, resolved_within, is_stuck, part_of}
+use Rattle.smv_scope.specs.Resolved.{Resolved, Levelled, opened, followed, is_stuck, part_of}
 
--- f, which says what is there at each depth, is r at the depths from h on, and stuck at those before
-pub record Settles (f : ℕ → Resolved) (h : ℕ) (r : Resolved) : Type 0 where
-  pub value : (d : ℕ) → h ≤ d → f d ≡ r
-  pub stuck : (d : ℕ) → is_stuck (f d) ≡ nat_lt d h
+-- f, which says what is there by the number of names that are followed one in another, and by that of levels that may be
+-- opened, is r where h levels or more may be opened, and stuck where fewer may
+pub record Settles (f : ℕ → Levelled) (h : ℕ) (r : Resolved) : Type 0 where
+  pub value : (n d : ℕ) → d ≤ n → h ≤ d → f n d ≡ r
+  pub stuck : (n d : ℕ) → d ≤ n → is_stuck (f n d) ≡ nat_lt d h
 
--- a node stands for what f says, and not more levels are below it than this
-pub record IsFound (nodes : List Node) (most : ℕ) (f : ℕ → Resolved) (x : Found) : Type 0 where
+-- a node stands for what f says, and not more levels are opened below it than this
+pub record IsFound (nodes : List Node) (most : ℕ) (f : ℕ → Levelled) (x : Found) : Type 0 where
   pub stands : x.node < length nodes
   pub within : x.height ≤ most
   pub settles : Settles f x.height (part_of nodes x.node)
 
--- the node that stands for what f says; or that f is stuck at this depth
-abbrev pub Finds : List Node → ℕ → (ℕ → Resolved) → Result Found Halt → Type 0
+-- the node that stands for what f says; or that f is stuck where so many levels may be opened
+abbrev pub Finds : List Node → ℕ → (ℕ → Levelled) → Result Found Halt → Type 0
 Finds nodes most f (Ok x) = IsFound nodes most f x
-Finds nodes most f (Err halt.Stuck) = is_stuck (f most) ≡ true
+Finds nodes most f (Err halt.Stuck) = (n : ℕ) → most ≤ n → is_stuck (f n most) ≡ true
 Finds nodes most f (Err halt.NoMemory) = Unit {0}
 
 -- new nodes behind the old ones
@@ -54,9 +55,11 @@ below_target below other = Resolved.Stuck
 abbrev pub shared_eq : Shared → Shared → Bool
 shared_eq x y = beq x.is_definition y.is_definition && ((x.at == y.at) && (x.number == y.number))
 
--- a node stands for what names share
+-- a node stands for what names share, a level below them
 abbrev pub Known : Program → List Node → Shared → Found → Type 0
-Known p nodes x found = (found.node < length nodes) × Settles (λ d. below_target (resolved_within p d) (shared_target p x)) found.height (part_of nodes found.node)
+Known p nodes x found =
+    (found.node < length nodes)
+    × Settles (λ n d. below_target (λ owner e. opened (followed p n owner e) d) (shared_target p x)) found.height (part_of nodes found.node)
 
 -- whatever is known is right
 unfoldable pub AllKnown : Program → Work → Type 0

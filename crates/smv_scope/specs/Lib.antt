@@ -1,4 +1,5 @@
 pub mod Modules
+pub mod Symbols
 pub mod Instances
 pub mod Slots
 pub mod Lookup

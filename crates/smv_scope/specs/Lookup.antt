@@ -150,16 +150,18 @@ as_instance instance (Target.Given at k owner e) = instance owner e
 as_instance instance Target.TooFar = Target.TooFar
 as_instance instance other = Target.Unknown
 
--- the instance to which an expression leads as a name, where at most so many parameters are followed one in another
+-- The instance to which an expression leads as a name, in parentheses or not, where at most so many parameters and
+-- parentheses are followed one in another.
 abbrev pub instance_by_node : Program → (ℕ → Expr → Target) → ℕ → Expr-F Expr → Target
 instance_by_node p instance at (Expr-F.Name name) = as_instance instance (name_target_by p instance at name.start name.members)
+instance_by_node p instance at (Expr-F.Group place e) = instance at e
 instance_by_node p instance at other = Target.Unknown
 
 unfoldable pub instance_within : Program → ℕ → ℕ → Expr → Target
 instance_within p zero at e = Target.TooFar
 instance_within p (suc depth) at e = instance_by_node p (instance_within p depth) at (out-Expr e)
 
--- names are followed to this depth: an own choice of this project
+-- so many levels may be open, and so many names are followed one in another: an own choice of this project
 abbrev pub depth_limit : ℕ
 depth_limit = 2000
 

@@ -6,7 +6,7 @@ use Rattle.smv_tree.specs.declared.tree.Program.{Program}
 use Rattle.smv_tree.specs.declared.tree.Start.{Start}
 use Rattle.smv_tree.specs.declared.tree.Start.TheVariants as start
 use Rattle.smv_tree.specs.declared.tree.ChainOperator.{ChainOperator}
-use Rattle.smv_tree.specs.declared.tree.Expr.{Expr, Expr-F, out-Expr}
+use Rattle.smv_tree.specs.declared.tree.Expr.{Expr, Expr-F, fold-Expr}
 use Rattle.smv_scope.specs.declared.node.Node.{Node}
 use Rattle.smv_scope.specs.declared.node.Node.TheVariants as node
 use Rattle.smv_scope.specs.Lookup.{Target, name_target, depth_limit}
@@ -37,6 +37,15 @@ abbrev pub place_of_start : Start → Place
 place_of_start (start.Own x) = x.place
 place_of_start (start.Itself place) = place
 
+-- what an expression is where so many levels may be opened in it
+abbrev pub Levelled : Type 0
+Levelled = ℕ → Resolved
+
+-- what stands one level down
+abbrev pub opened : Levelled → Levelled
+opened e zero = Resolved.Stuck
+opened e (suc levels) = e levels
+
 -- a name that leads to this, where `below` resolves what it stands for
 abbrev pub resolved_target : (ℕ → Expr → Resolved) → Place → Target → Resolved
 resolved_target below place (Target.Slot n) = Resolved.Slot place n
@@ -47,28 +56,39 @@ resolved_target below place Target.Unknown = Resolved.Stuck
 resolved_target below place Target.TooFar = Resolved.Stuck
 
 -- a chain, from left to right, where its first operands are resolved
-abbrev pub resolved_links : (Expr → Resolved) → Resolved → List (Place × ChainOperator × Expr) → Resolved
-resolved_links below left [] = left
-resolved_links below left (link ∷ links) = resolved_links below (Resolved.Link link.0 link.1 left (below link.2)) links
+abbrev pub resolved_links : {A : Type 0} → (A → Resolved) → Resolved → List (Place × ChainOperator × A) → Resolved
+resolved_links operand left [] = left
+resolved_links operand left (link ∷ links) = resolved_links operand (Resolved.Link link.0 link.1 left (operand link.2)) links
 
--- a node in the instance of this number, where `below` resolves its parts and what names stand for
-abbrev pub resolved_node : Program → (ℕ → Expr → Resolved) → ℕ → Expr-F Expr → Resolved
-resolved_node p below at (Expr-F.Bool place b) = Resolved.Constant place b
-resolved_node p below at (Expr-F.Name name) = resolved_target below (place_of_start name.start) (name_target p at name)
-resolved_node p below at (Expr-F.Not place e) = Resolved.Not place (below at e)
-resolved_node p below at (Expr-F.Next place e) = Resolved.Next place (below at e)
-resolved_node p below at (Expr-F.Implies place a b) = Resolved.Implies place (below at a) (below at b)
-resolved_node p below at (Expr-F.Conditional place c a b) = Resolved.Conditional place (below at c) (below at a) (below at b)
-resolved_node p below at (Expr-F.Chain first links) = resolved_links (below at) (below at first) links
+-- A node in the instance of this number, over its parts. A level is opened by `(`, by `!`, by the right side of `->`, by the
+-- branches of `? :`, and by each name that is followed, where `follow` resolves what it stands for.
+abbrev pub resolved_node : Program → (ℕ → Expr → Levelled) → ℕ → Expr-F Levelled → Levelled
+resolved_node p follow at (Expr-F.Bool place b) levels = Resolved.Constant place b
+resolved_node p follow at (Expr-F.Name name) levels = resolved_target (λ owner e. opened (follow owner e) levels) (place_of_start name.start) (name_target p at name)
+resolved_node p follow at (Expr-F.Group place e) levels = opened e levels
+resolved_node p follow at (Expr-F.Not place e) levels = Resolved.Not place (opened e levels)
+resolved_node p follow at (Expr-F.Next place e) levels = Resolved.Next place (opened e levels)
+resolved_node p follow at (Expr-F.Implies place a b) levels = Resolved.Implies place (a levels) (opened b levels)
+resolved_node p follow at (Expr-F.Conditional place c a b) levels = Resolved.Conditional place (c levels) (opened a levels) (opened b levels)
+resolved_node p follow at (Expr-F.Chain first links) levels = resolved_links (λ (e : Levelled). e levels) (first levels) links
 
--- an expression in the instance of this number, with fewer levels of parts and followed names than this
-unfoldable pub resolved_within : Program → ℕ → ℕ → Expr → Resolved
-resolved_within p zero at e = Resolved.Stuck
-resolved_within p (suc depth) at e = resolved_node p (resolved_within p depth) at (out-Expr e)
+-- an expression in the instance of this number, where `follow` resolves what names stand for
+unfoldable pub resolved_over : Program → (ℕ → Expr → Levelled) → ℕ → Expr → Levelled
+resolved_over p follow at e = fold-Expr Levelled (resolved_node p follow at) e
 
--- an expression in the instance of this number: at most so many levels are opened below it
+-- what a name stands for, where fewer names than this are followed one in another
+unfoldable pub followed : Program → ℕ → ℕ → Expr → Levelled
+followed p zero at e = λ levels. Resolved.Stuck
+followed p (suc names) at e = resolved_over p (followed p names) at e
+
+-- an expression in the instance of this number, where at most so many names are followed one in another
+abbrev pub levelled : Program → ℕ → ℕ → Expr → Levelled
+levelled p names at e = resolved_over p (followed p names) at e
+
+-- An expression in the instance of this number: at most so many levels may be open at one place, and so no more names are
+-- followed one in another.
 abbrev pub resolved : Program → ℕ → Expr → Resolved
-resolved p at e = resolved_within p (suc depth_limit) at e
+resolved p at e = levelled p depth_limit at e depth_limit
 
 -- some part is stuck
 abbrev pub is_stuck : Resolved → Bool

@@ -1,8 +1,8 @@
 //! The nodes of an expression.
 
 ghost use Rattle.std.specs.Prelude.{◌≡◌, ℕ, OnOk};
-ghost use Rattle.smv_tree.specs.declared.tree.Expr.{Expr, out-Expr};
-ghost use Rattle.smv_scope.specs.Resolved.{Resolved, resolved_within, resolved_node, resolved_target, resolved_links, place_of_start};
+ghost use Rattle.smv_tree.specs.declared.tree.Expr.{Expr};
+ghost use Rattle.smv_scope.specs.Resolved.{Resolved, opened, levelled, followed, resolved_target, resolved_links, place_of_start};
 ghost use Rattle.smv_scope.specs.Lookup.{name_target};
 ghost use Rattle.smv_scope.specs.Finding.{Grows, AllKnown, Finds, shared_target, below_target};
 
@@ -10,11 +10,13 @@ use crate::work::{Found, Halt, Shared, Work, keep, push, recall};
 use crate::{NameTarget, Node, Scope, name_target};
 use smv_tree::{ChainOperator, Expr, Name, Place, Start};
 
-/// The node of an expression that stands in the instance of this number, where so many levels may be opened.
+/// The node of an expression that stands in the instance of this number, where `depth` levels may be opened. Memory is refused
+/// where more than `room` nodes stand one in another, as the stack would not hold the way to them.
 #[cycle(expressions)]
 pub fn find(
     scope: &Scope,
     work: &mut Work,
+    room: usize,
     depth: usize,
     at: usize,
     e: &Expr,
@@ -22,46 +24,64 @@ pub fn find(
     requires { AllKnown scope.now.program work.old }
     ensures known { OnOk result (AllKnown scope.now.program work.new) }
     ensures grows { OnOk result (Grows work.old.nodes work.new.nodes) }
-    ensures finds { Finds work.new.nodes depth (λ d. resolved_within scope.now.program d at e.now) result }
+    ensures finds { Finds work.new.nodes depth (λ n. levelled scope.now.program n at e.now) result }
+{
+    if room == 0 {
+        return Err(Halt::NoMemory);
+    }
+    let room = room - 1;
+    match e {
+        Expr::Bool(place, value) => find_constant(scope, work, depth, *place, *value),
+        Expr::Name(name) => find_name(scope, work, room, depth, at, name),
+        Expr::Group(_, inner) => find_below(scope, work, room, depth, at, inner.get()),
+        Expr::Not(place, a) => find_not(scope, work, room, depth, at, *place, a.get()),
+        Expr::Next(place, a) => find_next(scope, work, room, depth, at, *place, a.get()),
+        Expr::Implies(place, a, b) => {
+            find_implies(scope, work, room, depth, at, *place, a.get(), b.get())
+        }
+        Expr::Conditional(place, c, a, b) => {
+            find_conditional(
+                scope,
+                work,
+                room,
+                depth,
+                at,
+                *place,
+                c.get(),
+                a.get(),
+                b.get(),
+            )
+        }
+        Expr::Chain(first, links) => {
+            find_chain(scope, work, room, depth, at, first.get(), links.as_slice())
+        }
+    }
+}
+
+// One level down: an expression there is found in itself, and as what a name stands for.
+#[cycle(expressions)]
+fn find_below(
+    scope: &Scope,
+    work: &mut Work,
+    room: usize,
+    depth: usize,
+    at: usize,
+    e: &Expr,
+) -> Result<Found, Halt>
+    requires { AllKnown scope.now.program work.old }
+    ensures known { OnOk result (AllKnown scope.now.program work.new) }
+    ensures grows { OnOk result (Grows work.old.nodes work.new.nodes) }
+    ensures finds { Finds work.new.nodes depth (λ n. opened (levelled scope.now.program n at e.now)) result }
+    ensures follows { Finds work.new.nodes depth (λ n. opened (followed scope.now.program n at e.now)) result }
 {
     if depth == 0 {
         return Err(Halt::Stuck);
     }
-    let below = find_node(scope, work, depth - 1, at, e)?;
+    let below = find(scope, work, room, depth - 1, at, e)?;
     Ok(Found {
         node: below.node,
         height: below.height + 1,
     })
-}
-
-#[cycle(expressions)]
-fn find_node(
-    scope: &Scope,
-    work: &mut Work,
-    depth: usize,
-    at: usize,
-    e: &Expr,
-) -> Result<Found, Halt>
-    requires { AllKnown scope.now.program work.old }
-    ensures known { OnOk result (AllKnown scope.now.program work.new) }
-    ensures grows { OnOk result (Grows work.old.nodes work.new.nodes) }
-    ensures finds { Finds work.new.nodes depth (λ d. resolved_node scope.now.program (resolved_within scope.now.program d) at (out-Expr e.now)) result }
-{
-    match e {
-        Expr::Bool(place, value) => find_constant(scope, work, depth, *place, *value),
-        Expr::Name(name) => find_name(scope, work, depth, at, name),
-        Expr::Not(place, a) => find_not(scope, work, depth, at, *place, a.get()),
-        Expr::Next(place, a) => find_next(scope, work, depth, at, *place, a.get()),
-        Expr::Implies(place, a, b) => {
-            find_implies(scope, work, depth, at, *place, a.get(), b.get())
-        }
-        Expr::Conditional(place, c, a, b) => {
-            find_conditional(scope, work, depth, at, *place, c.get(), a.get(), b.get())
-        }
-        Expr::Chain(first, links) => {
-            find_chain(scope, work, depth, at, first.get(), links.as_slice())
-        }
-    }
 }
 
 fn find_constant(
@@ -74,7 +94,7 @@ fn find_constant(
     requires { AllKnown _scope.now.program work.old }
     ensures known { OnOk result (AllKnown _scope.now.program work.new) }
     ensures grows { OnOk result (Grows work.old.nodes work.new.nodes) }
-    ensures finds { Finds work.new.nodes _depth (λ d. Resolved.Constant place value) result }
+    ensures finds { Finds work.new.nodes _depth (λ n d. Resolved.Constant place value) result }
 {
     let node = push(work, Node::Constant(place, value))?;
     Ok(Found { node, height: 0 })
@@ -90,7 +110,7 @@ fn find_slot(
     requires { AllKnown _scope.now.program work.old }
     ensures known { OnOk result (AllKnown _scope.now.program work.new) }
     ensures grows { OnOk result (Grows work.old.nodes work.new.nodes) }
-    ensures finds { Finds work.new.nodes _depth (λ d. Resolved.Slot place n) result }
+    ensures finds { Finds work.new.nodes _depth (λ names d. Resolved.Slot place n) result }
 {
     let node = push(work, Node::Slot(place, n))?;
     Ok(Found { node, height: 0 })
@@ -106,7 +126,7 @@ fn find_whole(
     requires { AllKnown _scope.now.program work.old }
     ensures known { OnOk result (AllKnown _scope.now.program work.new) }
     ensures grows { OnOk result (Grows work.old.nodes work.new.nodes) }
-    ensures finds { Finds work.new.nodes _depth (λ d. Resolved.Whole place i) result }
+    ensures finds { Finds work.new.nodes _depth (λ n d. Resolved.Whole place i) result }
 {
     let node = push(work, Node::Whole(place, i))?;
     Ok(Found { node, height: 0 })
@@ -116,6 +136,7 @@ fn find_whole(
 fn find_not(
     scope: &Scope,
     work: &mut Work,
+    room: usize,
     depth: usize,
     at: usize,
     place: Place,
@@ -124,9 +145,9 @@ fn find_not(
     requires { AllKnown scope.now.program work.old }
     ensures known { OnOk result (AllKnown scope.now.program work.new) }
     ensures grows { OnOk result (Grows work.old.nodes work.new.nodes) }
-    ensures finds { Finds work.new.nodes depth (λ d. Resolved.Not place (resolved_within scope.now.program d at a.now)) result }
+    ensures finds { Finds work.new.nodes depth (λ n d. Resolved.Not place (opened (levelled scope.now.program n at a.now) d)) result }
 {
-    let operand = find(scope, work, depth, at, a)?;
+    let operand = find_below(scope, work, room, depth, at, a)?;
     let node = push(work, Node::Not(place, operand.node))?;
     Ok(Found {
         node,
@@ -138,6 +159,7 @@ fn find_not(
 fn find_next(
     scope: &Scope,
     work: &mut Work,
+    room: usize,
     depth: usize,
     at: usize,
     place: Place,
@@ -146,9 +168,9 @@ fn find_next(
     requires { AllKnown scope.now.program work.old }
     ensures known { OnOk result (AllKnown scope.now.program work.new) }
     ensures grows { OnOk result (Grows work.old.nodes work.new.nodes) }
-    ensures finds { Finds work.new.nodes depth (λ d. Resolved.Next place (resolved_within scope.now.program d at a.now)) result }
+    ensures finds { Finds work.new.nodes depth (λ n d. Resolved.Next place (opened (levelled scope.now.program n at a.now) d)) result }
 {
-    let operand = find(scope, work, depth, at, a)?;
+    let operand = find_below(scope, work, room, depth, at, a)?;
     let node = push(work, Node::Next(place, operand.node))?;
     Ok(Found {
         node,
@@ -160,6 +182,7 @@ fn find_next(
 fn find_implies(
     scope: &Scope,
     work: &mut Work,
+    room: usize,
     depth: usize,
     at: usize,
     place: Place,
@@ -169,10 +192,10 @@ fn find_implies(
     requires { AllKnown scope.now.program work.old }
     ensures known { OnOk result (AllKnown scope.now.program work.new) }
     ensures grows { OnOk result (Grows work.old.nodes work.new.nodes) }
-    ensures finds { Finds work.new.nodes depth (λ d. Resolved.Implies place (resolved_within scope.now.program d at a.now) (resolved_within scope.now.program d at b.now)) result }
+    ensures finds { Finds work.new.nodes depth (λ n d. Resolved.Implies place (levelled scope.now.program n at a.now d) (opened (levelled scope.now.program n at b.now) d)) result }
 {
-    let left = find(scope, work, depth, at, a)?;
-    let right = find(scope, work, depth, at, b)?;
+    let left = find(scope, work, room, depth, at, a)?;
+    let right = find_below(scope, work, room, depth, at, b)?;
     let node = push(work, Node::Implies(place, left.node, right.node))?;
     Ok(Found {
         node,
@@ -184,6 +207,7 @@ fn find_implies(
 fn find_conditional(
     scope: &Scope,
     work: &mut Work,
+    room: usize,
     depth: usize,
     at: usize,
     place: Place,
@@ -194,11 +218,11 @@ fn find_conditional(
     requires { AllKnown scope.now.program work.old }
     ensures known { OnOk result (AllKnown scope.now.program work.new) }
     ensures grows { OnOk result (Grows work.old.nodes work.new.nodes) }
-    ensures finds { Finds work.new.nodes depth (λ d. Resolved.Conditional place (resolved_within scope.now.program d at c.now) (resolved_within scope.now.program d at a.now) (resolved_within scope.now.program d at b.now)) result }
+    ensures finds { Finds work.new.nodes depth (λ n d. Resolved.Conditional place (levelled scope.now.program n at c.now d) (opened (levelled scope.now.program n at a.now) d) (opened (levelled scope.now.program n at b.now) d)) result }
 {
-    let condition = find(scope, work, depth, at, c)?;
-    let first = find(scope, work, depth, at, a)?;
-    let second = find(scope, work, depth, at, b)?;
+    let condition = find(scope, work, room, depth, at, c)?;
+    let first = find_below(scope, work, room, depth, at, a)?;
+    let second = find_below(scope, work, room, depth, at, b)?;
     let node = push(
         work,
         Node::Conditional(place, condition.node, first.node, second.node),
@@ -209,11 +233,12 @@ fn find_conditional(
     })
 }
 
-// A chain, whose operators are taken from left to right.
+// A chain, whose operators are taken from left to right. All its operands stand on its own level.
 #[cycle(expressions)]
 fn find_chain(
     scope: &Scope,
     work: &mut Work,
+    room: usize,
     depth: usize,
     at: usize,
     first: &Expr,
@@ -222,12 +247,12 @@ fn find_chain(
     requires { AllKnown scope.now.program work.old }
     ensures known { OnOk result (AllKnown scope.now.program work.new) }
     ensures grows { OnOk result (Grows work.old.nodes work.new.nodes) }
-    ensures finds { Finds work.new.nodes depth (λ d. resolved_links (resolved_within scope.now.program d at) (resolved_within scope.now.program d at first.now) links.now) result }
+    ensures finds { Finds work.new.nodes depth (λ n d. resolved_links (λ (e : Expr). levelled scope.now.program n at e d) (levelled scope.now.program n at first.now d) links.now) result }
 {
-    let start = find(scope, work, depth, at, first)?;
+    let start = find(scope, work, room, depth, at, first)?;
     let mut left = start;
     for link in links {
-        let right = find(scope, work, depth, at, &link.2)?;
+        let right = find(scope, work, room, depth, at, &link.2)?;
         let node = push(work, Node::Link(link.0, link.1, left.node, right.node))?;
         let height = left.height.max(right.height);
         left = Found { node, height };
@@ -239,6 +264,7 @@ fn find_chain(
 fn find_name(
     scope: &Scope,
     work: &mut Work,
+    room: usize,
     depth: usize,
     at: usize,
     name: &Name,
@@ -246,7 +272,7 @@ fn find_name(
     requires { AllKnown scope.now.program work.old }
     ensures known { OnOk result (AllKnown scope.now.program work.new) }
     ensures grows { OnOk result (Grows work.old.nodes work.new.nodes) }
-    ensures finds { Finds work.new.nodes depth (λ d. resolved_target (resolved_within scope.now.program d) (place_of_start name.now.start) (name_target scope.now.program at name.now)) result }
+    ensures finds { Finds work.new.nodes depth (λ n d. resolved_target (λ owner e. opened (followed scope.now.program n owner e) d) (place_of_start name.now.start) (name_target scope.now.program at name.now)) result }
 {
     let place = place_of_start(&name.start);
     match name_target(scope, at, name) {
@@ -263,7 +289,7 @@ fn find_name(
                 at: of,
                 number: parameter,
             };
-            find_given(scope, work, depth, place, shared, owner, argument)
+            find_given(scope, work, room, depth, place, shared, owner, argument)
         }
         NameTarget::Defined {
             at: of,
@@ -275,7 +301,7 @@ fn find_name(
                 at: of,
                 number: definition,
             };
-            find_defined(scope, work, depth, place, shared, of, body)
+            find_defined(scope, work, room, depth, place, shared, of, body)
         }
         NameTarget::Unknown | NameTarget::TooFar => Err(Halt::Stuck),
     }
@@ -295,6 +321,7 @@ pub fn place_of_start(start: &Start) -> Place
 fn find_given(
     scope: &Scope,
     work: &mut Work,
+    room: usize,
     depth: usize,
     place: Place,
     shared: Shared,
@@ -305,9 +332,9 @@ fn find_given(
     requires leads { (below : ℕ → Expr → Resolved) → below_target below (shared_target scope.now.program shared) ≡ below at e.now }
     ensures known { OnOk result (AllKnown scope.now.program work.new) }
     ensures grows { OnOk result (Grows work.old.nodes work.new.nodes) }
-    ensures finds { Finds work.new.nodes depth (λ d. Resolved.Given place (resolved_within scope.now.program d at e.now)) result }
+    ensures finds { Finds work.new.nodes depth (λ n d. Resolved.Given place (opened (followed scope.now.program n at e.now) d)) result }
 {
-    let given = find_shared(scope, work, depth, shared, at, e)?;
+    let given = find_shared(scope, work, room, depth, shared, at, e)?;
     let node = push(work, Node::Given(place, given.node))?;
     Ok(Found {
         node,
@@ -319,6 +346,7 @@ fn find_given(
 fn find_defined(
     scope: &Scope,
     work: &mut Work,
+    room: usize,
     depth: usize,
     place: Place,
     shared: Shared,
@@ -329,9 +357,9 @@ fn find_defined(
     requires leads { (below : ℕ → Expr → Resolved) → below_target below (shared_target scope.now.program shared) ≡ below at e.now }
     ensures known { OnOk result (AllKnown scope.now.program work.new) }
     ensures grows { OnOk result (Grows work.old.nodes work.new.nodes) }
-    ensures finds { Finds work.new.nodes depth (λ d. Resolved.Defined place (resolved_within scope.now.program d at e.now)) result }
+    ensures finds { Finds work.new.nodes depth (λ n d. Resolved.Defined place (opened (followed scope.now.program n at e.now) d)) result }
 {
-    let body = find_shared(scope, work, depth, shared, at, e)?;
+    let body = find_shared(scope, work, room, depth, shared, at, e)?;
     let node = push(work, Node::Defined(place, body.node))?;
     Ok(Found {
         node,
@@ -344,6 +372,7 @@ fn find_defined(
 fn find_shared(
     scope: &Scope,
     work: &mut Work,
+    room: usize,
     depth: usize,
     shared: Shared,
     at: usize,
@@ -353,7 +382,7 @@ fn find_shared(
     requires leads { (below : ℕ → Expr → Resolved) → below_target below (shared_target scope.now.program shared) ≡ below at e.now }
     ensures known { OnOk result (AllKnown scope.now.program work.new) }
     ensures grows { OnOk result (Grows work.old.nodes work.new.nodes) }
-    ensures finds { Finds work.new.nodes depth (λ d. resolved_within scope.now.program d at e.now) result }
+    ensures finds { Finds work.new.nodes depth (λ n. opened (followed scope.now.program n at e.now)) result }
 {
     if let Some(found) = recall(work, shared) {
         if found.height <= depth {
@@ -361,7 +390,7 @@ fn find_shared(
         }
         return Err(Halt::Stuck);
     }
-    let found = find(scope, work, depth, at, e)?;
+    let found = find_below(scope, work, room, depth, at, e)?;
     keep(work, shared, found)?;
     Ok(found)
 }

@@ -1,7 +1,7 @@
 //! Instances of modules.
 
-/// The variable that an instance is.
-#[derive(Clone, Copy, Debug, PartialEq, Eq)]
+/// A variable of an instance, as which another instance may be declared.
+#[derive(Clone, Copy, Debug, PartialEq, Eq, Hash)]
 pub struct Parent {
     /// The number of the instance that declares it.
     pub instance: usize,

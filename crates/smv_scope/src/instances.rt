@@ -3,11 +3,13 @@
 ghost use Rattle.std.specs.Prelude.{◌≡◌, ◌≢◌, ◌<◌, ◌≤◌, ◌-◌, ◌++◌, length, map, reverse, IfOk, IfErr, OnOk};
 ghost use Rattle.smv_scope.specs.declared.instance.Instance.{Instance};
 ghost use Rattle.smv_scope.specs.Instances.{child, children, subtree, instances_of, most_instances};
+ghost use Rattle.smv_scope.specs.Symbols.{AreNumbered};
 
 use crate::layout::LayoutStop;
-use crate::modules::{module_named, sections_of, variables_of};
+use crate::modules::{sections_of, variables_of};
+use crate::symbols::ModuleNumbers;
 use crate::{Instance, Parent};
-use smv_tree::{Module, Program, TypeExpr};
+use smv_tree::{Program, TypeExpr};
 use sqlite_items::Items;
 use std::alloc::{AllocError, Global};
 
@@ -22,29 +24,40 @@ pub struct Root {
 }
 
 /// The instances of a program in preorder.
-pub fn instances_of(alloc: Global, program: &Program) -> Result<Items<Instance>, LayoutStop>
+pub fn instances_of(
+    alloc: Global,
+    program: &Program,
+    names: &ModuleNumbers,
+) -> Result<Items<Instance>, LayoutStop>
+    requires { AreNumbered program.now.modules names.now }
     ensures ok { IfOk result (λ tree. (tree ≡ instances_of program.now) × (length tree ≤ most_instances)) }
     ensures err { IfErr result (λ stop. stop ≡ LayoutStop.TooManyInstances → most_instances < length (instances_of program.now)) }
 {
-    let modules = program.modules.as_slice();
-    match module_named(modules, "main") {
+    match names.get("main") {
         None => Ok(Items::new(alloc)),
         Some(main) => subtree(
             alloc,
             program,
+            names,
             Root {
                 instance: Instance {
-                    of_module: main,
+                    of_module: *main,
                     parent: None,
                 },
-                depth: modules.len(),
+                depth: program.modules.len(),
             },
         ),
     }
 }
 
 // The instances below a root that is the first of all.
-fn subtree(alloc: Global, program: &Program, top: Root) -> Result<Items<Instance>, LayoutStop>
+fn subtree(
+    alloc: Global,
+    program: &Program,
+    names: &ModuleNumbers,
+    top: Root,
+) -> Result<Items<Instance>, LayoutStop>
+    requires { AreNumbered program.now.modules names.now }
     ensures ok { IfOk result (λ tree. (tree ≡ subtree program.now top.depth 0 top.instance) × (length tree ≤ most_instances)) }
     ensures err { IfErr result (λ stop. stop ≡ LayoutStop.TooManyInstances → most_instances < length (subtree program.now top.depth 0 top.instance)) }
 {
@@ -54,7 +67,7 @@ fn subtree(alloc: Global, program: &Program, top: Root) -> Result<Items<Instance
     while let Some(root) = roots.pop() {
         let at = tree.len();
         tree.push(root.instance)?;
-        push_children(alloc, &mut roots, program, at, root)?;
+        push_children(alloc, &mut roots, program, names, at, root)?;
         if MOST_INSTANCES - tree.len() < roots.len() {
             return Err(LayoutStop::TooManyInstances);
         }
@@ -67,9 +80,11 @@ fn push_children(
     alloc: Global,
     roots: &mut Items<Root>,
     program: &Program,
+    names: &ModuleNumbers,
     at: usize,
     root: Root,
 ) -> Result<(), AllocError>
+    requires { AreNumbered program.now.modules names.now }
     ensures leaf { root.depth ≡ 0 → OnOk result (roots.new ≡ roots.old) }
     ensures branch { root.depth ≢ 0 → OnOk result (reverse roots.new
         ≡ map (λ (x : Instance). record { instance = x; depth = root.depth - 1 }) (children program.now at root.instance) ++ reverse roots.old) }
@@ -77,7 +92,7 @@ fn push_children(
     if root.depth == 0 {
         return Ok(());
     }
-    let found = children_of(alloc, program, at, root.instance)?;
+    let found = children_of(alloc, program, names, at, root.instance)?;
     push_roots(roots, found, root.depth - 1)
 }
 
@@ -100,16 +115,17 @@ fn push_roots(
 fn children_of(
     alloc: Global,
     program: &Program,
+    names: &ModuleNumbers,
     at: usize,
     x: Instance,
 ) -> Result<Items<Instance>, AllocError>
+    requires { AreNumbered program.now.modules names.now }
     ensures { IfOk result (λ all. all ≡ children program.now at x) }
 {
     let variables = variables_of(alloc, sections_of(program, x.of_module))?;
-    let modules = program.modules.as_slice();
     let mut all = Items::new(alloc);
     for (v, variable) in variables.iter().enumerate() {
-        push_child(&mut all, modules, at, v, &variable.1.declared)?;
+        push_child(&mut all, program, names, at, v, &variable.1.declared)?;
     }
     Ok(all)
 }
@@ -117,21 +133,23 @@ fn children_of(
 // The instance that a variable of this type is, if it is one.
 fn push_child(
     all: &mut Items<Instance>,
-    modules: &[Module],
+    _program: &Program,
+    names: &ModuleNumbers,
     at: usize,
     v: usize,
     declared: &TypeExpr,
 ) -> Result<(), AllocError>
-    ensures { OnOk result (all.new ≡ all.old ++ child modules.now at v declared.now) }
+    requires { AreNumbered _program.now.modules names.now }
+    ensures { OnOk result (all.new ≡ all.old ++ child _program.now.modules at v declared.now) }
 {
     let TypeExpr::Instance(_, name, _) = declared else {
         return Ok(());
     };
-    let Some(of_module) = module_named(modules, name.as_str()) else {
+    let Some(of_module) = names.get(name.as_str()) else {
         return Ok(());
     };
     all.push(Instance {
-        of_module,
+        of_module: *of_module,
         parent: Some(Parent {
             instance: at,
             variable: v,

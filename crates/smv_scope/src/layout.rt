@@ -1,14 +1,13 @@
 //! Instances and slots of a program.
 
-ghost use Rattle.std.specs.Prelude.{◌≡◌, ◌<◌, ◌^◌, ℕ, length, OnOk};
-ghost use Rattle.smv_scope.specs.Modules.{variables_of, definitions_of};
+ghost use Rattle.std.specs.Prelude.{◌≡◌};
 ghost use Rattle.smv_scope.specs.Answers.{LaysOut};
 ghost use Rattle.smv_scope.specs.declared.layout.LayoutStop.TheVariants.{NoMemory};
 
 use crate::Scope;
 use crate::instances::instances_of;
-use crate::modules::{count_definitions, count_variables};
 use crate::slots::slots_of;
+use crate::symbols::{child_numbers, module_numbers, slot_numbers, symbol_tables};
 use smv_tree::Program;
 use std::alloc::{AllocError, Global};
 
@@ -33,24 +32,18 @@ impl From<AllocError> for LayoutStop {
 pub fn lay_out(alloc: Global, program: Program) -> Result<Scope, LayoutStop>
     ensures { LaysOut program result }
 {
-    check_counts(&program)?;
-    let tree = instances_of(alloc, &program)?;
+    let names = module_numbers(alloc, program.modules.as_slice())?;
+    let tree = instances_of(alloc, &program, &names)?;
     let slots = slots_of(alloc, &program, tree.as_slice())?;
+    let symbols = symbol_tables(alloc, &program)?;
+    let slot_numbers = slot_numbers(alloc, slots.as_slice())?;
+    let child_numbers = child_numbers(alloc, tree.as_slice())?;
     Ok(Scope {
         program,
         tree,
         slots,
+        symbols,
+        slot_numbers,
+        child_numbers,
     })
-}
-
-// The variables of each module can be counted, and so can its definitions: more than that no memory holds.
-fn check_counts(program: &Program) -> Result<(), AllocError>
-    ensures variables { OnOk result ((m : ℕ) → length (variables_of program.now m) < 2 ^ 64) }
-    ensures definitions { OnOk result ((m : ℕ) → length (definitions_of program.now m) < 2 ^ 64) }
-{
-    for x in program.modules.as_slice() {
-        count_variables(x.sections.as_slice())?;
-        count_definitions(x.sections.as_slice())?;
-    }
-    Ok(())
 }

@@ -16,6 +16,7 @@ mod resolve;
 mod scope;
 mod slot;
 mod slots;
+mod symbols;
 mod target;
 mod work;
 
@@ -29,4 +30,5 @@ pub use paths::{path_of, slot_name};
 pub use resolve::{Resolution, ResolveStop, Single, resolve_expression, resolve_items};
 pub use scope::Scope;
 pub use slot::{Slot, ValueType};
+pub use symbols::{Spot, SymbolTable};
 pub use target::NameTarget;

@@ -13,8 +13,12 @@ use crate::{Instance, Item, ItemKind, ResolveStop, Scope};
 use smv_tree::{Assignment, Constraint, Expr, Place, Section, Specification};
 use sqlite_items::Items;
 
-// Names are followed and parts are opened 2000 levels deep, below the expression itself.
-const LEVELS: usize = 2001;
+// So many levels may be open at one place of an expression, those of what names stand for among them.
+const LEVELS: usize = 2000;
+
+// More nodes than stand one in another where no more levels are open: between two levels there are at most seven, `->`,
+// `<->`, `? :`, `|`, `&`, `=`, and what opens the next level.
+const ROOM: usize = 8 * (LEVELS + 1);
 
 /// The node of an expression. One that is stuck is told at this place.
 pub fn find_root(
@@ -29,7 +33,7 @@ pub fn find_root(
     ensures grows { OnOk result (Grows work.old.nodes work.new.nodes) }
     ensures finds { FindsRoot scope.now.program work.new.nodes at e.now place result }
 {
-    match find(scope, work, LEVELS, at, e) {
+    match find(scope, work, ROOM, LEVELS, at, e) {
         Ok(found) => Ok(found.node),
         Err(Halt::Stuck) => Err(ResolveStop::Stuck(place)),
         Err(Halt::NoMemory) => Err(ResolveStop::NoMemory),

@@ -1,23 +1,21 @@
 //! Where names lead.
 
-ghost use Rattle.std.specs.Prelude.{◌≡◌, ◌<◌, ◌^◌, length, position, slice_get, bytes_eq};
-ghost use Rattle.std.specs.List.{flat_map};
+ghost use Rattle.std.specs.Prelude.{◌≡◌, position, slice_get, bytes_eq};
 ghost use Rattle.smv_tree.specs.declared.tree.Definition.{Definition};
 ghost use Rattle.smv_tree.specs.declared.tree.Expr.{out-Expr};
 ghost use Rattle.smv_tree.specs.declared.tree.Variable.{Variable};
 ghost use Rattle.smv_tree.specs.declared.tree.VariableKind.{VariableKind};
-ghost use Rattle.smv_scope.specs.Modules.{variables_of, definitions_in};
-ghost use Rattle.smv_scope.specs.Instances.{module_at, child_number, is_declared_by};
+ghost use Rattle.smv_scope.specs.Modules.{variables_of, definitions_of};
+ghost use Rattle.smv_scope.specs.Instances.{module_at, child_number};
 ghost use Rattle.smv_scope.specs.Slots.{slot_number};
 ghost use Rattle.smv_scope.specs.Lookup.{slot_target, instance_target, typed_target, variable_target, definition_target, named_target, member_target, arguments_with, arguments_by, given_by, parent_at, own_target, start_target, members_target, name_target_by, as_instance, depth_limit, instance_by_node, instance_within, name_target};
 ghost use Rattle.smv_scope.specs.Targets.{seen};
 
 use crate::modules::{
-    definition_at, definition_named, parameter_named, parameters_of, sections_of, variable_at,
-    variable_named,
+    definition_at, definition_named, parameter_named, variable_at, variable_named,
 };
 use crate::{NameTarget, Parent, Scope};
-use smv_tree::{Definition, Expr, Identifier, Name, Section, Start, TypeExpr};
+use smv_tree::{Definition, Expr, Identifier, Name, Start, TypeExpr};
 use sqlite_items::at;
 
 /// Names are followed to this depth.
@@ -78,7 +76,7 @@ pub fn instance_of<'a>(scope: &'a Scope, target: NameTarget<'a>) -> NameTarget<'
     }
 }
 
-// The instance to which an expression leads as a name, by at most so many parameters one in another.
+// The instance to which an expression leads as a name, by at most so many parameters and parentheses one in another.
 #[cycle(follow)]
 fn instance_within<'a>(
     scope: &'a Scope,
@@ -104,9 +102,23 @@ fn instance_by_node<'a>(
 ) -> NameTarget<'a>
     ensures { seen result ≡ instance_by_node scope.now.program (instance_within scope.now.program depth) instance (out-Expr e.now) }
 {
-    let Expr::Name(name) = e else {
-        return NameTarget::Unknown;
-    };
+    match e {
+        Expr::Name(name) => instance_by_name(scope, depth, instance, name),
+        Expr::Group(_, inner) => instance_within(scope, depth, instance, inner.get()),
+        _ => NameTarget::Unknown,
+    }
+}
+
+// The instance to which a name leads, itself or by at most so many parameters one in another.
+#[cycle(follow)]
+fn instance_by_name<'a>(
+    scope: &'a Scope,
+    depth: usize,
+    instance: usize,
+    name: &Name,
+) -> NameTarget<'a>
+    ensures { seen result ≡ as_instance (instance_within scope.now.program depth) (name_target_by scope.now.program (instance_within scope.now.program depth) instance name.now.start name.now.members) }
+{
     match name_target_within(scope, depth, instance, name) {
         NameTarget::Whole(i) => NameTarget::Whole(i),
         NameTarget::Given {
@@ -153,7 +165,7 @@ pub fn own_target<'a>(scope: &'a Scope, instance: usize, name: &str) -> NameTarg
     let Some(m) = module_at(scope, instance) else {
         return NameTarget::Unknown;
     };
-    match parameter_named(parameters_of(&scope.program, m), name) {
+    match parameter_named(scope, m, name) {
         Some(k) => given_by(scope, instance, k, parent_at(scope, instance)),
         None => member_target(scope, instance, name),
     }
@@ -189,7 +201,7 @@ pub fn arguments_by(scope: &Scope, parent: Parent) -> &[Expr]
     let Some(m) = module_at(scope, parent.instance) else {
         return &[];
     };
-    match variable_at(sections_of(&scope.program, m), parent.variable) {
+    match variable_at(scope, m, parent.variable) {
         None => &[],
         Some(x) => arguments_with(&x.declared),
     }
@@ -218,21 +230,19 @@ pub fn member_target<'a>(scope: &'a Scope, instance: usize, name: &str) -> NameT
 fn named_target<'a>(scope: &'a Scope, instance: usize, m: usize, name: &str) -> NameTarget<'a>
     ensures { seen result ≡ named_target scope.now.program instance m name.now (position (λ (x : VariableKind × Variable). bytes_eq name.now x.1.name) (variables_of scope.now.program m)) }
 {
-    let sections = sections_of(&scope.program, m);
-    match variable_named(sections, name) {
+    match variable_named(scope, m, name) {
         Some(v) => variable_target(scope, instance, v, m),
-        None => definition_target(instance, sections, name),
+        None => definition_target(scope, instance, m, name),
     }
 }
 
-fn definition_target<'a>(instance: usize, sections: &'a [Section], name: &str) -> NameTarget<'a>
-    requires { length (flat_map definitions_in sections.now) < 2 ^ 64 }
-    ensures { seen result ≡ definition_target instance (flat_map definitions_in sections.now) (position (λ (d : Definition). bytes_eq name.now d.name) (flat_map definitions_in sections.now)) }
+fn definition_target<'a>(scope: &'a Scope, instance: usize, m: usize, name: &str) -> NameTarget<'a>
+    ensures { seen result ≡ definition_target instance (definitions_of scope.now.program m) (position (λ (d : Definition). bytes_eq name.now d.name) (definitions_of scope.now.program m)) }
 {
-    let Some(definition) = definition_named(sections, name) else {
+    let Some(definition) = definition_named(scope, m, name) else {
         return NameTarget::Unknown;
     };
-    match definition_at(sections, definition) {
+    match definition_at(scope, m, definition) {
         None => NameTarget::Unknown,
         Some(found) => NameTarget::Defined {
             at: instance,
@@ -246,7 +256,7 @@ fn definition_target<'a>(instance: usize, sections: &'a [Section], name: &str) -
 fn variable_target<'a>(scope: &'a Scope, instance: usize, v: usize, m: usize) -> NameTarget<'a>
     ensures { seen result ≡ variable_target scope.now.program instance v (slice_get (variables_of scope.now.program m) v) }
 {
-    match variable_at(sections_of(&scope.program, m), v) {
+    match variable_at(scope, m, v) {
         None => NameTarget::Unknown,
         Some(x) => typed_target(scope, instance, v, &x.declared),
     }
@@ -286,34 +296,19 @@ fn instance_target<'a>(instance: Option<usize>) -> NameTarget<'a>
 }
 
 // The number of the slot of a variable of an instance.
-fn slot_number(scope: &Scope, instance: usize, v: usize) -> Option<usize>
-    ensures { result ≡ slot_number scope.now.program instance v }
+fn slot_number(scope: &Scope, instance: usize, variable: usize) -> Option<usize>
+    ensures { result ≡ slot_number scope.now.program instance variable }
 {
-    scope
-        .slots
-        .as_slice()
-        .iter()
-        .position(|slot| slot.instance == instance && slot.variable == v)
+    let key = Parent { instance, variable };
+    scope.slot_numbers.get(&key).copied()
 }
 
 // The number of the instance that a variable of an instance is.
-fn child_number(scope: &Scope, instance: usize, v: usize) -> Option<usize>
-    ensures { result ≡ child_number scope.now.program instance v }
+fn child_number(scope: &Scope, instance: usize, variable: usize) -> Option<usize>
+    ensures { result ≡ child_number scope.now.program instance variable }
 {
-    scope
-        .tree
-        .as_slice()
-        .iter()
-        .position(|x| is_declared_by(instance, v, x.parent))
-}
-
-fn is_declared_by(instance: usize, v: usize, parent: Option<Parent>) -> bool
-    ensures { result ≡ is_declared_by instance v parent }
-{
-    match parent {
-        None => false,
-        Some(parent) => parent.instance == instance && parent.variable == v,
-    }
+    let key = Parent { instance, variable };
+    scope.child_numbers.get(&key).copied()
 }
 
 /// The number of the module of an instance.

@@ -1,25 +1,21 @@
 //! Modules, and what they declare.
 
-ghost use Rattle.std.specs.Prelude.{◌≡◌, ◌^◌, ◌<◌, IfOk, length, map, option_map, position, slice_get, bytes_eq};
+ghost use Rattle.std.specs.Prelude.{◌≡◌, IfOk, map, option_map, position, slice_get, bytes_eq};
 ghost use Rattle.std.specs.Borrow.{Bor};
 ghost use Rattle.std.specs.List.{flat_map};
-ghost use Rattle.std.specs.Option.{option_copied};
+ghost use Rattle.std.specs.Option.{option_copied, option_and_then};
 ghost use Rattle.smv_tree.specs.declared.tree.Variable.{Variable};
 ghost use Rattle.smv_tree.specs.declared.tree.VariableKind.{VariableKind};
 ghost use Rattle.smv_tree.specs.declared.tree.Definition.{Definition};
 ghost use Rattle.smv_tree.specs.declared.tree.Parameter.{Parameter};
-ghost use Rattle.smv_scope.specs.Modules.{module_named, sections_of, parameters_of, variables_in, definitions_in};
+ghost use Rattle.smv_scope.specs.Modules.{sections_of, parameters_of, variables_in, definitions_in, variables_of, definitions_of};
+ghost use Rattle.smv_scope.specs.Symbols.{declared_at};
 
-use smv_tree::{Definition, Module, Parameter, Program, Section, Variable, VariableKind};
+use crate::Scope;
+use crate::symbols::Spot;
+use smv_tree::{Definition, Program, Section, Variable, VariableKind};
 use sqlite_items::at;
 use std::alloc::{AllocError, Global};
-
-/// The number of the first module of this name.
-pub fn module_named(modules: &[Module], name: &str) -> Option<usize>
-    ensures { result ≡ module_named modules.now name.now }
-{
-    modules.iter().position(|m| name == m.name.as_str())
-}
 
 /// The sections of the module of this number.
 pub fn sections_of(program: &Program, m: usize) -> &[Section]
@@ -29,23 +25,6 @@ pub fn sections_of(program: &Program, m: usize) -> &[Section]
         None => &[],
         Some(found) => found.sections.as_slice(),
     }
-}
-
-/// The parameters of the module of this number.
-pub fn parameters_of(program: &Program, m: usize) -> &[Parameter]
-    ensures { result.now ≡ parameters_of program.now m }
-{
-    match program.modules.get(m) {
-        None => &[],
-        Some(found) => found.parameters.as_slice(),
-    }
-}
-
-/// The number of the first parameter of this name.
-pub fn parameter_named(parameters: &[Parameter], name: &str) -> Option<usize>
-    ensures { result ≡ position (λ (x : Parameter). bytes_eq name.now x.name) parameters.now }
-{
-    parameters.iter().position(|x| name == x.name.as_str())
 }
 
 /// The variables of a section, and their kind.
@@ -68,78 +47,72 @@ pub fn definitions_in(section: &Section) -> &[Definition]
     }
 }
 
-/// The variable of this number.
-pub fn variable_at(sections: &[Section], v: usize) -> Option<&Variable>
-    ensures { option_copied result ≡ option_map (λ (x : VariableKind × Variable). x.1) (slice_get (flat_map variables_in sections.now) v) }
+/// The number of the first parameter of this name that a module has.
+pub fn parameter_named(scope: &Scope, m: usize, name: &str) -> Option<usize>
+    ensures { result ≡ position (λ (x : Parameter). bytes_eq name.now x.name) (parameters_of scope.now.program m) }
 {
-    let mut left = v;
-    for section in sections {
-        let (_, variables) = variables_in(section);
-        if left < variables.len() {
-            return at(variables, left);
-        }
-        left -= variables.len();
+    match scope.symbols.get(m) {
+        None => None,
+        Some(table) => table.parameters.get(name).copied(),
     }
-    None
 }
 
-fn variable_among(variables: &[Variable], name: &str) -> Option<usize>
-    ensures { result ≡ position (λ (v : Variable). bytes_eq name.now v.name) variables.now }
+/// The number of the first variable of this name that a module has.
+pub fn variable_named(scope: &Scope, m: usize, name: &str) -> Option<usize>
+    ensures { result ≡ position (λ (x : VariableKind × Variable). bytes_eq name.now x.1.name) (variables_of scope.now.program m) }
 {
-    variables.iter().position(|v| name == v.name.as_str())
-}
-
-/// The number of the first variable of this name.
-pub fn variable_named(sections: &[Section], name: &str) -> Option<usize>
-    requires { length (flat_map variables_in sections.now) < 2 ^ 64 }
-    ensures { result ≡ position (λ (x : VariableKind × Variable). bytes_eq name.now x.1.name) (flat_map variables_in sections.now) }
-{
-    let mut before = 0;
-    for section in sections {
-        let (_, variables) = variables_in(section);
-        if let Some(k) = variable_among(variables, name) {
-            return Some(before + k);
-        }
-        before += variables.len();
+    match scope.symbols.get(m) {
+        None => None,
+        Some(table) => table.variables.get(name).copied(),
     }
-    None
 }
 
-/// The definition of this number.
-pub fn definition_at(sections: &[Section], k: usize) -> Option<&Definition>
-    ensures { option_copied result ≡ slice_get (flat_map definitions_in sections.now) k }
+/// The number of the first definition of this name that a module has.
+pub fn definition_named(scope: &Scope, m: usize, name: &str) -> Option<usize>
+    ensures { result ≡ position (λ (d : Definition). bytes_eq name.now d.name) (definitions_of scope.now.program m) }
 {
-    let mut left = k;
-    for section in sections {
-        let definitions = definitions_in(section);
-        if left < definitions.len() {
-            return at(definitions, left);
-        }
-        left -= definitions.len();
+    match scope.symbols.get(m) {
+        None => None,
+        Some(table) => table.definitions.get(name).copied(),
     }
-    None
 }
 
-fn definition_among(definitions: &[Definition], name: &str) -> Option<usize>
-    ensures { result ≡ position (λ (d : Definition). bytes_eq name.now d.name) definitions.now }
+/// The variable of this number of a module.
+pub fn variable_at(scope: &Scope, m: usize, v: usize) -> Option<&Variable>
+    ensures { option_copied result ≡ option_map (λ (x : VariableKind × Variable). x.1) (slice_get (variables_of scope.now.program m) v) }
 {
-    definitions.iter().position(|d| name == d.name.as_str())
+    let spot = variable_spot(scope, m, v)?;
+    let section = at(sections_of(&scope.program, m), spot.section)?;
+    at(variables_in(section).1, spot.index)
 }
 
-/// The number of the first definition of this name.
-pub fn definition_named(sections: &[Section], name: &str) -> Option<usize>
-    requires { length (flat_map definitions_in sections.now) < 2 ^ 64 }
-    ensures { result ≡ position (λ (d : Definition). bytes_eq name.now d.name) (flat_map definitions_in sections.now) }
+// Where the variable of this number of a module stands.
+fn variable_spot(scope: &Scope, m: usize, v: usize) -> Option<Spot>
+    ensures { option_and_then (declared_at variables_in (sections_of scope.now.program m)) result ≡ slice_get (variables_of scope.now.program m) v }
 {
-    let mut before = 0;
-    for section in sections {
-        let definitions = definitions_in(section);
-        if let Some(k) = definition_among(definitions, name) {
-            return Some(before + k);
-        }
-        before += definitions.len();
+    match scope.symbols.get(m) {
+        None => None,
+        Some(table) => table.variable_spots.get(v).copied(),
     }
-    None
+}
+
+/// The definition of this number of a module.
+pub fn definition_at(scope: &Scope, m: usize, k: usize) -> Option<&Definition>
+    ensures { option_copied result ≡ slice_get (definitions_of scope.now.program m) k }
+{
+    let spot = definition_spot(scope, m, k)?;
+    let section = at(sections_of(&scope.program, m), spot.section)?;
+    at(definitions_in(section), spot.index)
+}
+
+// Where the definition of this number of a module stands.
+fn definition_spot(scope: &Scope, m: usize, k: usize) -> Option<Spot>
+    ensures { option_and_then (declared_at definitions_in (sections_of scope.now.program m)) result ≡ slice_get (definitions_of scope.now.program m) k }
+{
+    match scope.symbols.get(m) {
+        None => None,
+        Some(table) => table.definition_spots.get(k).copied(),
+    }
 }
 
 /// The variables of sections, each with its kind, in the order of the source.
@@ -159,32 +132,19 @@ pub fn variables_of<'a>(
     Ok(all)
 }
 
-/// How many variables sections have.
-pub fn count_variables(sections: &[Section]) -> Result<usize, AllocError>
-    ensures { IfOk result (λ count. count ≡ length (flat_map variables_in sections.now)) }
+/// The definitions of sections, in the order of the source.
+pub fn definitions_of<'a>(
+    alloc: Global,
+    sections: &'a [Section],
+) -> Result<Vec<&'a Definition>, AllocError>
+    ensures { IfOk result (λ all. map (λ (d : Bor Definition). d.now) all.items ≡ flat_map definitions_in sections.now) }
 {
-    let mut count: usize = 0;
-    for section in sections {
-        let (_, variables) = variables_in(section);
-        let Some(more) = count.checked_add(variables.len()) else {
-            return Err(AllocError);
-        };
-        count = more;
-    }
-    Ok(count)
-}
-
-/// How many definitions sections have.
-pub fn count_definitions(sections: &[Section]) -> Result<usize, AllocError>
-    ensures { IfOk result (λ count. count ≡ length (flat_map definitions_in sections.now)) }
-{
-    let mut count: usize = 0;
+    let mut all = Vec::new(alloc);
     for section in sections {
         let definitions = definitions_in(section);
-        let Some(more) = count.checked_add(definitions.len()) else {
-            return Err(AllocError);
-        };
-        count = more;
+        for definition in definitions {
+            all.push(definition)?;
+        }
     }
-    Ok(count)
+    Ok(all)
 }

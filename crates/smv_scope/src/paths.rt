@@ -5,7 +5,7 @@ ghost use Rattle.std.specs.Borrow.{Bor};
 ghost use Rattle.smv_scope.specs.Paths.{joined, variable_name, path_of, slot_name};
 
 use crate::lookup::{module_at, parent_at};
-use crate::modules::{sections_of, variable_at};
+use crate::modules::variable_at;
 use crate::{Scope, Slot};
 use plain_text::Text;
 use std::alloc::{AllocError, Global};
@@ -74,7 +74,7 @@ fn variable_name(scope: &Scope, at: usize, v: usize) -> &str
     let Some(m) = module_at(scope, at) else {
         return "";
     };
-    match variable_at(sections_of(&scope.program, m), v) {
+    match variable_at(scope, m, v) {
         None => "",
         Some(x) => x.name.as_str(),
     }

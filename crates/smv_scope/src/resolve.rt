@@ -79,6 +79,7 @@ pub fn resolve_expression(
 fn place_of(e: &Expr) -> Place {
     match e {
         Expr::Bool(place, _)
+        | Expr::Group(place, _)
         | Expr::Not(place, _)
         | Expr::Next(place, _)
         | Expr::Implies(place, _, _)

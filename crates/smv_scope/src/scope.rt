@@ -1,23 +1,33 @@
 //! A program with its instances and slots.
 
-ghost use Rattle.std.specs.Prelude.{◌≡◌, ℕ, ◌<◌, ◌^◌, length};
-ghost use Rattle.smv_scope.specs.Modules.{variables_of, definitions_of};
-ghost use Rattle.smv_scope.specs.Instances.{instances_of};
-ghost use Rattle.smv_scope.specs.Slots.{slots_of};
+ghost use Rattle.std.specs.Prelude.{◌≡◌, ℕ, slice_get};
+ghost use Rattle.std.specs.HashMap.{get};
+ghost use Rattle.smv_scope.specs.declared.instance.Parent.{Parent};
+ghost use Rattle.smv_scope.specs.Modules.{parameters_of, sections_of};
+ghost use Rattle.smv_scope.specs.Instances.{instances_of, child_number};
+ghost use Rattle.smv_scope.specs.Slots.{slots_of, slot_number};
+ghost use Rattle.smv_scope.specs.Symbols.{IsTableOf, same_variable};
 
-use crate::{Instance, Slot};
+use crate::{Instance, Parent, Slot, SymbolTable};
 use smv_tree::Program;
 use sqlite_items::Items;
+use std::collections::HashMap;
 
-/// A program with its instances in preorder, and its slots.
+/// A program with its instances in preorder, its slots, and the tables by which names are looked up.
 #[derive(Debug, Drop)]
 pub struct Scope {
     pub program: Program,
     pub tree: Items<Instance>,
     pub slots: Items<Slot>,
+    /// What the names of each module are.
+    pub symbols: Items<SymbolTable>,
+    /// The slots of variables.
+    pub slot_numbers: HashMap<Parent, usize>,
+    /// The instances that variables are.
+    pub child_numbers: HashMap<Parent, usize>,
     pub ghost unfolded: { tree ≡ instances_of program },
     pub ghost laid_out: { slots ≡ slots_of program },
-    /// The variables of a module can be counted, and so can its definitions.
-    pub ghost few_variables: { (m : ℕ) → length (variables_of program m) < 2 ^ 64 },
-    pub ghost few_definitions: { (m : ℕ) → length (definitions_of program m) < 2 ^ 64 },
+    pub ghost tabled: { (m : ℕ) → IsTableOf (parameters_of program m) (sections_of program m) (slice_get symbols m) },
+    pub ghost slots_numbered: { (x : Parent) → get same_variable slot_numbers x ≡ slot_number program x.instance x.variable },
+    pub ghost children_numbered: { (x : Parent) → get same_variable child_numbers x ≡ child_number program x.instance x.variable },
 }

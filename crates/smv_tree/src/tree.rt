@@ -185,6 +185,8 @@ pub struct Name {
 pub enum Expr {
     Bool(Place, bool),
     Name(Name),
+    /// An expression in parentheses, at its `(`.
+    Group(Place, Boxed<Expr>),
     Not(Place, Boxed<Expr>),
     /// The value in the next state.
     Next(Place, Boxed<Expr>),

@@ -5,7 +5,7 @@ use Rattle.smv_tree.specs.declared.refusal.Refusal.{Refusal}
 use Rattle.smv_tree.specs.declared.refusal.TextStop.{TextStop}
 use Rattle.smv_tree.specs.declared.refusal.TextStop.TheVariants.{Refused, NoMemory}
 use Rattle.smv_scope.proofs.Indexing.{flat_map-drop}
-use Rattle.smv_types.specs.Verdicts.{first_of, or_else, Judges}
+use Rattle.smv_names.specs.Verdicts.{first_of, or_else, Judges}
 
 or_else_both : (a b c : Option Refusal) → or_else a (or_else b c) ≡ or_else (or_else a b) c
 or_else_both None b c = refl

@@ -1,10 +1,4 @@
-pub mod Adding
 pub mod Judging
-pub mod Graphs
-pub mod Saying
-pub mod NamesOf
-pub mod OfEntries
+pub mod Ordered
 pub mod Once
 pub mod Firsts
-pub mod Ordered
-pub mod Uses

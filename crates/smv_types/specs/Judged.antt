@@ -6,7 +6,7 @@ use Rattle.smv_scope.specs.declared.slot.Slot.{Slot}
 use Rattle.smv_scope.specs.Resolved.{Resolved, part_at}
 use Rattle.smv_types.specs.declared.judged.Judged.{Judged}
 use Rattle.smv_types.specs.declared.judged.Violation.{Violation}
-use Rattle.smv_types.specs.Verdicts.{plain}
+use Rattle.smv_names.specs.Verdicts.{plain}
 use Rattle.smv_types.specs.Kinds.{Context, of_state, of_step, is_whole, kind_refusal, place_of, is_assignable}
 use Rattle.smv_tree.specs.declared.tree.AssignmentKind.TheVariants as side
 

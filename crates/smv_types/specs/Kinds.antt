@@ -23,7 +23,7 @@ use Rattle.smv_scope.specs.Instances.{instances_of}
 use Rattle.smv_scope.specs.Slots.{slots_of, is_input}
 use Rattle.smv_scope.specs.Resolved.{Resolved}
 use Rattle.smv_scope.specs.Items.{ResolvedItem, items_of, first_stuck}
-use Rattle.smv_types.specs.Verdicts.{or_else, first_of, plain}
+use Rattle.smv_names.specs.Verdicts.{or_else, first_of, plain}
 
 abbrev pub deep_at : Option Place → Option Refusal
 deep_at None = None
@@ -92,21 +92,6 @@ input_here c place input = if input && not c.input then Some (plain rule.InputHe
 abbrev pub next_here : Context → Place → Option Refusal
 next_here c place = if c.next then None else Some (plain rule.NextHere place)
 
--- The first refusal in an expression: operands before their operator, from left to right; at an operator contexts before kinds.
-abbrev pub kind_refusal : List Slot → Context → Resolved → Option Refusal
-kind_refusal slots c (Resolved.Constant place b) = None
-kind_refusal slots c (Resolved.Slot place n) = input_here c place (is_input_slot (slice_get slots n))
-kind_refusal slots c (Resolved.Whole place i) = None
-kind_refusal slots c (Resolved.Given place r) = kind_refusal slots (under_name c) r
-kind_refusal slots c (Resolved.Defined place r) = kind_refusal slots (under_name c) r
-kind_refusal slots c (Resolved.Not place r) = or_else (kind_refusal slots c r) (mismatch place (is_whole r))
-kind_refusal slots c (Resolved.Next place r) = or_else (kind_refusal slots of_state r) (or_else (next_here c place) (mismatch place (is_whole r)))
-kind_refusal slots c (Resolved.Implies place a b) = or_else (kind_refusal slots c a) (or_else (kind_refusal slots c b) (mismatch place (is_whole a || is_whole b)))
-kind_refusal slots c (Resolved.Link place o a b) = or_else (kind_refusal slots c a) (or_else (kind_refusal slots c b) (mismatch place (is_whole a || is_whole b)))
-kind_refusal slots c (Resolved.Conditional place d a b) =
-    or_else (kind_refusal slots c d) (or_else (kind_refusal slots c a) (or_else (kind_refusal slots c b) (mismatch place (is_whole d || is_whole a || is_whole b))))
-kind_refusal slots c Resolved.Stuck = None
-
 -- the place of an expression
 abbrev pub place_of : Resolved → Place
 place_of (Resolved.Constant place b) = place
@@ -120,6 +105,22 @@ place_of (Resolved.Implies place a b) = place
 place_of (Resolved.Link place o a b) = place
 place_of (Resolved.Conditional place c a b) = place
 place_of Resolved.Stuck = start
+
+-- The first refusal in an expression: operands before their operator, from left to right; at an operator contexts before kinds.
+-- What a definition stands for has to be a value, and is refused at its own place where it is an instance.
+abbrev pub kind_refusal : List Slot → Context → Resolved → Option Refusal
+kind_refusal slots c (Resolved.Constant place b) = None
+kind_refusal slots c (Resolved.Slot place n) = input_here c place (is_input_slot (slice_get slots n))
+kind_refusal slots c (Resolved.Whole place i) = None
+kind_refusal slots c (Resolved.Given place r) = kind_refusal slots (under_name c) r
+kind_refusal slots c (Resolved.Defined place r) = or_else (kind_refusal slots (under_name c) r) (mismatch (place_of r) (is_whole r))
+kind_refusal slots c (Resolved.Not place r) = or_else (kind_refusal slots c r) (mismatch place (is_whole r))
+kind_refusal slots c (Resolved.Next place r) = or_else (kind_refusal slots of_state r) (or_else (next_here c place) (mismatch place (is_whole r)))
+kind_refusal slots c (Resolved.Implies place a b) = or_else (kind_refusal slots c a) (or_else (kind_refusal slots c b) (mismatch place (is_whole a || is_whole b)))
+kind_refusal slots c (Resolved.Link place o a b) = or_else (kind_refusal slots c a) (or_else (kind_refusal slots c b) (mismatch place (is_whole a || is_whole b)))
+kind_refusal slots c (Resolved.Conditional place d a b) =
+    or_else (kind_refusal slots c d) (or_else (kind_refusal slots c a) (or_else (kind_refusal slots c b) (mismatch place (is_whole d || is_whole a || is_whole b))))
+kind_refusal slots c Resolved.Stuck = None
 
 -- a variable of this kind may be assigned so: a frozen one by `init` alone (manual 2.3.8, ASSIGN Constraint)
 abbrev pub takes_assignment : AssignmentKind → VariableKind → Bool
@@ -140,8 +141,9 @@ is_assignable slots which (Resolved.Whole place i) = true
 is_assignable slots which (Resolved.Given place r) = is_assignable slots which r
 is_assignable slots which other = false
 
-abbrev pub target_refusal : List Slot → AssignmentKind → Resolved → Option Refusal
-target_refusal slots which r = if is_assignable slots which r then None else Some (plain rule.NotAssignable (place_of r))
+-- told at the left side, with which the assignment begins
+abbrev pub target_refusal : List Slot → Place → AssignmentKind → Resolved → Option Refusal
+target_refusal slots place which r = if is_assignable slots which r then None else Some (plain rule.NotAssignable place)
 
 -- what may stand in the value of an assignment: what `next(x) := e` says is of a step
 abbrev pub context_of_side : AssignmentKind → Context
@@ -159,7 +161,7 @@ formula_refusal slots c r = or_else (kind_refusal slots c r) (mismatch (place_of
 abbrev pub assignment_refusal : List Slot → Place → AssignmentKind → Option Resolved → Resolved → Option Refusal
 assignment_refusal slots place which None e = None
 assignment_refusal slots place which (Some target) e =
-    or_else (target_refusal slots which target) (or_else (kind_refusal slots (context_of_side which) e) (mismatch place (is_whole target || is_whole e)))
+    or_else (target_refusal slots place which target) (or_else (kind_refusal slots (context_of_side which) e) (mismatch place (is_whole target || is_whole e)))
 
 abbrev pub refusal_by_kind : List Slot → Place → Option Resolved → Resolved → ItemKind → Option Refusal
 refusal_by_kind slots place target e (item.Assignment which) = assignment_refusal slots place which target e

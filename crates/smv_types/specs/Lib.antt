@@ -1,11 +1,3 @@
-pub mod Verdicts
-pub mod Declarations
-pub mod Reached
-pub mod Named
-pub mod Defined
 pub mod Kinds
 pub mod Rules
-pub mod Lent
 pub mod Judged
-pub mod Marks
-pub mod Entries

@@ -5,9 +5,9 @@ ghost use Rattle.std.specs.List.{flat_map};
 ghost use Rattle.smv_tree.specs.declared.tree.Variable.{Variable};
 ghost use Rattle.smv_scope.specs.Modules.{variables_in};
 ghost use Rattle.smv_types.specs.Kinds.{instance_among, instance_by, misdeclared};
-ghost use Rattle.smv_types.specs.Verdicts.{Judges, first_of};
+ghost use Rattle.smv_names.specs.Verdicts.{Judges, first_of};
 
-use crate::refusals::refused;
+use smv_names::refused;
 use smv_scope::{Scope, sections_of, variables_in};
 use smv_tree::{Rule, Section, TextStop, TypeExpr, Variable, VariableKind};
 

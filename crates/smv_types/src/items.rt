@@ -6,11 +6,11 @@ ghost use Rattle.smv_scope.specs.Items.{item_by};
 ghost use Rattle.smv_scope.specs.Resolved.{Resolved, parts_of};
 ghost use Rattle.smv_types.specs.Judged.{IsJudged, Tells, as_refusal};
 ghost use Rattle.smv_types.specs.Kinds.{assignment_refusal, context_of_constraint, context_of_side, formula_refusal, is_assignable, item_refusal, kind_refusal, of_state, target_refusal};
-ghost use Rattle.smv_types.specs.Verdicts.{Judges, first_of};
+ghost use Rattle.smv_names.specs.Verdicts.{Judges, first_of};
 
 use crate::judged::{Judged, Violation};
 use crate::kinds::{first, judged_at, or_mismatch};
-use crate::refusals::refused;
+use smv_names::refused;
 use smv_scope::{Item, ItemKind, Node, Slot};
 use smv_tree::{AssignmentKind, ConstraintKind, Place, Rule, TextStop};
 
@@ -61,7 +61,7 @@ fn assignment_violation(
     ensures { (slots : List Slot) (r e : Resolved) → IsJudged slots r target → IsJudged slots e value → as_refusal result ≡ assignment_refusal slots place which (Some r) e }
 {
     first(
-        target_violation(which, target),
+        target_violation(place, which, target),
         or_mismatch(
             value_violation(which, value),
             place,
@@ -70,16 +70,16 @@ fn assignment_violation(
     )
 }
 
-// What is assigned is no variable that may be assigned so.
-fn target_violation(which: AssignmentKind, target: Judged) -> Option<Violation>
-    ensures { (slots : List Slot) (r : Resolved) → IsJudged slots r target → as_refusal result ≡ target_refusal slots which r }
+// What is assigned is no variable that may be assigned so; the left side begins at this place.
+fn target_violation(place: Place, which: AssignmentKind, target: Judged) -> Option<Violation>
+    ensures { (slots : List Slot) (r : Resolved) → IsJudged slots r target → as_refusal result ≡ target_refusal slots place which r }
 {
     if takes(which, target) {
         None
     } else {
         Some(Violation {
             rule: Rule::NotAssignable,
-            place: target.place,
+            place,
         })
     }
 }

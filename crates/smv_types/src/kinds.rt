@@ -8,10 +8,10 @@ ghost use Rattle.smv_scope.specs.Resolved.{Resolved, Resolved as R, part_at, par
 ghost use Rattle.smv_scope.specs.Slots.{is_input};
 ghost use Rattle.smv_types.specs.Judged.{IsJudged, Tells, as_refusal, judged_at};
 ghost use Rattle.smv_types.specs.Kinds.{input_here, mismatch, of_state, takes_assignment};
-ghost use Rattle.smv_types.specs.Verdicts.{or_else};
+ghost use Rattle.smv_names.specs.Verdicts.{or_else};
 
 use crate::judged::{Judged, Violation};
-use crate::refusals::START;
+use smv_names::START;
 use smv_scope::{Node, Slot};
 use smv_tree::{Place, Rule, VariableKind};
 use std::alloc::{AllocError, Global};
@@ -155,15 +155,17 @@ fn judge_given(place: Place, a: Judged) -> Judged
     }
 }
 
+// What a definition stands for has to be a value.
 fn judge_defined(place: Place, a: Judged) -> Judged
     ensures { (slots : List Slot) (r : Resolved) → IsJudged slots r a → IsJudged slots (R.Defined place r) result }
 {
+    let of_name = or_mismatch(a.of_name, a.place, a.whole);
     Judged {
-        place,
-        of_step: a.of_name,
-        takes_init: false,
-        takes_later: false,
-        ..a
+        whole: a.whole,
+        of_step: of_name,
+        of_name,
+        of_state: or_mismatch(a.of_state, a.place, a.whole),
+        ..sound(place)
     }
 }
 

@@ -1,23 +1,14 @@
-//! The rules of names and kinds: a program whose names all lead to variables, or the first rule that it breaks. The definitions
-//! are in `specs/`.
+//! The rules of names and kinds: a program whose names all lead to what they may, or the first rule that it breaks. The rules of
+//! names are those of `smv_names`; those of depth, kinds and contexts are here. The definitions are in `specs/`.
 #![tactic(auto)]
 
-mod declared;
-mod defined;
-mod entries;
-mod graph;
 mod instances;
 mod items;
 mod judged;
 mod kinds;
-mod known;
 mod law;
 mod limits;
-mod names;
-mod occurring;
 mod order;
-mod reached;
-mod refusals;
 
 pub use law::is_judged_once;
 pub use order::check;

@@ -33,7 +33,7 @@ fn put_name(out: &mut String, name: &Name) -> Result<(), AllocError> {
     Ok(())
 }
 
-/// Writes the parts of the node in parentheses, as far as they nest this deep.
+/// Writes the parts of the node in parentheses, as far as they nest this deep; what stands in parentheses itself, in brackets.
 fn put(out: &mut String, depth: usize, expr: &Expr) -> Result<(), AllocError> {
     if depth == 0 {
         return out.push_str("..");
@@ -42,6 +42,11 @@ fn put(out: &mut String, depth: usize, expr: &Expr) -> Result<(), AllocError> {
         Expr::Bool(_, true) => out.push_str("TRUE"),
         Expr::Bool(_, false) => out.push_str("FALSE"),
         Expr::Name(name) => put_name(out, name),
+        Expr::Group(_, inner) => {
+            out.push_str("[")?;
+            put(out, depth - 1, inner.get())?;
+            out.push_str("]")
+        }
         Expr::Not(_, denied) => {
             out.push_str("(! ")?;
             put(out, depth - 1, denied.get())?;
@@ -110,7 +115,7 @@ fn reading(alloc: Global, room: usize, words: &str) -> Result<String, Fail> {
 fn precedence(rt: HostRuntime) -> Result<(), Fail> {
     let table: [(&str, &str); 12] = [
         ("a -> b -> c", "(a -> (b -> c)), 0 left"),
-        ("( a -> b ) -> c", "((a -> b) -> c), 0 left"),
+        ("( a -> b ) -> c", "([(a -> b)] -> c), 0 left"),
         ("! a = b", "((! a) = b), 0 left"),
         ("! ! a & FALSE", "((! (! a)) & FALSE), 0 left"),
         ("a = b != c", "(a = b != c), 0 left"),
@@ -124,7 +129,7 @@ fn precedence(rt: HostRuntime) -> Result<(), Fail> {
             "((a <-> (b | c) <-> d) -> e), 0 left",
         ),
         ("next ( a | b ) = TRUE", "((next (a | b)) = TRUE), 0 left"),
-        ("( ( a ) )", "a, 0 left"),
+        ("( ( a ) )", "[[a]], 0 left"),
         ("count & a ; b", "(count & a), 2 left"),
         ("a b", "a, 1 left"),
     ];
@@ -188,7 +193,7 @@ fn levels(rt: HostRuntime) -> Result<(), Fail> {
         (1, "a -> b -> c", "too deep, 2 left"),
         (1, "a ? b : c ? d : e", "too deep, 4 left"),
         (2, "a ? b : c ? d : e", "(a ? b : (c ? d : e)), 0 left"),
-        (1, "( a ) & ( b ) -> c", "((a & b) -> c), 0 left"),
+        (1, "( a ) & ( b ) -> c", "(([a] & [b]) -> c), 0 left"),
         (1, "( ! a )", "too deep, 3 left"),
     ];
     for (room, words, wanted) in table {

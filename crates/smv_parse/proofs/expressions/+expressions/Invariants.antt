@@ -8,23 +8,26 @@ use Rattle.smv_parse.proofs.expressions.+expressions.Given as goal
 abbrev pub decreases-parenthesised : goal.decreases-parenthesised
 decreases-parenthesised l = l.room * 30
 
+abbrev pub decreases-group : goal.decreases-group
+decreases-group l = l.room * 30 + 1
+
 abbrev pub decreases-primary : goal.decreases-primary
-decreases-primary l = l.room * 30 + 1
+decreases-primary l = l.room * 30 + 2
 
 abbrev pub decreases-operand : goal.decreases-operand
-decreases-operand l = l.room * 30 + 2
+decreases-operand l = l.room * 30 + 3
 
 abbrev pub decreases-operand_of : goal.decreases-operand_of
-decreases-operand_of l = l.room * 30 + (height l.rank * 4 + 3)
+decreases-operand_of l = l.room * 30 + (height l.rank * 4 + 4)
 
 abbrev pub decreases-link : goal.decreases-link
-decreases-link l = l.room * 30 + (height l.rank * 4 + 4)
+decreases-link l = l.room * 30 + (height l.rank * 4 + 5)
 
 abbrev pub decreases-links : goal.decreases-links
-decreases-links l = l.room * 30 + (height l.rank * 4 + 5)
+decreases-links l = l.room * 30 + (height l.rank * 4 + 6)
 
 abbrev pub decreases-phrase_of : goal.decreases-phrase_of
-decreases-phrase_of l = l.room * 30 + (height l.rank * 4 + 6)
+decreases-phrase_of l = l.room * 30 + (height l.rank * 4 + 7)
 
 abbrev pub decreases-branches : goal.decreases-branches
 decreases-branches l = l.room * 30
@@ -33,7 +36,7 @@ abbrev pub decreases-chosen : goal.decreases-chosen
 decreases-chosen l = l.room * 30 + 1
 
 abbrev pub decreases-conditional : goal.decreases-conditional
-decreases-conditional l = l.room * 30 + 15
+decreases-conditional l = l.room * 30 + 16
 
 abbrev pub decreases-expression : goal.decreases-expression
 decreases-expression l = l.room * 30 + 29

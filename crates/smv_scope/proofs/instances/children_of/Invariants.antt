@@ -7,5 +7,5 @@ use Rattle.smv_scope.proofs.instances.children_of.Given as goal
 
 abbrev pub invariant-loop-v : goal.invariant-loop-v
 invariant-loop-v l =
-    l.all ++ children_from l.modules l.at l.v (map (λ (x : VariableKind × Bor Variable). (x.0, x.1.now)) (drop l.v l.variable-items))
-    ≡ children_from l.modules l.at 0 (map (λ (x : VariableKind × Bor Variable). (x.0, x.1.now)) l.variable-items)
+    l.all ++ children_from l.program.modules l.at l.v (map (λ (x : VariableKind × Bor Variable). (x.0, x.1.now)) (drop l.v l.variable-items))
+    ≡ children_from l.program.modules l.at 0 (map (λ (x : VariableKind × Bor Variable). (x.0, x.1.now)) l.variable-items)

@@ -3,7 +3,7 @@ use Rattle.std.proofs.Common.{◌≡◌, drop}
 use Rattle.smv_scope.specs.declared.instance.Instance.{Instance}
 use Rattle.smv_scope.specs.Modules.{variables_of}
 use Rattle.smv_types.specs.Kinds.{instance_among, misdeclared}
-use Rattle.smv_types.specs.Verdicts.{first_of}
+use Rattle.smv_names.specs.Verdicts.{first_of}
 use Rattle.smv_types.proofs.instances.misdeclared.Given as goal
 
 abbrev pub invariant-loop-x : goal.invariant-loop-x

@@ -2,7 +2,7 @@
 use Rattle.std.proofs.Common.{◌≡◌, drop, map}
 use Rattle.smv_tree.specs.declared.tree.Variable.{Variable}
 use Rattle.smv_types.specs.Kinds.{instance_among}
-use Rattle.smv_types.specs.Verdicts.{first_of}
+use Rattle.smv_names.specs.Verdicts.{first_of}
 use Rattle.smv_types.proofs.instances.misdeclared_among.Given as goal
 
 abbrev pub invariant-loop-variable : goal.invariant-loop-variable

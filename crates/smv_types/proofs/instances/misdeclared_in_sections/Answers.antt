@@ -4,7 +4,7 @@ use Rattle.std.proofs.lemmas.Result.{err_from_is_err_and}
 use Rattle.std.specs.List.{flat_map}
 use Rattle.smv_scope.specs.Modules.{variables_in}
 use Rattle.smv_types.specs.Kinds.{instance_among}
-use Rattle.smv_types.specs.Verdicts.{first_of, or_else}
+use Rattle.smv_names.specs.Verdicts.{first_of, or_else}
 use Rattle.smv_types.proofs.Firsts.{first_left, judges_first}
 use Rattle.smv_types.proofs.instances.misdeclared_in_sections.Goals as goal
 

@@ -2,7 +2,7 @@
 use Rattle.std.proofs.Common.{◌≡◌, drop, map}
 use Rattle.smv_scope.specs.Items.{item_by}
 use Rattle.smv_types.specs.Kinds.{item_refusal}
-use Rattle.smv_types.specs.Verdicts.{first_of}
+use Rattle.smv_names.specs.Verdicts.{first_of}
 use Rattle.smv_types.proofs.items.misused.Given as goal
 
 abbrev pub invariant-loop-item : goal.invariant-loop-item

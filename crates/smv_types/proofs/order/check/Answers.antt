@@ -1,50 +1,23 @@
--- Each rule is judged where those before it say nothing.
-use Rattle.std.proofs.Common.{None, sym, subst}
+-- The rules of kinds are judged where those of names say nothing.
+use Rattle.std.proofs.Common.{sym, subst}
 use Rattle.std.proofs.lemmas.Result.{err_from_is_err_and}
 use Rattle.smv_tree.specs.declared.tree.Program.{Program}
 use Rattle.smv_scope.specs.declared.scope.Scope.{Scope}
-use Rattle.smv_types.specs.Declarations.{declared_refusal}
-use Rattle.smv_types.specs.Defined.{definitions_verdict}
-use Rattle.smv_types.specs.Rules.{named_refusal, kinds_refusal, types_verdict}
-use Rattle.smv_types.specs.Verdicts.{Judges}
-use Rattle.smv_types.proofs.Saying.{Stops, gives_err, err_gives}
-use Rattle.smv_types.proofs.Ordered.{known_stops, of_uses, declared_stops, uses_stop, named_stops, definitions_stop, kinds_give}
+use Rattle.smv_names.specs.Rules.{names_verdict}
+use Rattle.smv_names.specs.Verdicts.{Judges}
+use Rattle.smv_names.proofs.Saying.{gives_err, err_gives}
+use Rattle.smv_types.specs.Rules.{kinds_refusal, types_verdict}
+use Rattle.smv_types.proofs.Ordered.{names_stop, kinds_give}
 use Rattle.smv_types.proofs.order.check.Goals as goal
-
-pub returns-in_err-declared-clause-judged : goal.returns-in_err-declared-clause-judged
-returns-in_err-declared-clause-judged c =
-    let p = err_from_is_err_and c.from_residual.result c.from_residual.ensures.1 in
-    let e = c.in_err-declared.field-0.0 in
-    gives_err (types_verdict c.args.program) c.from_residual.result e (rw (sym p.2) p.1)
-    (declared_stops c.args.program e (known_stops (Unit {0}) (declared_refusal c.args.program) e c.in_err-declared.ensures))
-
-pub returns-in_err-uses-clause-judged : goal.returns-in_err-uses-clause-judged
-returns-in_err-uses-clause-judged c =
-    let p = err_from_is_err_and c.from_residual-in_err-uses.result c.from_residual-in_err-uses.ensures.1 in
-    let e = c.in_err-uses.field-0.0 in
-    gives_err (types_verdict c.args.program) c.from_residual-in_err-uses.result e (rw (sym p.2) p.1)
-    (uses_stop c.args.program c.in_ok-declared.ensures e (err_gives (Unit {0}) (of_uses c.args.program) e c.in_err-uses.ensures))
 
 pub returns-in_err-scope-clause-judged : goal.returns-in_err-scope-clause-judged
 returns-in_err-scope-clause-judged c =
-    let p = err_from_is_err_and c.from_residual-in_err-scope.result c.from_residual-in_err-scope.ensures.1 in
+    let p = err_from_is_err_and c.from_residual.result c.from_residual.ensures.1 in
     let e = c.in_err-scope.field-0.0 in
-    gives_err (types_verdict c.args.program) c.from_residual-in_err-scope.result e (rw (sym p.2) p.1)
-    (named_stops c.args.program c.in_ok-declared.ensures c.in_ok-uses.ensures e (known_stops Scope (named_refusal c.args.program) e c.in_err-scope.ensures.judged))
-
-pub returns-in_err-definitions-clause-judged : goal.returns-in_err-definitions-clause-judged
-returns-in_err-definitions-clause-judged c =
-    let p = err_from_is_err_and c.from_residual-in_err-definitions.result c.from_residual-in_err-definitions.ensures.1 in
-    let e = c.in_err-definitions.field-0.0 in
-    let P : Program → Type 0 = λ q. Stops e (definitions_verdict q) in
-    gives_err (types_verdict c.args.program) c.from_residual-in_err-definitions.result e (rw (sym p.2) p.1)
-    (definitions_stop c.args.program c.in_ok-declared.ensures c.in_ok-uses.ensures c.in_ok-scope.ensures.judged e
-    (subst P c.in_ok-scope.ensures.same (err_gives (Unit {0}) (definitions_verdict c.in_ok-scope.scope.program) e c.in_err-definitions.ensures)))
+    gives_err (types_verdict c.args.program) c.from_residual.result e (rw (sym p.2) p.1)
+    (names_stop c.args.program e (err_gives Scope (names_verdict c.args.program) e c.in_err-scope.ensures.judged))
 
 pub returns-clause-judged : goal.returns-clause-judged
 returns-clause-judged c =
-    let D : Program → Type 0 = λ q. definitions_verdict q None in
     let K : Program → Type 0 = λ q. Judges c.with_kinds.result (kinds_refusal q) in
-    kinds_give c.args.program c.in_ok-declared.ensures c.in_ok-uses.ensures c.in_ok-scope.ensures.judged c.with_kinds.result
-    (subst D c.in_ok-scope.ensures.same c.in_ok-definitions.ensures)
-    (subst K c.in_ok-scope.ensures.same c.with_kinds.ensures.judged)
+    kinds_give c.args.program c.in_ok-scope.ensures.judged c.with_kinds.result (subst K c.in_ok-scope.ensures.same c.with_kinds.ensures.judged)

@@ -1,0 +1,27 @@
+-- The rules of names, in the order in which they are judged: an own choice of this project.
+use Rattle.std.specs.Prelude.{◌≡◌, Option}
+use Rattle.smv_tree.specs.declared.refusal.Refusal.{Refusal}
+use Rattle.smv_tree.specs.declared.tree.Program.{Program}
+use Rattle.smv_names.specs.Verdicts.{Verdict, Exactly, Then, or_else}
+use Rattle.smv_names.specs.Declarations.{declared_refusal}
+use Rattle.smv_names.specs.declared.reached.UseRule.TheVariants as asked
+use Rattle.smv_names.specs.Reached.{too_many_instances, uses_verdict}
+use Rattle.smv_names.specs.Named.{unknown_names}
+use Rattle.smv_names.specs.Defined.{definitions_verdict}
+
+abbrev pub named_refusal : Program → Option Refusal
+named_refusal p = or_else (too_many_instances p) (unknown_names p)
+
+-- what is right to say of a program by its names
+unfoldable pub names_verdict : Program → Verdict
+names_verdict p =
+    Then (Exactly (declared_refusal p))
+    (Then (uses_verdict asked.Unknown p)
+    (Then (uses_verdict asked.Cyclic p)
+    (Then (uses_verdict asked.Miscounted p)
+    (Then (Exactly (named_refusal p))
+    (definitions_verdict p)))))
+
+-- what is right to say of a program by its names is one thing
+abbrev pub AreNamesJudgedOnce : Type 0
+AreNamesJudgedOnce = (p : Program) (r s : Option Refusal) → names_verdict p r → names_verdict p s → r ≡ s

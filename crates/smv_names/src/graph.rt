@@ -1,0 +1,113 @@
+//! Graphs: that of the modules, and whether one has a cycle.
+
+ghost use Rattle.std.specs.Prelude.{◌≡◌, ◌++◌, map, true, IfOk, OnOk};
+ghost use Rattle.std.specs.List.{flat_map};
+ghost use Rattle.digraph.specs.Cycles.{Acyclic, Closed};
+ghost use Rattle.smv_tree.specs.declared.tree.Variable.{Variable};
+ghost use Rattle.smv_scope.specs.Modules.{module_named};
+ghost use Rattle.smv_names.specs.Reached.{module_graph, module_of_type, modules_in, modules_used, some_only};
+
+use digraph::least_round;
+use smv_tree::{Module, Program, Section, TypeExpr, Variable};
+use sqlite_items::Items;
+use std::alloc::{AllocError, Global};
+
+/// The number of the first module of this name.
+pub(crate) fn module_named(modules: &[Module], name: &str) -> Option<usize>
+    ensures { result ≡ module_named modules.now name.now }
+{
+    modules.iter().position(|m| name == m.name.as_str())
+}
+
+/// The graph of modules: each leads to those that it uses.
+pub(crate) fn module_graph(
+    alloc: Global,
+    program: &Program,
+) -> Result<Vec<Items<usize>>, AllocError>
+    ensures { IfOk result (λ g. g.items ≡ module_graph program.now) }
+{
+    let mut graph = Vec::new(alloc);
+    for m in program.modules.as_slice() {
+        let used = modules_used(alloc, program.modules.as_slice(), m)?;
+        graph.push(used)?;
+    }
+    Ok(graph)
+}
+
+fn modules_used(alloc: Global, modules: &[Module], m: &Module) -> Result<Items<usize>, AllocError>
+    ensures { IfOk result (λ used. used ≡ modules_used modules.now m.now) }
+{
+    let mut used = Vec::new(alloc);
+    for section in m.sections.as_slice() {
+        push_modules_in(&mut used, modules, section)?;
+    }
+    Ok(Items::from_vec(used))
+}
+
+// Adds the modules that a section uses.
+fn push_modules_in(
+    used: &mut Vec<usize>,
+    modules: &[Module],
+    section: &Section,
+) -> Result<(), AllocError>
+    ensures { OnOk result (used.new.items ≡ used.old.items ++ modules_in modules.now section.now) }
+{
+    match section {
+        Section::Variables(_, variables) => { push_modules_of(used, modules, variables.as_slice()) }
+        _ => Ok(()),
+    }
+}
+
+// Adds the modules that are the types of variables.
+fn push_modules_of(
+    used: &mut Vec<usize>,
+    modules: &[Module],
+    variables: &[Variable],
+) -> Result<(), AllocError>
+    ensures { OnOk result (used.new.items ≡ used.old.items ++ flat_map (λ (v : Variable). module_of_type modules.now v.declared) variables.now) }
+{
+    for variable in variables {
+        push_module_of(used, modules, &variable.declared)?;
+    }
+    Ok(())
+}
+
+fn push_module_of(
+    used: &mut Vec<usize>,
+    modules: &[Module],
+    declared: &TypeExpr,
+) -> Result<(), AllocError>
+    ensures { OnOk result (used.new.items ≡ used.old.items ++ module_of_type modules.now declared.now) }
+{
+    match declared {
+        TypeExpr::Boolean(_) => Ok(()),
+        TypeExpr::Instance(_, name, _) => push_some(used, module_named(modules, name.as_str())),
+    }
+}
+
+/// Adds a number, if there is one.
+pub(crate) fn push_some(list: &mut Vec<usize>, n: Option<usize>) -> Result<(), AllocError>
+    ensures { OnOk result (list.new.items ≡ list.old.items ++ some_only n) }
+{
+    match n {
+        None => Ok(()),
+        Some(n) => {
+            list.push(n)?;
+            Ok(())
+        }
+    }
+}
+
+/// The graph has no cycle. Where it is too large for a quick answer, no is said.
+pub(crate) fn is_acyclic(alloc: Global, graph: &[Items<usize>]) -> Result<bool, AllocError>
+    requires { Closed graph.now }
+    ensures { IfOk result (λ r. r ≡ true → Acyclic graph.now) }
+{
+    if graph.len() >= 4294967296 {
+        return Ok(false);
+    }
+    match least_round(alloc, graph)? {
+        None => Ok(true),
+        Some(_) => Ok(false),
+    }
+}

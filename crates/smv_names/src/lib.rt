@@ -1,0 +1,19 @@
+//! The rules of names: a program whose modules, declarations and names all lead somewhere, or the first rule that it breaks. The
+//! definitions are in `specs/`.
+#![tactic(auto)]
+
+mod declared;
+mod defined;
+mod entries;
+mod graph;
+mod known;
+mod law;
+mod names;
+mod occurring;
+mod order;
+mod reached;
+mod refusals;
+
+pub use law::are_names_judged_once;
+pub use order::check_names;
+pub use refusals::{START, refused};

@@ -1,0 +1,103 @@
+//! The rules in the order in which they are judged.
+
+ghost use Rattle.std.specs.Prelude.{◌≡◌, IfOk};
+ghost use Rattle.smv_scope.specs.Modules.{main_number};
+ghost use Rattle.smv_names.specs.Reached.{place_of_main, too_many_instances, uses_verdict};
+ghost use Rattle.smv_names.specs.Rules.{named_refusal, names_verdict};
+ghost use Rattle.smv_names.specs.Verdicts.{Gives, Judges, Then};
+ghost use Rattle.smv_names.specs.declared.reached.UseRule.TheVariants as asked;
+
+use crate::declared::declared;
+use crate::defined::definitions;
+use crate::graph::{module_graph, module_named};
+use crate::names::unknown_names;
+use crate::reached::{UseRule, judge_cycles, judge_uses, modules_from_main};
+use crate::refusals::{START, refused};
+use smv_scope::{LayoutStop, Scope, lay_out};
+use smv_tree::{Place, Program, Rule, TextStop};
+use std::alloc::Global;
+
+/// The program with its instances and its slots, where it breaks no rule of names; else the first rule that it breaks, at that
+/// rule's first place.
+///
+/// The rules, in the order in which they are judged, which is an own choice of this project as their numbers and places are
+/// (NuSMV 2.6 User Manual, chapter 2, says what is asked, and not in which order). Of each module of the text:
+///
+/// - `DuplicateModule`: two modules have one name. At the keyword of the second; the detail is the name.
+/// - `NoMain`: there is no module `main` (manual 2.3.12). At the first byte, with no detail.
+/// - `MainHasParameters`: the module `main` has parameters (2.3.12). At the first of them, with no detail.
+/// - `DuplicateName`: a module declares a name twice, as parameter, variable or definition. At the second declaration; the detail
+///   is the name.
+///
+/// Of the modules that `main` reaches, in the order of the text:
+///
+/// - `UnknownModule`: the type of a variable is a name, and no module's (2.3.11). At the name; it is the detail.
+/// - `ModuleCycle`: a module is an instance of itself (2.3.11). At the variable that leads back; the detail is its name.
+/// - `ArgumentCount`: an instance is given more or fewer expressions than its module has parameters (2.3.11). At the module's
+///   name; it is the detail.
+///
+/// Of the instances, in preorder, and in each in the order of the text:
+///
+/// - `TooManyInstances`: there are more than 100000. At the name of `main`, with no detail.
+/// - `UnknownName`: an identifier of a name leads nowhere, or one before others to no instance (2.3.13). At the identifier; it is
+///   the detail.
+/// - `DefineCycle`: a definition leads to itself, by definitions and by what parameters were given (2.3.2). At the definition;
+///   the detail is its name.
+///
+/// `NoMemory` comes where memory was refused, which may be at any time.
+pub fn check_names(alloc: Global, program: Program) -> Result<Scope, TextStop>
+    ensures same { IfOk result (λ scope. scope.program ≡ program) }
+    ensures judged { Gives result (names_verdict program) }
+{
+    declared(alloc, &program)?;
+    uses(alloc, &program)?;
+    let scope = named(alloc, program)?;
+    definitions(alloc, &scope)?;
+    Ok(scope)
+}
+
+// The uses of modules break no rule.
+fn uses(alloc: Global, program: &Program) -> Result<(), TextStop>
+    ensures { Gives result (Then (uses_verdict asked.Unknown program.now) (Then (uses_verdict asked.Cyclic program.now) (uses_verdict asked.Miscounted program.now))) }
+{
+    let graph = module_graph(alloc, program)?;
+    let reached = modules_from_main(alloc, program, &graph)?;
+    judge_uses(alloc, program, &graph, &reached, UseRule::Unknown)?;
+    judge_cycles(alloc, program, &graph, &reached)?;
+    judge_uses(alloc, program, &graph, &reached, UseRule::Miscounted)
+}
+
+// The program laid out, where it has not too many instances and each name leads somewhere.
+fn named(alloc: Global, program: Program) -> Result<Scope, TextStop>
+    ensures same { IfOk result (λ scope. scope.program ≡ program) }
+    ensures judged { Judges result (named_refusal program) }
+{
+    let scope = laid_out(alloc, program)?;
+    unknown_names(alloc, &scope)?;
+    Ok(scope)
+}
+
+fn laid_out(alloc: Global, program: Program) -> Result<Scope, TextStop>
+    ensures same { IfOk result (λ scope. scope.program ≡ program) }
+    ensures judged { Judges result (too_many_instances program) }
+{
+    let place = place_of_main(&program);
+    match lay_out(alloc, program) {
+        Ok(scope) => Ok(scope),
+        Err(LayoutStop::TooManyInstances) => Err(refused(Rule::TooManyInstances, place)),
+        Err(LayoutStop::NoMemory) => Err(TextStop::NoMemory),
+    }
+}
+
+// The place of the name of `main`.
+fn place_of_main(program: &Program) -> Place
+    ensures { result ≡ place_of_main program.now (main_number program.now) }
+{
+    match module_named(program.modules.as_slice(), "main") {
+        None => START,
+        Some(main) => match program.modules.get(main) {
+            None => START,
+            Some(found) => found.name_place,
+        },
+    }
+}

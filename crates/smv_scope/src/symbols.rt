@@ -1,0 +1,225 @@
+//! Symbol tables: which declaration a name is, found without a search.
+
+ghost use Rattle.std.specs.Prelude.{◌≡◌, ◌==◌, ◌&&◌, ◌++◌, ℕ, List, Some, IfOk, OnOk, position, slice_get, bytes_eq};
+ghost use Rattle.std.specs.List.{flat_map};
+ghost use Rattle.std.specs.HashMap.{get, get_by_text};
+ghost use Rattle.smv_tree.specs.declared.tree.Parameter.{Parameter};
+ghost use Rattle.smv_tree.specs.declared.tree.Variable.{Variable};
+ghost use Rattle.smv_tree.specs.declared.tree.VariableKind.{VariableKind};
+ghost use Rattle.smv_tree.specs.declared.tree.Definition.{Definition};
+ghost use Rattle.smv_scope.specs.declared.instance.Parent.{Parent};
+ghost use Rattle.smv_scope.specs.Modules.{sections_of, parameters_of, variables_in, definitions_in};
+ghost use Rattle.smv_scope.specs.Instances.{is_declared_by};
+ghost use Rattle.smv_scope.specs.declared.instance.Instance.{Instance};
+ghost use Rattle.smv_scope.specs.declared.slot.Slot.{Slot};
+ghost use Rattle.smv_scope.specs.Symbols.{first_of, same_variable, spots_in, spots_of, AreNumbered, IsTableOf};
+
+use crate::modules::{definitions_in, definitions_of, variables_in, variables_of};
+use crate::{Instance, Parent, Slot};
+use smv_tree::{Definition, Module, Parameter, Program, Section, Variable, VariableKind};
+use sqlite_items::Items;
+use std::alloc::{AllocError, Global};
+use std::collections::HashMap;
+
+/// The number of the first module of each name.
+pub type ModuleNumbers = HashMap<String, usize>;
+
+/// Where a declaration stands: the number of its section, and its own number there.
+#[derive(Clone, Copy, Debug, PartialEq, Eq)]
+pub struct Spot {
+    pub section: usize,
+    pub index: usize,
+}
+
+/// For each name of a module the number of the first parameter, variable and definition that bears it; and where each
+/// variable and each definition stands.
+#[derive(Debug, Drop)]
+pub struct SymbolTable {
+    pub parameters: HashMap<String, usize>,
+    pub variables: HashMap<String, usize>,
+    pub definitions: HashMap<String, usize>,
+    pub variable_spots: Items<Spot>,
+    pub definition_spots: Items<Spot>,
+}
+
+/// The symbol tables of the modules.
+pub fn symbol_tables(alloc: Global, program: &Program) -> Result<Items<SymbolTable>, AllocError>
+    ensures { IfOk result (λ tables. (m : ℕ) → IsTableOf (parameters_of program.now m) (sections_of program.now m) (slice_get tables m)) }
+{
+    let mut tables = Items::new(alloc);
+    for module in program.modules.as_slice() {
+        let parameters = module.parameters.as_slice();
+        let table = symbol_table(alloc, parameters, module.sections.as_slice())?;
+        tables.push(table)?;
+    }
+    Ok(tables)
+}
+
+fn symbol_table(
+    alloc: Global,
+    parameters: &[Parameter],
+    sections: &[Section],
+) -> Result<SymbolTable, AllocError>
+    ensures { IfOk result (λ table. IsTableOf parameters.now sections.now (Some table)) }
+{
+    Ok(SymbolTable {
+        parameters: parameter_numbers(alloc, parameters)?,
+        variables: variable_numbers(alloc, sections)?,
+        definitions: definition_numbers(alloc, sections)?,
+        variable_spots: variable_spots(alloc, sections)?,
+        definition_spots: definition_spots(alloc, sections)?,
+    })
+}
+
+/// The number of the first module of each name.
+pub fn module_numbers(alloc: Global, modules: &[Module]) -> Result<ModuleNumbers, AllocError>
+    ensures { IfOk result (λ table. AreNumbered modules.now table) }
+{
+    let mut table = HashMap::new(alloc);
+    for (k, x) in modules.iter().enumerate() {
+        note_name(alloc, &mut table, x.name.as_str(), k)?;
+    }
+    Ok(table)
+}
+
+fn parameter_numbers(
+    alloc: Global,
+    parameters: &[Parameter],
+) -> Result<HashMap<String, usize>, AllocError>
+    ensures { IfOk result (λ table. (name : List ℕ) → get_by_text table name ≡ position (λ (x : Parameter). bytes_eq name x.name) parameters.now) }
+{
+    let mut table = HashMap::new(alloc);
+    for (k, x) in parameters.iter().enumerate() {
+        note_name(alloc, &mut table, x.name.as_str(), k)?;
+    }
+    Ok(table)
+}
+
+fn variable_numbers(
+    alloc: Global,
+    sections: &[Section],
+) -> Result<HashMap<String, usize>, AllocError>
+    ensures { IfOk result (λ table. (name : List ℕ) → get_by_text table name ≡ position (λ (x : VariableKind × Variable). bytes_eq name x.1.name) (flat_map variables_in sections.now)) }
+{
+    let variables = variables_of(alloc, sections)?;
+    let mut table = HashMap::new(alloc);
+    for (k, x) in variables.iter().enumerate() {
+        note_name(alloc, &mut table, x.1.name.as_str(), k)?;
+    }
+    Ok(table)
+}
+
+fn definition_numbers(
+    alloc: Global,
+    sections: &[Section],
+) -> Result<HashMap<String, usize>, AllocError>
+    ensures { IfOk result (λ table. (name : List ℕ) → get_by_text table name ≡ position (λ (d : Definition). bytes_eq name d.name) (flat_map definitions_in sections.now)) }
+{
+    let definitions = definitions_of(alloc, sections)?;
+    let mut table = HashMap::new(alloc);
+    for (k, d) in definitions.iter().enumerate() {
+        note_name(alloc, &mut table, d.name.as_str(), k)?;
+    }
+    Ok(table)
+}
+
+// A name that has no number yet gets this one.
+fn note_name(
+    alloc: Global,
+    table: &mut HashMap<String, usize>,
+    name: &str,
+    number: usize,
+) -> Result<(), AllocError>
+    ensures { OnOk result ((q : List ℕ) → get_by_text table.new q ≡ first_of (get_by_text table.old q) (bytes_eq q name.now) number) }
+{
+    if table.contains_key(name) {
+        return Ok(());
+    }
+    table.insert(String::from_str(alloc, name)?, number)?;
+    Ok(())
+}
+
+fn variable_spots(alloc: Global, sections: &[Section]) -> Result<Items<Spot>, AllocError>
+    ensures { IfOk result (λ spots. spots ≡ spots_of variables_in 0 sections.now) }
+{
+    let mut spots = Items::new(alloc);
+    for (k, section) in sections.iter().enumerate() {
+        let (_, variables) = variables_in(section);
+        push_spots(&mut spots, k, variables.len())?;
+    }
+    Ok(spots)
+}
+
+fn definition_spots(alloc: Global, sections: &[Section]) -> Result<Items<Spot>, AllocError>
+    ensures { IfOk result (λ spots. spots ≡ spots_of definitions_in 0 sections.now) }
+{
+    let mut spots = Items::new(alloc);
+    for (k, section) in sections.iter().enumerate() {
+        push_spots(&mut spots, k, definitions_in(section).len())?;
+    }
+    Ok(spots)
+}
+
+// The spots of so many declarations of a section.
+fn push_spots(spots: &mut Items<Spot>, section: usize, count: usize) -> Result<(), AllocError>
+    ensures { OnOk result (spots.new ≡ spots.old ++ spots_in section count) }
+{
+    for index in 0..count {
+        spots.push(Spot { section, index })?;
+    }
+    Ok(())
+}
+
+/// The number of the slot of each variable that has one.
+pub fn slot_numbers(alloc: Global, slots: &[Slot]) -> Result<HashMap<Parent, usize>, AllocError>
+    ensures { IfOk result (λ table. (x : Parent) → get same_variable table x ≡ position (λ (slot : Slot). slot.instance == x.instance && slot.variable == x.variable) slots.now) }
+{
+    let mut table = HashMap::new(alloc);
+    for (k, slot) in slots.iter().enumerate() {
+        let variable = Parent {
+            instance: slot.instance,
+            variable: slot.variable,
+        };
+        note_variable(&mut table, variable, k)?;
+    }
+    Ok(table)
+}
+
+/// The number of the instance that each variable is that is one.
+pub fn child_numbers(alloc: Global, tree: &[Instance]) -> Result<HashMap<Parent, usize>, AllocError>
+    ensures { IfOk result (λ table. (x : Parent) → get same_variable table x ≡ position (λ (y : Instance). is_declared_by x.instance x.variable y.parent) tree.now) }
+{
+    let mut table = HashMap::new(alloc);
+    for (k, x) in tree.iter().enumerate() {
+        note_parent(&mut table, x.parent, k)?;
+    }
+    Ok(table)
+}
+
+fn note_parent(
+    table: &mut HashMap<Parent, usize>,
+    parent: Option<Parent>,
+    number: usize,
+) -> Result<(), AllocError>
+    ensures { OnOk result ((q : Parent) → get same_variable table.new q ≡ first_of (get same_variable table.old q) (is_declared_by q.instance q.variable parent) number) }
+{
+    match parent {
+        None => Ok(()),
+        Some(variable) => note_variable(table, variable, number),
+    }
+}
+
+// A variable that has no number yet gets this one.
+fn note_variable(
+    table: &mut HashMap<Parent, usize>,
+    variable: Parent,
+    number: usize,
+) -> Result<(), AllocError>
+    ensures { OnOk result ((q : Parent) → get same_variable table.new q ≡ first_of (get same_variable table.old q) (same_variable variable q) number) }
+{
+    if table.contains_key(&variable) {
+        return Ok(());
+    }
+    table.insert(variable, number)?;
+    Ok(())
+}

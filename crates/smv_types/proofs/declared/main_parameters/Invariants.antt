@@ -1,8 +1,0 @@
--- What is left of the modules gives the refusal of all.
-use Rattle.std.proofs.Common.{◌≡◌, drop}
-use Rattle.smv_types.specs.Verdicts.{first_of}
-use Rattle.smv_types.specs.Declarations.{parameters_of_main, main_parameters}
-use Rattle.smv_types.proofs.declared.main_parameters.Given as goal
-
-abbrev pub invariant-loop-m : goal.invariant-loop-m
-invariant-loop-m l = first_of parameters_of_main (drop l.m-index l.m-items) ≡ main_parameters l.program

@@ -1,6 +1,0 @@
--- The graph is that of the modules.
-use Rattle.smv_types.proofs.Graphs.{closed}
-use Rattle.smv_types.proofs.reached.modules_from_main.Goals as goal
-
-pub from_node-requires-clause-closed : goal.from_node-requires-clause-closed
-from_node-requires-clause-closed c = rw c.requires (closed c.args.program.now)
