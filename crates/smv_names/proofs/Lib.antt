@@ -1,5 +1,6 @@
 pub mod Adding
 pub mod Graphs
+pub mod Numbered
 pub mod Saying
 pub mod NamesOf
 pub mod OfEntries

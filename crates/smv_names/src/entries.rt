@@ -1,19 +1,16 @@
 //! Words for expressions: what parameters were given, and definitions.
 
-ghost use Rattle.std.specs.Prelude.{◌≡◌, ◌++◌, IfOk, OnOk, position};
+ghost use Rattle.std.specs.Prelude.{◌≡◌, ◌++◌, IfOk, OnOk};
 ghost use Rattle.std.specs.List.{flat_map};
 ghost use Rattle.smv_scope.specs.Modules.{definitions_in};
-ghost use Rattle.smv_scope.specs.Targets.{seen};
-ghost use Rattle.smv_names.specs.declared.entries.Entry.{Entry as LentEntry};
-ghost use Rattle.smv_names.specs.Defined.{body_of, defined_entries, entries_by, entries_named, entries_of, entry_graph, given_entries, is_defined, is_entry, is_given, owner_of};
-ghost use Rattle.smv_names.specs.Entries.{read_entries, read_entry};
+ghost use Rattle.smv_names.specs.Defined.{body_of, defined_entries, entries_by, entries_named, entries_of, entry_graph, given_entries, owner_of};
+ghost use Rattle.smv_names.specs.Entries.{AreEntryNumbers, read_entries, read_entry};
 ghost use Rattle.smv_names.specs.Lent.{read};
 
 use crate::graph::push_some;
+use crate::numbers::{EntryNumbers, entry_numbered, entry_numbers};
 use crate::occurring::names_in;
-use smv_scope::{
-    NameTarget, Parent, Scope, arguments_by, definitions_in, name_target, sections_of,
-};
+use smv_scope::{Parent, Scope, arguments_by, definitions_in, name_target, sections_of};
 use smv_tree::{Definition, Expr, Section};
 use sqlite_items::Items;
 use std::alloc::{AllocError, Global};
@@ -137,9 +134,10 @@ pub(crate) fn entry_graph(
     requires { read_entries entries.now ≡ entries_of scope.now.program }
     ensures { IfOk result (λ g. g.items ≡ entry_graph scope.now.program) }
 {
+    let numbers = entry_numbers(alloc, entries)?;
     let mut graph = Vec::new(alloc);
     for x in entries {
-        let named = entries_named(alloc, scope, entries, x)?;
+        let named = entries_named(alloc, scope, &numbers, x)?;
         graph.push(named)?;
     }
     Ok(graph)
@@ -149,10 +147,10 @@ pub(crate) fn entry_graph(
 fn entries_named(
     alloc: Global,
     scope: &Scope,
-    entries: &[Entry],
+    numbers: &EntryNumbers,
     x: &Entry,
 ) -> Result<Items<usize>, AllocError>
-    requires { read_entries entries.now ≡ entries_of scope.now.program }
+    requires { AreEntryNumbers (entries_of scope.now.program) numbers.now }
     ensures { IfOk result (λ named. named ≡ entries_named scope.now.program (read_entry x.now)) }
 {
     let owner = owner_of(x);
@@ -161,51 +159,10 @@ fn entries_named(
     for name in names.as_slice() {
         push_some(
             &mut named,
-            entry_numbered(entries, name_target(scope, owner, name)),
+            entry_numbered(numbers, name_target(scope, owner, name)),
         )?;
     }
     Ok(Items::from_vec(named))
-}
-
-// The number of the entry that a target is, if it is one.
-fn entry_numbered(entries: &[Entry], target: NameTarget) -> Option<usize>
-    ensures { result ≡ position (is_entry (seen target.entry)) (read_entries entries.now) }
-{
-    first_entry(entries, target)
-}
-
-fn first_entry(entries: &[Entry], target: NameTarget) -> Option<usize>
-    ensures { result ≡ position (λ (x : LentEntry). is_entry (seen target.entry) (read_entry x)) entries.now }
-{
-    entries.iter().position(|x| is_entry(target, x))
-}
-
-fn is_entry(target: NameTarget, x: &Entry) -> bool
-    ensures { result ≡ is_entry (seen target.entry) (read_entry x.now) }
-{
-    match target {
-        NameTarget::Given { at, parameter, .. } => is_given(at, parameter, x),
-        NameTarget::Defined { at, definition, .. } => is_defined(at, definition, x),
-        _ => false,
-    }
-}
-
-fn is_given(i: usize, k: usize, x: &Entry) -> bool
-    ensures { result ≡ is_given i k (read_entry x.now) }
-{
-    match x {
-        Entry::Given { at, parameter, .. } => *at == i && *parameter == k,
-        Entry::Defined { .. } => false,
-    }
-}
-
-fn is_defined(i: usize, k: usize, x: &Entry) -> bool
-    ensures { result ≡ is_defined i k (read_entry x.now) }
-{
-    match x {
-        Entry::Given { .. } => false,
-        Entry::Defined { at, number, .. } => *at == i && *number == k,
-    }
 }
 
 fn owner_of(x: &Entry) -> usize

@@ -5,41 +5,56 @@ ghost use Rattle.std.specs.List.{flat_map};
 ghost use Rattle.digraph.specs.Cycles.{Acyclic, Closed};
 ghost use Rattle.smv_tree.specs.declared.tree.Variable.{Variable};
 ghost use Rattle.smv_scope.specs.Modules.{module_named};
+ghost use Rattle.smv_scope.specs.Symbols.{AreNumbered};
 ghost use Rattle.smv_names.specs.Reached.{module_graph, module_of_type, modules_in, modules_used, some_only};
 
 use digraph::least_round;
+use smv_scope::ModuleNumbers;
 use smv_tree::{Module, Program, Section, TypeExpr, Variable};
 use sqlite_items::Items;
 use std::alloc::{AllocError, Global};
 
 /// The number of the first module of this name.
-pub(crate) fn module_named(modules: &[Module], name: &str) -> Option<usize>
-    ensures { result ≡ module_named modules.now name.now }
+pub(crate) fn module_named(
+    _modules: &[Module],
+    numbers: &ModuleNumbers,
+    name: &str,
+) -> Option<usize>
+    requires { AreNumbered _modules.now numbers.now }
+    ensures { result ≡ module_named _modules.now name.now }
 {
-    modules.iter().position(|m| name == m.name.as_str())
+    numbers.get(name).copied()
 }
 
 /// The graph of modules: each leads to those that it uses.
 pub(crate) fn module_graph(
     alloc: Global,
     program: &Program,
+    numbers: &ModuleNumbers,
 ) -> Result<Vec<Items<usize>>, AllocError>
+    requires { AreNumbered program.now.modules numbers.now }
     ensures { IfOk result (λ g. g.items ≡ module_graph program.now) }
 {
     let mut graph = Vec::new(alloc);
     for m in program.modules.as_slice() {
-        let used = modules_used(alloc, program.modules.as_slice(), m)?;
+        let used = modules_used(alloc, program.modules.as_slice(), numbers, m)?;
         graph.push(used)?;
     }
     Ok(graph)
 }
 
-fn modules_used(alloc: Global, modules: &[Module], m: &Module) -> Result<Items<usize>, AllocError>
+fn modules_used(
+    alloc: Global,
+    modules: &[Module],
+    numbers: &ModuleNumbers,
+    m: &Module,
+) -> Result<Items<usize>, AllocError>
+    requires { AreNumbered modules.now numbers.now }
     ensures { IfOk result (λ used. used ≡ modules_used modules.now m.now) }
 {
     let mut used = Vec::new(alloc);
     for section in m.sections.as_slice() {
-        push_modules_in(&mut used, modules, section)?;
+        push_modules_in(&mut used, modules, numbers, section)?;
     }
     Ok(Items::from_vec(used))
 }
@@ -48,12 +63,16 @@ fn modules_used(alloc: Global, modules: &[Module], m: &Module) -> Result<Items<u
 fn push_modules_in(
     used: &mut Vec<usize>,
     modules: &[Module],
+    numbers: &ModuleNumbers,
     section: &Section,
 ) -> Result<(), AllocError>
+    requires { AreNumbered modules.now numbers.now }
     ensures { OnOk result (used.new.items ≡ used.old.items ++ modules_in modules.now section.now) }
 {
     match section {
-        Section::Variables(_, variables) => { push_modules_of(used, modules, variables.as_slice()) }
+        Section::Variables(_, variables) => {
+            push_modules_of(used, modules, numbers, variables.as_slice())
+        }
         _ => Ok(()),
     }
 }
@@ -62,12 +81,14 @@ fn push_modules_in(
 fn push_modules_of(
     used: &mut Vec<usize>,
     modules: &[Module],
+    numbers: &ModuleNumbers,
     variables: &[Variable],
 ) -> Result<(), AllocError>
+    requires { AreNumbered modules.now numbers.now }
     ensures { OnOk result (used.new.items ≡ used.old.items ++ flat_map (λ (v : Variable). module_of_type modules.now v.declared) variables.now) }
 {
     for variable in variables {
-        push_module_of(used, modules, &variable.declared)?;
+        push_module_of(used, modules, numbers, &variable.declared)?;
     }
     Ok(())
 }
@@ -75,13 +96,18 @@ fn push_modules_of(
 fn push_module_of(
     used: &mut Vec<usize>,
     modules: &[Module],
+    numbers: &ModuleNumbers,
     declared: &TypeExpr,
 ) -> Result<(), AllocError>
+    requires { AreNumbered modules.now numbers.now }
     ensures { OnOk result (used.new.items ≡ used.old.items ++ module_of_type modules.now declared.now) }
 {
     match declared {
         TypeExpr::Boolean(_) => Ok(()),
-        TypeExpr::Instance(_, name, _) => push_some(used, module_named(modules, name.as_str())),
+        TypeExpr::Instance(_, name, _) => push_some(
+            used,
+            module_named(modules, numbers, name.as_str()),
+        ),
     }
 }
 

@@ -9,6 +9,7 @@ mod graph;
 mod known;
 mod law;
 mod names;
+mod numbers;
 mod occurring;
 mod order;
 mod reached;

@@ -2,6 +2,7 @@
 
 ghost use Rattle.std.specs.Prelude.{◌≡◌, IfOk};
 ghost use Rattle.smv_scope.specs.Modules.{main_number};
+ghost use Rattle.smv_scope.specs.Symbols.{AreNumbered};
 ghost use Rattle.smv_names.specs.Reached.{place_of_main, too_many_instances, uses_verdict};
 ghost use Rattle.smv_names.specs.Rules.{named_refusal, names_verdict};
 ghost use Rattle.smv_names.specs.Verdicts.{Gives, Judges, Then};
@@ -13,7 +14,7 @@ use crate::graph::{module_graph, module_named};
 use crate::names::unknown_names;
 use crate::reached::{UseRule, judge_cycles, judge_uses, modules_from_main};
 use crate::refusals::{START, refused};
-use smv_scope::{LayoutStop, Scope, lay_out};
+use smv_scope::{LayoutStop, ModuleNumbers, Scope, lay_out, module_numbers};
 use smv_tree::{Place, Program, Rule, TextStop};
 use std::alloc::Global;
 
@@ -50,38 +51,49 @@ pub fn check_names(alloc: Global, program: Program) -> Result<Scope, TextStop>
     ensures judged { Gives result (names_verdict program) }
 {
     declared(alloc, &program)?;
-    uses(alloc, &program)?;
-    let scope = named(alloc, program)?;
+    let numbers = module_numbers(alloc, program.modules.as_slice())?;
+    uses(alloc, &program, &numbers)?;
+    let scope = named(alloc, program, &numbers)?;
     definitions(alloc, &scope)?;
     Ok(scope)
 }
 
 // The uses of modules break no rule.
-fn uses(alloc: Global, program: &Program) -> Result<(), TextStop>
+fn uses(alloc: Global, program: &Program, numbers: &ModuleNumbers) -> Result<(), TextStop>
+    requires { AreNumbered program.now.modules numbers.now }
     ensures { Gives result (Then (uses_verdict asked.Unknown program.now) (Then (uses_verdict asked.Cyclic program.now) (uses_verdict asked.Miscounted program.now))) }
 {
-    let graph = module_graph(alloc, program)?;
-    let reached = modules_from_main(alloc, program, &graph)?;
-    judge_uses(alloc, program, &graph, &reached, UseRule::Unknown)?;
-    judge_cycles(alloc, program, &graph, &reached)?;
-    judge_uses(alloc, program, &graph, &reached, UseRule::Miscounted)
+    let graph = module_graph(alloc, program, numbers)?;
+    let reached = modules_from_main(alloc, program, numbers, &graph)?;
+    judge_uses(alloc, program, numbers, &graph, &reached, UseRule::Unknown)?;
+    judge_cycles(alloc, program, numbers, &graph, &reached)?;
+    judge_uses(
+        alloc,
+        program,
+        numbers,
+        &graph,
+        &reached,
+        UseRule::Miscounted,
+    )
 }
 
 // The program laid out, where it has not too many instances and each name leads somewhere.
-fn named(alloc: Global, program: Program) -> Result<Scope, TextStop>
+fn named(alloc: Global, program: Program, numbers: &ModuleNumbers) -> Result<Scope, TextStop>
+    requires { AreNumbered program.modules numbers.now }
     ensures same { IfOk result (λ scope. scope.program ≡ program) }
     ensures judged { Judges result (named_refusal program) }
 {
-    let scope = laid_out(alloc, program)?;
+    let scope = laid_out(alloc, program, numbers)?;
     unknown_names(alloc, &scope)?;
     Ok(scope)
 }
 
-fn laid_out(alloc: Global, program: Program) -> Result<Scope, TextStop>
+fn laid_out(alloc: Global, program: Program, numbers: &ModuleNumbers) -> Result<Scope, TextStop>
+    requires { AreNumbered program.modules numbers.now }
     ensures same { IfOk result (λ scope. scope.program ≡ program) }
     ensures judged { Judges result (too_many_instances program) }
 {
-    let place = place_of_main(&program);
+    let place = place_of_main(&program, numbers);
     match lay_out(alloc, program) {
         Ok(scope) => Ok(scope),
         Err(LayoutStop::TooManyInstances) => Err(refused(Rule::TooManyInstances, place)),
@@ -90,10 +102,11 @@ fn laid_out(alloc: Global, program: Program) -> Result<Scope, TextStop>
 }
 
 // The place of the name of `main`.
-fn place_of_main(program: &Program) -> Place
+fn place_of_main(program: &Program, numbers: &ModuleNumbers) -> Place
+    requires { AreNumbered program.now.modules numbers.now }
     ensures { result ≡ place_of_main program.now (main_number program.now) }
 {
-    match module_named(program.modules.as_slice(), "main") {
+    match module_named(program.modules.as_slice(), numbers, "main") {
         None => START,
         Some(main) => match program.modules.get(main) {
             None => START,

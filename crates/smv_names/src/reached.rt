@@ -5,6 +5,7 @@ ghost use Rattle.std.specs.Prelude.{◌≡◌, ◌<◌, List, length, IfOk, IfSo
 ghost use Rattle.digraph.specs.Cycles.{Closed};
 ghost use Rattle.smv_tree.specs.declared.tree.Expr.{Expr};
 ghost use Rattle.smv_tree.specs.declared.tree.Variable.{Variable};
+ghost use Rattle.smv_scope.specs.Symbols.{AreNumbered};
 ghost use Rattle.smv_names.specs.Marks.{MarksFromMain, MarksReach};
 ghost use Rattle.smv_names.specs.Reached.{Miscounted, ReachesFrom, module_graph, section_verdict, use_verdict, uses_verdict};
 ghost use Rattle.smv_names.specs.Verdicts.{Each, Gives};
@@ -13,6 +14,7 @@ ghost use Rattle.smv_names.specs.declared.reached.UseRule.TheVariants as asked;
 use crate::graph::{is_acyclic, module_named};
 use crate::refusals::refuse_by;
 use digraph::reached_from;
+use smv_scope::ModuleNumbers;
 use smv_tree::{Program, Rule, Section, TextStop, TypeExpr, Variable};
 use sqlite_items::Items;
 use std::alloc::{AllocError, Global};
@@ -32,12 +34,14 @@ pub enum UseRule {
 pub(crate) fn modules_from_main(
     alloc: Global,
     program: &Program,
+    numbers: &ModuleNumbers,
     graph: &[Items<usize>],
 ) -> Result<Vec<bool>, AllocError>
-    requires { graph.now ≡ module_graph program.now }
+    requires numbered { AreNumbered program.now.modules numbers.now }
+    requires graph { graph.now ≡ module_graph program.now }
     ensures { IfOk result (λ reached. MarksFromMain program.now reached.items) }
 {
-    match module_named(program.modules.as_slice(), "main") {
+    match module_named(program.modules.as_slice(), numbers, "main") {
         None => vec![in alloc; false; program.modules.len()],
         Some(main) => from_node(alloc, graph, main),
     }
@@ -58,9 +62,11 @@ fn from_node(alloc: Global, graph: &[Items<usize>], a: usize) -> Result<Vec<bool
 pub(crate) fn judge_cycles(
     alloc: Global,
     program: &Program,
+    numbers: &ModuleNumbers,
     graph: &[Items<usize>],
     reached: &[bool],
 ) -> Result<(), TextStop>
+    requires numbered { AreNumbered program.now.modules numbers.now }
     requires graph { graph.now ≡ module_graph program.now }
     requires reached { MarksFromMain program.now reached.now }
     ensures { Gives result (uses_verdict asked.Cyclic program.now) }
@@ -68,7 +74,7 @@ pub(crate) fn judge_cycles(
     if is_acyclic(alloc, graph)? {
         Ok(())
     } else {
-        judge_uses(alloc, program, graph, reached, UseRule::Cyclic)
+        judge_uses(alloc, program, numbers, graph, reached, UseRule::Cyclic)
     }
 }
 
@@ -77,10 +83,12 @@ pub(crate) fn judge_cycles(
 pub(crate) fn judge_uses(
     alloc: Global,
     program: &Program,
+    numbers: &ModuleNumbers,
     graph: &[Items<usize>],
     reached: &[bool],
     which: UseRule,
 ) -> Result<(), TextStop>
+    requires numbered { AreNumbered program.now.modules numbers.now }
     requires graph { graph.now ≡ module_graph program.now }
     requires reached { MarksFromMain program.now reached.now }
     ensures { Gives result (uses_verdict which program.now) }
@@ -89,6 +97,7 @@ pub(crate) fn judge_uses(
         judge_sections(
             alloc,
             program,
+            numbers,
             graph,
             reached,
             which,
@@ -103,19 +112,21 @@ pub(crate) fn judge_uses(
 fn judge_sections(
     alloc: Global,
     program: &Program,
+    numbers: &ModuleNumbers,
     graph: &[Items<usize>],
     reached: &[bool],
     which: UseRule,
     n: usize,
     sections: &[Section],
 ) -> Result<(), TextStop>
+    requires numbered { AreNumbered program.now.modules numbers.now }
     requires graph { graph.now ≡ module_graph program.now }
     requires reached { MarksFromMain program.now reached.now }
     requires within { n < length program.now.modules }
     ensures { Gives result (Each (section_verdict which program.now n) sections.now) }
 {
     for section in sections {
-        judge_section(alloc, program, graph, reached, which, n, section)?;
+        judge_section(alloc, program, numbers, graph, reached, which, n, section)?;
     }
     Ok(())
 }
@@ -123,12 +134,14 @@ fn judge_sections(
 fn judge_section(
     alloc: Global,
     program: &Program,
+    numbers: &ModuleNumbers,
     graph: &[Items<usize>],
     reached: &[bool],
     which: UseRule,
     n: usize,
     section: &Section,
 ) -> Result<(), TextStop>
+    requires numbered { AreNumbered program.now.modules numbers.now }
     requires graph { graph.now ≡ module_graph program.now }
     requires reached { MarksFromMain program.now reached.now }
     requires within { n < length program.now.modules }
@@ -139,6 +152,7 @@ fn judge_section(
             judge_variables(
                 alloc,
                 program,
+                numbers,
                 graph,
                 reached,
                 which,
@@ -153,19 +167,21 @@ fn judge_section(
 fn judge_variables(
     alloc: Global,
     program: &Program,
+    numbers: &ModuleNumbers,
     graph: &[Items<usize>],
     reached: &[bool],
     which: UseRule,
     n: usize,
     variables: &[Variable],
 ) -> Result<(), TextStop>
+    requires numbered { AreNumbered program.now.modules numbers.now }
     requires graph { graph.now ≡ module_graph program.now }
     requires reached { MarksFromMain program.now reached.now }
     requires within { n < length program.now.modules }
     ensures { Gives result (Each (λ (v : Variable). use_verdict which program.now n v v.declared) variables.now) }
 {
     for variable in variables {
-        judge_use(alloc, program, graph, reached, which, n, variable)?;
+        judge_use(alloc, program, numbers, graph, reached, which, n, variable)?;
     }
     Ok(())
 }
@@ -173,12 +189,14 @@ fn judge_variables(
 fn judge_use(
     alloc: Global,
     program: &Program,
+    numbers: &ModuleNumbers,
     graph: &[Items<usize>],
     reached: &[bool],
     which: UseRule,
     n: usize,
     variable: &Variable,
 ) -> Result<(), TextStop>
+    requires numbered { AreNumbered program.now.modules numbers.now }
     requires graph { graph.now ≡ module_graph program.now }
     requires reached { MarksFromMain program.now reached.now }
     requires within { n < length program.now.modules }
@@ -187,7 +205,7 @@ fn judge_use(
     match &variable.declared {
         TypeExpr::Boolean(_) => Ok(()),
         TypeExpr::Instance(place, name, given) => {
-            let target = module_named(program.modules.as_slice(), name.as_str());
+            let target = module_named(program.modules.as_slice(), numbers, name.as_str());
             match which {
                 UseRule::Unknown => refuse_by(
                     alloc,

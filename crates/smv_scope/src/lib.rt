@@ -30,5 +30,5 @@ pub use paths::{path_of, slot_name};
 pub use resolve::{Resolution, ResolveStop, Single, resolve_expression, resolve_items};
 pub use scope::Scope;
 pub use slot::{Slot, ValueType};
-pub use symbols::{Spot, SymbolTable};
+pub use symbols::{ModuleNumbers, Spot, SymbolTable, module_numbers};
 pub use target::NameTarget;
