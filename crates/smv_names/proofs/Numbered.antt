@@ -6,20 +6,21 @@ use Rattle.smv_tree.specs.declared.tree.Expr.{Expr}
 use Rattle.smv_scope.specs.declared.target.NameTarget.{NameTarget}
 use Rattle.smv_scope.specs.declared.target.NameTarget.TheVariants as found
 use Rattle.smv_scope.specs.Targets.{seen}
-use Rattle.smv_names.specs.declared.numbers.EntryKey.{EntryKey}
+use Rattle.smv_scope.specs.declared.work.Shared.{Shared}
+use Rattle.smv_scope.specs.Finding.{shared_eq}
 use Rattle.smv_names.specs.Defined.{Entry, is_entry}
-use Rattle.smv_names.specs.Entries.{same_key, key_of, is_keyed}
+use Rattle.smv_names.specs.Entries.{key_of, is_keyed}
 
 -- an entry has one key
 keyed_by : (b : Bool) (at k : ℕ) (x : Entry) →
-    let key : EntryKey = record { is_definition = b; at = at; number = k } in
-    same_key (key_of x) key ≡ is_keyed key x
+    let key : Shared = record { is_definition = b; at = at; number = k } in
+    shared_eq (key_of x) key ≡ is_keyed key x
 keyed_by true at k (Entry.Given i n owner e) = refl
 keyed_by true at k (Entry.Defined i n d) = refl
 keyed_by false at k (Entry.Given i n owner e) = refl
 keyed_by false at k (Entry.Defined i n d) = refl
 
-pub keyed : (key : EntryKey) (x : Entry) → same_key (key_of x) key ≡ is_keyed key x
+pub keyed : (key : Shared) (x : Entry) → shared_eq (key_of x) key ≡ is_keyed key x
 keyed key x = keyed_by key.is_definition key.at key.number x
 
 none_from : {A : Type 0} (n : ℕ) (xs : List A) → position_from (λ (x : A). false) n xs ≡ None

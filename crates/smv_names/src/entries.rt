@@ -1,8 +1,6 @@
 //! Words for expressions: what parameters were given, and definitions.
 
 ghost use Rattle.std.specs.Prelude.{◌≡◌, ◌++◌, IfOk, OnOk};
-ghost use Rattle.std.specs.List.{flat_map};
-ghost use Rattle.smv_scope.specs.Modules.{definitions_in};
 ghost use Rattle.smv_names.specs.Defined.{body_of, defined_entries, entries_by, entries_named, entries_of, entry_graph, given_entries, owner_of};
 ghost use Rattle.smv_names.specs.Entries.{AreEntryNumbers, read_entries, read_entry};
 ghost use Rattle.smv_names.specs.Lent.{read};
@@ -10,8 +8,8 @@ ghost use Rattle.smv_names.specs.Lent.{read};
 use crate::graph::push_some;
 use crate::numbers::{EntryNumbers, entry_numbered, entry_numbers};
 use crate::occurring::names_in;
-use smv_scope::{Parent, Scope, arguments_by, definitions_in, name_target, sections_of};
-use smv_tree::{Definition, Expr, Section};
+use smv_scope::{Parent, Scope, arguments_by, definitions_of, name_target, sections_of};
+use smv_tree::{Definition, Expr};
 use sqlite_items::Items;
 use std::alloc::{AllocError, Global};
 
@@ -94,32 +92,6 @@ fn push_defined<'a>(
             number,
             definition: *definition,
         })?;
-    }
-    Ok(())
-}
-
-// The definitions of sections, in the order of the source.
-fn definitions_of<'a>(
-    alloc: Global,
-    sections: &'a [Section],
-) -> Result<Vec<&'a Definition>, AllocError>
-    ensures { IfOk result (λ all. read all.items ≡ flat_map definitions_in sections.now) }
-{
-    let mut all = Vec::new(alloc);
-    for section in sections {
-        push_definitions(&mut all, definitions_in(section))?;
-    }
-    Ok(all)
-}
-
-fn push_definitions<'a>(
-    all: &mut Vec<&'a Definition>,
-    definitions: &'a [Definition],
-) -> Result<(), AllocError>
-    ensures { OnOk result (read all.new.items ≡ read all.old.items ++ definitions.now) }
-{
-    for definition in definitions {
-        all.push(definition)?;
     }
     Ok(())
 }

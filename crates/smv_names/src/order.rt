@@ -10,9 +10,9 @@ ghost use Rattle.smv_names.specs.declared.reached.UseRule.TheVariants as asked;
 
 use crate::declared::declared;
 use crate::defined::definitions;
-use crate::graph::{module_graph, module_named};
+use crate::graph::module_named;
 use crate::names::unknown_names;
-use crate::reached::{UseRule, judge_cycles, judge_uses, modules_from_main};
+use crate::reached::{UseRule, judge_cycles, judge_uses, module_uses};
 use crate::refusals::{START, refused};
 use smv_scope::{LayoutStop, ModuleNumbers, Scope, lay_out, module_numbers};
 use smv_tree::{Place, Program, Rule, TextStop};
@@ -63,18 +63,10 @@ fn uses(alloc: Global, program: &Program, numbers: &ModuleNumbers) -> Result<(),
     requires { AreNumbered program.now.modules numbers.now }
     ensures { Gives result (Then (uses_verdict asked.Unknown program.now) (Then (uses_verdict asked.Cyclic program.now) (uses_verdict asked.Miscounted program.now))) }
 {
-    let graph = module_graph(alloc, program, numbers)?;
-    let reached = modules_from_main(alloc, program, numbers, &graph)?;
-    judge_uses(alloc, program, numbers, &graph, &reached, UseRule::Unknown)?;
-    judge_cycles(alloc, program, numbers, &graph, &reached)?;
-    judge_uses(
-        alloc,
-        program,
-        numbers,
-        &graph,
-        &reached,
-        UseRule::Miscounted,
-    )
+    let uses = module_uses(alloc, program, numbers)?;
+    judge_uses(alloc, &uses, UseRule::Unknown)?;
+    judge_cycles(alloc, &uses)?;
+    judge_uses(alloc, &uses, UseRule::Miscounted)
 }
 
 // The program laid out, where it has not too many instances and each name leads somewhere.

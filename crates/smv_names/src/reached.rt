@@ -11,7 +11,7 @@ ghost use Rattle.smv_names.specs.Reached.{Miscounted, ReachesFrom, module_graph,
 ghost use Rattle.smv_names.specs.Verdicts.{Each, Gives};
 ghost use Rattle.smv_names.specs.declared.reached.UseRule.TheVariants as asked;
 
-use crate::graph::{is_acyclic, module_named};
+use crate::graph::{is_acyclic, module_graph, module_named};
 use crate::refusals::refuse_by;
 use digraph::reached_from;
 use smv_scope::ModuleNumbers;
@@ -30,8 +30,41 @@ pub enum UseRule {
     Miscounted,
 }
 
-/// For each module whether `main` reaches it.
-pub(crate) fn modules_from_main(
+/// The modules of a program, and which use which.
+#[derive(Drop)]
+pub(crate) struct ModuleUses<'a> {
+    pub program: &'a Program,
+    pub numbers: &'a ModuleNumbers,
+    /// Each module leads to those that it uses.
+    pub graph: Vec<Items<usize>>,
+    /// For each module whether `main` reaches it.
+    pub reached: Vec<bool>,
+    pub ghost numbered: { AreNumbered program.now.modules numbers.now },
+    pub ghost leading: { graph.items ≡ module_graph program.now },
+}
+
+/// The modules of a program, and which use which.
+pub(crate) fn module_uses<'a>(
+    alloc: Global,
+    program: &'a Program,
+    numbers: &'a ModuleNumbers,
+) -> Result<ModuleUses<'a>, AllocError>
+    requires { AreNumbered program.now.modules numbers.now }
+    ensures same { IfOk result (λ uses. uses.program.now ≡ program.now) }
+    ensures reached { IfOk result (λ uses. MarksFromMain program.now uses.reached.items) }
+{
+    let graph = module_graph(alloc, program, numbers)?;
+    let reached = modules_from_main(alloc, program, numbers, &graph)?;
+    Ok(ModuleUses {
+        program,
+        numbers,
+        graph,
+        reached,
+    })
+}
+
+// For each module whether `main` reaches it.
+fn modules_from_main(
     alloc: Global,
     program: &Program,
     numbers: &ModuleNumbers,
@@ -59,51 +92,24 @@ fn from_node(alloc: Global, graph: &[Items<usize>], a: usize) -> Result<Vec<bool
 }
 
 /// No module is an instance of itself. Where the graph has no cycle, no use is asked.
-pub(crate) fn judge_cycles(
-    alloc: Global,
-    program: &Program,
-    numbers: &ModuleNumbers,
-    graph: &[Items<usize>],
-    reached: &[bool],
-) -> Result<(), TextStop>
-    requires numbered { AreNumbered program.now.modules numbers.now }
-    requires graph { graph.now ≡ module_graph program.now }
-    requires reached { MarksFromMain program.now reached.now }
-    ensures { Gives result (uses_verdict asked.Cyclic program.now) }
+pub(crate) fn judge_cycles(alloc: Global, uses: &ModuleUses) -> Result<(), TextStop>
+    requires reached { MarksFromMain uses.now.program.now uses.now.reached.items }
+    ensures { Gives result (uses_verdict asked.Cyclic uses.now.program.now) }
 {
-    if is_acyclic(alloc, graph)? {
+    if is_acyclic(alloc, &uses.graph)? {
         Ok(())
     } else {
-        judge_uses(alloc, program, numbers, graph, reached, UseRule::Cyclic)
+        judge_uses(alloc, uses, UseRule::Cyclic)
     }
 }
 
-/// The verdict of a rule on the uses of modules, in the order of the source. The graph is that of the modules, and the marks
-/// are of those that `main` reaches.
-pub(crate) fn judge_uses(
-    alloc: Global,
-    program: &Program,
-    numbers: &ModuleNumbers,
-    graph: &[Items<usize>],
-    reached: &[bool],
-    which: UseRule,
-) -> Result<(), TextStop>
-    requires numbered { AreNumbered program.now.modules numbers.now }
-    requires graph { graph.now ≡ module_graph program.now }
-    requires reached { MarksFromMain program.now reached.now }
-    ensures { Gives result (uses_verdict which program.now) }
+/// The verdict of a rule on the uses of modules, in the order of the source.
+pub(crate) fn judge_uses(alloc: Global, uses: &ModuleUses, which: UseRule) -> Result<(), TextStop>
+    requires reached { MarksFromMain uses.now.program.now uses.now.reached.items }
+    ensures { Gives result (uses_verdict which uses.now.program.now) }
 {
-    for (n, m) in program.modules.as_slice().iter().enumerate() {
-        judge_sections(
-            alloc,
-            program,
-            numbers,
-            graph,
-            reached,
-            which,
-            n,
-            m.sections.as_slice(),
-        )?;
+    for (n, m) in uses.program.modules.as_slice().iter().enumerate() {
+        judge_sections(alloc, uses, which, n, m.sections.as_slice())?;
     }
     Ok(())
 }
@@ -111,54 +117,35 @@ pub(crate) fn judge_uses(
 // The same of the sections of the module of this number.
 fn judge_sections(
     alloc: Global,
-    program: &Program,
-    numbers: &ModuleNumbers,
-    graph: &[Items<usize>],
-    reached: &[bool],
+    uses: &ModuleUses,
     which: UseRule,
     n: usize,
     sections: &[Section],
 ) -> Result<(), TextStop>
-    requires numbered { AreNumbered program.now.modules numbers.now }
-    requires graph { graph.now ≡ module_graph program.now }
-    requires reached { MarksFromMain program.now reached.now }
-    requires within { n < length program.now.modules }
-    ensures { Gives result (Each (section_verdict which program.now n) sections.now) }
+    requires reached { MarksFromMain uses.now.program.now uses.now.reached.items }
+    requires within { n < length uses.now.program.now.modules }
+    ensures { Gives result (Each (section_verdict which uses.now.program.now n) sections.now) }
 {
     for section in sections {
-        judge_section(alloc, program, numbers, graph, reached, which, n, section)?;
+        judge_section(alloc, uses, which, n, section)?;
     }
     Ok(())
 }
 
 fn judge_section(
     alloc: Global,
-    program: &Program,
-    numbers: &ModuleNumbers,
-    graph: &[Items<usize>],
-    reached: &[bool],
+    uses: &ModuleUses,
     which: UseRule,
     n: usize,
     section: &Section,
 ) -> Result<(), TextStop>
-    requires numbered { AreNumbered program.now.modules numbers.now }
-    requires graph { graph.now ≡ module_graph program.now }
-    requires reached { MarksFromMain program.now reached.now }
-    requires within { n < length program.now.modules }
-    ensures { Gives result (section_verdict which program.now n section.now) }
+    requires reached { MarksFromMain uses.now.program.now uses.now.reached.items }
+    requires within { n < length uses.now.program.now.modules }
+    ensures { Gives result (section_verdict which uses.now.program.now n section.now) }
 {
     match section {
         Section::Variables(_, variables) => {
-            judge_variables(
-                alloc,
-                program,
-                numbers,
-                graph,
-                reached,
-                which,
-                n,
-                variables.as_slice(),
-            )
+            judge_variables(alloc, uses, which, n, variables.as_slice())
         }
         _ => Ok(()),
     }
@@ -166,56 +153,46 @@ fn judge_section(
 
 fn judge_variables(
     alloc: Global,
-    program: &Program,
-    numbers: &ModuleNumbers,
-    graph: &[Items<usize>],
-    reached: &[bool],
+    uses: &ModuleUses,
     which: UseRule,
     n: usize,
     variables: &[Variable],
 ) -> Result<(), TextStop>
-    requires numbered { AreNumbered program.now.modules numbers.now }
-    requires graph { graph.now ≡ module_graph program.now }
-    requires reached { MarksFromMain program.now reached.now }
-    requires within { n < length program.now.modules }
-    ensures { Gives result (Each (λ (v : Variable). use_verdict which program.now n v v.declared) variables.now) }
+    requires reached { MarksFromMain uses.now.program.now uses.now.reached.items }
+    requires within { n < length uses.now.program.now.modules }
+    ensures { Gives result (Each (λ (v : Variable). use_verdict which uses.now.program.now n v v.declared) variables.now) }
 {
     for variable in variables {
-        judge_use(alloc, program, numbers, graph, reached, which, n, variable)?;
+        judge_use(alloc, uses, which, n, variable)?;
     }
     Ok(())
 }
 
 fn judge_use(
     alloc: Global,
-    program: &Program,
-    numbers: &ModuleNumbers,
-    graph: &[Items<usize>],
-    reached: &[bool],
+    uses: &ModuleUses,
     which: UseRule,
     n: usize,
     variable: &Variable,
 ) -> Result<(), TextStop>
-    requires numbered { AreNumbered program.now.modules numbers.now }
-    requires graph { graph.now ≡ module_graph program.now }
-    requires reached { MarksFromMain program.now reached.now }
-    requires within { n < length program.now.modules }
-    ensures { Gives result (use_verdict which program.now n variable.now variable.now.declared) }
+    requires reached { MarksFromMain uses.now.program.now uses.now.reached.items }
+    requires within { n < length uses.now.program.now.modules }
+    ensures { Gives result (use_verdict which uses.now.program.now n variable.now variable.now.declared) }
 {
     match &variable.declared {
         TypeExpr::Boolean(_) => Ok(()),
         TypeExpr::Instance(place, name, given) => {
-            let target = module_named(program.modules.as_slice(), numbers, name.as_str());
+            let target = module_named(uses.program.modules.as_slice(), uses.numbers, name.as_str());
             match which {
                 UseRule::Unknown => refuse_by(
                     alloc,
-                    reached[n] && target.is_none(),
+                    uses.reached[n] && target.is_none(),
                     Rule::UnknownModule,
                     *place,
                     name,
                 ),
                 UseRule::Cyclic => {
-                    let cyclic = reached[n] && reaches(alloc, graph, target, n)?;
+                    let cyclic = uses.reached[n] && reaches(alloc, &uses.graph, target, n)?;
                     refuse_by(
                         alloc,
                         cyclic,
@@ -225,7 +202,8 @@ fn judge_use(
                     )
                 }
                 UseRule::Miscounted => {
-                    let miscounted = reached[n] && is_miscounted(program, given.len(), target);
+                    let miscounted = uses.reached[n]
+                        && is_miscounted(uses.program, given.len(), target);
                     refuse_by(alloc, miscounted, Rule::ArgumentCount, *place, name)
                 }
             }

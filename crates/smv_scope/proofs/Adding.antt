@@ -1,7 +1,7 @@
 -- Lists of items that grow.
-use Rattle.std.proofs.Common.{◌≡◌, ℕ, ◌+◌, ◌<◌, ◌≤◌, Bool, true, false, if◌then◌else◌, List, [], ◌∷◌, ◌++◌, length, get_or, drop, map, Option, Some, None, Result, Ok, Err, refl, sym, ap, ◌∙◌, arith, append_assoc, append-nil}
-use Rattle.std.proofs.lemmas.Bool.{cond-true, cond-false, or_left, or_right, or_from}
-use Rattle.std.proofs.lemmas.List.{drop_more, drop_all}
+use Rattle.std.proofs.Common.{◌≡◌, ℕ, ◌+◌, ◌<◌, Bool, true, false, if◌then◌else◌, List, [], ◌∷◌, ◌++◌, length, get_or, drop, map, Option, Some, None, Err, refl, sym, ap, ◌∙◌, arith, append_assoc, append-nil}
+use Rattle.std.proofs.lemmas.Bool.{cond-true, cond-false, or_from}
+use Rattle.std.proofs.lemmas.List.{drop_more}
 use Rattle.smv_tree.specs.declared.place.Place.{Place}
 use Rattle.smv_tree.specs.declared.tree.Program.{Program}
 use Rattle.smv_tree.specs.declared.tree.Expr.{Expr}
@@ -13,10 +13,10 @@ use Rattle.smv_scope.specs.declared.item.ItemKind.TheVariants as item
 use Rattle.smv_scope.specs.declared.resolve.ResolveStop.{ResolveStop}
 use Rattle.smv_scope.specs.declared.resolve.ResolveStop.TheVariants as stop
 use Rattle.smv_scope.specs.Resolved.{Resolved, resolved, part_of, is_stuck}
-use Rattle.smv_scope.specs.Items.{ResolvedItem, resolved_assignment, target_by, item_by, is_stuck_target, is_stuck_item, first_stuck}
+use Rattle.smv_scope.specs.Items.{ResolvedItem, resolved_assignment, target_by, item_by, is_stuck_item, first_stuck}
 use Rattle.smv_scope.specs.Finding.{Grows}
 use Rattle.smv_scope.proofs.Growing.{Grows-two}
-use Rattle.smv_scope.specs.Listing.{IsRoot, FindsRoot, StandsTarget, AllStand, Added, Adds}
+use Rattle.smv_scope.specs.Listing.{IsRoot, StandsTarget, AllStand, Added, Adds}
 
 -- items stay as they are when nodes are added
 

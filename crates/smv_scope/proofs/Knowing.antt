@@ -1,5 +1,5 @@
 -- What is known of what names share.
-use Rattle.std.proofs.Common.{◌≡◌, ℕ, ◌+◌, ◌<◌, ◌≤◌, ◌==◌, Bool, true, false, ◌&&◌, List, [], Option, Some, None, sym, ap, ◌∙◌, subst, ⊎_elim, arith}
+use Rattle.std.proofs.Common.{◌≡◌, ℕ, ◌==◌, Bool, true, false, ◌&&◌, List, [], Option, Some, sym, ◌∙◌, subst, ⊎_elim, arith}
 use Rattle.std.specs.Bool.{beq}
 use Rattle.std.specs.Map.{lookup, update}
 use Rattle.std.proofs.lemmas.Bool.{and_parts, eqb-true, cases_Bool}
@@ -9,8 +9,7 @@ use Rattle.smv_scope.specs.declared.node.Node.{Node}
 use Rattle.smv_scope.specs.declared.work.Shared.{Shared}
 use Rattle.smv_scope.specs.declared.work.Found.{Found}
 use Rattle.smv_scope.specs.declared.work.Work.{Work}
-use Rattle.smv_scope.specs.Resolved.{Resolved, part_of}
-use Rattle.smv_scope.specs.Finding.{Settles, Grows, Known, shared_eq, AllKnown}
+use Rattle.smv_scope.specs.Finding.{Grows, Known, shared_eq, AllKnown}
 
 Known_grown : (p : Program) {old new : List Node} (x : Shared) (found : Found) → Grows old new → Known p old x found → Known p new x found
 Known_grown p x found g k = (omega (arith, k.0, g.longer), record { value = λ n d w l. k.1.value n d w l ∙ sym (g.kept found.node k.0); stuck = k.1.stuck })

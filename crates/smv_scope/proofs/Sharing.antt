@@ -12,12 +12,12 @@ use Rattle.smv_tree.specs.declared.tree.Identifier.{Identifier}
 use Rattle.smv_tree.specs.declared.tree.Name.{Name}
 use Rattle.smv_tree.specs.declared.tree.Start.{Start}
 use Rattle.smv_tree.specs.declared.tree.Start.TheVariants as start
-use Rattle.smv_tree.specs.declared.tree.Expr.{Expr, Expr-F, out-Expr}
+use Rattle.smv_tree.specs.declared.tree.Expr.{Expr}
 use Rattle.smv_scope.specs.declared.instance.Parent.{Parent}
 use Rattle.smv_scope.specs.Modules.{parameters_of, variables_of, definitions_of}
 use Rattle.smv_scope.specs.Instances.{child_number, module_at}
 use Rattle.smv_scope.specs.Slots.{slot_number}
-use Rattle.smv_scope.specs.Lookup.{Target, slot_target, instance_target, typed_target, variable_target, body_target, definition_target, named_target, member_of_module, member_target, arguments_by, argument_target, given_by, parent_at, parameter_or_member, own_of_module, own_target, start_target, behind_instance, members_target, before_members, whole_only, name_target_by, as_instance, instance_by_node, instance_within, depth_limit, name_target}
+use Rattle.smv_scope.specs.Lookup.{Target, slot_target, instance_target, typed_target, variable_target, body_target, definition_target, named_target, member_of_module, member_target, arguments_by, argument_target, given_by, parent_at, parameter_or_member, own_of_module, start_target, behind_instance, members_target, before_members, whole_only, name_target_by, instance_within, depth_limit, name_target}
 use Rattle.smv_scope.specs.Resolved.{Resolved}
 use Rattle.smv_scope.specs.Finding.{definition_in, shared_target, below_target}
 

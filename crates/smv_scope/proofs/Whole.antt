@@ -1,5 +1,5 @@
 -- The items of all instances are those of the program.
-use Rattle.std.proofs.Common.{◌≡◌, List, [], ◌++◌, map, Option, None, Err, sym, ap, ◌∙◌}
+use Rattle.std.proofs.Common.{◌≡◌, List, [], ◌++◌, map, None, Err, sym, ap, ◌∙◌}
 use Rattle.smv_tree.specs.declared.tree.Program.{Program}
 use Rattle.smv_scope.specs.declared.instance.Instance.{Instance}
 use Rattle.smv_scope.specs.declared.node.Node.{Node}

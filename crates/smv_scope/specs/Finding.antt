@@ -1,5 +1,5 @@
 -- What is kept while expressions become nodes, and what is promised of each.
-use Rattle.std.specs.Prelude.{◌≡◌, ℕ, ◌<◌, ◌≤◌, ◌==◌, Bool, true, false, ◌&&◌, if◌then◌else◌, nat_lt, List, length, Option, None, Some, slice_get, Result, Ok, Err}
+use Rattle.std.specs.Prelude.{◌≡◌, ℕ, ◌<◌, ◌≤◌, ◌==◌, Bool, true, ◌&&◌, if◌then◌else◌, nat_lt, List, length, Option, None, Some, slice_get, Result, Ok, Err}
 use Rattle.std.specs.Bool.{beq}
 use Rattle.std.specs.HashMap.{get}
 use Rattle.smv_tree.specs.declared.tree.Program.{Program}

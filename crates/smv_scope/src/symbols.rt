@@ -16,13 +16,15 @@ ghost use Rattle.smv_scope.specs.Symbols.{first_of, same_variable, spots_in, spo
 
 use crate::modules::{definitions_in, definitions_of, variables_in, variables_of};
 use crate::{Instance, Parent, Slot};
+use indexmap::IndexMap;
 use smv_tree::{Definition, Module, Parameter, Program, Section, Variable, VariableKind};
 use sqlite_items::Items;
 use std::alloc::{AllocError, Global};
 use std::collections::HashMap;
+use std::hash::Hash;
 
 /// The number of the first module of each name.
-pub type ModuleNumbers = HashMap<String, usize>;
+pub type ModuleNumbers = IndexMap<String, usize>;
 
 /// Where a declaration stands: the number of its section, and its own number there.
 #[derive(Clone, Copy, Debug, PartialEq, Eq)]
@@ -35,9 +37,9 @@ pub struct Spot {
 /// variable and each definition stands.
 #[derive(Debug, Drop)]
 pub struct SymbolTable {
-    pub parameters: HashMap<String, usize>,
-    pub variables: HashMap<String, usize>,
-    pub definitions: HashMap<String, usize>,
+    pub parameters: IndexMap<String, usize>,
+    pub variables: IndexMap<String, usize>,
+    pub definitions: IndexMap<String, usize>,
     pub variable_spots: Items<Spot>,
     pub definition_spots: Items<Spot>,
 }
@@ -75,7 +77,7 @@ fn symbol_table(
 pub fn module_numbers(alloc: Global, modules: &[Module]) -> Result<ModuleNumbers, AllocError>
     ensures { IfOk result (λ table. AreNumbered modules.now table) }
 {
-    let mut table = HashMap::new(alloc);
+    let mut table = IndexMap::new(alloc);
     for (k, x) in modules.iter().enumerate() {
         note_name(alloc, &mut table, x.name.as_str(), k)?;
     }
@@ -85,10 +87,10 @@ pub fn module_numbers(alloc: Global, modules: &[Module]) -> Result<ModuleNumbers
 fn parameter_numbers(
     alloc: Global,
     parameters: &[Parameter],
-) -> Result<HashMap<String, usize>, AllocError>
+) -> Result<IndexMap<String, usize>, AllocError>
     ensures { IfOk result (λ table. (name : List ℕ) → get_by_text table name ≡ position (λ (x : Parameter). bytes_eq name x.name) parameters.now) }
 {
-    let mut table = HashMap::new(alloc);
+    let mut table = IndexMap::new(alloc);
     for (k, x) in parameters.iter().enumerate() {
         note_name(alloc, &mut table, x.name.as_str(), k)?;
     }
@@ -98,11 +100,11 @@ fn parameter_numbers(
 fn variable_numbers(
     alloc: Global,
     sections: &[Section],
-) -> Result<HashMap<String, usize>, AllocError>
+) -> Result<IndexMap<String, usize>, AllocError>
     ensures { IfOk result (λ table. (name : List ℕ) → get_by_text table name ≡ position (λ (x : VariableKind × Variable). bytes_eq name x.1.name) (flat_map variables_in sections.now)) }
 {
     let variables = variables_of(alloc, sections)?;
-    let mut table = HashMap::new(alloc);
+    let mut table = IndexMap::new(alloc);
     for (k, x) in variables.iter().enumerate() {
         note_name(alloc, &mut table, x.1.name.as_str(), k)?;
     }
@@ -112,11 +114,11 @@ fn variable_numbers(
 fn definition_numbers(
     alloc: Global,
     sections: &[Section],
-) -> Result<HashMap<String, usize>, AllocError>
+) -> Result<IndexMap<String, usize>, AllocError>
     ensures { IfOk result (λ table. (name : List ℕ) → get_by_text table name ≡ position (λ (d : Definition). bytes_eq name d.name) (flat_map definitions_in sections.now)) }
 {
     let definitions = definitions_of(alloc, sections)?;
-    let mut table = HashMap::new(alloc);
+    let mut table = IndexMap::new(alloc);
     for (k, d) in definitions.iter().enumerate() {
         note_name(alloc, &mut table, d.name.as_str(), k)?;
     }
@@ -126,7 +128,7 @@ fn definition_numbers(
 // A name that has no number yet gets this one.
 fn note_name(
     alloc: Global,
-    table: &mut HashMap<String, usize>,
+    table: &mut IndexMap<String, usize>,
     name: &str,
     number: usize,
 ) -> Result<(), AllocError>
@@ -180,7 +182,7 @@ pub fn slot_numbers(alloc: Global, slots: &[Slot]) -> Result<HashMap<Parent, usi
             instance: slot.instance,
             variable: slot.variable,
         };
-        note_variable(&mut table, variable, k)?;
+        number_first(&mut table, variable, k)?;
     }
     Ok(table)
 }
@@ -205,21 +207,21 @@ fn note_parent(
 {
     match parent {
         None => Ok(()),
-        Some(variable) => note_variable(table, variable, number),
+        Some(variable) => number_first(table, variable, number),
     }
 }
 
-// A variable that has no number yet gets this one.
-fn note_variable(
-    table: &mut HashMap<Parent, usize>,
-    variable: Parent,
+/// A key that has no number yet gets this one.
+pub fn number_first<K: Copy + Drop + Eq + Hash>(
+    numbers: &mut HashMap<K, usize>,
+    key: K,
     number: usize,
 ) -> Result<(), AllocError>
-    ensures { OnOk result ((q : Parent) → get same_variable table.new q ≡ first_of (get same_variable table.old q) (same_variable variable q) number) }
+    ensures { OnOk result ((q : K) → get K.eq numbers.new q ≡ first_of (get K.eq numbers.old q) (K.eq key q) number) }
 {
-    if table.contains_key(&variable) {
+    if numbers.contains_key(&key) {
         return Ok(());
     }
-    table.insert(variable, number)?;
+    numbers.insert(key, number)?;
     Ok(())
 }

@@ -2,8 +2,9 @@ use Rattle.std.proofs.Common.{Bool, ap, sym, ◌∙◌, take_all}
 use Rattle.smv_scope.proofs.Firsts.{first_next, first_all}
 use Rattle.smv_scope.proofs.Indexing.{position-map}
 use Rattle.smv_names.specs.declared.entries.Entry.{Entry as LentEntry}
-use Rattle.smv_names.specs.declared.numbers.EntryKey.{EntryKey}
-use Rattle.smv_names.specs.Entries.{is_keyed, read_entry, same_key}
+use Rattle.smv_scope.specs.declared.work.Shared.{Shared}
+use Rattle.smv_scope.specs.Finding.{shared_eq}
+use Rattle.smv_names.specs.Entries.{is_keyed, read_entry}
 use Rattle.smv_names.proofs.Numbered.{keyed}
 use Rattle.smv_names.proofs.numbers.entry_numbers.Goals as goal
 
@@ -12,8 +13,8 @@ loop-n-preserved c = λ q.
     let p : LentEntry → Bool = λ x. is_keyed q (read_entry x) in
     let x = c.index-entries-n.result in
     first_next p c.args.entries.now c.loop-n.n x _ _ _ c.loop-n-test.true
-    (ap (λ (key : EntryKey). same_key key q) c.key_of.ensures ∙ keyed q (read_entry x) ∙ ap p c.index-entries-n.is)
-    (c.loop-n.invariant q) (c.in_ok-note_key.ensures q)
+    (ap (λ (key : Shared). shared_eq key q) c.key_of.ensures ∙ keyed q (read_entry x) ∙ ap p c.index-entries-n.is)
+    (c.loop-n.invariant q) (c.in_ok-number_first.ensures q)
 
 pub returns : goal.returns
 returns c = λ q.

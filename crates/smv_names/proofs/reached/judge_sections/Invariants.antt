@@ -7,4 +7,4 @@ use Rattle.smv_names.proofs.reached.judge_sections.Given as goal
 
 abbrev pub invariant-loop-section : goal.invariant-loop-section
 invariant-loop-section l =
-    (r : Option Refusal) → Each (section_verdict l.which l.program l.n) (drop l.section-index l.sections) r → Each (section_verdict l.which l.program l.n) l.sections r
+    (r : Option Refusal) → Each (section_verdict l.which l.uses.program.now l.n) (drop l.section-index l.sections) r → Each (section_verdict l.which l.uses.program.now l.n) l.sections r

@@ -5,4 +5,4 @@ use Rattle.smv_names.specs.Reached.{modules_verdict, uses_verdict}
 use Rattle.smv_names.proofs.reached.judge_uses.Given as goal
 
 abbrev pub invariant-loop-n : goal.invariant-loop-n
-invariant-loop-n l = (r : Option Refusal) → modules_verdict l.which l.program l.n (drop l.n l.m-items) r → uses_verdict l.which l.program r
+invariant-loop-n l = (r : Option Refusal) → modules_verdict l.which l.uses.program.now l.n (drop l.n l.m-items) r → uses_verdict l.which l.uses.program.now r

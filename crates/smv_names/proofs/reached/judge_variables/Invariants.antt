@@ -8,5 +8,5 @@ use Rattle.smv_names.proofs.reached.judge_variables.Given as goal
 
 abbrev pub invariant-loop-variable : goal.invariant-loop-variable
 invariant-loop-variable l =
-    (r : Option Refusal) → Each (λ (v : Variable). use_verdict l.which l.program l.n v v.declared) (drop l.variable-index l.variables) r
-    → Each (λ (v : Variable). use_verdict l.which l.program l.n v v.declared) l.variables r
+    (r : Option Refusal) → Each (λ (v : Variable). use_verdict l.which l.uses.program.now l.n v v.declared) (drop l.variable-index l.variables) r
+    → Each (λ (v : Variable). use_verdict l.which l.uses.program.now l.n v v.declared) l.variables r

@@ -1,4 +1,4 @@
-use Rattle.std.proofs.Common.{ℕ, arith, rules, refl, sym, ap, ◌∙◌}
+use Rattle.std.proofs.Common.{ℕ, arith, rules, sym, ap, ◌∙◌}
 use Rattle.std.proofs.lemmas.Result.{err_from_is_err_and}
 use Rattle.smv_tree.specs.declared.tree.Expr.{Expr}
 use Rattle.smv_scope.specs.Lookup.{name_target}

@@ -1,4 +1,4 @@
-use Rattle.std.proofs.Common.{ℕ, ◌+◌, ◌*◌, take}
+use Rattle.std.proofs.Common.{◌+◌, ◌*◌, take}
 use Rattle.smv_tree.specs.declared.tree.Expr.{Expr}
 use Rattle.smv_scope.specs.Resolved.{levelled, resolved_links}
 use Rattle.smv_scope.specs.Finding.{IsFound, Grows, AllKnown}

@@ -2,7 +2,7 @@ use Rattle.std.proofs.Common.{◌+◌, [], ◌∷◌, arith, drop, ap, map}
 use Rattle.std.proofs.lemmas.Result.{err_from_is_err_and}
 use Rattle.std.proofs.lemmas.List.{drop_all}
 use Rattle.smv_scope.specs.Items.{resolved_assignment}
-use Rattle.smv_scope.proofs.Adding.{Rests, rests_start, rests_more, rests_end, rests_halt, drop_next}
+use Rattle.smv_scope.proofs.Adding.{rests_start, rests_more, rests_end, rests_halt, drop_next}
 use Rattle.smv_scope.proofs.listing.add_assignments.Goals as goal
 
 pub loop-assignment-init : goal.loop-assignment-init

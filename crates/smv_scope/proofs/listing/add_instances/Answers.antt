@@ -1,8 +1,8 @@
-use Rattle.std.proofs.Common.{◌+◌, [], ◌∷◌, arith, drop, ap, None}
+use Rattle.std.proofs.Common.{◌+◌, arith, drop, ap, None}
 use Rattle.std.proofs.lemmas.Result.{err_from_is_err_and}
 use Rattle.std.proofs.lemmas.List.{drop_all, drop_more}
 use Rattle.smv_scope.specs.Items.{items_below}
-use Rattle.smv_scope.proofs.Adding.{Rests, rests_start, rests_more, rests_end, rests_halt, drop_next}
+use Rattle.smv_scope.proofs.Adding.{rests_start, rests_more, rests_end, rests_halt}
 use Rattle.smv_scope.proofs.listing.add_instances.Goals as goal
 
 pub loop-at-init : goal.loop-at-init

@@ -1,9 +1,9 @@
-use Rattle.std.proofs.Common.{◌+◌, [], ◌∷◌, arith, drop, ap}
+use Rattle.std.proofs.Common.{◌+◌, arith, drop, ap}
 use Rattle.std.proofs.lemmas.Result.{err_from_is_err_and}
 use Rattle.std.proofs.lemmas.List.{drop_all}
 use Rattle.std.specs.List.{flat_map}
 use Rattle.smv_scope.specs.Items.{items_in}
-use Rattle.smv_scope.proofs.Adding.{Rests, rests_start, rests_more, rests_end, rests_halt, drop_next}
+use Rattle.smv_scope.proofs.Adding.{rests_start, rests_more, rests_end, rests_halt, drop_next}
 use Rattle.smv_scope.proofs.listing.add_sections.Goals as goal
 
 pub loop-section-init : goal.loop-section-init
