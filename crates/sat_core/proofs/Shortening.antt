@@ -1,6 +1,8 @@
 -- Literals of a learned clause that the others imply.
 use Rattle.std.proofs.Common.{◌≡◌, ℕ, ◌<◌, ◌≤◌, ◌-◌, Bool, true, List, [], length, get_or, zero, suc, refl, sym, subst, ap, ◌∙◌, inl, inr, ◌⊎◌, arith, set, get_or-set_other}
 use Rattle.std.specs.List.{All, Contains}
+use Rattle.std.specs.Prelude.{IsPermutation}
+use Rattle.std.proofs.lemmas.List.Sorted.{Contains-permutation, All-permutation}
 use Rattle.std.proofs.lemmas.Bool.{cases_eq, cases_lt}
 use Rattle.std.proofs.lemmas.List.{get_or_read_under}
 use Rattle.std.proofs.lemmas.List.Elements.{All-contains}
@@ -151,3 +153,10 @@ pub kept_recover : (t : Trail) (cs : List (List Lit)) (marks final : List Bool) 
 kept_recover t cs marks final first floor p low kept based some ef len only lows new left s closed hp held q lq m =
     implied_held t cs s marks final first floor p low kept based closed (first_held t cs s first based closed some ef) len only lows new.1 left hp held
     (length t.literals.items) (omega arith) q lq (inl m)
+
+-- the list may be in another order
+pub low_sorted : (marks : List Bool) (floor : ℕ) (old new : List ℕ) → IsPermutation old new → LowListed marks floor old → LowListed marks floor new
+low_sorted marks floor old new same listed = (
+  λ q below marked. Contains-permutation old new q same (listed.0 q below marked),
+  All-permutation (λ q. (q < floor) × Marked marks q) old new same listed.1,
+)

@@ -92,6 +92,8 @@ fn analyze<P: Propagator>(
     let mut marks = vec![in alloc; false; trail.literals.len()]?;
     let mut low = Vec::new(alloc);
     let p = resolve(inner, inner.clause(k), floor, &mut marks, &mut low, order)?;
+    // The oldest literals stand first in the learned clause, where propagation looks first.
+    low.sort_unstable();
     let kept = shorten(alloc, inner, p, floor, &mut marks, &low)?;
     let clause = clause_of(alloc, &trail.literals, p, &kept)?;
     let best = greatest(&kept);

@@ -193,7 +193,7 @@ impl Order {
 
     // The steps grow, so that what was bumped long ago counts less.
     pub fn decay(&mut self) {
-        let more = self.step / 16;
+        let more = self.step / 40;
         self.step = self.step.wrapping_add(more).wrapping_add(1);
     }
 

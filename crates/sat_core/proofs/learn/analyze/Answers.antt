@@ -7,9 +7,10 @@ use Rattle.clause_core.specs.Propagation.{AllFalse, Settled}
 use Rattle.clause_core.specs.Literals.{Within, at, negate}
 use Rattle.sat_prop.specs.declared.trail.Trail.{Trail}
 use Rattle.sat_prop.specs.Trails.{is_literal, among, AtRest}
-use Rattle.sat_core.specs.Searching.{learned_clause, LearnedFrom, decided, MarksFalse, PlacesFalse, Recovers}
+use Rattle.sat_core.specs.Searching.{learned_clause, LearnedFrom, LowListed, decided, MarksFalse, PlacesFalse, Recovers}
 use Rattle.sat_core.proofs.Reasons.{floor_read}
 use Rattle.sat_core.proofs.Learns.{settled_open, learned_within, learned_from, learned_settled, learned_watch}
+use Rattle.sat_core.proofs.Shortening.{low_sorted}
 use Rattle.sat_core.proofs.learn.analyze.Goals as goal
 
 pub resolve-requires-clause-open : goal.resolve-requires-clause-open
@@ -23,6 +24,18 @@ resolve-requires-clause-open g c all =
     let R : ℕ → Type 0 = λ s. AtRest cs (take s t.literals.items) in
     let rest : R floor = subst R (sym lf) (c.requires.rest (length t.starts.items - 1) (omega (arith, c.requires.level))) in
     settled_open t.literals.items cs k floor c.requires.conflict.0 rest (subst A c.clause.ensures all)
+
+pub shorten-requires-clause-low : goal.shorten-requires-clause-low
+shorten-requires-clause-low g c =
+    let marks = c.resolve.new.marks in
+    let floor = c.index-floor.result.now in
+    let n = c.in_ok-marks.marks.len in
+    let full : length marks ≡ n = omega (arith, c.resolve.auto.marks, ap length c.deref_mut.ensures.value, c.in_ok-marks.marks.ok.0) in
+    let same : c.deref_mut-2.result.now ≡ marks =
+    c.deref_mut-2.ensures.value ∙ take-append-le n marks (drop (length marks) c.in_ok-marks.marks.items) (omega (arith, full)) ∙ take_all n marks (omega (arith, full)) in
+    let Of : List ℕ → Type 0 = LowListed marks floor in
+    let On : List Bool → Type 0 = λ ms. LowListed ms floor c.deref.result.now in
+    subst On (sym same) (subst Of (sym c.deref.ensures.value) (low_sorted marks floor c.resolve.new.low.items c.sort_unstable.new.self.items c.sort_unstable.ensures.permutation c.in_ok-p.ensures.low))
 
 pub returns-clause-within : goal.returns-clause-within
 returns-clause-within g c =
