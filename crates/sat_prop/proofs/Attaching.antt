@@ -12,6 +12,8 @@ use Rattle.sat_prop.specs.declared.watch.Watches.{Watches}
 use Rattle.sat_prop.specs.Trails.{is_literal, among}
 use Rattle.sat_prop.specs.Watches.{none_watches, watches_at, TrueIn, Guarded, HasTwo, AllGuarded, HasOneLiteral, ShortListed, ShortTrue, LevelsGuarded, WatchesIn, AllWatchesIn, InShort, Listed, AllListed, ListsMore, ShortMore, Enlisted, Watchable, WatchesSay, cell}
 use Rattle.sat_prop.proofs.Ways.{among_take_where, among_take_here, among_where, among_here}
+use Rattle.sat_prop.specs.Covers.{is_covered}
+use Rattle.sat_prop.proofs.Covering.{uncovered_before}
 use Rattle.sat_prop.proofs.Queues.{take_in}
 use Rattle.sat_prop.proofs.Watching.{watch_grows, list_at}
 use Rattle.sat_prop.proofs.Visits.{cell_in, cell_now, listed_push}
@@ -125,8 +127,8 @@ delisted lists mid last h k same both kept back =
 pub small_new : (cs : List (List Lit)) (watches : List Watches) (lists' : List (List ℕ)) (short short' : List ℕ) (c : List Lit) (h : Watches) → length watches ≡ length cs → ShortListed cs watches short →
     ShortMore short short' → Enlisted lists' short' h (length cs) → (is_literal h.a h.b ≡ true → HasOneLiteral c) → ShortListed (cs ++ c ∷ []) (watches ++ h ∷ []) short'
 small_new cs watches lists' short short' c h len ok more new one =
-    per_new (λ k x y. is_literal x.a x.b ≡ true → HasOneLiteral y × InShort short' k) cs watches c h len
-    (λ j lj e. let o = ok j lj e in (o.0, more j o.1)) (λ e. (one e, new.1 e))
+    per_new (λ k x y. is_literal x.a x.b ≡ true → is_covered (cs ++ c ∷ []) k ≡ false → HasOneLiteral y × InShort short' k) cs watches c h len
+    (λ j lj e off. let o = ok j lj e (uncovered_before cs (c ∷ []) j off) in (o.0, more j o.1)) (λ e _. (one e, new.1 e))
 
 -- the levels with a clause more
 pub watch_new : (cs : List (List Lit)) (watches : List Watches) (c : List Lit) (h : Watches) (s u : List Lit) → length watches ≡ length cs →
@@ -148,7 +150,8 @@ levels_new cs watches c w h literals starts len said can old i li =
     let F : Lit → Type 0 = λ x. is_literal h.a x ≡ false in
     let apart : is_literal h.a h.b ≡ false = subst F (sym e.1) (subst E (sym e.0) f.1) in (
       watch_new cs watches c h s s len (λ _. subst A (sym e.0) f.2) (λ _. subst A (sym e.1) f.3) o.0,
-      per_new (λ k x y. is_literal x.a x.b ≡ true → TrueIn s y) cs watches c h len o.1 (λ on. absurd (both_ways _ apart on)),
+      per_new (λ k x y. is_literal x.a x.b ≡ true → is_covered (cs ++ c ∷ []) k ≡ false → TrueIn s y) cs watches c h len
+          (λ j lj e off. o.1 j lj e (uncovered_before cs (c ∷ []) j off)) (λ on _. absurd (both_ways _ apart on)),
     )
 
 -- a literal that stands negated at its place is not false before it

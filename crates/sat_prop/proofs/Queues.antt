@@ -12,7 +12,8 @@ use Rattle.sat_prop.specs.Moves.{Extends}
 use Rattle.sat_prop.specs.Watches.{watches_at, TrueIn, AllGuarded, Kept, KeepsTwo, HasOneLiteral, ShortDone, ShortListed, ShortTrue, LevelsGuarded, AllWatchesIn}
 use Rattle.sat_prop.proofs.Ways.{lit_is_same, among_here, among_take_where, among_one_side, at_take}
 use Rattle.sat_prop.proofs.Visits.{went_grows}
-use Rattle.sat_prop.proofs.Watching.{watch_grows, true_from, true_grows, true_settled, watched_rest, list_where}
+use Rattle.sat_prop.proofs.Covering.{uncovered_rest}
+use Rattle.sat_prop.proofs.Watching.{watch_grows, true_from, true_grows, true_settled, watched_settled, list_where}
 
 pub take_in : (tr : List Lit) (n : ℕ) (l : Lit) → n ≤ length tr → among (take n tr) l ≡ true → among tr l ≡ true
 take_in tr n l le on =
@@ -40,7 +41,7 @@ pub kept_on : (cs : List (List Lit)) (a b c : List Watches) (t t' : Trail) → E
 kept_on cs a b c t t' w f g s u part old = g s u (λ l on. went_grows t t' w l (part l on)) (f s u part old)
 
 pub small_grows : (cs : List (List Lit)) (h : List Watches) (u w : List Lit) → ((l : Lit) → among u l ≡ true → among w l ≡ true) → ShortTrue cs h u → ShortTrue cs h w
-small_grows cs h u w g s k lk e = true_grows u w (get_or cs k []) g (s k lk e)
+small_grows cs h u w g s k lk e off = true_grows u w (get_or cs k []) g (s k lk e off)
 
 -- a clause that was of one literal still is
 pub small_back : (h h' : List Watches) (k : ℕ) → KeepsTwo h h' → is_literal (watches_at h' k).a (watches_at h' k).b ≡ true → is_literal (watches_at h k).a (watches_at h k).b ≡ true
@@ -51,10 +52,10 @@ small_back h h' k two_kept e =
     ]
 
 pub small_true_heads : (cs : List (List Lit)) (h h' : List Watches) (u : List Lit) → KeepsTwo h h' → ShortTrue cs h u → ShortTrue cs h' u
-small_true_heads cs h h' u two_kept s k lk e = s k lk (small_back h h' k two_kept e)
+small_true_heads cs h h' u two_kept s k lk e off = s k lk (small_back h h' k two_kept e) off
 
 pub small_ok_heads : (cs : List (List Lit)) (h h' : List Watches) (short : List ℕ) → KeepsTwo h h' → ShortListed cs h short → ShortListed cs h' short
-small_ok_heads cs h h' short two_kept s k lk e = s k lk (small_back h h' k two_kept e)
+small_ok_heads cs h h' short two_kept s k lk e off = s k lk (small_back h h' k two_kept e) off
 
 -- the clauses stay guarded before each decision
 pub levels_kept : (cs : List (List Lit)) (h h' : List Watches) (t t' : Trail) → Extends t t' → Kept cs h h' t.literals.items → KeepsTwo h h' →
@@ -94,8 +95,8 @@ all_apart t l a b =
 
 pub small_done : (cs : List (List Lit)) (watches : List Watches) (short : List ℕ) (u : List Lit) → ShortListed cs watches short →
     ((j : ℕ) → j < length short → ShortDone cs u (get_or short j 0)) → ShortTrue cs watches u
-small_done cs watches short u ok done k lk e =
-    let f = ok k lk e in
+small_done cs watches short u ok done k lk e off =
+    let f = ok k lk e off in
     let w = list_where short k f.1 in
     let P : ℕ → Type 0 = ShortDone cs u in
     subst P w.2 (done w.0 w.1) lk f.0
@@ -122,4 +123,4 @@ queue_rest cs h t n e ok queue short =
     let tr = t.literals.items in
     let P : List Lit → Type 0 = λ x. AllGuarded cs h x tr in
     let whole : P tr = subst P (take_all n tr (omega (arith, e))) queue in
-    watched_rest cs h tr (all_apart t) ok whole (λ k lk s. true_settled tr (get_or cs k []) (all_apart t) (short k lk s))
+    uncovered_rest cs tr (λ k lk off. watched_settled cs h tr (all_apart t) ok whole k lk (λ s. true_settled tr (get_or cs k []) (all_apart t) (short k lk s off)))

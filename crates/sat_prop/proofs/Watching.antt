@@ -3,7 +3,7 @@ use Rattle.std.specs.List.{Contains, list_any}
 use Rattle.std.proofs.lemmas.Bool.{cases_Bool, cases_eq, cases_lt, both_ways}
 use Rattle.std.proofs.lemmas.List.{get_or_default, get_or-take, length-take-le}
 use Rattle.std.proofs.lemmas.List.Folds.{Any-from_list_any, list_any_at}
-use Rattle.std.proofs.lemmas.List.Elements.{All-contains, All-from_get_or}
+use Rattle.std.proofs.lemmas.List.Elements.{All-contains}
 use Rattle.clause_core.specs.declared.literal.Lit.{Lit}
 use Rattle.clause_core.specs.Literals.{negate, at}
 use Rattle.sat_prop.specs.Watches.{one}
@@ -11,7 +11,7 @@ use Rattle.clause_core.specs.Propagation.{Settled}
 use Rattle.clause_core.proofs.Lists.{lit_same}
 use Rattle.clause_core.proofs.Lists.{negate_negate}
 use Rattle.sat_prop.specs.declared.watch.Watches.{Watches}
-use Rattle.sat_prop.specs.Trails.{is_literal, among, AtRest}
+use Rattle.sat_prop.specs.Trails.{is_literal, among}
 use Rattle.sat_prop.specs.Watches.{watches_at, TrueIn, Guarded, HasTwo, WatchesIn, AllWatchesIn, AllGuarded, Listed, AllListed, cell, DoneWith, swap_out}
 use Rattle.sat_prop.proofs.Ways.{lit_is_same, lit_is_itself, among_take_where, among_take_here}
 use Rattle.sat_prop.proofs.Sweeps.{contains_among}
@@ -67,15 +67,15 @@ guard_settled tr c h one big ok guard =
       ]
     ]
 
-pub watched_rest : (cs : List (List Lit)) (watches : List Watches) (tr : List Lit) → ((l : Lit) → among tr l ≡ true → among tr (negate l) ≡ true → ⊥) →
-    AllWatchesIn cs watches → AllGuarded cs watches tr tr →
-    ((k : ℕ) → k < length cs → is_literal (watches_at watches k).a (watches_at watches k).b ≡ true → Settled (among tr) (get_or cs k [])) → AtRest cs tr
-watched_rest cs watches tr one ok watch short =
-    All-from_get_or (Settled (among tr)) cs [] (λ k lk.
+-- a clause is settled, if it has two watches or else is settled
+pub watched_settled : (cs : List (List Lit)) (watches : List Watches) (tr : List Lit) → ((l : Lit) → among tr l ≡ true → among tr (negate l) ≡ true → ⊥) →
+    AllWatchesIn cs watches → AllGuarded cs watches tr tr → (k : ℕ) → k < length cs →
+    (is_literal (watches_at watches k).a (watches_at watches k).b ≡ true → Settled (among tr) (get_or cs k [])) → Settled (among tr) (get_or cs k [])
+watched_settled cs watches tr one ok watch k lk short =
     elim (cases_Bool (is_literal (watches_at watches k).a (watches_at watches k).b)) [
-      | inl s ↦ short k lk s
+      | inl s ↦ short s
       | inr big ↦ guard_settled tr (get_or cs k []) (watches_at watches k) one big (ok k lk big) (watch k lk big)
-    ])
+    ]
 
 -- the trail grows
 pub true_grows : (u w c : List Lit) → ((l : Lit) → among u l ≡ true → among w l ≡ true) → TrueIn u c → TrueIn w c

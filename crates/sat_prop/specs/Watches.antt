@@ -8,6 +8,7 @@ use Rattle.sat_prop.specs.declared.watch.Watches.{Watches}
 use Rattle.sat_prop.specs.declared.watch.Finding.{Finding}
 use Rattle.sat_prop.specs.declared.watch.Finding.TheVariants.{Hit, Move, Force, False}
 use Rattle.sat_prop.specs.Trails.{is_literal, among}
+use Rattle.sat_prop.specs.Covers.{is_covered}
 
 -- watches for places past the end of a list
 abbrev pub none_watches : Watches
@@ -98,16 +99,18 @@ HasOneLiteral c = All (λ m. is_literal m (at c 0) ≡ true) c
 abbrev pub InShort : List ℕ → ℕ → Type 0
 InShort short k = list_any (λ x. eqb x k) short ≡ true
 
--- a clause without two watches has no two different literals, and is in the list of short clauses
+-- a clause without two watches that no later one covers has no two different literals, and is in the list of short
+-- clauses
 abbrev pub ShortListed : List (List Lit) → List Watches → List ℕ → Type 0
 ShortListed cs watches short =
-    (k : ℕ) → k < length cs → is_literal (watches_at watches k).a (watches_at watches k).b ≡ true →
+    (k : ℕ) → k < length cs → is_literal (watches_at watches k).a (watches_at watches k).b ≡ true → is_covered cs k ≡ false →
     HasOneLiteral (slice_index_or cs k []) × InShort short k
 
--- each clause without two watches has a true literal in u
+-- each clause without two watches that no later one covers has a true literal in u
 abbrev pub ShortTrue : List (List Lit) → List Watches → List Lit → Type 0
 ShortTrue cs watches u =
-    (k : ℕ) → k < length cs → is_literal (watches_at watches k).a (watches_at watches k).b ≡ true → TrueIn u (slice_index_or cs k [])
+    (k : ℕ) → k < length cs → is_literal (watches_at watches k).a (watches_at watches k).b ≡ true → is_covered cs k ≡ false →
+    TrueIn u (slice_index_or cs k [])
 
 -- where clause number k has no two different literals, one is true in u
 abbrev pub ShortDone : List (List Lit) → List Lit → ℕ → Type 0

@@ -7,6 +7,7 @@ ghost use Rattle.sat_prop.specs.Packing.{RowsMatch, pairs};
 ghost use Rattle.sat_prop.specs.Watches.{AllWatchesIn, AllListed, AllGuarded, ShortListed, ShortTrue, LevelsGuarded, Watchable, HasTwo};
 
 use crate::attach::{attach, watches_of};
+use crate::cover::Recent;
 use crate::lists::WatchLists;
 use crate::rows::Rows;
 use crate::trail::Trail;
@@ -49,7 +50,7 @@ fn head_for(trail: &Trail, h: Watches, n: usize) -> usize
 
 // Adds a clause whose watches are its first literal and that at w. The queue begins
 // again where one of these is false.
-pub fn learn_on(
+pub fn add_on(
     clauses: &mut Clauses,
     trail: &Trail,
     rows: &mut Rows,
@@ -93,6 +94,55 @@ pub fn learn_on(
     let n = head_for(trail, h, *head);
     attach(clauses, rows, lists, short, c, h)?;
     *head = n;
+    Ok(())
+}
+
+// Adds a clause as `add_on` does, and empties the rows of the recent clauses that it covers: what is at rest
+// with it is so with those.
+pub fn learn_on(
+    clauses: &mut Clauses,
+    trail: &Trail,
+    rows: &mut Rows,
+    lists: &mut WatchLists,
+    short: &mut Vec<usize>,
+    head: &mut usize,
+    recent: &mut Recent,
+    c: &[Lit],
+    w: usize,
+) -> Result<(), AllocError>
+    requires within { Within (length trail.now.values.items) c.now }
+    requires watch { Watchable trail.now.literals.items trail.now.starts.items c.now w }
+    requires based_in { Based trail.now.literals.items trail.now.reasons.items clauses.old }
+    requires within_in { All (Within (length trail.now.values.items)) clauses.old }
+    requires room { 2 * length trail.now.values.items < 2 ^ 32 }
+    requires rows_len { length rows.old ≡ length clauses.old }
+    requires watches_in { AllWatchesIn clauses.old (pairs rows.old) }
+    requires rows_match { RowsMatch clauses.old rows.old }
+    requires all_listed { AllListed (pairs rows.old) (numbers_of lists.old) }
+    requires cells { length lists.old ≡ 2 * length trail.now.values.items }
+    requires fit { AllEntries (fits clauses.old) lists.old }
+    requires short_listed { ShortListed clauses.old (pairs rows.old) short.old.items }
+    requires low { head.old ≤ length trail.now.literals.items }
+    requires queue { AllGuarded clauses.old (pairs rows.old) (take head.old trail.now.literals.items) trail.now.literals.items }
+    requires levels { LevelsGuarded clauses.old (pairs rows.old) trail.now.literals.items trail.now.starts.items }
+    ensures based_in { Based trail.now.literals.items trail.now.reasons.items clauses.new }
+    ensures within_in { All (Within (length trail.now.values.items)) clauses.new }
+    ensures rows_len { length rows.new ≡ length clauses.new }
+    ensures watches_in { AllWatchesIn clauses.new (pairs rows.new) }
+    ensures rows_match { RowsMatch clauses.new rows.new }
+    ensures all_listed { AllListed (pairs rows.new) (numbers_of lists.new) }
+    ensures cells { length lists.new ≡ 2 * length trail.now.values.items }
+    ensures fit { AllEntries (fits clauses.new) lists.new }
+    ensures short_listed { ShortListed clauses.new (pairs rows.new) short.new.items }
+    ensures low { head.new ≤ length trail.now.literals.items }
+    ensures queue { AllGuarded clauses.new (pairs rows.new) (take head.new trail.now.literals.items) trail.now.literals.items }
+    ensures levels { LevelsGuarded clauses.new (pairs rows.new) trail.now.literals.items trail.now.starts.items }
+    ensures done { OnOk result (clauses.new ≡ clauses.old ++ c.now ∷ []) }
+    ensures failed { OnErr result (clauses.new ≡ clauses.old) }
+{
+    recent.note(c, clauses.len())?;
+    add_on(clauses, trail, rows, lists, short, head, c, w)?;
+    recent.retire_covered(clauses, rows);
     Ok(())
 }
 

@@ -4,6 +4,7 @@
 
 mod acts;
 mod attach;
+mod cover;
 mod lists;
 mod propagator;
 mod queue;

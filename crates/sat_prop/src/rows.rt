@@ -134,6 +134,15 @@ impl Rows {
         Ok(())
     }
 
+    // Empties row number k.
+    pub fn retire(&mut self, k: usize)
+        requires { k < length self.old }
+        ensures { self.new ≡ slice_set self.old k [] }
+    {
+        let from = self.spans[k].from;
+        self.spans[k] = Span { from, len: 0 };
+    }
+
     // Takes the last row away.
     pub fn pop(&mut self)
         ensures { self.new ≡ take (length self.old - 1) self.old }

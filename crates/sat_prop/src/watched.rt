@@ -5,7 +5,8 @@ ghost use Rattle.sat_prop.specs.Entries.{AllEntries, fits, numbers_of};
 ghost use Rattle.sat_prop.specs.Packing.{RowsMatch, pairs};
 ghost use Rattle.sat_prop.specs.Watches.{AllWatchesIn, AllListed, AllGuarded, ShortListed, ShortTrue, LevelsGuarded};
 
-use crate::acts::{decide_on, learn_on, undo_on};
+use crate::acts::{add_on, decide_on, learn_on, undo_on};
+use crate::cover::Recent;
 use crate::lists::WatchLists;
 use crate::propagator::Propagator;
 use crate::rows::Rows;
@@ -15,7 +16,8 @@ use clause_core::{Clauses, Lit};
 use std::alloc::{AllocError, Global};
 
 /// The propagator that watches two literals of each clause (Moskewicz and others 2001): a clause is looked
-/// at only where one of these becomes false.
+/// at only where one of these becomes false. A clause whose literals include those of a clause learned later need
+/// not be watched: it is at rest where the later one is (backward subsumption, as of Eén, Biere 2005).
 #[derive(Drop)]
 pub struct Watched {
     clauses: Clauses,
@@ -24,6 +26,7 @@ pub struct Watched {
     lists: WatchLists,
     short: Vec<usize>,
     head: usize,
+    recent: Recent,
     ghost based_in: { Based trail.literals.items trail.reasons.items clauses },
     ghost within_in: { All (Within (length trail.values.items)) clauses },
     ghost room: { 2 * length trail.values.items < 2 ^ 32 },
@@ -59,6 +62,7 @@ impl Propagator for Watched {
             lists,
             short: Vec::new(alloc),
             head: 0,
+            recent: Recent::new(alloc),
         })
     }
 
@@ -75,7 +79,16 @@ impl Propagator for Watched {
     }
 
     fn add(&mut self, c: &[Lit]) -> Result<(), AllocError> {
-        self.learn(c, 0)
+        add_on(
+            &mut self.clauses,
+            &self.trail,
+            &mut self.rows,
+            &mut self.lists,
+            &mut self.short,
+            &mut self.head,
+            c,
+            0,
+        )
     }
 
     fn learn(&mut self, c: &[Lit], w: usize) -> Result<(), AllocError> {
@@ -86,6 +99,7 @@ impl Propagator for Watched {
             &mut self.lists,
             &mut self.short,
             &mut self.head,
+            &mut self.recent,
             c,
             w,
         )
