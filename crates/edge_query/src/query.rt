@@ -6,7 +6,7 @@ ghost use Rattle.edge_query.specs.Solving.{found_of};
 
 use crate::found::Found;
 use bit_graph::{Edge, Graph};
-use clause_core::{Bits, Clause, Clauses};
+use clause_core::Bits;
 use cnf_build::clauses;
 use effort_purse::Purse;
 use sat_core::{Answer, Solver};
@@ -41,22 +41,9 @@ pub fn satisfy<Q: Purse>(
     ensures budget { Q.budget purse.new ≡ Q.budget purse.old }
 {
     let cnf = clauses(alloc, graph, roots)?;
-    let mut solver = solver_of(alloc, cnf.vars, &cnf.clauses)?;
+    let mut solver: Engine = Solver::with_clauses(alloc, cnf.vars, &cnf.clauses)?;
     let answer = solver.solve(alloc, &cnf.roots, purse)?;
     Ok(found(answer, inputs))
-}
-
-// A solver over so many variables that was given these clauses.
-fn solver_of(alloc: Global, vars: usize, clauses: &Clauses) -> Result<Engine, AllocError>
-    requires { All (Within vars) clauses.now }
-    ensures { IfOk result (λ s. s ≡ record { vars = vars; given = clauses.now; learned = [] }) }
-{
-    let mut solver = Solver::new(alloc, vars)?;
-    'clauses: for k in 0..clauses.len() {
-        let clause = Clause::from_slice(alloc, clauses.get(k))?;
-        solver.add(&clause)?;
-    }
-    Ok(solver)
 }
 
 // What the solver's answer says of the inputs, whose variables come first.

@@ -9,7 +9,7 @@ use crate::encoding::{clauses, variables};
 use crate::lasso::BitLasso;
 use crate::plan::{Plan, Turn, sum};
 use crate::searched::Searched;
-use clause_core::{Bits, Clause, Clauses, System};
+use clause_core::{Bits, System};
 use effort_purse::Purse;
 use ltl_monitor::Monitored;
 use sat_core::{Answer, Solver};
@@ -44,7 +44,7 @@ pub fn search<Q: Purse>(
     let plan = plan(system, n);
     let vars = variables(&plan, system)?;
     let clauses = clauses(alloc, &plan, system)?;
-    let mut solver = solver_of(alloc, vars, &clauses)?;
+    let mut solver: Engine = Solver::with_clauses(alloc, vars, &clauses)?;
     let answer = solver.solve(alloc, &[], purse)?;
     let searched = searched(alloc, &plan, answer)?;
     Ok(searched)
@@ -65,19 +65,6 @@ fn plan(system: &System, states: usize) -> Plan
         bits: system.state_bits(),
         all: system.all_bits(),
     }
-}
-
-// A solver over so many variables that was given these clauses.
-fn solver_of(alloc: Global, vars: usize, clauses: &Clauses) -> Result<Engine, AllocError>
-    requires { All (Within vars) clauses.now }
-    ensures { IfOk result (λ s. s ≡ record { vars = vars; given = clauses.now; learned = [] }) }
-{
-    let mut solver = Solver::new(alloc, vars)?;
-    'clauses: for k in 0..clauses.len() {
-        let clause = Clause::from_slice(alloc, clauses.get(k))?;
-        solver.add(&clause)?;
-    }
-    Ok(solver)
 }
 
 // What the solver's answer says of the plan.

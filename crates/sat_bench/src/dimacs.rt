@@ -1,5 +1,5 @@
 //! Formulas in the DIMACS format for conjunctive normal form.
-ghost use Rattle.std.specs.Prelude.{All, IfOk};
+ghost use Rattle.std.specs.Prelude.{◌<◌, ◌≤◌, All, IfOk, length};
 ghost use Rattle.clause_core.specs.Literals.{Within};
 
 use clause_core::{Clauses, Lit};
@@ -14,9 +14,9 @@ pub struct Formula {
     pub clauses: Clauses,
 }
 
-/// Reads a formula line by line.
+// Reads a formula, whose text is at hand as a whole.
 #[derive(Drop)]
-pub struct Reader {
+struct Reader {
     vars: usize,
     clauses: Clauses,
     open: Vec<Lit>,
@@ -27,14 +27,65 @@ fn malformed() -> io::Error {
     io::Error::from(ErrorKind::InvalidData)
 }
 
-// The literal of a number, if it is not 0: variables are counted from 1, and a negative number negates.
-fn literal(number: i32) -> Option<Lit> {
-    let var = number.unsigned_abs().checked_sub(1)?;
-    Some(Lit::new(var as usize, number > 0))
+// Whether the byte stands between words.
+fn is_blank(byte: u8) -> bool {
+    byte == b' ' || byte == b'\n' || byte == b'\t' || byte == b'\r'
 }
 
-// The number of variables in a header's text after `p cnf`.
-fn header_vars(counts: &str) -> io::Result<usize> {
+// Where the line ends that goes on at `from`.
+fn line_end(text: &[u8], from: usize) -> usize
+    ensures { from ≤ length text.now → (from ≤ result) × (result ≤ length text.now) }
+{
+    for i in from..text.len() {
+        if text[i] == b'\n' {
+            return i;
+        }
+    }
+    text.len()
+}
+
+// Where the word ends that begins at `from`, and is a byte at least.
+fn word_end(text: &[u8], from: usize) -> usize
+    requires { from < length text.now }
+    ensures more { from < result }
+    ensures within { result ≤ length text.now }
+{
+    for i in from + 1..text.len() {
+        if is_blank(text[i]) {
+            return i;
+        }
+    }
+    text.len()
+}
+
+// The number that the digits spell, if they are digits and it is an `i32`.
+fn number_of(digits: &[u8]) -> Option<u64> {
+    if digits.is_empty() {
+        return None;
+    }
+    let mut value: u64 = 0;
+    for byte in digits {
+        let digit = byte.wrapping_sub(b'0');
+        if digit > 9 || value > i32::MAX as u64 {
+            return None;
+        }
+        value = value.wrapping_mul(10).wrapping_add(digit as u64);
+    }
+    if value > i32::MAX as u64 {
+        None
+    } else {
+        Some(value)
+    }
+}
+
+// The number of variables in a header.
+fn header_vars(header: &[u8]) -> io::Result<usize> {
+    let Ok(text) = std::str::from_utf8(header) else {
+        return Err(malformed());
+    };
+    let Some(counts) = text.strip_prefix("p cnf") else {
+        return Err(malformed());
+    };
     let Some(word) = counts.split_whitespace().next() else {
         return Err(malformed());
     };
@@ -45,39 +96,15 @@ fn header_vars(counts: &str) -> io::Result<usize> {
 }
 
 impl Reader {
-    /// A reader that has read nothing.
-    pub fn new(alloc: Global) -> Reader {
-        Reader {
-            vars: 0,
-            clauses: Clauses::new(alloc),
-            open: Vec::new(alloc),
-        }
-    }
-
-    /// Reads a comment, a header, or literals, where a 0 ends a clause.
-    ///
-    /// The errors: want of memory, and `InvalidData` for a word that is no number.
-    pub fn read_line(&mut self, line: &str) -> io::Result<()> {
-        if line.starts_with('c') {
-            return Ok(());
-        }
-        if let Some(counts) = line.strip_prefix("p cnf") {
-            self.vars = header_vars(counts)?;
-            return Ok(());
-        }
-        for word in line.split_whitespace() {
-            self.read_word(word)?;
-        }
-        Ok(())
-    }
-
-    // Reads a literal, or the end of a clause.
-    fn read_word(&mut self, word: &str) -> io::Result<()> {
-        let Ok(number) = word.parse::<i32>() else {
+    // Reads a literal, or the 0 that ends a clause: variables are counted from 1, and a negative number negates.
+    fn read_word(&mut self, word: &[u8]) -> io::Result<()> {
+        let negative = word.first() == Some(&b'-');
+        let digits = if negative { &word[1..] } else { word };
+        let Some(number) = number_of(digits) else {
             return Err(malformed());
         };
-        match literal(number) {
-            Some(literal) => self.open.push(literal)?,
+        match number.checked_sub(1) {
+            Some(var) => self.open.push(Lit::new(var as usize, !negative))?,
             None => {
                 self.clauses.push(&self.open)?;
                 self.open.clear();
@@ -86,20 +113,64 @@ impl Reader {
         Ok(())
     }
 
-    /// The formula that was read.
-    ///
-    /// The error `InvalidData` says that a clause has no end, or that a literal is past the header's variables.
-    pub fn finish(self) -> io::Result<Formula>
-        ensures { IfOk result (λ f. All (Within f.vars) f.clauses) }
+    // Reads what begins at `from`: a comment, a header or a word. Where it ends.
+    fn read_part(&mut self, text: &[u8], from: usize, is_first: bool) -> io::Result<usize>
+        requires { from < length text.now }
+        ensures more { IfOk result (λ end. from < end) }
+        ensures within { IfOk result (λ end. end ≤ length text.now) }
     {
-        let Reader {
-            vars,
-            clauses,
-            open,
-        } = self;
-        if !open.is_empty() || !clauses.is_within(vars) {
-            return Err(malformed());
+        if is_first && text[from] == b'c' {
+            return Ok(line_end(text, from + 1));
         }
-        Ok(Formula { vars, clauses })
+        if is_first && text[from] == b'p' {
+            let end = line_end(text, from + 1);
+            let vars = header_vars(&text[from..end])?;
+            self.vars = vars;
+            return Ok(end);
+        }
+        let end = word_end(text, from);
+        self.read_word(&text[from..end])?;
+        Ok(end)
     }
+
+    // Reads the text to its end.
+    fn read(&mut self, text: &[u8]) -> io::Result<()> {
+        let mut at = 0;
+        let mut is_first = true;
+        'text: while at < text.len() {
+            if is_blank(text[at]) {
+                is_first = text[at] == b'\n';
+                at += 1;
+            } else {
+                at = self.read_part(text, at, is_first)?;
+                is_first = false;
+            }
+        }
+        Ok(())
+    }
+}
+
+/// The formula of a text: lines that begin with `c` are comments, one that begins with `p cnf` and a number tells how
+/// many variables there are, and of the other words each is a literal, or the 0 that ends a clause.
+///
+/// The errors: want of memory; and `InvalidData` for a word that is no number, a clause without an end, or a literal
+/// past the header's variables.
+pub fn parse(alloc: Global, text: &[u8]) -> io::Result<Formula>
+    ensures { IfOk result (λ f. All (Within f.vars) f.clauses) }
+{
+    let mut reader = Reader {
+        vars: 0,
+        clauses: Clauses::new(alloc),
+        open: Vec::new(alloc),
+    };
+    reader.read(text)?;
+    let Reader {
+        vars,
+        clauses,
+        open,
+    } = reader;
+    if !open.is_empty() || !clauses.is_within(vars) {
+        return Err(malformed());
+    }
+    Ok(Formula { vars, clauses })
 }

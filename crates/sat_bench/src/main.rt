@@ -7,10 +7,11 @@ mod dimacs;
 mod report;
 mod solving;
 
-use dimacs::Reader;
+use dimacs::parse;
 use report::report;
 use solving::solve;
-use std::io::ErrorKind;
+use std::alloc::Global;
+use std::io::{ErrorKind, Read};
 use std::rt::Env;
 use std::{env, io};
 
@@ -27,14 +28,18 @@ fn budget<R: Env + AllocGlobal>(rt: &R) -> io::Result<u64> {
     }
 }
 
+// All that there is to read.
+fn text_of(alloc: Global, input: &mut impl Read) -> io::Result<Vec<u8>> {
+    let mut text = Vec::new(alloc);
+    input.read_to_end(&mut text)?;
+    Ok(text)
+}
+
 fn main(rt: HostRuntime) -> io::Result<()> {
     let alloc = rt.alloc();
     let budget = budget(&rt)?;
-    let mut reader = Reader::new(alloc);
-    for line in rt.lines(alloc) {
-        reader.read_line(line?.as_str())?;
-    }
-    let formula = reader.finish()?;
+    let text = text_of(alloc, &mut rt.stdin())?;
+    let formula = parse(alloc, &text)?;
     let outcome = solve(alloc, formula.vars, &formula.clauses, budget)?;
     rt.println(report(alloc, &outcome)?)
 }

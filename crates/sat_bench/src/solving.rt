@@ -4,7 +4,7 @@ ghost use Rattle.clause_core.specs.Literals.{Within};
 ghost use Rattle.effort_purse.specs.Plain.{plain_count};
 ghost use Rattle.sat_bench.specs.Verdicts.{IsRight, verdict_of};
 
-use clause_core::{Clause, Clauses};
+use clause_core::Clauses;
 use effort_purse::{Draw, PlainPurse, Purse};
 use sat_core::{Answer, Solver};
 use sat_prop::Watched;
@@ -29,19 +29,6 @@ pub struct Outcome {
 }
 
 type Engine = Solver<Watched>;
-
-// A solver over so many variables that was given these clauses.
-fn solver_of(alloc: Global, vars: usize, clauses: &Clauses) -> Result<Engine, AllocError>
-    requires { All (Within vars) clauses.now }
-    ensures { IfOk result (λ s. s ≡ record { vars = vars; given = clauses.now; learned = [] }) }
-{
-    let mut solver = Solver::new(alloc, vars)?;
-    'clauses: for k in 0..clauses.len() {
-        let clause = Clause::from_slice(alloc, clauses.get(k))?;
-        solver.add(&clause)?;
-    }
-    Ok(solver)
-}
 
 // The verdict of the solver's answer.
 fn verdict_of(answer: Answer) -> Verdict
@@ -77,7 +64,7 @@ pub fn solve(
     requires { All (Within vars) clauses.now }
     ensures { IfOk result (IsRight clauses.now budget) }
 {
-    let mut solver = solver_of(alloc, vars, clauses)?;
+    let mut solver: Engine = Solver::with_clauses(alloc, vars, clauses)?;
     let mut purse = PlainPurse::new(budget);
     let answer = solver.solve(alloc, &[], &mut purse)?;
     Ok(Outcome {

@@ -1,11 +1,11 @@
-ghost use Rattle.std.specs.Prelude.{◌≡◌, ◌-◌, ◌++◌, [], ◌∷◌, IfOk, OnOk, OnErr, length};
+ghost use Rattle.std.specs.Prelude.{◌≡◌, ◌-◌, ◌++◌, [], ◌∷◌, IfOk, OnOk, OnErr, All, length};
 ghost use Rattle.clause_core.specs.Literals.{Within};
 ghost use Rattle.sat_core.specs.Queries.{State, Learns, IsSound, AnswerSays, IsPaid};
 
 use crate::answer::Answer;
 use crate::order::Order;
 use crate::query::{add_on, ask};
-use clause_core::{Clause, Lit};
+use clause_core::{Clause, Clauses, Lit};
 use effort_purse::Purse;
 use sat_prop::Propagator;
 use std::alloc::{AllocError, Global};
@@ -50,6 +50,22 @@ impl<P: Propagator + Drop> Solver<P> {
         })
     }
 
+    /// A solver over `vars` variables that was given these clauses. The error is `new`'s.
+    pub fn with_clauses(
+        alloc: Global,
+        vars: usize,
+        clauses: &Clauses,
+    ) -> Result<Solver<P>, AllocError>
+        requires { All (Within vars) clauses.now }
+        ensures { IfOk result (λ s. s ≡ record { vars = vars; given = clauses.now; learned = [] }) }
+    {
+        let mut solver = Solver::new(alloc, vars)?;
+        'clauses: for k in 0..clauses.len() {
+            solver.push(clauses.get(k))?;
+        }
+        Ok(solver)
+    }
+
     /// How many variables there are.
     pub fn vars(&self) -> usize
         ensures { result ≡ self.now.vars }
@@ -63,12 +79,16 @@ impl<P: Propagator + Drop> Solver<P> {
         ensures done { OnOk result (self.new ≡ record self.old { given = self.old.given ++ c.now ∷ [] }) }
         ensures failed { OnErr result (self.new ≡ self.old) }
     {
-        add_on(
-            &mut self.inner,
-            &mut self.marks,
-            &mut self.order,
-            c.as_slice(),
-        )
+        self.push(c.as_slice())
+    }
+
+    // Adds the clause of these literals. After want of memory all is as before.
+    fn push(&mut self, c: &[Lit]) -> Result<(), AllocError>
+        requires { Within self.old.vars c.now }
+        ensures done { OnOk result (self.new ≡ record self.old { given = self.old.given ++ c.now ∷ [] }) }
+        ensures failed { OnErr result (self.new ≡ self.old) }
+    {
+        add_on(&mut self.inner, &mut self.marks, &mut self.order, c)
     }
 
     /// Whether the clauses and the assumptions can all be true.

@@ -9,9 +9,9 @@ use Rattle.lasso_search.proofs.WithinVars.{clauses_in}
 use Rattle.lasso_search.proofs.Answers.{finds, paid}
 use Rattle.lasso_search.proofs.searching.search.Goals as goal
 
-pub solver_of-requires : goal.solver_of-requires
+pub with_clauses-requires : goal.with_clauses-requires
 unfolding clauses_of vars_of
-solver_of-requires g c =
+with_clauses-requires g c =
     let m = c.args.monitored.now.system in
     let vars_are = c.in_ok-vars.ensures ∙ ap (λ (p : Plan). vars_at p m) c.plan-plan.ensures.plan in
     let given_are = c.in_ok-clauses.ensures ∙ ap (λ (p : Plan). clauses_at p m) c.plan-plan.ensures.plan in
