@@ -2,22 +2,19 @@
 use Rattle.std.proofs.Common.{◌≡◌, ℕ, ◌<◌, ◌-◌, Bool, true, false, List, [], ◌∷◌, ◌++◌, length, take, get_or, set, refl, sym, subst, ap, ◌∙◌, inl, inr, arith, get_or-set_other, get_or-set_same, length-append, length-set}
 use Rattle.std.specs.List.{All}
 use Rattle.std.proofs.Math.ListN.{get_or-map}
-use Rattle.std.proofs.Math.Seq.{map-set_same, get_or-append_seam}
+use Rattle.std.proofs.Math.Seq.{get_or-append_seam}
 use Rattle.std.proofs.lemmas.Bool.{cases_eq, cases_lt, both_ways}
-use Rattle.std.proofs.lemmas.List.{length-map, map-append, map-set, set-set, set-get_or, take-append-le, take-map, take_all, get_or_append_left, get_or_past}
-use Rattle.std.proofs.lemmas.List.Elements.{All-push, All-set, All-take, All-get_or, All-weaker}
+use Rattle.std.proofs.lemmas.List.{map-append, map-set, set-set, set-get_or, take-append-le, take_all, get_or_append_left, get_or_past}
+use Rattle.std.proofs.lemmas.List.Elements.{All-push, All-weaker}
 use Rattle.clause_core.specs.declared.literal.Lit.{Lit}
 use Rattle.sat_prop.specs.declared.lists.Entry.{Entry}
 use Rattle.sat_prop.specs.declared.watch.Watches.{Watches}
-use Rattle.sat_prop.specs.Entries.{AllEntries, entry_out, fits, listed_with, none_entry, numbers, numbers_of}
+use Rattle.sat_prop.specs.Entries.{AllEntries, fits, listed_with, none_entry, numbers, numbers_of}
 use Rattle.sat_prop.specs.Trails.{among}
-use Rattle.sat_prop.specs.Watches.{cell, swap_out}
+use Rattle.sat_prop.specs.Watches.{cell}
 
 pub numbers_at : (lists : List (List Entry)) (n : ℕ) → get_or (numbers_of lists) n [] ≡ numbers (get_or lists n [])
 numbers_at lists n = get_or-map numbers lists n []
-
-pub numbers_len : (lists : List (List Entry)) (n : ℕ) → length (get_or (numbers_of lists) n []) ≡ length (get_or lists n [])
-numbers_len lists n = ap length (numbers_at lists n) ∙ length-map (get_or lists n []) (λ e. e.clause)
 
 pub number_at : (xs : List Entry) (i : ℕ) → get_or (numbers xs) i 0 ≡ (get_or xs i none_entry).clause
 number_at xs i = get_or-map (λ e. e.clause) xs i none_entry
@@ -29,36 +26,6 @@ numbers_push lists new c e same =
     ap numbers_of same
     ∙ map-set numbers lists c (get_or lists c [] ++ e ∷ [])
     ∙ ap (set (numbers_of lists) c) (map-append (λ (x : Entry). x.clause) (get_or lists c []) (e ∷ []) ∙ ap (λ v. v ++ e.clause ∷ []) (sym (numbers_at lists c)))
-
--- an entry fewer
-pub numbers_out : (xs : List Entry) (i : ℕ) → numbers (entry_out xs i) ≡ swap_out (numbers xs) i
-numbers_out xs i =
-    let n = length xs - 1 in
-    let y = get_or xs n none_entry in
-    let f : Entry → ℕ = λ e. e.clause in
-    let len : length (numbers xs) ≡ length xs = length-map xs f in
-    let a : numbers (take n (set xs i y)) ≡ take n (numbers (set xs i y)) = sym (take-map f n (set xs i y)) in
-    let b : numbers (set xs i y) ≡ set (numbers xs) i (get_or (numbers xs) n 0) = map-set f xs i y ∙ ap (set (numbers xs) i) (sym (number_at xs n)) in
-    a ∙ ap (take n) b ∙ ap (λ m. take (m - 1) (set (numbers xs) i (get_or (numbers xs) (m - 1) 0))) (sym len)
-
-pub numbers_remove : (lists new : List (List Entry)) (c i : ℕ) → new ≡ set lists c (entry_out (get_or lists c []) i) →
-    numbers_of new ≡ set (numbers_of lists) c (swap_out (get_or (numbers_of lists) c []) i)
-numbers_remove lists new c i same =
-    ap numbers_of same
-    ∙ map-set numbers lists c (entry_out (get_or lists c []) i)
-    ∙ ap (set (numbers_of lists) c) (numbers_out (get_or lists c []) i ∙ ap (λ v. swap_out v i) (sym (numbers_at lists c)))
-
--- another entry of the same clause
-pub numbers_put : (lists new : List (List Entry)) (c i : ℕ) (e : Entry) → e.clause ≡ get_or (get_or (numbers_of lists) c []) i 0 →
-    new ≡ set lists c (set (get_or lists c []) i e) → numbers_of new ≡ numbers_of lists
-numbers_put lists new c i e number same =
-    let xs = get_or lists c [] in
-    let here : e.clause ≡ (get_or xs i none_entry).clause = number ∙ ap (λ v. get_or v i 0) (numbers_at lists c) ∙ number_at xs i in
-    let kept : numbers (set xs i e) ≡ numbers xs = map-set_same (λ (x : Entry). x.clause) xs i e none_entry here in
-    ap numbers_of same
-    ∙ map-set numbers lists c (set xs i e)
-    ∙ ap (set (numbers_of lists) c) (kept ∙ sym (numbers_at lists c))
-    ∙ set-get_or (numbers_of lists) c []
 
 -- what all entries pass
 pub entries_set : (p : Entry → Bool) (lists new : List (List Entry)) (c : ℕ) (xs : List Entry) → c < length lists → new ≡ set lists c xs →
@@ -80,21 +47,6 @@ pub entries_push : (p : Entry → Bool) (lists new : List (List Entry)) (c : ℕ
     AllEntries p lists → p e ≡ true → AllEntries p new
 entries_push p lists new c e lt same all here =
     entries_set p lists new c (get_or lists c [] ++ e ∷ []) lt same all (All-push (λ x. p x ≡ true) (get_or lists c []) e (all c) here)
-
-pub entries_put : (p : Entry → Bool) (lists new : List (List Entry)) (c i : ℕ) (e : Entry) → c < length lists → new ≡ set lists c (set (get_or lists c []) i e) →
-    AllEntries p lists → p e ≡ true → AllEntries p new
-entries_put p lists new c i e lt same all here =
-    entries_set p lists new c (set (get_or lists c []) i e) lt same all (All-set (λ x. p x ≡ true) (get_or lists c []) i e here (all c))
-
-pub entries_remove : (p : Entry → Bool) (lists new : List (List Entry)) (c i : ℕ) → c < length lists → i < length (get_or lists c []) →
-    new ≡ set lists c (entry_out (get_or lists c []) i) → AllEntries p lists → AllEntries p new
-entries_remove p lists new c i lt li same all =
-    let xs = get_or lists c [] in
-    let n = length xs - 1 in
-    let y = get_or xs n none_entry in
-    let P : Entry → Type 0 = λ x. p x ≡ true in
-    let last : P y = All-get_or P xs n none_entry (omega arith) (all c) in
-    entries_set p lists new c (entry_out xs i) lt same all (All-take P n (set xs i y) (All-set P xs i y last (all c)))
 
 -- what was put at the end is taken out again
 pub undone : (lists mid last : List (List Entry)) (c : ℕ) (e : Entry) → c < length lists → mid ≡ set lists c (get_or lists c [] ++ e ∷ []) →

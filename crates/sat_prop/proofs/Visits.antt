@@ -1,21 +1,25 @@
-use Rattle.std.proofs.Common.{◌≡◌, ℕ, ◌<◌, ◌≤◌, ◌+◌, ◌-◌, ◌*◌, Bool, true, false, eqb, List, [], ◌∷◌, ◌++◌, length, get_or, refl, sym, subst, ap, ◌∙◌, inl, inr, ◌⊎◌, arith, set, get_or-set_other, get_or-set_same, length-append, length-set}
+use Rattle.std.proofs.Common.{◌≡◌, ℕ, ◌<◌, ◌≤◌, ◌*◌, ◌^◌, Bool, true, false, eqb, List, [], ◌∷◌, ◌++◌, Some, length, map, get_or, refl, sym, subst, ap, ◌∙◌, inl, inr, ◌⊎◌, arith, set, get_or-set_other, get_or-set_same, length-append, length-set}
 use Rattle.std.specs.List.{list_any}
 use Rattle.std.proofs.Math.Seq.{get_or-append_seam}
 use Rattle.std.proofs.lemmas.Bool.{cases_eq, both_ways}
-use Rattle.std.proofs.lemmas.List.{get_or_append_left, get_or_default, get_or_past, length-take-le, length-take}
+use Rattle.std.proofs.lemmas.List.{get_or_append_left, get_or_default, length-map, length-take}
+use Rattle.std.proofs.lemmas.List.Elements.{All-contains}
 use Rattle.clause_core.specs.declared.literal.Lit.{Lit}
-use Rattle.clause_core.specs.Literals.{negate, none_lit, at}
+use Rattle.clause_core.specs.Literals.{Within, negate, none_lit, at}
 use Rattle.unit_propagation.specs.Values.{holds}
 use Rattle.sat_prop.specs.declared.watch.Watches.{Watches}
 use Rattle.sat_prop.specs.declared.watch.Finding.TheVariants.{Move}
 use Rattle.sat_prop.specs.declared.trail.Trail.{Trail}
 use Rattle.sat_prop.specs.Moves.{Extends}
 use Rattle.sat_prop.specs.Trails.{is_literal, among}
-use Rattle.sat_prop.specs.Watches.{one, none_watches, watches_at, TrueIn, Guarded, HasTwo, WatchesIn, AllWatchesIn, Listed, AllListed, cell, DoneWith, DoneWithBelow, Kept, swap_out, FindingSays}
+use Rattle.sat_prop.specs.Watches.{one, none_watches, watches_at, TrueIn, Guarded, HasTwo, WatchesIn, AllWatchesIn, Listed, AllListed, cell, DoneWith, Kept, FindingSays, OtherSays}
 use Rattle.sat_prop.specs.Packing.{pair_of, pairs, RowsMatch}
 use Rattle.sat_prop.proofs.Matching.{pair_at}
 use Rattle.sat_prop.proofs.Ways.{lit_is_itself, among_where, among_here, at_take}
-use Rattle.sat_prop.proofs.Watching.{swap_below, list_at, list_where, lists_remove, cell_same, true_grows}
+use Rattle.sat_prop.specs.Words.{literal_of}
+use Rattle.sat_prop.proofs.Packed.{literal_cell}
+use Rattle.sat_prop.proofs.Sweeps.{contains_among}
+use Rattle.sat_prop.proofs.Watching.{list_at, list_where, cell_same, true_grows}
 
 pub one_le : (b : Bool) → one b ≤ 1
 one_le true = omega arith
@@ -24,26 +28,6 @@ one_le false = omega arith
 pub cell_now : (lists : List (List ℕ)) (c : ℕ) (xs : List ℕ) → c < length lists → get_or (set lists c xs) c [] ≡ xs
 cell_now lists c xs lt = get_or-set_same lists c xs [] lt
 
-pub swap_length : (xs : List ℕ) (i : ℕ) → i < length xs → length (swap_out xs i) ≡ length xs - 1
-swap_length xs i lt =
-    let w = set xs i (get_or xs (length xs - 1) 0) in
-    let lw : length w ≡ length xs = length-set xs i (get_or xs (length xs - 1) 0) in
-    length-take-le (length xs - 1) w (omega (arith, lw))
-
-pub done_swap : (cs : List (List Lit)) (watches : List Watches) (literals : List Lit) (f : Lit) (xs : List ℕ) (i : ℕ) → i < length xs →
-    DoneWithBelow cs watches literals f xs i → DoneWithBelow cs watches literals f (swap_out xs i) i
-done_swap cs watches literals f xs i lt h j lj =
-    let P : ℕ → Type 0 = DoneWith cs watches literals f in
-    subst P (sym (swap_below xs i j lt lj)) (h j lj)
-
-pub done_more : (cs : List (List Lit)) (watches : List Watches) (literals : List Lit) (f : Lit) (xs : List ℕ) (i k : ℕ) → k ≡ get_or xs i 0 →
-    DoneWithBelow cs watches literals f xs i → DoneWith cs watches literals f k → DoneWithBelow cs watches literals f xs (i + 1)
-done_more cs watches literals f xs i k e h here j lj =
-    elim (cases_eq j i) [
-      | inl same ↦ let P : ℕ → Type 0 = λ x. DoneWith cs watches literals f (get_or xs x 0) in let Q : ℕ → Type 0 = DoneWith cs watches literals f in subst P (sym same) (subst Q e here)
-      | inr ne ↦ h j (omega arith)
-    ]
-
 pub done_true : (cs : List (List Lit)) (watches : List Watches) (literals : List Lit) (f : Lit) (k : ℕ) → TrueIn literals (get_or cs k []) → DoneWith cs watches literals f k
 done_true cs watches literals f k t lk big = (λ _. t, λ _. t)
 
@@ -51,19 +35,6 @@ pub done_grows : (cs : List (List Lit)) (watches : List Watches) (u w : List Lit
     DoneWith cs watches u f k → DoneWith cs watches w f k
 done_grows cs watches u w f k g d lk big =
     let h = d lk big in (λ e. true_grows u w (get_or cs k []) g (h.0 e), λ e. true_grows u w (get_or cs k []) g (h.1 e))
-
--- the end: each clause that watches f was visited
-pub done_all : (cs : List (List Lit)) (watches : List Watches) (lists : List (List ℕ)) (literals : List Lit) (f : Lit) (i : ℕ) → length watches ≡ length cs → AllListed watches lists →
-    length (get_or lists (cell f) []) ≤ i → DoneWithBelow cs watches literals f (get_or lists (cell f) []) i → (k : ℕ) → DoneWith cs watches literals f k
-done_all cs watches lists literals f i len ok le below k lk big =
-    let h = ok k (omega arith) big in
-    let xs = get_or lists (cell f) [] in
-    let from : (l : Lit) → Listed lists (cell l) k → l ≡ f → DoneWith cs watches literals f k = λ l listed e.
-    let P : Lit → Type 0 = λ x. Listed lists (cell x) k in
-    let w = list_where xs k (subst P e listed) in
-    let Q : ℕ → Type 0 = DoneWith cs watches literals f in
-    subst Q w.2 (below w.0 (omega (arith, w.1))) in
-    (λ e. (from (watches_at watches k).a h.0 e lk big).0 e, λ e. (from (watches_at watches k).b h.1 e lk big).1 e)
 
 -- a watch moves
 pub head_new : (watches : List Watches) (k : ℕ) (h : Watches) → k < length watches → watches_at (set watches k h) k ≡ h
@@ -123,11 +94,10 @@ kept_move cs watches k g o literals lk big which off s u part old j lj bigj =
           subst G (sym e) (old j lj (subst B e bigj))
     ]
 
-pub done_move : (cs : List (List Lit)) (watches : List Watches) (k : ℕ) (g o f : Lit) (literals : List Lit) (xs : List ℕ) (i : ℕ) → k < length watches → (g ≡ f → ⊥) → (o ≡ f → ⊥) →
-    DoneWithBelow cs watches literals f xs i → DoneWithBelow cs (set watches k (record { a = g; b = o })) literals f xs i
-done_move cs watches k g o f literals xs i lk ng mo h j lj lc big =
+pub done_move : (cs : List (List Lit)) (watches : List Watches) (k : ℕ) (g o f : Lit) (literals : List Lit) (e : ℕ) → k < length watches → (g ≡ f → ⊥) → (o ≡ f → ⊥) →
+    DoneWith cs watches literals f e → DoneWith cs (set watches k (record { a = g; b = o })) literals f e
+done_move cs watches k g o f literals e lk ng mo h lc big =
     let new : Watches = record { a = g; b = o } in
-    let e = get_or xs j 0 in
     let c = get_or cs e [] in
     let W : Watches → Type 0 = λ x. ((x.a ≡ f) → TrueIn literals c) × ((x.b ≡ f) → TrueIn literals c) in
     elim (cases_eq e k) [
@@ -138,7 +108,7 @@ done_move cs watches k g o f literals xs i lk ng mo h j lj lc big =
       | inr ne ↦
           let B : Watches → Type 0 = HasTwo in
           let s = head_other watches k e new ne in
-          subst W (sym s) (h j lj lc (subst B s big))
+          subst W (sym s) (h lc (subst B s big))
     ]
 
 pub list_push : (xs : List ℕ) (k j : ℕ) → list_any (λ x. eqb x j) xs ≡ true → list_any (λ x. eqb x j) (xs ++ k ∷ []) ≡ true
@@ -192,33 +162,8 @@ lists_move watches lists k g o lk lg big which ok j lj bigj =
 pub cell_in : (l : Lit) (v : ℕ) → l.var < v → cell l < 2 * v
 cell_in l v lt = omega (arith, one_le l.positive)
 
-pub removed : (cs : List (List Lit)) (watches : List Watches) (lists lists' : List (List ℕ)) (literals : List Lit) (f : Lit) (n i k : ℕ) → n < length lists →
-    i < length (get_or lists n []) → k ≡ get_or (get_or lists n []) i 0 →
-    (HasTwo (watches_at watches k) → (cell (watches_at watches k).a ≡ n → ⊥) × (cell (watches_at watches k).b ≡ n → ⊥)) → AllListed watches lists →
-    DoneWithBelow cs watches literals f (get_or lists n []) i → lists' ≡ set lists n (swap_out (get_or lists n []) i) →
-    AllListed watches lists' × (length lists' ≡ length lists) × DoneWithBelow cs watches literals f (get_or lists' n []) i × (length (get_or lists' n []) ≡ length (get_or lists n []) - 1)
-removed cs watches lists lists' literals f n i k ln li ek apart ok done e =
-    let xs = get_or lists n [] in
-    let new = set lists n (swap_out xs i) in
-    let now : get_or new n [] ≡ swap_out xs i = cell_now lists n (swap_out xs i) ln in
-    let R : List (List ℕ) → Type 0 = λ v. AllListed watches v × (length v ≡ length lists) × DoneWithBelow cs watches literals f (get_or v n []) i × (length (get_or v n []) ≡ length xs - 1) in
-    let D : List ℕ → Type 0 = λ v. DoneWithBelow cs watches literals f v i in
-    let here : R new = (
-      lists_remove watches lists n i k ln li (sym ek) apart ok,
-      length-set lists n (swap_out xs i),
-      subst D (sym now) (done_swap cs watches literals f xs i li done),
-      ap length now ∙ swap_length xs i li,
-    ) in
-    subst R (sym e) here
-
 pub apart_from : (h : Watches) (f : Lit) (n : ℕ) → n ≡ cell f → (HasTwo h → (h.a ≡ f → ⊥) × (h.b ≡ f → ⊥)) → HasTwo h → (cell h.a ≡ n → ⊥) × (cell h.b ≡ n → ⊥)
 apart_from h f n e far big = (λ q. (far big).0 (cell_same h.a f (q ∙ e)), λ q. (far big).1 (cell_same h.b f (q ∙ e)))
-
-pub none_not_big : (watches : List Watches) (k : ℕ) → length watches ≤ k → HasTwo (watches_at watches k) → ⊥
-none_not_big watches k le big =
-    let e : watches_at watches k ≡ none_watches = get_or_past watches k none_watches le in
-    let B : Watches → Type 0 = HasTwo in
-    both_ways _ (subst B e big) (lit_is_itself none_lit)
 
 pub went_grows : (old new : Trail) → Extends old new → (l : Lit) → among old.literals.items l ≡ true → among new.literals.items l ≡ true
 went_grows old new w l on =
@@ -252,29 +197,57 @@ move_facts cs rows t k j g o row v er ev same said =
     let place : P (get_or rows k []) = subst P er said.0 in
     (sym (same g) ∙ among_here (get_or rows k []) j g place.0 place.2, t.values_ok (negate g) ∙ subst Q ev said.1, said.2, place)
 
-pub moved : (cs : List (List Lit)) (watches : List Watches) (lists mid last : List (List ℕ)) (literals : List Lit) (f g o : Lit) (k n m i : ℕ) → m ≡ cell g → n ≡ cell f →
-    (g ≡ f → ⊥) → (o ≡ f → ⊥) → k < length watches → m < length lists → n < length lists → HasTwo (watches_at watches k) → is_literal g o ≡ false →
-    ((o ≡ (watches_at watches k).b) ⊎ (o ≡ (watches_at watches k).a)) → i < length (get_or lists n []) → k ≡ get_or (get_or lists n []) i 0 → AllListed watches lists →
-    DoneWithBelow cs watches literals f (get_or lists n []) i → mid ≡ set lists m (get_or lists m [] ++ k ∷ []) → last ≡ set mid n (swap_out (get_or mid n []) i) →
-    AllListed (set watches k (record { a = g; b = o })) last × (length last ≡ length lists)
-    × DoneWithBelow cs (set watches k (record { a = g; b = o })) literals f (get_or last n []) i × (length (get_or last n []) ≡ length (get_or lists n []) - 1)
-moved cs watches lists mid last literals f g o k n m i em en ng mo lk lm ln big apart' which li ek ok done emid elast =
-    let new : Watches = record { a = g; b = o } in
-    let watches' = set watches k new in
-    let xs = get_or lists n [] in
-    let ne : n ≡ m → ⊥ = λ e. ng (cell_same g f (sym em ∙ sym e ∙ en)) in
-    let same : get_or (set lists m (get_or lists m [] ++ k ∷ [])) n [] ≡ xs = rw get_or-set_other refl in
-    let M : ℕ → Type 0 = λ x. AllListed watches' (set lists x (get_or lists x [] ++ k ∷ [])) in
-    let G : ℕ → Type 0 = λ x. x < length lists in
-    let okm : M m = subst M (sym em) (lists_move watches lists k g o lk (subst G em lm) big which ok) in
-    let L : List (List ℕ) → Type 0 = λ v. AllListed watches' v in
-    let okmid : L mid = subst L (sym emid) okm in
-    let now : get_or mid n [] ≡ xs = ap (λ v. get_or v n []) emid ∙ same in
-    let len : length mid ≡ length lists = ap length emid ∙ length-set lists m (get_or lists m [] ++ k ∷ []) in
-    let A : Watches → Type 0 = λ h. HasTwo h → (cell h.a ≡ n → ⊥) × (cell h.b ≡ n → ⊥) in
-    let far : A new = λ _. (λ q. ng (cell_same g f (q ∙ en)), λ q. mo (cell_same o f (q ∙ en))) in
-    let D : List ℕ → Type 0 = λ v. DoneWithBelow cs watches' literals f v i in
-    let I : List ℕ → Type 0 = λ v. i < length v in
-    let r = removed cs watches' mid last literals f n i k (omega (arith, len, ln)) (subst I (sym now) li) (ek ∙ ap (λ v. get_or v i 0) (sym now))
-    (subst A (sym (head_new watches k new lk)) far) okmid (subst D (sym now) (done_move cs watches k g o f literals xs i lk ng mo done)) elast in
-    (r.0, r.1 ∙ len, r.2, r.3 ∙ ap (λ v. length v - 1) now)
+-- what is known of the clause in hand: `f` is one of its two watches, and `o` the other
+pub record InHand (cs rows : List (List Lit)) (k : ℕ) (f o : Lit) : Type 0 where
+  pub here : k < length cs
+  pub paired : k < length (pairs rows)
+  pub two : HasTwo (watches_at (pairs rows) k)
+  pub on : among (get_or cs k []) o ≡ true
+  pub which : (o ≡ (watches_at (pairs rows) k).b) ⊎ (o ≡ (watches_at (pairs rows) k).a)
+  pub apart : o ≡ f → ⊥
+  pub same : (l : Lit) → among (get_or rows k []) l ≡ among (get_or cs k []) l
+  pub said : HasTwo (pair_of (get_or rows k [])) × (((pair_of (get_or rows k [])).a ≡ f) × (o ≡ (pair_of (get_or rows k [])).b) ⊎ ((pair_of (get_or rows k [])).b ≡ f) × (o ≡ (pair_of (get_or rows k [])).a))
+
+pub in_hand : (cs rows : List (List Lit)) (words : List ℕ) (k : ℕ) (f o : Lit) (fallen other : ℕ) → map literal_of words ≡ get_or rows k [] → k < length rows → length rows ≡ length cs →
+    AllWatchesIn cs (pairs rows) → RowsMatch cs rows → fallen ≡ cell f → o ≡ literal_of other →
+    OtherSays (pair_of (map literal_of words)) (literal_of fallen) (Some (literal_of other)) → InHand cs rows k f o
+in_hand cs rows words k f o fallen other row lr len ok match ef eo says =
+    let lp : k < length (pairs rows) = omega (arith, lr, length-map rows pair_of) in
+    let lc : k < length cs = omega (arith, lr, len) in
+    let O : List Lit → Lit → Lit → Type 0 = λ r x y. OtherSays (pair_of r) x (Some y) in
+    let A : List Lit → Type 0 = λ r. O r (literal_of fallen) (literal_of other) in
+    let B : Lit → Type 0 = λ x. O (get_or rows k []) x (literal_of other) in
+    let C : Lit → Type 0 = O (get_or rows k []) f in
+    let said : C o = subst C (sym eo) (subst B (ap literal_of ef ∙ literal_cell f) (subst A row says)) in
+    let W : Watches → Type 0 = λ h. HasTwo h × ((h.a ≡ f) × (o ≡ h.b) ⊎ (h.b ≡ f) × (o ≡ h.a)) in
+    let w : W (watches_at (pairs rows) k) = subst W (sym (pair_at rows k)) said in
+    let h = watches_at (pairs rows) k in
+    let differ : h.a ≡ h.b → ⊥ = λ s. both_ways _ w.0 (rw s (lit_is_itself h.b)) in
+    let both = ok k lc w.0 in
+    let P : Lit → Type 0 = λ x. among (get_or cs k []) x ≡ true in
+    record {
+      here = lc;
+      paired = lp;
+      two = w.0;
+      on = elim w.1 [
+        | inl u ↦ subst P (sym u.1) both.1
+        | inr u ↦ subst P (sym u.1) both.0
+      ];
+      which = elim w.1 [
+        | inl u ↦ inl u.1
+        | inr u ↦ inr u.1
+      ];
+      apart = elim w.1 [
+        | inl u ↦ λ q. differ (u.0 ∙ sym q ∙ u.1)
+        | inr u ↦ λ q. differ (sym u.1 ∙ q ∙ sym u.0)
+      ];
+      same = matched cs rows k lc match w.0;
+      said = said;
+    }
+
+-- the variable and the number of a literal of a clause
+pub var_in : (c : List Lit) (n : ℕ) (l : Lit) → Within n c → among c l ≡ true → l.var < n
+var_in c n l within on = All-contains (λ x. x.var < n) c l within (contains_among c l on)
+
+pub low_cell : (c : List Lit) (n : ℕ) (l : Lit) → Within n c → among c l ≡ true → 2 * n < 2 ^ 32 → cell l < 2 ^ 32
+low_cell c n l within on room = let v = var_in c n l within on in omega (arith, cell_in l n v, room)

@@ -1,5 +1,5 @@
 -- Lists of the clauses that watch a literal, each with another literal of the clause.
-use Rattle.std.specs.Prelude.{◌≡◌, ℕ, ◌-◌, Bool, true, List, [], ◌∷◌, ◌++◌, length, take, map, slice_set, slice_index_or, All}
+use Rattle.std.specs.Prelude.{◌≡◌, ℕ, Bool, true, List, [], ◌∷◌, ◌++◌, map, slice_set, slice_index_or, All}
 use Rattle.clause_core.specs.declared.literal.Lit.{Lit}
 use Rattle.clause_core.specs.Literals.{none_lit}
 use Rattle.sat_prop.specs.declared.lists.Entry.{Entry}
@@ -26,10 +26,6 @@ AllEntries p lists = (n : ℕ) → All (λ e. p e ≡ true) (slice_index_or list
 -- whether the entry's other literal is one of its clause's
 abbrev pub fits : List (List Lit) → Entry → Bool
 fits cs e = among (slice_index_or cs e.clause []) e.other
-
--- a list without its i-th entry, the last one in its place
-abbrev pub entry_out : List Entry → ℕ → List Entry
-entry_out xs i = take (length xs - 1) (slice_set xs i (slice_index_or xs (length xs - 1) none_entry))
 
 -- the lists with clause number k at the end of those of its two watches, each time with the other watch
 abbrev pub listed_with : List (List Entry) → Watches → ℕ → List (List Entry)

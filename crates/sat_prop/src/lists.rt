@@ -1,13 +1,14 @@
-ghost use Rattle.std.specs.Prelude.{◌+◌, ◌-◌, ◌*◌, ◌^◌, [], ◌∷◌, ◌≡◌, ◌<◌, ◌≤◌, ℕ, ◌++◌, Bool, true, IfOk, OnOk, OnErr, length, List, take, slice_set, slice_index, slice_index_or};
-ghost use Rattle.sat_prop.specs.Entries.{AllEntries, entry_out, numbers_of};
-ghost use Rattle.sat_prop.specs.Slots.{entry_of};
+ghost use Rattle.std.specs.Prelude.{◌+◌, ◌-◌, ◌*◌, ◌^◌, [], ◌∷◌, ◌≡◌, ◌<◌, ◌≤◌, ℕ, ◌++◌, Bool, true, IfOk, OnOk, OnErr, length, List, take, drop, slice_set, slice_index_or, MatchOption};
+ghost use Rattle.sat_prop.specs.Entries.{AllEntries};
+ghost use Rattle.sat_prop.specs.Slots.{entries_of, entry_of};
 ghost use Rattle.sat_prop.specs.Watches.{cell};
 ghost use Rattle.sat_prop.specs.declared.lists.Entry.{Entry};
 
-use crate::words::{literal, word_of};
+use crate::words::word_of;
 use clause_core::Lit;
 use std::alloc::{AllocError, Global};
 use std::marker::Model;
+use std::mem::replace;
 
 // The number of a clause that watches a literal, and another literal of it: where that one is true, nothing is to
 // be done at the clause, and it need not be looked up.
@@ -65,41 +66,6 @@ impl WatchLists {
         Ok(WatchLists { cells })
     }
 
-    // The length of list number c.
-    pub fn size(&self, c: usize) -> usize
-        requires { c < length self.now }
-        ensures { result ≡ length (slice_index_or self.now c []) }
-    {
-        self.cells[c].as_slice().len()
-    }
-
-    // Entry i of list number c.
-    pub fn get(&self, c: usize, i: usize) -> Entry
-        requires cell { c < length self.now }
-        requires entry { i < length (slice_index_or self.now c []) }
-        ensures clause { result.clause ≡ slice_index (slice_index_or (numbers_of self.now) c []) i }
-        ensures fits { (p : Entry → Bool) → AllEntries p self.now → p result ≡ true }
-        ensures low { result.clause < 2 ^ 32 }
-    {
-        let slot = self.cells[c][i];
-        Entry {
-            clause: slot.clause as usize,
-            other: literal(slot.other),
-        }
-    }
-
-    // Writes entry i of list number c.
-    pub fn put(&mut self, c: usize, i: usize, e: Entry)
-        requires cell { c < length self.old }
-        requires entry { i < length (slice_index_or self.old c []) }
-        requires clause { e.clause < 2 ^ 32 }
-        requires other { cell e.other < 2 ^ 32 }
-        ensures { self.new ≡ slice_set self.old c (slice_set (slice_index_or self.old c []) i e) }
-    {
-        let slot = slot_of(e);
-        self.cells[c][i] = slot;
-    }
-
     // Puts an entry at the end of list number c.
     pub fn push(&mut self, c: usize, e: Entry) -> Result<(), AllocError>
         requires cell { c < length self.old }
@@ -121,12 +87,105 @@ impl WatchLists {
         let _ = self.cells[c].pop();
     }
 
-    // Takes entry i out of list number c, and puts the last one into its place.
-    pub fn remove(&mut self, c: usize, i: usize)
-        requires cell { c < length self.old }
-        requires entry { i < length (slice_index_or self.old c []) }
-        ensures { self.new ≡ slice_set self.old c (entry_out (slice_index_or self.old c []) i) }
+    // Takes list number c out, and leaves an empty one.
+    pub fn take(&mut self, c: usize) -> Vec<Slot>
+        requires { c < length self.old }
+        ensures list { entries_of result.items ≡ slice_index_or self.old c [] }
+        ensures others { self.new ≡ slice_set self.old c [] }
     {
-        self.cells[c].swap_remove(i);
+        let alloc = *self.cells.allocator();
+        replace(&mut self.cells[c], Vec::new(alloc))
+    }
+
+    // Puts this in place of list number c.
+    pub fn put_back(&mut self, c: usize, slots: Vec<Slot>)
+        requires { c < length self.old }
+        ensures { self.new ≡ slice_set self.old c (entries_of slots.items) }
+    {
+        self.cells[c] = slots;
+    }
+}
+
+// A list from which entries are taken out while it is read. Those that stay keep their order, and are moved to the
+// front: below `kept` they stay, and from `read` on they are still to be read.
+#[derive(Drop)]
+pub struct Sieve {
+    slots: Vec<Slot>,
+    kept: usize,
+    read: usize,
+}
+
+impl Model for Sieve {
+    ghost use Rattle.std.specs.Prelude.{◌≤◌, take, drop, length};
+    ghost use Rattle.sat_prop.specs.Sifted.{Sifted};
+    ghost use Rattle.sat_prop.specs.Slots.{entries_of};
+
+    ghost Value = { Sifted };
+
+    ghost view = { λ s. record { kept = entries_of (take s.kept s.slots.items); rest = entries_of (drop s.read s.slots.items) } };
+
+    ghost invariant = { λ s. (s.kept ≤ s.read) × (s.read ≤ length s.slots.items) };
+}
+
+impl Sieve {
+    // All of the list is still to be read.
+    pub fn new(slots: Vec<Slot>) -> Sieve
+        ensures kept { result.kept ≡ [] }
+        ensures rest { result.rest ≡ entries_of slots.items }
+    {
+        Sieve {
+            slots,
+            kept: 0,
+            read: 0,
+        }
+    }
+
+    // The entry that is read next.
+    pub fn front(&self) -> Option<Slot>
+        ensures { MatchOption result (self.now.rest ≡ []) (λ s. self.now.rest ≡ entry_of s ∷ drop 1 self.now.rest) }
+    {
+        if self.read < self.slots.as_slice().len() {
+            Some(self.slots[self.read])
+        } else {
+            None
+        }
+    }
+
+    // Takes the entry out that is read next.
+    pub fn skip(&mut self)
+        requires { 0 < length self.old.rest }
+        ensures kept { self.new.kept ≡ self.old.kept }
+        ensures rest { self.new.rest ≡ drop 1 self.old.rest }
+    {
+        self.read += 1;
+    }
+
+    // Puts this in place of the entry that is read next, and goes on to the one after it.
+    pub fn keep(&mut self, slot: Slot)
+        requires { 0 < length self.old.rest }
+        ensures kept { self.new.kept ≡ self.old.kept ++ entry_of slot ∷ [] }
+        ensures rest { self.new.rest ≡ drop 1 self.old.rest }
+    {
+        self.slots[self.kept] = slot;
+        self.kept += 1;
+        self.read += 1;
+    }
+
+    // The list of what stays, and what was not read.
+    pub fn into_slots(self) -> Vec<Slot>
+        ensures { entries_of result.items ≡ self.kept ++ self.rest }
+    {
+        let Sieve {
+            mut slots,
+            mut kept,
+            mut read,
+        } = self;
+        while read < slots.as_slice().len() {
+            slots[kept] = slots[read];
+            kept += 1;
+            read += 1;
+        }
+        slots.truncate(kept);
+        slots
     }
 }

@@ -62,35 +62,21 @@ pub fn cell_of(l: Lit) -> usize
     if l.positive { 2 * l.var + 1 } else { 2 * l.var }
 }
 
-// The other one, where f is one of two different watches.
-fn beside(h: Watches, f: Lit) -> Option<Lit>
-    ensures { OtherSays h f result }
-{
-    if h.a.is_same(h.b) {
-        None
-    } else if h.a.is_same(f) {
-        Some(h.b)
-    } else if h.b.is_same(f) {
-        Some(h.a)
-    } else {
-        None
-    }
-}
-
-// The other watch of a row, where f is one of two.
-pub fn other_of(row: &[u32], f: Lit) -> Option<Lit>
-    ensures says { OtherSays (pair_of (map literal_of row.now)) f result }
+// The word of the other watch of a row, where `fallen` is that of one of two.
+pub fn other_of(row: &[u32], fallen: u32) -> Option<u32>
+    ensures says { let h = pair_of (map literal_of row.now) in MatchOption result (OtherSays h (literal_of fallen) None) (λ w. OtherSays h (literal_of fallen) (Some (literal_of w))) }
     ensures long { MatchOption result ⊤ (λ _. 1 < length row.now) }
 {
     if row.len() < 2 {
         return None;
     }
-    let h = Watches {
-        a: literal(row[0]),
-        b: literal(row[1]),
-    };
-    match beside(h, f) {
-        Some(o) => Some(o),
-        None => None,
+    if row[0] == row[1] {
+        None
+    } else if row[0] == fallen {
+        Some(row[1])
+    } else if row[1] == fallen {
+        Some(row[0])
+    } else {
+        None
     }
 }
