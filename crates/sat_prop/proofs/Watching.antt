@@ -1,7 +1,7 @@
-use Rattle.std.proofs.Common.{◌≡◌, ℕ, ◌<◌, ◌+◌, ◌-◌, ◌*◌, Bool, true, false, eqb, List, [], length, take, get_or, refl, sym, subst, ap, ◌∙◌, inl, inr, ◌⊎◌, arith, set, eqb-true, eq-eqb, get_or-set_other, get_or-set_same, length-set}
+use Rattle.std.proofs.Common.{◌≡◌, ℕ, ◌<◌, ◌+◌, ◌*◌, Bool, true, false, eqb, List, [], length, take, get_or, refl, sym, subst, ap, ◌∙◌, inl, inr, ◌⊎◌, arith, eqb-true, eq-eqb}
 use Rattle.std.specs.List.{Contains, list_any}
-use Rattle.std.proofs.lemmas.Bool.{cases_Bool, cases_eq, cases_lt, both_ways}
-use Rattle.std.proofs.lemmas.List.{get_or_default, get_or-take, length-take-le}
+use Rattle.std.proofs.lemmas.Bool.{cases_Bool, cases_eq, both_ways}
+use Rattle.std.proofs.lemmas.List.{get_or_default}
 use Rattle.std.proofs.lemmas.List.Folds.{Any-from_list_any, list_any_at}
 use Rattle.std.proofs.lemmas.List.Elements.{All-contains}
 use Rattle.clause_core.specs.declared.literal.Lit.{Lit}
@@ -12,7 +12,7 @@ use Rattle.clause_core.proofs.Lists.{lit_same}
 use Rattle.clause_core.proofs.Lists.{negate_negate}
 use Rattle.sat_prop.specs.declared.watch.Watches.{Watches}
 use Rattle.sat_prop.specs.Trails.{is_literal, among}
-use Rattle.sat_prop.specs.Watches.{watches_at, TrueIn, Guarded, HasTwo, WatchesIn, AllWatchesIn, AllGuarded, Listed, AllListed, cell, DoneWith, swap_out}
+use Rattle.sat_prop.specs.Watches.{watches_at, TrueIn, Guarded, HasTwo, WatchesIn, AllWatchesIn, AllGuarded, cell, DoneWith}
 use Rattle.sat_prop.proofs.Ways.{lit_is_same, lit_is_itself, among_take_where, among_take_here}
 use Rattle.sat_prop.proofs.Sweeps.{contains_among}
 
@@ -122,39 +122,6 @@ list_where xs k e =
     let h = Any-from_list_any (λ x. eqb x k) xs e in
     (h.0, h.2, get_or_default xs h.0 0 h.1 h.2 ∙ h.3 ∙ eqb-true _ _ h.4)
 
--- what stood elsewhere still stands
-pub swap_keeps : (xs : List ℕ) (i k : ℕ) → i < length xs → (get_or xs i 0 ≡ k → ⊥) → list_any (λ x. eqb x k) xs ≡ true → list_any (λ x. eqb x k) (swap_out xs i) ≡ true
-swap_keeps xs i k lt ne e =
-    let h = list_where xs k e in
-    let n = length xs - 1 in
-    let w = set xs i (get_or xs n 0) in
-    let lw : length w ≡ length xs = length-set xs i (get_or xs n 0) in
-    let ls : length (swap_out xs i) ≡ n = length-take-le n w (omega (arith, lw)) in
-    elim (cases_eq h.0 i) [
-      | inl same ↦ let P : ℕ → Type 0 = λ j. get_or xs j 0 ≡ k in absurd (ne (subst P same h.2))
-      | inr other ↦ elim (cases_lt h.0 n) [
-        | inl l ↦
-            let a : get_or (swap_out xs i) h.0 0 ≡ get_or w h.0 0 = get_or-take n w h.0 0 l in
-            let b : get_or w h.0 0 ≡ get_or xs h.0 0 = rw get_or-set_other refl in
-            list_at (swap_out xs i) k h.0 (omega arith) (a ∙ b ∙ h.2)
-        | inr g ↦
-            let last : h.0 ≡ n = omega (arith, h.1) in
-            let li : i < n = omega (arith, lt, other, last) in
-            let a : get_or (swap_out xs i) i 0 ≡ get_or w i 0 = get_or-take n w i 0 li in
-            let b : get_or w i 0 ≡ get_or xs n 0 = get_or-set_same xs i (get_or xs n 0) 0 lt in
-            let P : ℕ → Type 0 = λ j. get_or xs j 0 ≡ k in
-            list_at (swap_out xs i) k i (omega arith) (a ∙ b ∙ subst P last h.2)
-      ]
-    ]
-
--- the entries below i stay
-pub swap_below : (xs : List ℕ) (i j : ℕ) → i < length xs → j < i → get_or (swap_out xs i) j 0 ≡ get_or xs j 0
-swap_below xs i j lt lj =
-    let n = length xs - 1 in
-    let w = set xs i (get_or xs n 0) in
-    let ne : j ≡ i → ⊥ = λ e. omega arith in
-    get_or-take n w j 0 (omega arith) ∙ (rw get_or-set_other refl)
-
 pub cell_by : (a b : Lit) (x y : Bool) → a.positive ≡ x → b.positive ≡ y → 2 * a.var + one a.positive ≡ 2 * b.var + one b.positive → a ≡ b
 cell_by a b true true e f g = lit_same a b (omega (arith, ap one e, ap one f, g)) (e ∙ sym f)
 cell_by a b true false e f g = absurd (omega (arith, ap one e, ap one f, g))
@@ -163,25 +130,3 @@ cell_by a b false false e f g = lit_same a b (omega (arith, ap one e, ap one f, 
 
 pub cell_same : (a b : Lit) → cell a ≡ cell b → a ≡ b
 cell_same a b e = cell_by a b a.positive b.positive refl refl e
-
--- the entry of k leaves list n: each other clause keeps its entries, and k those in the lists of its new watches
-pub lists_remove : (watches : List Watches) (lists : List (List ℕ)) (n i k : ℕ) → n < length lists → i < length (get_or lists n []) → get_or (get_or lists n []) i 0 ≡ k →
-    (HasTwo (watches_at watches k) → (cell (watches_at watches k).a ≡ n → ⊥) × (cell (watches_at watches k).b ≡ n → ⊥)) → AllListed watches lists → AllListed watches (set lists n (swap_out (get_or lists n []) i))
-lists_remove watches lists n i k ln li ek apart ok j lj big =
-    let h = watches_at watches j in
-    let old = ok j lj big in
-    let P : ℕ → Type 0 = λ x. HasTwo (watches_at watches x) → (cell (watches_at watches x).a ≡ n → ⊥) × (cell (watches_at watches x).b ≡ n → ⊥) in
-    let one : (m : ℕ) → (m ≡ n → j ≡ k → ⊥) → Listed lists m j → Listed (set lists n (swap_out (get_or lists n []) i)) m j = λ m far l.
-    elim (cases_eq m n) [
-      | inl same ↦
-          let ne : get_or (get_or lists n []) i 0 ≡ j → ⊥ = λ e. far same (sym e ∙ ek) in
-          let L : ℕ → Type 0 = λ x. Listed lists x j in
-          let M : ℕ → Type 0 = λ x. Listed (set lists n (swap_out (get_or lists n []) i)) x j in
-          let Q : List ℕ → Type 0 = λ x. list_any (λ y. eqb y j) x ≡ true in
-          subst M (sym same) (subst Q (sym (get_or-set_same lists n (swap_out (get_or lists n []) i) [] ln)) (swap_keeps (get_or lists n []) i j li ne (subst L same l)))
-      | inr other ↦
-          let e : get_or (set lists n (swap_out (get_or lists n []) i)) m [] ≡ get_or lists m [] = rw get_or-set_other refl in
-          let Q : List ℕ → Type 0 = λ x. list_any (λ y. eqb y j) x ≡ true in
-          subst Q (sym e) l
-    ] in
-    (one (cell h.a) (λ s e. let q : P j = subst P (sym e) apart in (q big).0 s) old.0, one (cell h.b) (λ s e. let q : P j = subst P (sym e) apart in (q big).1 s) old.1)

@@ -1,5 +1,5 @@
 -- Watched literals (Moskewicz and others 2001): a clause is looked at only where one of its two watches is false.
-use Rattle.std.specs.Prelude.{◌≡◌, ℕ, ◌+◌, ◌-◌, ◌*◌, ◌<◌, Bool, true, false, List, [], length, take, eqb, slice_set, slice_index, slice_index_or, All, Option, MatchOption, ◌⊎◌}
+use Rattle.std.specs.Prelude.{◌≡◌, ℕ, ◌+◌, ◌*◌, ◌<◌, Bool, true, false, List, [], length, take, eqb, slice_index, slice_index_or, All, Option, MatchOption, ◌⊎◌}
 use Rattle.std.specs.List.{list_any}
 use Rattle.clause_core.specs.declared.literal.Lit.{Lit}
 use Rattle.clause_core.specs.Literals.{negate, none_lit, at}
@@ -78,10 +78,6 @@ FindingSays t c other (False) = AllFalse t c
 abbrev pub OtherSays : Watches → Lit → Option Lit → Type 0
 OtherSays h f result = MatchOption result (HasTwo h → (h.a ≡ f → ⊥) × (h.b ≡ f → ⊥)) (λ o. HasTwo h × ((h.a ≡ f) × (o ≡ h.b) ⊎ (h.b ≡ f) × (o ≡ h.a)))
 
--- a list without its i-th entry, the last one in its place
-abbrev pub swap_out : List ℕ → ℕ → List ℕ
-swap_out xs i = take (length xs - 1) (slice_set xs i (slice_index xs (length xs - 1)))
-
 -- each clause that was guarded stays so, at each part of the trail
 abbrev pub Kept : List (List Lit) → List Watches → List Watches → List Lit → Type 0
 Kept cs old new literals =
@@ -153,7 +149,3 @@ ShortMore old new = (j : ℕ) → InShort old j → InShort new j
 abbrev pub Enlisted : List (List ℕ) → List ℕ → Watches → ℕ → Type 0
 Enlisted lists short h k =
     (HasTwo h → Listed lists (cell h.a) k × Listed lists (cell h.b) k) × (is_literal h.a h.b ≡ true → InShort short k)
-
--- the first i entries of the list are done with
-abbrev pub DoneWithBelow : List (List Lit) → List Watches → List Lit → Lit → List ℕ → ℕ → Type 0
-DoneWithBelow cs watches literals f entries i = (j : ℕ) → j < i → DoneWith cs watches literals f (slice_index entries j)
