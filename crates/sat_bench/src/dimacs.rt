@@ -29,7 +29,7 @@ fn malformed() -> io::Error {
 
 // Whether the byte stands between words.
 fn is_blank(byte: u8) -> bool {
-    byte == b' ' || byte == b'\n' || byte == b'\t' || byte == b'\r'
+    matches!(byte, b' ' | b'\t'..=b'\r')
 }
 
 // Where the line ends that goes on at `from`.
@@ -99,7 +99,10 @@ impl Reader {
     // Reads a literal, or the 0 that ends a clause: variables are counted from 1, and a negative number negates.
     fn read_word(&mut self, word: &[u8]) -> io::Result<()> {
         let negative = word.first() == Some(&b'-');
-        let digits = if negative { &word[1..] } else { word };
+        let digits = match word.first() {
+            Some(b'-' | b'+') => &word[1..],
+            _ => word,
+        };
         let Some(number) = number_of(digits) else {
             return Err(malformed());
         };

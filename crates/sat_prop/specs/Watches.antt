@@ -26,7 +26,8 @@ TrueIn u c = list_any (among u) c ≡ true
 abbrev pub Guarded : List Lit → List Lit → Watches → List Lit → Type 0
 Guarded s u h c = (among s (negate h.a) ≡ true → TrueIn u c) × (among s (negate h.b) ≡ true → TrueIn u c)
 
--- the watches are two different literals; a clause without two has no watches, and stands in a list of its own
+-- the watches are two different literals; a clause without two has no watches: it stands in a list of its own, or a
+-- later clause covers it
 abbrev pub HasTwo : Watches → Type 0
 HasTwo h = is_literal h.a h.b ≡ false
 

@@ -1,4 +1,4 @@
-ghost use Rattle.std.specs.Prelude.{◌≡◌, ◌<◌, length};
+ghost use Rattle.std.specs.Prelude.{◌≡◌, ◌<◌, [], MatchBool, length, slice_index_or, slice_set};
 ghost use Rattle.sat_prop.specs.Trails.{among};
 ghost use Rattle.sat_prop.specs.Covers.{covers, Retired};
 
@@ -107,7 +107,9 @@ fn retire_if_covered(clauses: &Clauses, rows: &mut Rows, k: usize, later: usize)
     requires rows_len { length rows.old ≡ length clauses.now }
     requires later { k < later }
     requires later_in { later < length clauses.now }
-    ensures { Retired clauses.now rows.old rows.new }
+    ensures says { result ≡ covers (slice_index_or clauses.now later []) (slice_index_or clauses.now k []) }
+    ensures rows { MatchBool result (rows.new ≡ slice_set rows.old k []) (rows.new ≡ rows.old) }
+    ensures retired { Retired clauses.now rows.old rows.new }
 {
     if is_part(clauses.get(later), clauses.get(k)) {
         rows.retire(k);

@@ -4,8 +4,8 @@ use Rattle.sat_prop.specs.Covers.{covers}
 use Rattle.sat_prop.proofs.Covering.{covered_here, retired_more, retired_none}
 use Rattle.sat_prop.proofs.cover.retire_if_covered.Goals as goal
 
-pub returns-then-is_part : goal.returns-then-is_part
-returns-then-is_part c =
+pub returns-then-is_part-clause-retired : goal.returns-then-is_part-clause-retired
+returns-then-is_part-clause-retired c =
     let cs = c.args.clauses.now in
     let R = c.args.rows.now in
     let lk : c.args.k < length R = omega (arith, c.requires.rows_len, c.requires.later, c.requires.later_in) in
@@ -14,5 +14,5 @@ returns-then-is_part c =
     let on : covers (get_or cs c.args.later []) (get_or cs c.args.k []) ≡ true = subst P c.get.ensures (subst Q c.get-2.ensures (sym c.is_part.ensures ∙ c.if-is_part.true)) in
     retired_more cs R R c.retire.new.self c.args.k lk (retired_none cs R) c.retire.ensures (covered_here cs c.args.k c.args.later c.requires.later c.requires.later_in on)
 
-pub returns-else-is_part : goal.returns-else-is_part
-returns-else-is_part c = retired_none c.args.clauses.now c.args.rows.now
+pub returns-else-is_part-clause-retired : goal.returns-else-is_part-clause-retired
+returns-else-is_part-clause-retired c = retired_none c.args.clauses.now c.args.rows.now
