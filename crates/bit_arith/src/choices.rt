@@ -27,7 +27,7 @@ pub fn select(
 {
     let mut chosen = Vec::new(alloc);
     'bits: for i in 0..a.len() {
-        let e = choose(graph, condition, a[i], b[i])?;
+        let e = graph.choose(condition, a[i], b[i])?;
         chosen.push(e)?;
     }
     Ok(chosen)
@@ -118,21 +118,6 @@ fn compare_bit(
 {
     let apart = graph.xor(x, y)?;
     let both = graph.and(apart.negation(), equal)?;
-    let below = choose(graph, apart, y, less)?;
+    let below = graph.choose(apart, y, less)?;
     Ok((both, below))
-}
-
-// x where the condition is true, else y
-fn choose(graph: &mut Graph, condition: Edge, x: Edge, y: Edge) -> Result<Edge, AllocError>
-    requires condition_stands { Stands graph.old condition }
-    requires x_stands { Stands graph.old x }
-    requires y_stands { Stands graph.old y }
-    ensures extends { Extends graph.old graph.new }
-    ensures stands { IfOk result (λ e. Stands graph.new e) }
-    ensures value { IfOk result (λ e. (v : ℕ → Bool) → Consistent v graph.new →
-        edge_value v e ≡ (if edge_value v condition then edge_value v x else edge_value v y)) }
-{
-    let left = graph.and(condition, x)?;
-    let right = graph.and(condition.negation(), y)?;
-    graph.or(left, right)
 }

@@ -1,4 +1,4 @@
-//! Lists of edges as numbers: the operators on words, as graphs of and-nodes.
+//! Lists of edges as numbers: the operators on words, as graphs of gates.
 //!
 //! A list has the lowest bit first. Each function adds nodes to the graph and answers edges whose
 //! number is the operator's, whatever the values of the inputs; each edge that was made earlier keeps
@@ -17,6 +17,3 @@ pub use products::multiply;
 pub use shifts::shift;
 pub use signs::{divide, negate, remainder};
 pub use sums::{add, subtract};
-
-#[cfg(test)]
-mod tests;

@@ -49,6 +49,9 @@ pub fn subtract(
 }
 
 // The sum of three bits: its low bit and its carry.
+//
+// The carry is a choice by one bit of whether one of the others is set, or both. A choice by `half` has fewer gates, but on
+// hard questions it costs a solver a third more conflicts (docs/PERFORMANCE.md).
 fn full_adder(graph: &mut Graph, x: Edge, y: Edge, carry: Edge) -> Result<(Edge, Edge), AllocError>
     requires x_stands { Stands graph.old x }
     requires y_stands { Stands graph.old y }
@@ -60,9 +63,9 @@ fn full_adder(graph: &mut Graph, x: Edge, y: Edge, carry: Edge) -> Result<(Edge,
 {
     let half = graph.xor(x, y)?;
     let sum = graph.xor(half, carry)?;
-    let both = graph.and(x, y)?;
-    let through = graph.and(half, carry)?;
-    let over = graph.or(both, through)?;
+    let either = graph.or(y, carry)?;
+    let both = graph.and(y, carry)?;
+    let over = graph.choose(x, either, both)?;
     Ok((sum, over))
 }
 

@@ -1,7 +1,7 @@
-use Rattle.std.proofs.Common.{◌≡◌, ℕ, ◌<◌, Bool, ◌&&◌, List, length, get_or, refl, sym, ◌∙◌, ap, arith, zero, suc}
+use Rattle.std.proofs.Common.{◌≡◌, ℕ, ◌<◌, Bool, ◌&&◌, cond, List, length, get_or, refl, sym, ◌∙◌, ap, arith, zero, suc}
 use Rattle.bit_graph.specs.declared.edge.Edge.{Edge}
 use Rattle.bit_graph.specs.declared.edge.Node.{Node}
-use Rattle.bit_graph.specs.declared.edge.Node.TheVariants.{False, Input, And}
+use Rattle.bit_graph.specs.declared.edge.Node.TheVariants.{False, Input, And, Xor, Choice}
 use Rattle.bit_graph.specs.Meaning.{edge_value, exclusive_or, NodeHolds, Consistent, IsBelow, Acyclic}
 use Rattle.bit_graph.specs.Values.{node_value, values_to, values, Agrees, OneWay}
 
@@ -16,6 +16,8 @@ node_same : (a v w : ℕ → Bool) (k : ℕ) (n : Node) → IsBelow k n → ((j 
 node_same a v w k False b h = refl
 node_same a v w k Input b h = refl
 node_same a v w k (And x y) b h = and_same _ _ _ _ (edge_value-same v w x (h x.node b.0)) (edge_value-same v w y (h y.node b.1))
+node_same a v w k (Xor x y) b h = λ i. exclusive_or (h x b.0 i) (h y b.1 i)
+node_same a v w k (Choice c x y) b h = λ i. cond (h c b.0 i) (h x b.1 i) (edge_value-same v w y (h y.node b.2) i)
 
 module _ (a : ℕ → Bool) (g : List Node) (ok : Acyclic g) where
   deeper : (d k : ℕ) → k < d → k < length g → values_to a g d k ≡ values_to a g (suc d) k
@@ -33,6 +35,8 @@ module _ (a : ℕ → Bool) (g : List Node) (ok : Acyclic g) where
   holds_from v k False h = h
   holds_from v k Input h = tt
   holds_from v k (And x y) h = h
+  holds_from v k (Xor x y) h = h
+  holds_from v k (Choice c x y) h = h
 
   input_from : (v : ℕ → Bool) (k : ℕ) (n : Node) → v k ≡ node_value a v k n → n ≡ Input → v k ≡ a k
   input_from v k n h e = h ∙ ap (node_value a v k) e
@@ -41,6 +45,8 @@ module _ (a : ℕ → Bool) (g : List Node) (ok : Acyclic g) where
   value_from v k False h i = h
   value_from v k Input h i = i refl
   value_from v k (And x y) h i = h
+  value_from v k (Xor x y) h i = h
+  value_from v k (Choice c x y) h i = h
 
   below_same : (v : ℕ → Bool) → Consistent v g → Agrees a v g → (d k : ℕ) → k < d → k < length g → v k ≡ values a g k
   below_same v c i zero k h l = absurd (omega arith)

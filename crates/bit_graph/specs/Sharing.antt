@@ -1,36 +1,43 @@
 -- Equal nodes are shared.
-use Rattle.std.specs.Prelude.{◌≡◌, ℕ, ◌<◌, Bool, ◌&&◌, List, ◌==◌, Some}
-use Rattle.std.specs.Bool.{beq}
+use Rattle.std.specs.Prelude.{◌≡◌, ℕ, ◌<◌, Bool, List, Some}
 use Rattle.std.specs.Map.{lookup}
+use Rattle.bit_graph.specs.contracts.edge.NodePartialEq.TheImpl as node_test
 use Rattle.bit_graph.specs.declared.edge.Edge.{Edge}
 use Rattle.bit_graph.specs.declared.edge.Node.{Node}
-use Rattle.bit_graph.specs.declared.edge.Node.TheVariants.{False, And}
-use Rattle.bit_graph.specs.Meaning.{IsNode}
+use Rattle.bit_graph.specs.declared.edge.Node.TheVariants.{False, Input, And, Xor, Choice}
+use Rattle.bit_graph.specs.Meaning.{IsNode, IsGate}
 
--- the two edges are one
-abbrev pub edge_eq : Edge → Edge → Bool
-edge_eq x y = (x.node == y.node) && beq x.negated y.negated
+-- the two nodes are one
+abbrev pub node_eq : Node → Node → Bool
+node_eq = node_test.eq-value.it
 
--- the two pairs of edges are one
-abbrev pub pair_eq : Edge × Edge → Edge × Edge → Bool
-pair_eq x y = edge_eq x.0 y.0 && edge_eq x.1 y.1
+-- the table has the number of each gate of g, and nothing else
+pub record SharesIn (g : List Node) (table : List (Node × ℕ)) : Type 0 where
+  pub found : (n : Node) (k : ℕ) → lookup (node_eq n) table ≡ Some k → IsNode g k n
+  pub complete : (n : Node) (k : ℕ) → IsGate n → IsNode g k n → lookup (node_eq n) table ≡ Some k
 
--- the table has each and-node of g by its operands, and nothing else
-pub record SharesIn (g : List Node) (table : List ((Edge × Edge) × ℕ)) : Type 0 where
-  pub found : (a b : Edge) (k : ℕ) → lookup (pair_eq (a, b)) table ≡ Some k → IsNode g k (And a b)
-  pub complete : (a b : Edge) (k : ℕ) → IsNode g k (And a b) → lookup (pair_eq (a, b)) table ≡ Some k
+-- node k is always false
+abbrev pub IsFalse : List Node → ℕ → Type 0
+IsFalse g k = IsNode g k False
 
 -- the edge leads to a node that is always false
 abbrev pub IsConstant : List Node → Edge → Type 0
-IsConstant g e = IsNode g e.node False
+IsConstant g e = IsFalse g e.node
 
--- the operands of an and-node are two different nodes, the one with the lower number first, and no constants
-pub record IsFolded (g : List Node) : Type 0 where
-  pub ordered : (a b : Edge) (k : ℕ) → IsNode g k (And a b) → a.node < b.node
-  pub first : (a b : Edge) (k : ℕ) → IsNode g k (And a b) → IsConstant g a → ⊥
-  pub second : (a b : Edge) (k : ℕ) → IsNode g k (And a b) → IsConstant g b → ⊥
+-- the operands of the node are different nodes and no constants, and where their order does not matter, the one with the
+-- lower number is the first
+abbrev pub Folded : List Node → Node → Type 0
+Folded g False = Unit {0}
+Folded g Input = Unit {0}
+Folded g (And a b) = (a.node < b.node) × (IsConstant g a → ⊥) × (IsConstant g b → ⊥)
+Folded g (Xor a b) = (a < b) × (IsFalse g a → ⊥) × (IsFalse g b → ⊥)
+Folded g (Choice c a b) =
+    ((c ≡ a → ⊥) × (c ≡ b.node → ⊥) × (a ≡ b.node → ⊥)) × (IsFalse g c → ⊥) × (IsFalse g a → ⊥) × (IsConstant g b → ⊥)
 
--- no node could be left out at sight: no two and-nodes have the same operands, and none has one that decides it
+abbrev pub IsFolded : List Node → Type 0
+IsFolded g = (n : Node) (k : ℕ) → IsNode g k n → Folded g n
+
+-- no node could be left out at sight: no two gates are the same, and none has an operand that decides it or stands twice
 pub record IsReduced (g : List Node) : Type 0 where
-  pub same : (a b : Edge) (j k : ℕ) → IsNode g j (And a b) → IsNode g k (And a b) → j ≡ k
+  pub same : (n : Node) (j k : ℕ) → IsGate n → IsNode g j n → IsNode g k n → j ≡ k
   pub folded : IsFolded g

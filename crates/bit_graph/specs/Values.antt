@@ -1,9 +1,9 @@
 -- The value of a node and of an edge under an assignment of the inputs.
-use Rattle.std.specs.Prelude.{◌≡◌, ℕ, ◌<◌, Bool, false, ◌&&◌, List, length, slice_index_or, zero, suc}
+use Rattle.std.specs.Prelude.{◌≡◌, ℕ, ◌<◌, Bool, false, ◌&&◌, cond, List, length, slice_index_or, zero, suc}
 use Rattle.bit_graph.specs.declared.edge.Edge.{Edge}
 use Rattle.bit_graph.specs.declared.edge.Node.{Node}
-use Rattle.bit_graph.specs.declared.edge.Node.TheVariants.{False, Input, And}
-use Rattle.bit_graph.specs.Meaning.{edge_value, Consistent, Stands}
+use Rattle.bit_graph.specs.declared.edge.Node.TheVariants.{False, Input, And, Xor, Choice}
+use Rattle.bit_graph.specs.Meaning.{edge_value, exclusive_or, Consistent, Stands}
 
 -- the assignment with these values, false past the list's end
 abbrev pub assigned : List Bool → ℕ → Bool
@@ -14,6 +14,8 @@ abbrev pub node_value : (ℕ → Bool) → (ℕ → Bool) → ℕ → Node → B
 node_value a v k False = false
 node_value a v k Input = a k
 node_value a v k (And x y) = edge_value v x && edge_value v y
+node_value a v k (Xor x y) = exclusive_or (v x) (v y)
+node_value a v k (Choice c x y) = cond (v c) (v x) (edge_value v y)
 
 -- the value of node k, where no chain of operands from it is longer than the depth
 unfoldable pub values_to : (ℕ → Bool) → List Node → ℕ → ℕ → Bool

@@ -10,7 +10,7 @@ pub struct Edge {
 }
 
 /// A node of a graph.
-#[derive(Clone, Copy, Debug, Drop)]
+#[derive(Clone, Copy, Debug, Drop, PartialEq, Eq, Hash)]
 pub enum Node {
     /// Always false.
     False,
@@ -18,6 +18,10 @@ pub enum Node {
     Input,
     /// True where both edges are.
     And(Edge, Edge),
+    /// True where just one of the nodes is.
+    Xor(usize, usize),
+    /// As the second node where the first is true, else as the edge.
+    Choice(usize, usize, Edge),
 }
 
 impl Edge {

@@ -33,6 +33,14 @@ fn value_at(node: Node, number: usize, known: &[bool], inputs: &[bool]) -> bool
             let second = edge_at(known, b);
             first && second
         }
+        Node::Xor(a, b) => { if known[a] { !known[b] } else { known[b] } }
+        Node::Choice(c, a, b) => {
+            if known[c] {
+                known[a]
+            } else {
+                edge_at(known, b)
+            }
+        }
     }
 }
 

@@ -1,8 +1,8 @@
-ghost use Rattle.std.specs.Prelude.{◌≡◌, ◌<◌, ◌≤◌, ◌+◌, ℕ, Bool, ◌&&◌, ◌||◌, false, List, length, IfOk, IfSome, IsSome, ◌↔◌, slice_index_or};
-ghost use Rattle.bit_graph.specs.declared.edge.Node.TheVariants.{False, Input, And};
-ghost use Rattle.bit_graph.specs.Meaning.{edge_value, exclusive_or, Consistent, Stands, Acyclic, IsNew, Denotes, HasInputs, IsBelow};
+ghost use Rattle.std.specs.Prelude.{◌≡◌, ◌<◌, ◌≤◌, ◌+◌, ℕ, Bool, ◌&&◌, ◌||◌, ◌⊎◌, false, List, length, IfOk, IfSome, IsSome, ◌↔◌, slice_index_or, if◌then◌else◌};
+ghost use Rattle.bit_graph.specs.declared.edge.Node.TheVariants.{False, Input};
+ghost use Rattle.bit_graph.specs.Meaning.{edge_value, exclusive_or, gate_value, IsGate, IsNode, Consistent, Stands, Acyclic, IsNew, Denotes, HasInputs, IsBelow};
 ghost use Rattle.bit_graph.specs.Growth.{Extends};
-ghost use Rattle.bit_graph.specs.Sharing.{IsConstant, IsReduced};
+ghost use Rattle.bit_graph.specs.Sharing.{IsConstant, IsFalse, Folded, IsReduced};
 ghost use Rattle.bit_graph.specs.Values.{OneWay};
 
 use crate::edge::{Edge, Node};
@@ -10,17 +10,17 @@ use std::alloc::{AllocError, AllocFailed, Global};
 use std::collections::HashMap;
 use std::marker::Model;
 
-/// A graph of and-nodes over inputs. Contracts see it as the list of its nodes.
+/// A graph of gates over inputs. Contracts see it as the list of its nodes.
 ///
-/// Each node's operands come before it, so that each assignment of the inputs gives each node one
-/// value (`one_way`), and no two and-nodes have the same operands (`reduced`).
+/// Each gate's operands come before it, so that each assignment of the inputs gives each node one
+/// value (`one_way`), and no two gates are the same (`reduced`).
 #[derive(Drop)]
 pub struct Graph {
     nodes: Vec<Node>,
     // the number of a node that is always false
     falsehood: usize,
-    // each and-node by its operands
-    shared: HashMap<(Edge, Edge), usize>,
+    // the number of each gate
+    shared: HashMap<Node, usize>,
 }
 
 impl Model for Graph {
@@ -39,19 +39,13 @@ impl Model for Graph {
 
 impl Graph {
     /// A graph whose first `inputs` nodes are its inputs, and no other node.
-    ///
-    /// The `gap` nodes after them are false and no operand of any node that is made later, so that
-    /// their numbers are free for names of the caller's own.
-    pub fn new(alloc: Global, inputs: usize, gap: usize) -> Result<Graph, AllocError>
+    pub fn new(alloc: Global, inputs: usize) -> Result<Graph, AllocError>
         ensures inputs { IfOk result (λ g. HasInputs inputs g) }
-        ensures length { IfOk result (λ g. inputs + gap < length g) }
+        ensures length { IfOk result (λ g. inputs < length g) }
     {
         let mut nodes = Vec::new(alloc);
         'inputs: for _ in 0..inputs {
             nodes.push(Node::Input)?;
-        }
-        'gap: for _ in 0..gap {
-            nodes.push(Node::False)?;
         }
         let falsehood = nodes.as_slice().len();
         nodes.push(Node::False)?;
@@ -65,6 +59,7 @@ impl Graph {
     /// An edge that is always `value`.
     pub fn constant(&self, value: bool) -> Edge
         ensures stands { Stands self.now result }
+        ensures constant { IsConstant self.now result }
         ensures value { Denotes self.now result (λ v. value) }
     {
         Edge {
@@ -73,7 +68,7 @@ impl Graph {
         }
     }
 
-    /// The value of an edge to a constant, and `None` where it leads to an input or an and-node.
+    /// The value of an edge to a constant, and `None` where it leads to an input or a gate.
     pub fn as_constant(&self, a: Edge) -> Option<bool>
         requires { Stands self.now a }
         ensures constant { IsSome result ↔ IsConstant self.now a }
@@ -81,13 +76,13 @@ impl Graph {
     {
         match self.node(a.node) {
             Node::False => Some(a.negated),
-            Node::Input | Node::And(..) => None,
+            Node::Input | Node::And(..) | Node::Xor(..) | Node::Choice(..) => None,
         }
     }
 
     /// The edge that is true where both are.
     ///
-    /// Constants fold, and a node that stands already is found again. After want of memory every
+    /// Constants fold, and a gate that stands already is found again. After want of memory every
     /// earlier edge keeps its value.
     pub fn and(&mut self, a: Edge, b: Edge) -> Result<Edge, AllocError>
         requires a_stands { Stands self.old a }
@@ -107,9 +102,9 @@ impl Graph {
             None => {}
         }
         if a.node < b.node {
-            self.find_or_grow(a, b)
+            Ok(Edge::to(self.find_or_grow(Node::And(a, b))?))
         } else if b.node < a.node {
-            self.find_or_grow(b, a)
+            Ok(Edge::to(self.find_or_grow(Node::And(b, a))?))
         } else if a.negated == b.negated {
             Ok(a)
         } else {
@@ -137,9 +132,111 @@ impl Graph {
         ensures stands { IfOk result (λ e. Stands self.new e) }
         ensures value { IfOk result (λ e. Denotes self.new e (λ v. exclusive_or (edge_value v a) (edge_value v b))) }
     {
-        let left = self.and(a, b.negation())?;
-        let right = self.and(a.negation(), b)?;
-        self.or(left, right)
+        match self.as_constant(a) {
+            Some(true) => return Ok(b.negation()),
+            Some(false) => return Ok(b),
+            None => {}
+        }
+        match self.as_constant(b) {
+            Some(true) => return Ok(a.negation()),
+            Some(false) => return Ok(a),
+            None => {}
+        }
+        let negated = a.negated ^ b.negated;
+        if a.node < b.node {
+            let node = self.find_or_grow(Node::Xor(a.node, b.node))?;
+            Ok(Edge { node, negated })
+        } else if b.node < a.node {
+            let node = self.find_or_grow(Node::Xor(b.node, a.node))?;
+            Ok(Edge { node, negated })
+        } else {
+            Ok(self.constant(negated))
+        }
+    }
+
+    /// The edge that is `a` where the condition is true, else `b`; as `and`.
+    pub fn choose(&mut self, condition: Edge, a: Edge, b: Edge) -> Result<Edge, AllocError>
+        requires condition_stands { Stands self.old condition }
+        requires a_stands { Stands self.old a }
+        requires b_stands { Stands self.old b }
+        ensures extends { Extends self.old self.new }
+        ensures stands { IfOk result (λ e. Stands self.new e) }
+        ensures value { IfOk result (λ e. Denotes self.new e (λ v. if edge_value v condition then edge_value v a else edge_value v b)) }
+    {
+        match self.as_constant(condition) {
+            Some(true) => Ok(a),
+            Some(false) => Ok(b),
+            None if condition.negated => self.choose_by(condition.node, b, a),
+            None => self.choose_by(condition.node, a, b),
+        }
+    }
+
+    // as `choose`, by a node
+    fn choose_by(&mut self, node: usize, a: Edge, b: Edge) -> Result<Edge, AllocError>
+        requires stands { node < length self.old }
+        requires varies { IsFalse self.old node → ⊥ }
+        requires a_stands { Stands self.old a }
+        requires b_stands { Stands self.old b }
+        ensures extends { Extends self.old self.new }
+        ensures stands { IfOk result (λ e. Stands self.new e) }
+        ensures value { IfOk result (λ e. Denotes self.new e (λ v. if v node then edge_value v a else edge_value v b)) }
+    {
+        let condition = Edge::to(node);
+        let a = self.known(a, node, true);
+        let b = self.known(b, node, false);
+        match self.as_constant(a) {
+            Some(true) => return self.or(condition, b),
+            Some(false) => return self.and(condition.negation(), b),
+            None => {}
+        }
+        match self.as_constant(b) {
+            Some(true) => return self.or(condition.negation(), a),
+            Some(false) => return self.and(condition, a),
+            None => {}
+        }
+        if a.node != b.node {
+            self.choice(node, a, b)
+        } else if a.negated == b.negated {
+            Ok(a)
+        } else {
+            self.xor(condition.negation(), a)
+        }
+    }
+
+    // the edge as it is where the node has this value: a constant, if it leads to the node
+    fn known(&self, e: Edge, node: usize, value: bool) -> Edge
+        requires { Stands self.now e }
+        ensures stands { Stands self.now result }
+        ensures value { (v : ℕ → Bool) → Consistent v self.now → v node ≡ value → edge_value v result ≡ edge_value v e }
+        ensures apart { IsConstant self.now result ⊎ (node ≡ result.node → ⊥) }
+    {
+        if e.node == node {
+            self.constant(value ^ e.negated)
+        } else {
+            e
+        }
+    }
+
+    fn choice(&mut self, node: usize, a: Edge, b: Edge) -> Result<Edge, AllocError>
+        requires stands { node < length self.old }
+        requires a_stands { Stands self.old a }
+        requires b_stands { Stands self.old b }
+        requires varies { IsFalse self.old node → ⊥ }
+        requires a_varies { IsConstant self.old a → ⊥ }
+        requires b_varies { IsConstant self.old b → ⊥ }
+        requires other_a { node ≡ a.node → ⊥ }
+        requires other_b { node ≡ b.node → ⊥ }
+        requires apart { a.node ≡ b.node → ⊥ }
+        ensures extends { Extends self.old self.new }
+        ensures stands { IfOk result (λ e. Stands self.new e) }
+        ensures value { IfOk result (λ e. Denotes self.new e (λ v. if v node then edge_value v a else edge_value v b)) }
+    {
+        let other = if a.negated { b.negation() } else { b };
+        let chosen = self.find_or_grow(Node::Choice(node, a.node, other))?;
+        Ok(Edge {
+            node: chosen,
+            negated: a.negated,
+        })
     }
 
     /// The node with this number.
@@ -173,42 +270,41 @@ impl Graph {
         let _ = self.len();
     }
 
-    /// A law: no two and-nodes have the same operands, and no operand is a constant.
+    /// A law: no two gates are the same, and the operands of each are different nodes and no
+    /// constants.
     pub fn reduced(&self)
         ensures law { IsReduced self.now }
     {
         let _ = &self.shared;
     }
 
-    fn find_or_grow(&mut self, a: Edge, b: Edge) -> Result<Edge, AllocError>
-        requires ordered { a.node < b.node }
-        requires b_stands { Stands self.old b }
-        requires a_varies { IsConstant self.old a → ⊥ }
-        requires b_varies { IsConstant self.old b → ⊥ }
+    fn find_or_grow(&mut self, gate: Node) -> Result<usize, AllocError>
+        requires gate { IsGate gate }
+        requires below { IsBelow (length self.old) gate }
+        requires folded { Folded self.old gate }
         ensures extends { Extends self.old self.new }
-        ensures stands { IfOk result (λ e. Stands self.new e) }
-        ensures value { IfOk result (λ e. Denotes self.new e (λ v. edge_value v a && edge_value v b)) }
+        ensures stands { IfOk result (λ k. k < length self.new) }
+        ensures value { IfOk result (λ k. (v : ℕ → Bool) → Consistent v self.new → v k ≡ gate_value v gate) }
     {
-        match self.shared.get(&(a, b)) {
-            Some(node) => Ok(Edge::to(*node)),
-            None => self.grow(a, b),
+        match self.shared.get(&gate) {
+            Some(node) => Ok(*node),
+            None => self.grow(gate),
         }
     }
 
-    fn grow(&mut self, a: Edge, b: Edge) -> Result<Edge, AllocError>
-        requires ordered { a.node < b.node }
-        requires b_stands { Stands self.old b }
-        requires a_varies { IsConstant self.old a → ⊥ }
-        requires b_varies { IsConstant self.old b → ⊥ }
-        requires new { IsNew self.old a b }
+    fn grow(&mut self, gate: Node) -> Result<usize, AllocError>
+        requires gate { IsGate gate }
+        requires below { IsBelow (length self.old) gate }
+        requires folded { Folded self.old gate }
+        requires new { IsNew self.old gate }
         ensures extends { Extends self.old self.new }
-        ensures stands { IfOk result (λ e. Stands self.new e) }
-        ensures value { IfOk result (λ e. Denotes self.new e (λ v. edge_value v a && edge_value v b)) }
+        ensures stands { IfOk result (λ k. k < length self.new) }
+        ensures value { IfOk result (λ k. (v : ℕ → Bool) → Consistent v self.new → v k ≡ gate_value v gate) }
     {
         let node = self.nodes.as_slice().len();
-        self.nodes.push(Node::And(a, b))?;
-        match self.shared.insert((a, b), node) {
-            Ok(_) => Ok(Edge::to(node)),
+        self.nodes.push(gate)?;
+        match self.shared.insert(gate, node) {
+            Ok(_) => Ok(node),
             Err(failed) => {
                 self.nodes.pop();
                 Err(failed.into())

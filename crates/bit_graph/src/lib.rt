@@ -1,5 +1,6 @@
-//! And-inverter graphs: and-nodes over inputs and a constant, joined by edges that may negate, in
-//! which equal nodes are shared (Kuehlmann, Paruthi, Krohm and Ganai 2002).
+//! And-inverter graphs with gates for the exclusive or and for a choice by a condition: gates over
+//! inputs and a constant, joined by edges that may negate, in which equal nodes are shared
+//! (Kuehlmann, Paruthi, Krohm and Ganai 2002).
 //!
 //! A contract here and in the crates above speaks of every valuation of the nodes that is
 //! `Consistent` with the graph as it stands after the call: what was said of an edge then holds in
@@ -14,6 +15,3 @@ mod graph;
 pub use edge::{Edge, Node};
 pub use evaluation::evaluate;
 pub use graph::Graph;
-
-#[cfg(test)]
-mod tests;

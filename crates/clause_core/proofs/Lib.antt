@@ -1,5 +1,8 @@
 pub mod Definitions
 pub mod Lists
 pub mod Live
+pub mod Opposing
 mod Pieces
+pub mod Seen
+pub mod Setting
 pub mod Sound

@@ -3,5 +3,7 @@ pub mod Derivations
 pub mod Learning
 pub mod Literals
 pub mod Propagation
+pub mod Scans
 pub mod Spans
 pub mod Systems
+pub mod Values

@@ -4,15 +4,26 @@ use Rattle.clause_core.specs.declared.literal.Lit.{Lit}
 use Rattle.clause_core.specs.Literals.{Within}
 use Rattle.clause_core.specs.Assignments.{ClauseTrue, Agrees}
 
--- a system as data: clauses of a first state, of a step and of a bad state, fairness literals, definitions
+-- a system as data: clauses of a first state, of a step, of a bad state and of one that isn't bad, fairness literals,
+-- definitions
 pub record TransitionSystem : Type 0 where
   pub state_bits : ℕ
   pub all_bits : ℕ
   pub init : List (List Lit)
   pub step : List (List Lit)
   pub bad : List (List Lit)
+  pub good : List (List Lit)
   pub fair : List Lit
   pub defs : List (List Lit)
+
+-- with the state bits of x, and some values of the other bits, these clauses are met
+abbrev pub Meets : ℕ → (ℕ → Bool) → List (List Lit) → Type 0
+Meets state_bits x cs = (a : ℕ → Bool) × Agrees state_bits a x × All (ClauseTrue a) cs
+
+-- each state meets the good clauses or the bad ones, and none meets both
+pub record Opposed (state_bits : ℕ) (good bad : List (List Lit)) : Type 0 where
+  pub either : (x : ℕ → Bool) → Meets state_bits x good ⊎ Meets state_bits x bad
+  pub never_both : (x : ℕ → Bool) → Meets state_bits x good → Meets state_bits x bad → ⊥
 
 -- both give each variable of these literals the same value
 abbrev pub SameOn : (ℕ → Bool) → (ℕ → Bool) → List Lit → Type 0
@@ -30,13 +41,15 @@ pub record IsSystem (sys : TransitionSystem) : Type 0 where
   pub init_in : All (Within sys.all_bits) sys.init
   pub step_in : All (Within sys.all_bits) sys.step
   pub bad_in : All (Within sys.all_bits) sys.bad
+  pub good_in : All (Within sys.all_bits) sys.good
+  pub opposed : Opposed sys.state_bits sys.good sys.bad
   pub fair_in : Within sys.all_bits sys.fair
   pub defs_in : All (Within sys.all_bits) sys.defs
   pub gives : Gives sys.state_bits sys.fair sys.defs
 
 -- x is a first state: with some values of the other bits it meets all init clauses
 abbrev pub FirstBits : TransitionSystem → (ℕ → Bool) → Type 0
-FirstBits sys x = (a : ℕ → Bool) × Agrees sys.state_bits a x × All (ClauseTrue a) sys.init
+FirstBits sys x = Meets sys.state_bits x sys.init
 
 -- the bits of the next state are those of y
 abbrev pub NextIs : ℕ → (ℕ → Bool) → (ℕ → Bool) → Type 0
@@ -49,7 +62,11 @@ StepBits sys x y =
 
 -- x is a bad state: with some values of the other bits it meets all bad clauses
 abbrev pub BadBits : TransitionSystem → (ℕ → Bool) → Type 0
-BadBits sys x = (a : ℕ → Bool) × Agrees sys.state_bits a x × All (ClauseTrue a) sys.bad
+BadBits sys x = Meets sys.state_bits x sys.bad
+
+-- x is a good state, one that is not bad: with some values of the other bits it meets all good clauses
+abbrev pub GoodBits : TransitionSystem → (ℕ → Bool) → Type 0
+GoodBits sys x = Meets sys.state_bits x sys.good
 
 -- the literal is true of x in the extension of x that meets the definitions
 abbrev pub DefinedTrue : TransitionSystem → (ℕ → Bool) → Lit → Type 0

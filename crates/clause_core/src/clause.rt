@@ -1,4 +1,4 @@
-ghost use Rattle.std.specs.Prelude.{◌≡◌, ◌<◌, ◌==◌, ◌↔◌, List, [], ◌∷◌, ◌++◌, length, All, OnOk, OnErr, IfOk, IsTrue, slice_index_or};
+ghost use Rattle.std.specs.Prelude.{◌≡◌, ◌<◌, ◌==◌, ◌↔◌, ◌≤◌, List, [], ◌∷◌, ◌++◌, length, take, All, OnOk, OnErr, IfOk, IsTrue, slice_index_or};
 ghost use Rattle.clause_core.specs.Literals.{Within};
 
 use crate::literal::Lit;
@@ -69,13 +69,13 @@ pub struct Clauses {
 impl Model for Clauses {
     ghost use Rattle.std.specs.Prelude.{List};
     ghost use Rattle.clause_core.specs.declared.literal.Lit.{Lit};
-    ghost use Rattle.clause_core.specs.Spans.{pieces, SpansIn};
+    ghost use Rattle.clause_core.specs.Spans.{pieces, IsBuffer};
 
     ghost Value = { List (List Lit) };
 
     ghost view = { λ c. pieces c.lits.items c.spans.items };
 
-    ghost invariant = { λ c. SpansIn c.lits.items c.spans.items };
+    ghost invariant = { λ c. IsBuffer c.lits.items c.spans.items };
 }
 
 /// The steps of a derivation, in their order.
@@ -125,6 +125,17 @@ impl Clauses {
         self.lits.extend_from_slice(c)?;
         self.spans.push(Span { from, len: c.len() })?;
         Ok(())
+    }
+
+    /// Leaves the first `len` clauses, and lets the others go; takes no memory.
+    pub fn truncate(&mut self, len: usize)
+        ensures { self.new ≡ take len self.old }
+    {
+        if len < self.spans.len() {
+            let end = self.spans[len].from;
+            self.lits.truncate(end);
+            self.spans.truncate(len);
+        }
     }
 
     /// Whether no literal of any clause is past the variables below `vars`.

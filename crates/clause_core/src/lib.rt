@@ -1,17 +1,18 @@
-//! Literals, clauses and transition systems over bits, what unit propagation finds in clauses, and
-//! what a derivation shows.
+//! Literals, clauses and transition systems over bits; what unit propagation finds in clauses, and does
+//! at one clause under a partial assignment; and what a derivation shows.
 #![tactic(auto)]
 
+pub mod assignment;
 pub mod bits;
 pub mod clause;
 pub mod laws;
 pub mod literal;
+pub mod scanning;
 pub mod system;
 
+pub use assignment::{is_false, is_set, set};
 pub use bits::{Bits, met};
 pub use clause::{Clause, Clauses, Log, is_within};
 pub use literal::Lit;
-pub use system::System;
-
-#[cfg(test)]
-mod tests;
+pub use scanning::{Scan, scan_clause};
+pub use system::{Parts, System};

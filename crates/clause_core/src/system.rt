@@ -1,6 +1,9 @@
+ghost use Rattle.std.specs.Prelude.{◌≡◌, [], ◌∷◌, IfOk, map};
+ghost use Rattle.clause_core.specs.Literals.{negate, units};
+
 use crate::clause::{Clause, Clauses};
 use crate::literal::Lit;
-use std::alloc::Global;
+use std::alloc::{AllocError, Global};
 use std::marker::Model;
 
 /// A transition system over bits. A state is a value for each of the first `state_bits` variables;
@@ -8,8 +11,8 @@ use std::marker::Model;
 /// after these, below `all_bits`, are inputs and what the clauses were built with.
 ///
 /// Its type keeps that twice `state_bits` is at most `all_bits`, that no literal is past `all_bits`,
-/// and that the definitions give the variables of `fair` and their own from the state bits, in one way
-/// for each state.
+/// that each state meets either the good clauses or the bad ones, and that the definitions give the
+/// variables of `fair` and their own from the state bits, in one way for each state.
 #[derive(Drop)]
 pub struct System {
     state_bits: usize,
@@ -17,6 +20,7 @@ pub struct System {
     init: Clauses,
     step: Clauses,
     bad: Clauses,
+    good: Clauses,
     fair: Clause,
     defs: Clauses,
 }
@@ -26,58 +30,91 @@ impl Model for System {
 
     ghost Value = { TransitionSystem };
 
-    ghost view = { λ s. record { state_bits = s.state_bits; all_bits = s.all_bits; init = s.init; step = s.step; bad = s.bad; fair = s.fair; defs = s.defs } };
+    ghost view = { λ s. record { state_bits = s.state_bits; all_bits = s.all_bits; init = s.init; step = s.step; bad = s.bad; good = s.good; fair = s.fair; defs = s.defs } };
 
-    ghost invariant = { λ s. IsSystem record { state_bits = s.state_bits; all_bits = s.all_bits; init = s.init; step = s.step; bad = s.bad; fair = s.fair; defs = s.defs } };
+    ghost invariant = { λ s. IsSystem record { state_bits = s.state_bits; all_bits = s.all_bits; init = s.init; step = s.step; bad = s.bad; good = s.good; fair = s.fair; defs = s.defs } };
+}
+
+/// The parts of a system, by name.
+#[derive(Drop)]
+pub struct Parts {
+    pub state_bits: usize,
+    pub all_bits: usize,
+    pub init: Clauses,
+    pub step: Clauses,
+    pub bad: Clauses,
+    pub good: Clauses,
+    pub fair: Clause,
+    pub defs: Clauses,
 }
 
 impl System {
-    ghost use Rattle.std.specs.Prelude.{◌≡◌, ◌*◌, ◌≤◌, [], All};
-    ghost use Rattle.clause_core.specs.Literals.{Within};
-    ghost use Rattle.clause_core.specs.Systems.{TransitionSystem, IsSystem, Gives};
+    ghost use Rattle.std.specs.Prelude.{◌≡◌, ◌*◌, ◌≤◌, [], ◌∷◌, All, IfOk, map};
+    ghost use Rattle.clause_core.specs.Literals.{Within, negate, units};
+    ghost use Rattle.clause_core.specs.Systems.{TransitionSystem, IsSystem};
 
     /// The system of these parts; takes no memory.
-    pub fn new(
-        state_bits: usize,
-        all_bits: usize,
-        init: Clauses,
-        step: Clauses,
-        bad: Clauses,
-        fair: Clause,
-        defs: Clauses,
-    ) -> System
-        requires { IsSystem record { state_bits = state_bits; all_bits = all_bits; init = init; step = step; bad = bad; fair = fair; defs = defs } }
-        ensures { result ≡ record { state_bits = state_bits; all_bits = all_bits; init = init; step = step; bad = bad; fair = fair; defs = defs } }
+    pub fn new(parts: Parts) -> System
+        requires { IsSystem record { state_bits = parts.state_bits; all_bits = parts.all_bits; init = parts.init; step = parts.step; bad = parts.bad; good = parts.good; fair = parts.fair; defs = parts.defs } }
+        ensures { result ≡ record { state_bits = parts.state_bits; all_bits = parts.all_bits; init = parts.init; step = parts.step; bad = parts.bad; good = parts.good; fair = parts.fair; defs = parts.defs } }
     {
+        let Parts {
+            state_bits,
+            all_bits,
+            init,
+            step,
+            bad,
+            good,
+            fair,
+            defs,
+        } = parts;
         System {
             state_bits,
             all_bits,
             init,
             step,
             bad,
+            good,
             fair,
             defs,
         }
     }
 
-    /// The system with no fairness literals and no definitions; takes no memory.
+    /// The system with no fairness literals and no definitions, whose bad states are those in which each of
+    /// these literals is true. Only want of memory is an error.
     pub fn plain(
         alloc: Global,
         state_bits: usize,
         all_bits: usize,
         init: Clauses,
         step: Clauses,
-        bad: Clauses,
-    ) -> System
+        bad: &[Lit],
+    ) -> Result<System, AllocError>
         requires room { 2 * state_bits ≤ all_bits }
         requires init_in { All (Within all_bits) init }
         requires step_in { All (Within all_bits) step }
-        requires bad_in { All (Within all_bits) bad }
-        ensures { result ≡ record { state_bits = state_bits; all_bits = all_bits; init = init; step = step; bad = bad; fair = []; defs = [] } }
+        requires bad_in { Within state_bits bad.now }
+        ensures { IfOk result (λ s. s ≡ record { state_bits = state_bits; all_bits = all_bits; init = init; step = step; bad = units bad.now; good = map negate bad.now ∷ []; fair = []; defs = [] }) }
     {
-        let fair = Clause::from_vec(Vec::new(alloc));
-        let defs = Clauses::new(alloc);
-        System::new(state_bits, all_bits, init, step, bad, fair, defs)
+        let good = negation(alloc, bad)?;
+        let bad = unit_clauses(alloc, bad)?;
+        Ok(System::new(Parts {
+            state_bits,
+            all_bits,
+            init,
+            step,
+            bad,
+            good,
+            fair: Clause::from_vec(Vec::new(alloc)),
+            defs: Clauses::new(alloc),
+        }))
+    }
+
+    /// What the type keeps. It does nothing.
+    pub fn law(&self)
+        ensures { IsSystem self.now }
+    {
+        let _bits = self.state_bits;
     }
 
     /// How many state bits there are.
@@ -98,42 +135,67 @@ impl System {
 
     /// The clauses of a first state.
     pub fn init(&self) -> &Clauses
-        ensures value { result.now ≡ self.now.init }
-        ensures within { All (Within self.now.all_bits) self.now.init }
+        ensures { result.now ≡ self.now.init }
     {
         &self.init
     }
 
     /// The clauses of a step.
     pub fn step(&self) -> &Clauses
-        ensures value { result.now ≡ self.now.step }
-        ensures within { All (Within self.now.all_bits) self.now.step }
+        ensures { result.now ≡ self.now.step }
     {
         &self.step
     }
 
     /// The clauses of a bad state.
     pub fn bad(&self) -> &Clauses
-        ensures value { result.now ≡ self.now.bad }
-        ensures within { All (Within self.now.all_bits) self.now.bad }
+        ensures { result.now ≡ self.now.bad }
     {
         &self.bad
     }
 
+    /// The clauses of a state that is not bad.
+    pub fn good(&self) -> &Clauses
+        ensures { result.now ≡ self.now.good }
+    {
+        &self.good
+    }
+
     /// The literals each of which is true infinitely often on a fair run.
     pub fn fair(&self) -> &[Lit]
-        ensures value { result.now ≡ self.now.fair }
-        ensures within { Within self.now.all_bits self.now.fair }
+        ensures { result.now ≡ self.now.fair }
     {
         self.fair.as_slice()
     }
 
     /// The clauses that give the variables of `fair` and of atoms from the state bits.
     pub fn defs(&self) -> &Clauses
-        ensures value { result.now ≡ self.now.defs }
-        ensures within { All (Within self.now.all_bits) self.now.defs }
-        ensures gives { Gives self.now.state_bits self.now.fair self.now.defs }
+        ensures { result.now ≡ self.now.defs }
     {
         &self.defs
     }
+}
+
+// A clause of one literal for each literal.
+fn unit_clauses(alloc: Global, lits: &[Lit]) -> Result<Clauses, AllocError>
+    ensures { IfOk result (λ cs. cs ≡ units lits.now) }
+{
+    let mut clauses = Clauses::new(alloc);
+    for l in lits {
+        clauses.push(&[*l])?;
+    }
+    Ok(clauses)
+}
+
+// The one clause that says that some literal is false.
+fn negation(alloc: Global, lits: &[Lit]) -> Result<Clauses, AllocError>
+    ensures { IfOk result (λ cs. cs ≡ map negate lits.now ∷ []) }
+{
+    let mut negated = Vec::new(alloc);
+    for l in lits {
+        negated.push(l.negated())?;
+    }
+    let mut clauses = Clauses::new(alloc);
+    clauses.push(&negated)?;
+    Ok(clauses)
 }

@@ -4,7 +4,7 @@ use Rattle.std.proofs.lemmas.List.{take_more, take_all, length-take-le}
 use Rattle.std.proofs.lemmas.List.Elements.{All-nil, All-cons, All-append}
 use Rattle.bit_graph.specs.declared.edge.Edge.{Edge}
 use Rattle.bit_graph.specs.declared.edge.Node.{Node}
-use Rattle.bit_graph.specs.declared.edge.Node.TheVariants.{False, Input, And}
+use Rattle.bit_graph.specs.declared.edge.Node.TheVariants.{False, Input, And, Xor, Choice}
 use Rattle.cnf_build.specs.Encoding.{clauses_of, cnf_from}
 use Rattle.cnf_build.specs.Cone.{marked, ConeFrom, RootsLive, Included, Reaches, AllReached}
 
@@ -12,6 +12,8 @@ pub Reaches-grows : (old new : List Bool) (n : Node) → Included (marked old) (
 Reaches-grows old new False h r = tt
 Reaches-grows old new Input h r = tt
 Reaches-grows old new (And a b) h r = (h a.node r.0, h b.node r.1)
+Reaches-grows old new (Xor a b) h r = (h a r.0, h b r.1)
+Reaches-grows old new (Choice c a b) h r = (h c r.0, h a r.1, h b.node r.2)
 
 pub RootsLive-grows : (old new : List Bool) (roots : List Edge) → Included (marked old) (marked new) → RootsLive (marked old) roots → RootsLive (marked new) roots
 RootsLive-grows old new roots h r = λ k d l. h (get_or roots k d).node (r k d l)
@@ -51,8 +53,8 @@ cnf_more live name g k n l e =
     ap (cnf_from live name 0) (take_more g k Input l) ∙ cnf_push live name 0 (take k g) (get_or g k Input)
     ∙ (λ i. cnf_from live name 0 (take k g) ++ cond (live (z i)) (clauses_of name (z i) (e' i)) [])
 
-pub operands_in : (live : ℕ → Bool) (n : Node) (a b : Edge) → n ≡ And a b → Reaches live n → (live a.node ≡ true) × (live b.node ≡ true)
-operands_in live n a b is r = let P : Node → Type 0 = Reaches live in subst P is r
+pub operands_in : (live : ℕ → Bool) (n m : Node) → n ≡ m → Reaches live n → Reaches live m
+operands_in live n m is r = let P : Node → Type 0 = Reaches live in subst P is r
 
 pub RootsLive-more : (old new : ℕ → Bool) (roots : List Edge) (i : ℕ) (d : Edge) → i < length roots → Included old new →
     new (get_or roots i d).node ≡ true → RootsLive old (take i roots) → RootsLive new (take (i + 1) roots)

@@ -2,7 +2,7 @@ use Rattle.std.proofs.Common.{◌≡◌, ℕ, ◌<◌, ◌≤◌, ◌⊎◌, Boo
 use Rattle.std.proofs.lemmas.Bool.{cases_Bool, cases_lt, cases_order, and_parts, eqb-true, eq-eqb}
 use Rattle.bit_graph.specs.declared.edge.Edge.{Edge}
 use Rattle.bit_graph.specs.declared.edge.Node.{Node}
-use Rattle.bit_graph.specs.declared.edge.Node.TheVariants.{False, Input, And}
+use Rattle.bit_graph.specs.declared.edge.Node.TheVariants.{False, Input, And, Xor, Choice}
 use Rattle.clause_core.specs.declared.literal.Lit.{Lit}
 use Rattle.cnf_build.specs.Numbering.{HasVariable, Numbering, is_input, is_named, count_below}
 use Rattle.cnf_build.specs.Law.{IsCnf}
@@ -93,6 +93,8 @@ input_is : (n : Node) → is_input n ≡ true → n ≡ Input
 input_is False h = cc
 input_is Input h = refl
 input_is (And a b) h = cc
+input_is (Xor a b) h = cc
+input_is (Choice c a b) h = cc
 
 or_left : (x y : Bool) → x ≡ true → (x || y) ≡ true
 or_left x y h = ap (λ b. b || y) h

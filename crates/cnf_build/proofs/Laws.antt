@@ -4,14 +4,14 @@ use Rattle.std.proofs.lemmas.Bool.{not-true, not-false, cases_Bool}
 use Rattle.std.proofs.lemmas.List.Elements.{All-nil, All-cons, All-append, All-contains, Contains-append_left, Contains-append_right, Contains-get_or}
 use Rattle.bit_graph.specs.declared.edge.Edge.{Edge}
 use Rattle.bit_graph.specs.declared.edge.Node.{Node}
-use Rattle.bit_graph.specs.declared.edge.Node.TheVariants.{False, Input, And}
+use Rattle.bit_graph.specs.declared.edge.Node.TheVariants.{False, Input, And, Xor, Choice}
 use Rattle.bit_graph.specs.Meaning.{edge_value, exclusive_or, NodeHolds}
 use Rattle.clause_core.specs.declared.literal.Lit.{Lit}
 use Rattle.clause_core.specs.Literals.{negate}
 use Rattle.clause_core.specs.Assignments.{ClauseTrue}
 use Rattle.clause_core.specs.Propagation.{UnitIn, Closed}
-use Rattle.cnf_build.specs.Encoding.{lit, node_lit, down, up, clauses_of, cnf_from}
-use Rattle.cnf_build.specs.Law.{NodeSet, of_nodes}
+use Rattle.cnf_build.specs.Encoding.{lit, node_lit, down, forced, clauses_of, cnf_from}
+use Rattle.cnf_build.specs.Law.{NodeSet, Forces, of_nodes}
 
 -- v has at each live node the value that the node gives it
 abbrev pub HoldsLive : (ℕ → Bool) → (ℕ → Bool) → List Node → Type 0
@@ -47,9 +47,6 @@ module _ {X : Type 0} (P : X → Type 0) where
 pub first_in : {X : Type 0} (x : X) (xs : List X) → Contains (x ∷ xs) x
 first_in x xs = (0, omega arith, refl)
 
-pub later_in : {X : Type 0} (x : X) (xs : List X) (y : X) → Contains xs y → Contains (x ∷ xs) y
-later_in x xs y h = (suc h.0, omega arith, h.2)
-
 -- a literal against its edge
 pub on_true : (p y : Bool) → y ≡ not p → exclusive_or p y ≡ true
 on_true true y h = ap not h
@@ -84,12 +81,67 @@ third_clause x true true h = inl h
 third_clause x true false h = inr (inr refl)
 third_clause x false z h = inr (inl refl)
 
+xor_from : (x y z : Bool) → (y ≡ true → z ≡ true → x ≡ false) → (y ≡ true → z ≡ false → x ≡ true) → (y ≡ false → z ≡ true → x ≡ true) →
+    (y ≡ false → z ≡ false → x ≡ false) → x ≡ exclusive_or y z
+xor_from x true true p q r s = p refl refl
+xor_from x true false p q r s = q refl refl
+xor_from x false true p q r s = r refl refl
+xor_from x false false p q r s = s refl refl
+
+choice_from : (x c y z : Bool) → (c ≡ true → y ≡ true → x ≡ true) → (c ≡ true → y ≡ false → x ≡ false) → (c ≡ false → z ≡ true → x ≡ true) →
+    (c ≡ false → z ≡ false → x ≡ false) → x ≡ cond c y z
+choice_from x true true z p q r s = p refl refl
+choice_from x true false z p q r s = q refl refl
+choice_from x false y true p q r s = r refl refl
+choice_from x false y false p q r s = s refl refl
+
+same_branches : (c y : Bool) → cond c y y ≡ y
+same_branches true y = refl
+same_branches false y = refl
+
+same_or_not : (x y : Bool) → (x ≡ y) ⊎ (x ≡ not y)
+same_or_not true true = inl refl
+same_or_not true false = inr refl
+same_or_not false true = inr refl
+same_or_not false false = inl refl
+
+not_both : (x y : Bool) → x ≡ y → x ≡ not y → ⊥
+not_both true true p q = cc
+not_both true false p q = cc
+not_both false true p q = cc
+not_both false false p q = cc
+
+module _ {X : Type 0} (P : X → Type 0) where
+  pub all_four : (a b c d : X) → P a → P b → P c → P d → All P (a ∷ b ∷ c ∷ d ∷ [])
+  all_four a b c d p q r s =
+      All-cons P a (b ∷ c ∷ d ∷ []) p (All-cons P b (c ∷ d ∷ []) q (All-cons P c (d ∷ []) r (All-cons P d [] s (All-nil P))))
+
+  pub all_six : (a b c d e f : X) → P a → P b → P c → P d → P e → P f → All P (a ∷ b ∷ c ∷ d ∷ e ∷ f ∷ [])
+  all_six a b c d e f p q r s t u = All-cons P a (b ∷ c ∷ d ∷ e ∷ f ∷ []) p (All-cons P b (c ∷ d ∷ e ∷ f ∷ []) q (all_four c d e f r s t u))
+
 module _ (name : ℕ → ℕ) (v : ℕ → Bool) where
   abbrev True : Lit → Type 0
   True l = v l.var ≡ l.positive
 
   abbrev Met : List Lit → Type 0
   Met c = ClauseTrue v c
+
+  forced_from : (k : ℕ) (y : Bool) (l m : Lit) → Met (forced name k y l m) → True l → True m → v (name k) ≡ y
+  forced_from k y l m h on_l on_m =
+      elim (any_three True (node_lit name k y) (negate l) (negate m) h) [
+        | inl p ↦ p
+        | inr q ↦ (elim q [ inl p ↦ absurd (not_both (v l.var) l.positive on_l p) | inr p ↦ absurd (not_both (v m.var) m.positive on_m p) ])
+      ]
+
+  forced_met : (k : ℕ) (y : Bool) (l m : Lit) → (True l → True m → v (name k) ≡ y) → Met (forced name k y l m)
+  forced_met k y l m f =
+      elim (same_or_not (v l.var) l.positive) [
+        | inl on_l ↦ (elim (same_or_not (v m.var) m.positive) [
+          | inl on_m ↦ any_head True (node_lit name k y) (negate l ∷ negate m ∷ []) (f on_l on_m)
+          | inr off ↦ any_tail True (node_lit name k y) (negate l ∷ negate m ∷ []) (any_tail True (negate l) (negate m ∷ []) (any_head True (negate m) [] off))
+        ])
+        | inr off ↦ any_tail True (node_lit name k y) (negate l ∷ negate m ∷ []) (any_head True (negate l) (negate m ∷ []) off)
+      ]
 
   -- the clauses of a node hold exactly where its value is right
   pub node_from : (k : ℕ) (n : Node) → All (ClauseTrue v) (clauses_of name k n) → NodeHolds (of_nodes name v) k n
@@ -98,7 +150,7 @@ module _ (name : ℕ → ℕ) (v : ℕ → Bool) where
   node_from k (And a b) h =
       let m1 : Met (down name k a) = h 0 [] (omega arith) in
       let m2 : Met (down name k b) = h 1 [] (omega arith) in
-      let m3 : Met (up name k a b) = h 2 [] (omega arith) in
+      let m3 : Met (forced name k true (lit name a) (lit name b)) = h 2 [] (omega arith) in
       and_from_clauses (v (name k)) (edge_value (of_nodes name v) a) (edge_value (of_nodes name v) b)
       (elim (any_two True (node_lit name k false) (lit name a) m1) [ inl p ↦ inl p | inr p ↦ inr (on_true a.negated (v (name a.node)) p) ])
       (elim (any_two True (node_lit name k false) (lit name b) m2) [ inl p ↦ inl p | inr p ↦ inr (on_true b.negated (v (name b.node)) p) ])
@@ -106,6 +158,18 @@ module _ (name : ℕ → ℕ) (v : ℕ → Bool) where
         | inl p ↦ inl p
         | inr q ↦ inr (elim q [ inl p ↦ inl (on_false a.negated (v (name a.node)) p) | inr p ↦ inr (on_false b.negated (v (name b.node)) p) ])
       ])
+  node_from k (Xor a b) h =
+      xor_from (v (name k)) (v (name a)) (v (name b))
+      (forced_from k false (node_lit name a true) (node_lit name b true) (h 0 [] (omega arith)))
+      (forced_from k true (node_lit name a true) (node_lit name b false) (h 1 [] (omega arith)))
+      (forced_from k true (node_lit name a false) (node_lit name b true) (h 2 [] (omega arith)))
+      (forced_from k false (node_lit name a false) (node_lit name b false) (h 3 [] (omega arith)))
+  node_from k (Choice c a b) h =
+      choice_from (v (name k)) (v (name c)) (v (name a)) (edge_value (of_nodes name v) b)
+      (forced_from k true (node_lit name c true) (node_lit name a true) (h 0 [] (omega arith)))
+      (forced_from k false (node_lit name c true) (node_lit name a false) (h 1 [] (omega arith)))
+      (λ p q. forced_from k true (node_lit name c false) (lit name b) (h 2 [] (omega arith)) p (true_on b.negated (v (name b.node)) q))
+      (λ p q. forced_from k false (node_lit name c false) (negate (lit name b)) (h 3 [] (omega arith)) p (false_on b.negated (v (name b.node)) q))
 
   down_met : (k : ℕ) (a : Edge) → (v (name k) ≡ false) ⊎ (edge_value (of_nodes name v) a ≡ true) → Met (down name k a)
   down_met k a h =
@@ -114,7 +178,7 @@ module _ (name : ℕ → ℕ) (v : ℕ → Bool) where
         | inr p ↦ any_tail True (node_lit name k false) (lit name a ∷ []) (any_head True (lit name a) [] (true_on a.negated (v (name a.node)) p))
       ]
 
-  up_met : (k : ℕ) (a b : Edge) → (v (name k) ≡ true) ⊎ ((edge_value (of_nodes name v) a ≡ false) ⊎ (edge_value (of_nodes name v) b ≡ false)) → Met (up name k a b)
+  up_met : (k : ℕ) (a b : Edge) → (v (name k) ≡ true) ⊎ ((edge_value (of_nodes name v) a ≡ false) ⊎ (edge_value (of_nodes name v) b ≡ false)) → Met (forced name k true (lit name a) (lit name b))
   up_met k a b h =
       elim h [
         | inl p ↦ any_head True (node_lit name k true) (negate (lit name a) ∷ negate (lit name b) ∷ []) p
@@ -129,9 +193,30 @@ module _ (name : ℕ → ℕ) (v : ℕ → Bool) where
   node_to k False h = All-cons Met (node_lit name k false ∷ []) [] (any_head True (node_lit name k false) [] h) (All-nil Met)
   node_to k Input h = All-nil Met
   node_to k (And a b) h =
-      All-cons Met (down name k a) (down name k b ∷ up name k a b ∷ []) (down_met k a (first_clause (v (name k)) (edge_value (of_nodes name v) a) (edge_value (of_nodes name v) b) h))
-      (All-cons Met (down name k b) (up name k a b ∷ []) (down_met k b (second_clause (v (name k)) (edge_value (of_nodes name v) a) (edge_value (of_nodes name v) b) h))
-      (All-cons Met (up name k a b) [] (up_met k a b (third_clause (v (name k)) (edge_value (of_nodes name v) a) (edge_value (of_nodes name v) b) h)) (All-nil Met)))
+      let third = forced name k true (lit name a) (lit name b) in
+      All-cons Met (down name k a) (down name k b ∷ third ∷ []) (down_met k a (first_clause (v (name k)) (edge_value (of_nodes name v) a) (edge_value (of_nodes name v) b) h))
+      (All-cons Met (down name k b) (third ∷ []) (down_met k b (second_clause (v (name k)) (edge_value (of_nodes name v) a) (edge_value (of_nodes name v) b) h))
+      (All-cons Met third [] (up_met k a b (third_clause (v (name k)) (edge_value (of_nodes name v) a) (edge_value (of_nodes name v) b) h)) (All-nil Met)))
+  node_to k (Xor a b) h =
+      all_four Met (forced name k false (node_lit name a true) (node_lit name b true)) (forced name k true (node_lit name a true) (node_lit name b false))
+      (forced name k true (node_lit name a false) (node_lit name b true)) (forced name k false (node_lit name a false) (node_lit name b false))
+      (forced_met k false (node_lit name a true) (node_lit name b true) (λ p q. h ∙ (λ i. exclusive_or (p i) (q i))))
+      (forced_met k true (node_lit name a true) (node_lit name b false) (λ p q. h ∙ (λ i. exclusive_or (p i) (q i))))
+      (forced_met k true (node_lit name a false) (node_lit name b true) (λ p q. h ∙ (λ i. exclusive_or (p i) (q i))))
+      (forced_met k false (node_lit name a false) (node_lit name b false) (λ p q. h ∙ (λ i. exclusive_or (p i) (q i))))
+  node_to k (Choice c a b) h =
+      let y = edge_value (of_nodes name v) b in
+      let on = on_true b.negated (v (name b.node)) in
+      let off = on_false b.negated (v (name b.node)) in
+      all_six Met (forced name k true (node_lit name c true) (node_lit name a true)) (forced name k false (node_lit name c true) (node_lit name a false))
+      (forced name k true (node_lit name c false) (lit name b)) (forced name k false (node_lit name c false) (negate (lit name b)))
+      (forced name k true (node_lit name a true) (lit name b)) (forced name k false (node_lit name a false) (negate (lit name b)))
+      (forced_met k true (node_lit name c true) (node_lit name a true) (λ p q. h ∙ (λ i. cond (p i) (q i) y)))
+      (forced_met k false (node_lit name c true) (node_lit name a false) (λ p q. h ∙ (λ i. cond (p i) (q i) y)))
+      (forced_met k true (node_lit name c false) (lit name b) (λ p q. h ∙ (λ i. cond (p i) (v (name a)) (on q i))))
+      (forced_met k false (node_lit name c false) (negate (lit name b)) (λ p q. h ∙ (λ i. cond (p i) (v (name a)) (off q i))))
+      (forced_met k true (node_lit name a true) (lit name b) (λ p q. h ∙ (λ i. cond (v (name c)) (p i) (on q i)) ∙ same_branches (v (name c)) true))
+      (forced_met k false (node_lit name a false) (negate (lit name b)) (λ p q. h ∙ (λ i. cond (v (name c)) (p i) (off q i)) ∙ same_branches (v (name c)) false))
 
 -- the clauses of a live node are among the clauses
 pub node_in : (live : ℕ → Bool) (name : ℕ → ℕ) (j : ℕ) (g : List Node) (k : ℕ) (c : List Lit) → k < length g → live (j + k) ≡ true →
@@ -215,16 +300,16 @@ module _ (name : ℕ → ℕ) (t : Lit → Bool) where
         All-cons (Off l) l (lit name a ∷ []) (λ ne. absurd (ne refl)) (All-cons (Off l) (lit name a) [] (λ ne. off) (All-nil (Off l))),
       )
 
-  up_sets : (k : ℕ) (a b : Edge) → Unit_rule (up name k a b) → t (lit name a) ≡ true → t (lit name b) ≡ true → t (node_lit name k true) ≡ true
-  up_sets k a b rule on_a on_b =
-      let l = node_lit name k true in
-      let na = negate (lit name a) in
-      let nb = negate (lit name b) in
+  forced_sets : (k : ℕ) (y : Bool) (a b : Lit) → Unit_rule (forced name k y a b) → Forces name t k y a b
+  forced_sets k y a b rule on_a on_b =
+      let l = node_lit name k y in
+      let na = negate a in
+      let nb = negate b in
       rule l (
         first_in l (na ∷ nb ∷ []),
         All-cons (Off l) l (na ∷ nb ∷ []) (λ ne. absurd (ne refl))
-            (All-cons (Off l) na (nb ∷ []) (λ ne. ap t (negate-negate (lit name a)) ∙ on_a)
-            (All-cons (Off l) nb [] (λ ne. ap t (negate-negate (lit name b)) ∙ on_b) (All-nil (Off l)))),
+            (All-cons (Off l) na (nb ∷ []) (λ ne. ap t (negate-negate a) ∙ on_a)
+            (All-cons (Off l) nb [] (λ ne. ap t (negate-negate b) ∙ on_b) (All-nil (Off l)))),
       )
 
   false_sets : (k : ℕ) → Unit_rule (node_lit name k false ∷ []) → t (node_lit name k false) ≡ true
@@ -236,11 +321,30 @@ module _ (name : ℕ → ℕ) (t : Lit → Bool) where
   node_set k False h = false_sets k (h (node_lit name k false ∷ []) (first_in (node_lit name k false ∷ []) []))
   node_set k Input h = tt
   node_set k (And a b) h =
-      let one : Unit_rule (down name k a) = h (down name k a) (first_in (down name k a) (down name k b ∷ up name k a b ∷ [])) in
-      let two : Unit_rule (down name k b) = h (down name k b) (later_in (down name k a) (down name k b ∷ up name k a b ∷ []) (down name k b) (first_in (down name k b) (up name k a b ∷ []))) in
-      let three : Unit_rule (up name k a b) =
-      h (up name k a b) (later_in (down name k a) (down name k b ∷ up name k a b ∷ []) (up name k a b) (later_in (down name k b) (up name k a b ∷ []) (up name k a b) (first_in (up name k a b) []))) in
-      (up_sets k a b three, down_sets k a one, down_sets k b two)
+      let third = forced name k true (lit name a) (lit name b) in (
+        forced_sets k true (lit name a) (lit name b) (h third (2, omega arith, refl)),
+        down_sets k a (h (down name k a) (0, omega arith, refl)),
+        down_sets k b (h (down name k b) (1, omega arith, refl)),
+      )
+  node_set k (Xor a b) h =
+      let A = node_lit name a in
+      let B = node_lit name b in (
+        forced_sets k false (A true) (B true) (h (forced name k false (A true) (B true)) (0, omega arith, refl)),
+        forced_sets k true (A true) (B false) (h (forced name k true (A true) (B false)) (1, omega arith, refl)),
+        forced_sets k true (A false) (B true) (h (forced name k true (A false) (B true)) (2, omega arith, refl)),
+        forced_sets k false (A false) (B false) (h (forced name k false (A false) (B false)) (3, omega arith, refl)),
+      )
+  node_set k (Choice c a b) h =
+      let C = node_lit name c in
+      let A = node_lit name a in
+      let B = lit name b in (
+        forced_sets k true (C true) (A true) (h (forced name k true (C true) (A true)) (0, omega arith, refl)),
+        forced_sets k false (C true) (A false) (h (forced name k false (C true) (A false)) (1, omega arith, refl)),
+        forced_sets k true (C false) B (h (forced name k true (C false) B) (2, omega arith, refl)),
+        forced_sets k false (C false) (negate B) (h (forced name k false (C false) (negate B)) (3, omega arith, refl)),
+        forced_sets k true (A true) B (h (forced name k true (A true) B) (4, omega arith, refl)),
+        forced_sets k false (A false) (negate B) (h (forced name k false (A false) (negate B)) (5, omega arith, refl)),
+      )
 
 -- a closed set holds a node's literal once it holds those of the operands
 pub sets_live : (live : ℕ → Bool) (name : ℕ → ℕ) (g : List Node) (t : Lit → Bool) → Closed t (cnf_from live name 0 g) → SetLive live name t g

@@ -2,13 +2,15 @@
 use Rattle.std.specs.Prelude.{◌≡◌, ℕ, ◌<◌, ◌≤◌, Bool, true, false, List, length, slice_index_or, All}
 use Rattle.bit_graph.specs.declared.edge.Edge.{Edge}
 use Rattle.bit_graph.specs.declared.edge.Node.{Node}
-use Rattle.bit_graph.specs.declared.edge.Node.TheVariants.{False, Input, And}
+use Rattle.bit_graph.specs.declared.edge.Node.TheVariants.{False, Input, And, Xor, Choice}
 
 -- the node's operands are live
 abbrev pub Reaches : (ℕ → Bool) → Node → Type 0
 Reaches live False = Unit {0}
 Reaches live Input = Unit {0}
 Reaches live (And a b) = (live a.node ≡ true) × (live b.node ≡ true)
+Reaches live (Xor a b) = (live a ≡ true) × (live b ≡ true)
+Reaches live (Choice c a b) = (live c ≡ true) × (live a ≡ true) × (live b.node ≡ true)
 
 -- the live nodes have their operands among them
 abbrev pub IsCone : (ℕ → Bool) → List Node → Type 0

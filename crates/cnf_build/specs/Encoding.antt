@@ -2,7 +2,7 @@
 use Rattle.std.specs.Prelude.{ℕ, ◌++◌, Bool, true, false, not, cond, List, [], ◌∷◌, suc}
 use Rattle.bit_graph.specs.declared.edge.Edge.{Edge}
 use Rattle.bit_graph.specs.declared.edge.Node.{Node}
-use Rattle.bit_graph.specs.declared.edge.Node.TheVariants.{False, Input, And}
+use Rattle.bit_graph.specs.declared.edge.Node.TheVariants.{False, Input, And, Xor, Choice}
 use Rattle.clause_core.specs.declared.literal.Lit.{Lit}
 use Rattle.clause_core.specs.Literals.{negate}
 
@@ -22,15 +22,29 @@ node_lit name k b = variable_lit (name k) b
 abbrev pub down : (ℕ → ℕ) → ℕ → Edge → List Lit
 down name k a = node_lit name k false ∷ lit name a ∷ []
 
--- if both edges are true, so is node k
-abbrev pub up : (ℕ → ℕ) → ℕ → Edge → Edge → List Lit
-up name k a b = node_lit name k true ∷ negate (lit name a) ∷ negate (lit name b) ∷ []
+-- if both literals are true, node k is b
+abbrev pub forced : (ℕ → ℕ) → ℕ → Bool → Lit → Lit → List Lit
+forced name k b l m = node_lit name k b ∷ negate l ∷ negate m ∷ []
 
 -- the clauses of node k, which is n
 abbrev pub clauses_of : (ℕ → ℕ) → ℕ → Node → List (List Lit)
 clauses_of name k False = (node_lit name k false ∷ []) ∷ []
 clauses_of name k Input = []
-clauses_of name k (And a b) = down name k a ∷ down name k b ∷ up name k a b ∷ []
+clauses_of name k (And a b) = down name k a ∷ down name k b ∷ forced name k true (lit name a) (lit name b) ∷ []
+clauses_of name k (Xor a b) =
+    forced name k false (node_lit name a true) (node_lit name b true)
+    ∷ forced name k true (node_lit name a true) (node_lit name b false)
+    ∷ forced name k true (node_lit name a false) (node_lit name b true)
+    ∷ forced name k false (node_lit name a false) (node_lit name b false)
+    ∷ []
+clauses_of name k (Choice c a b) =
+    forced name k true (node_lit name c true) (node_lit name a true)
+    ∷ forced name k false (node_lit name c true) (node_lit name a false)
+    ∷ forced name k true (node_lit name c false) (lit name b)
+    ∷ forced name k false (node_lit name c false) (negate (lit name b))
+    ∷ forced name k true (node_lit name a true) (lit name b)
+    ∷ forced name k false (node_lit name a false) (negate (lit name b))
+    ∷ []
 
 -- the clauses of the nodes that are live, where the list begins with node k
 abbrev pub cnf_from : (ℕ → Bool) → (ℕ → ℕ) → ℕ → List Node → List (List Lit)

@@ -2,7 +2,7 @@
 use Rattle.std.specs.Prelude.{◌≡◌, ℕ, ◌<◌, ◌⊎◌, Bool, true, false, ◌||◌, cond, List, length, slice_index_or, zero, suc}
 use Rattle.bit_graph.specs.declared.edge.Edge.{Edge}
 use Rattle.bit_graph.specs.declared.edge.Node.{Node}
-use Rattle.bit_graph.specs.declared.edge.Node.TheVariants.{False, Input, And}
+use Rattle.bit_graph.specs.declared.edge.Node.TheVariants.{False, Input, And, Xor, Choice}
 use Rattle.bit_graph.specs.Meaning.{HasInputs}
 use Rattle.cnf_build.specs.Cone.{Reached}
 
@@ -24,6 +24,8 @@ abbrev pub is_input : Node → Bool
 is_input False = false
 is_input Input = true
 is_input (And a b) = false
+is_input (Xor a b) = false
+is_input (Choice c a b) = false
 
 -- node k is live or an input
 abbrev pub is_named : (ℕ → Bool) → List Node → ℕ → Bool

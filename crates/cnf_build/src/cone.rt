@@ -16,7 +16,7 @@ pub fn cone(alloc: Global, graph: &Graph, roots: &[Edge]) -> Result<Vec<bool>, A
     let size = graph.len();
     let mut marks = vec![in alloc; false; size]?;
     'roots: for e in roots {
-        mark(&mut marks, *e);
+        mark(&mut marks, e.node);
     }
     'nodes: for k in (0..size).rev() {
         if marks[k] {
@@ -26,15 +26,15 @@ pub fn cone(alloc: Global, graph: &Graph, roots: &[Edge]) -> Result<Vec<bool>, A
     Ok(marks)
 }
 
-fn mark(marks: &mut Vec<bool>, e: Edge)
-    requires { e.node < length marks.old.items }
+fn mark(marks: &mut Vec<bool>, node: usize)
+    requires { node < length marks.old.items }
     ensures size { length marks.new.items ≡ length marks.old.items }
     ensures grows { Included (marked marks.old.items) (marked marks.new.items) }
-    ensures marks { marked marks.new.items e.node ≡ true }
-    ensures same { (j : ℕ) → e.node < j → marked marks.new.items j ≡ marked marks.old.items j }
-    ensures least { (live : ℕ → Bool) → live e.node ≡ true → Included (marked marks.old.items) live → Included (marked marks.new.items) live }
+    ensures marks { marked marks.new.items node ≡ true }
+    ensures same { (j : ℕ) → node < j → marked marks.new.items j ≡ marked marks.old.items j }
+    ensures least { (live : ℕ → Bool) → live node ≡ true → Included (marked marks.old.items) live → Included (marked marks.new.items) live }
 {
-    marks[e.node] = true;
+    marks[node] = true;
 }
 
 fn mark_operands(marks: &mut Vec<bool>, k: usize, node: Node)
@@ -46,8 +46,20 @@ fn mark_operands(marks: &mut Vec<bool>, k: usize, node: Node)
     ensures reaches { Reaches (marked marks.new.items) node }
     ensures least { (live : ℕ → Bool) → Reaches live node → Included (marked marks.old.items) live → Included (marked marks.new.items) live }
 {
-    if let Node::And(a, b) = node {
-        mark(marks, a);
-        mark(marks, b);
+    match node {
+        Node::False | Node::Input => {}
+        Node::And(a, b) => {
+            mark(marks, a.node);
+            mark(marks, b.node);
+        }
+        Node::Xor(a, b) => {
+            mark(marks, a);
+            mark(marks, b);
+        }
+        Node::Choice(c, a, b) => {
+            mark(marks, c);
+            mark(marks, a);
+            mark(marks, b.node);
+        }
     }
 }

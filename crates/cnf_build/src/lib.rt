@@ -7,6 +7,3 @@ mod numbers;
 mod tseitin;
 
 pub use tseitin::{Cnf, clauses};
-
-#[cfg(test)]
-mod tests;

@@ -36,6 +36,6 @@ fn is_input(node: Node) -> bool
 {
     match node {
         Node::Input => true,
-        Node::False | Node::And(..) => false,
+        Node::False | Node::And(..) | Node::Xor(..) | Node::Choice(..) => false,
     }
 }

@@ -1,8 +1,8 @@
-ghost use Rattle.std.specs.Prelude.{◌≡◌, ◌<◌, ◌≤◌, ℕ, Bool, List, [], ◌++◌, length, IfOk, OnOk, All, map, if◌then◌else◌};
+ghost use Rattle.std.specs.Prelude.{◌≡◌, ◌<◌, ◌≤◌, ℕ, Bool, List, [], ◌∷◌, ◌++◌, length, IfOk, OnOk, All, map, if◌then◌else◌};
 ghost use Rattle.bit_graph.specs.Meaning.{Stands, IsBelow};
 ghost use Rattle.clause_core.specs.Literals.{Within};
 ghost use Rattle.cnf_build.specs.Cone.{marked};
-ghost use Rattle.cnf_build.specs.Encoding.{lit, clauses_of};
+ghost use Rattle.cnf_build.specs.Encoding.{lit, node_lit, clauses_of, forced};
 ghost use Rattle.cnf_build.specs.Law.{CnfLaw, IsCnf};
 ghost use Rattle.cnf_build.specs.Numbering.{name_in};
 
@@ -26,7 +26,7 @@ pub struct Cnf {
 /// The clauses of the nodes that the roots reach, with a variable for each of these nodes and for each
 /// input, in the nodes' order: where the inputs are the first nodes, input k is variable k.
 ///
-/// It takes time and memory in proportion to the number of nodes, at most three clauses a node, and
+/// It takes time and memory in proportion to the number of nodes, at most six clauses a node, and
 /// no recursion. The only error is want of memory.
 pub fn clauses(alloc: Global, graph: &Graph, roots: &[Edge]) -> Result<Cnf, AllocError>
     requires { All (Stands graph.now) roots.now }
@@ -84,20 +84,54 @@ fn push_node(clauses: &mut Clauses, names: &[usize], k: usize, node: Node) -> Re
     requires below { IsBelow k node }
     ensures { OnOk result (clauses.new ≡ clauses.old ++ clauses_of (name_in names.now) k node) }
 {
-    let on = Lit::new(names[k], true);
-    let off = Lit::new(names[k], false);
     match node {
-        Node::False => clauses.push(&[off])?,
+        Node::False => clauses.push(&[Lit::new(names[k], false)])?,
         Node::Input => {}
         Node::And(a, b) => {
+            let off = Lit::new(names[k], false);
             let a = literal(names, a);
             let b = literal(names, b);
             clauses.push(&[off, a])?;
             clauses.push(&[off, b])?;
-            clauses.push(&[on, a.negated(), b.negated()])?;
+            push_forced(clauses, names, k, true, a, b)?;
+        }
+        Node::Xor(a, b) => {
+            let a = Lit::new(names[a], true);
+            let b = Lit::new(names[b], true);
+            push_forced(clauses, names, k, false, a, b)?;
+            push_forced(clauses, names, k, true, a, b.negated())?;
+            push_forced(clauses, names, k, true, a.negated(), b)?;
+            push_forced(clauses, names, k, false, a.negated(), b.negated())?;
+        }
+        Node::Choice(c, a, b) => {
+            let c = Lit::new(names[c], true);
+            let yes = Lit::new(names[a], true);
+            let no = literal(names, b);
+            push_forced(clauses, names, k, true, c, yes)?;
+            push_forced(clauses, names, k, false, c, yes.negated())?;
+            push_forced(clauses, names, k, true, c.negated(), no)?;
+            push_forced(clauses, names, k, false, c.negated(), no.negated())?;
+            // by these two, branches that are alike decide the node without the condition
+            push_forced(clauses, names, k, true, yes, no)?;
+            push_forced(clauses, names, k, false, yes.negated(), no.negated())?;
         }
     }
     Ok(())
+}
+
+// Adds the clause that node k has this value where both literals are true.
+fn push_forced(
+    clauses: &mut Clauses,
+    names: &[usize],
+    k: usize,
+    value: bool,
+    l: Lit,
+    m: Lit,
+) -> Result<(), AllocError>
+    requires { k < length names.now }
+    ensures { OnOk result (clauses.new ≡ clauses.old ++ (forced (name_in names.now) k value l m ∷ [])) }
+{
+    clauses.push(&[Lit::new(names[k], value), l.negated(), m.negated()])
 }
 
 fn literal(names: &[usize], e: Edge) -> Lit

@@ -7,8 +7,6 @@ mod command;
 mod laws;
 mod reading;
 mod table;
-#[cfg(test)]
-mod tests;
 
 pub use command::{Command, Effort};
 pub use laws::is_said_once;

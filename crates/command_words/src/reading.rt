@@ -1,7 +1,9 @@
 //! Reads the words of a command line.
 
-ghost use Rattle.std.specs.Prelude.{◌≡◌, ◌≤◌, map, IfOk, IfSome, IsErrOf};
+ghost use Rattle.std.specs.Prelude.{◌≡◌, ◌≤◌, ℕ, map, IfOk, IsErrOf};
 ghost use Rattle.clap.specs.Words.{found_of, rows_of, subcommand_rows_of};
+ghost use Rattle.command_words.specs.declared.command.Command.{Command as CommandOf};
+ghost use Rattle.command_words.specs.declared.command.Effort.{Effort as EffortOf};
 ghost use Rattle.command_words.specs.Grammar.{HasEffort, HasNumber, IsCommandLine, Says, Tells, bound_option, conflicts_option};
 
 use crate::command::{Command, Effort};
@@ -19,42 +21,46 @@ pub enum WordsStop {
     NoMemory,
 }
 
-// The number of an option, where the words or its default give one that is not too great.
-fn number_of(found: &ArgMatches<'_>, word: &str, greatest: u64) -> Option<u64>
-    ensures { IfSome result (HasNumber (rows_of (found_of found.now)) word.now greatest) }
+// The number of an option that has one.
+fn number_of(found: &ArgMatches<'_>, word: &str, greatest: u64) -> u64
+    requires { (n : ℕ) × HasNumber (rows_of (found_of found.now)) word.now greatest n }
+    ensures { HasNumber (rows_of (found_of found.now)) word.now greatest result }
 {
-    let text = found.get_str(word)?;
+    let Some(text) = found.get_str(word) else {
+        unreachable!()
+    };
     match text.parse::<u64>() {
-        Ok(number) if number <= greatest => Some(number),
-        _ => None,
+        Ok(number) if number <= greatest => number,
+        _ => unreachable!(),
     }
 }
 
 // The effort that the options of `check` give.
-fn effort_of(found: &ArgMatches<'_>) -> Option<Effort>
-    ensures { IfSome result (HasEffort (rows_of (found_of found.now))) }
+fn effort_of(found: &ArgMatches<'_>) -> Effort
+    requires { (effort : EffortOf) × HasEffort (rows_of (found_of found.now)) effort }
+    ensures { HasEffort (rows_of (found_of found.now)) result }
 {
-    let conflicts = number_of(found, CONFLICTS, 1_099_511_627_776)?;
-    let bound = number_of(found, BOUND, 10_000)?;
-    Some(Effort {
+    let conflicts = number_of(found, CONFLICTS, 1_099_511_627_776);
+    let bound = number_of(found, BOUND, 10_000);
+    Effort {
         conflicts,
         bound: bound as usize,
-    })
+    }
 }
 
 // The command that was found.
-fn command_of(matches: &ArgMatches<'_>) -> Option<Command>
-    ensures { IfSome result (Tells (subcommand_rows_of matches.now)) }
+fn command_of(matches: &ArgMatches<'_>) -> Command
+    requires { (command : CommandOf) × Tells (subcommand_rows_of matches.now) command }
+    ensures { Tells (subcommand_rows_of matches.now) result }
 {
-    let (word, found) = matches.subcommand()?;
+    let Some((word, found)) = matches.subcommand() else {
+        unreachable!()
+    };
     if word == FLAT {
-        return Some(Command::Flat);
+        Command::Flat
+    } else {
+        Command::Check(effort_of(found))
     }
-    if word != CHECK {
-        return None;
-    }
-    let effort = effort_of(found)?;
-    Some(Command::Check(effort))
 }
 
 /// The command that the words after the program's name say.
@@ -77,5 +83,5 @@ pub fn read_words<'a>(alloc: Global, words: &'a [&'a str]) -> Result<Command, Wo
             });
         }
     };
-    command_of(&matches).ok_or(WordsStop::NoMemory)
+    Ok(command_of(&matches))
 }

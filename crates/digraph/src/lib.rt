@@ -10,6 +10,3 @@ mod turn;
 pub use closed::is_closed;
 pub use reach::reached_from;
 pub use turn::least_round;
-
-#[cfg(test)]
-mod tests;

@@ -14,7 +14,7 @@ use Rattle.cnf_build.specs.Encoding.{lit}
 use Rattle.cnf_build.specs.Law.{of_nodes, HasValues, CnfLaw}
 use Rattle.sat_core.specs.declared.answer.Answer.{Answer}
 use Rattle.sat_core.specs.declared.answer.Answer.TheVariants.{Sat, Unsat, Spent}
-use Rattle.sat_core.specs.Queries.{State, IsModel, AnswerSays, Draws, units}
+use Rattle.sat_core.specs.Queries.{State, IsModel, AnswerSays, Draws, units, log_of}
 use Rattle.sat_core.specs.Queries.{IsPaid as SolverIsPaid}
 use Rattle.edge_query.specs.Findings.{AreTrue, Finds, DrawsAtLeast, IsPaid}
 use Rattle.edge_query.specs.Solving.{found_of}
@@ -94,22 +94,22 @@ module _ (g : List Node) (roots : List Edge) (vars : ℕ) (cs : List (List Lit))
       unit_true v (get_or core k d) (All-contains (λ l. v l.var ≡ l.positive) lits (get_or core k d) on (parts k d lt))))
 
   -- a right answer to the clauses, with the roots' literals as assumptions, is a right one to the roots
-  answers : (n budget : ℕ) (over : Bool) (answer : Answer) → HasInputs n g → AnswerSays vars cs lits budget over answer →
+  answers : (learned : List (List Lit)) (n budget : ℕ) (over : Bool) (answer : Answer) → HasInputs n g → AnswerSays vars cs learned lits budget over answer →
       Finds g n roots budget over (found_of n answer)
-  answers n budget over (Sat model) inputs said =
+  answers learned n budget over (Sat model) inputs said =
       (length-take-le n model (omega (arith, said.0, inputs_fit n inputs)), model_true n model inputs said.1)
-  answers n budget over (Unsat core log) inputs said = λ a true_roots.
-      refutes vars (cs ++ units core.items) log said.1 (valued a) (core_true core.items a said.0 true_roots)
-  answers n budget over (Spent drawn b) inputs said = said
+  answers learned n budget over (Unsat core) inputs said = λ a true_roots.
+      refutes vars (cs ++ units core.items) (log_of learned) said.1 (valued a) (core_true core.items a said.0 true_roots)
+  answers learned n budget over (Spent drawn b) inputs said = said
 
 -- the same of what a solver of the clauses answers
 pub finds : (g : List Node) (roots : List Edge) (vars : ℕ) (cs : List (List Lit)) (lits : List Lit) → CnfLaw g roots vars cs lits → (n : ℕ) → HasInputs n g →
     (s : State) (asked : List Lit) → s ≡ record { vars = vars; given = cs; learned = [] } → asked ≡ lits →
-    (budget : ℕ) (over : Bool) (answer : Answer) → AnswerSays s.vars s.given asked budget over answer → Finds g n roots budget over (found_of n answer)
-finds g roots vars cs lits law n inputs s asked is asked_is budget over answer said =
-    let V : State → Type 0 = λ t. AnswerSays t.vars t.given asked budget over answer in
-    let L : List Lit → Type 0 = λ ls. AnswerSays vars cs ls budget over answer in
-    answers g roots vars cs lits law n budget over answer inputs (subst L asked_is (subst V is said))
+    (learned : List (List Lit)) (budget : ℕ) (over : Bool) (answer : Answer) → AnswerSays s.vars s.given learned asked budget over answer → Finds g n roots budget over (found_of n answer)
+finds g roots vars cs lits law n inputs s asked is asked_is learned budget over answer said =
+    let V : State → Type 0 = λ t. AnswerSays t.vars t.given learned asked budget over answer in
+    let L : List Lit → Type 0 = λ ls. AnswerSays vars cs learned ls budget over answer in
+    answers g roots vars cs lits law learned n budget over answer inputs (subst L asked_is (subst V is said))
 
 at_least_one : (before after : List ℕ) (count : ℕ) → Draws before after (count + 1) ⊎ (⊥ × (after ≡ before) × (count ≡ 0)) → DrawsAtLeast before after 1
 at_least_one before after count h = elim h [
@@ -120,7 +120,7 @@ at_least_one before after count h = elim h [
 -- what the solver drew is what the query drew
 pub paid : (before after : List ℕ) (n count : ℕ) (answer : Answer) → SolverIsPaid before after count answer → IsPaid before after (found_of n answer)
 paid before after n count (Sat model) h = at_least_one before after count h
-paid before after n count (Unsat core log) h = at_least_one before after count h
+paid before after n count (Unsat core) h = at_least_one before after count h
 paid before after n count (Spent drawn b) h = elim h [
   | inl drew ↦ (drew.0, drew.1, omega arith)
   | inr none ↦ ([], none.1 ∙ sym (append-nil before), omega arith)

@@ -8,5 +8,5 @@ use Rattle.edge_query.specs.declared.found.Found.TheVariants as found
 -- the values of the n inputs, which are the first variables, in a model; nothing, where there is none
 abbrev pub found_of : ℕ → Answer → Found
 found_of n (Sat model) = found.Values (take n model)
-found_of n (Unsat core log) = found.Nothing
+found_of n (Unsat core) = found.Nothing
 found_of n (Spent drawn budget) = found.Spent drawn budget

@@ -8,6 +8,3 @@ mod query;
 
 pub use found::Found;
 pub use query::satisfy;
-
-#[cfg(test)]
-mod tests;

@@ -11,8 +11,6 @@ mod plays;
 mod purse;
 mod seat;
 mod shared;
-#[cfg(test)]
-mod tests;
 mod view;
 
 pub use draw::{Draw, NextBound};

@@ -8,11 +8,35 @@ use Rattle.std.proofs.lemmas.List.Elements.{All-contains}
 use Rattle.clause_core.specs.declared.literal.Lit.{Lit}
 use Rattle.clause_core.specs.Literals.{Within}
 use Rattle.clause_core.specs.Assignments.{ClauseTrue}
-use Rattle.clause_core.specs.Systems.{TransitionSystem, StepBits, BadBits}
-use Rattle.frame_core.specs.declared.lemmas.Lemma.{Lemma}
-use Rattle.frame_core.specs.declared.lemmas.Parent.{Parent}
-use Rattle.frame_core.specs.Facts.{IsProved}
-use Rattle.frame_core.specs.Law.{no_lemma, lemma_at, InFrame, IsPart, Covers, LemmasHold, AllStand}
+use Rattle.clause_core.specs.Systems.{TransitionSystem, FirstBits, StepBits, BadBits}
+use Rattle.frame_core.specs.declared.parts.Lemma.{Lemma}
+use Rattle.frame_core.specs.declared.parts.Parent.{Parent}
+use Rattle.frame_core.specs.Facts.{ProvedClause, IsProved, IsPart, MeetsParents}
+use Rattle.frame_core.specs.Law.{no_lemma, lemma_at, InFrame, Covers, LemmasHold, IsSafe, AllStand}
+use Rattle.frame_core.specs.Changes.{IsCut}
+
+-- what a query shows of the whole clause
+pub record Shown (sys : TransitionSystem) (clause : List Lit) (level : ℕ) (parents : List Parent) : Type 0 where
+  pub above : 0 < level
+  pub within : Within sys.state_bits clause
+  pub first : (x : ℕ → Bool) → FirstBits sys x → ClauseTrue x clause
+  pub step : (x y : ℕ → Bool) → (level ≡ 1 → FirstBits sys x) → (1 < level → ClauseTrue x clause × MeetsParents parents x) →
+      StepBits sys x y → ClauseTrue y clause
+
+pub ClauseTrue-part : (x : ℕ → Bool) (c d : List Lit) → IsPart c d → ClauseTrue x c → ClauseTrue x d
+ClauseTrue-part x c d part t =
+    let l : Lit = t.1 in
+    let has : Contains d l = All-contains (Contains d) c l part (t.0, t.2, t.3) in
+    (has.0, l, has.1, has.2, t.4)
+
+pub shown : (p : ProvedClause) → IsProved p → Shown p.system p.clause p.level p.parents
+shown p h =
+    record {
+      above = h.above;
+      within = h.within;
+      first = h.first;
+      step = λ x y at_first later s. ClauseTrue-part y p.part p.clause h.part_in (h.step x y at_first later s);
+    }
 
 -- the lemmas of the shorter list are in the longer one, with no less a level
 pub record Extends (ls more : List Lemma) : Type 0 where
@@ -41,8 +65,11 @@ fewer sys ls more e i x h = (
       subst (ClauseTrue x) (e.clause n lt) (h.1 some n (omega arith) (omega arith)),
 )
 
+pub safe_more : (sys : TransitionSystem) (ls more : List Lemma) (top : ℕ) → Extends ls more → IsSafe sys ls top → IsSafe sys more top
+safe_more sys ls more top e safe j below x inside = safe j below x (fewer sys ls more e j x inside)
+
 pub shown_step : (sys : TransitionSystem) (ls more : List Lemma) (clause : List Lit) (i : ℕ) (parents : List Parent) → Extends ls more →
-    IsProved record { system = sys; clause = clause; level = i; parents = parents } → AllStand ls (i - 1) parents →
+    Shown sys clause i parents → AllStand ls (i - 1) parents →
     (n : ℕ) → n < length more → IsFresh more clause i n → (x y : ℕ → Bool) → InFrame sys more (i - 1) x → StepBits sys x y → ClauseTrue y clause
 shown_step sys ls more clause i parents e proved stand n lt fresh x y inside step =
     proved.step x y
@@ -61,10 +88,10 @@ shown_step sys ls more clause i parents e proved stand n lt fresh x y inside ste
     ))
     step
 
-pub changed : (sys : TransitionSystem) (ls more : List Lemma) (top : ℕ) (clause : List Lit) (i : ℕ) (parents : List Parent) →
-    LemmasHold sys ls top → Extends ls more → IsProved record { system = sys; clause = clause; level = i; parents = parents } →
-    AllStand ls (i - 1) parents → ((n : ℕ) → n < length more → WasThere ls more n ⊎ IsFresh more clause i n) → LemmasHold sys more top
-changed sys ls more top clause i parents h e proved stand cases =
+pub changed : (sys : TransitionSystem) (ls more : List Lemma) (clause : List Lit) (i : ℕ) (parents : List Parent) →
+    LemmasHold sys ls → Extends ls more → Shown sys clause i parents →
+    AllStand ls (i - 1) parents → ((n : ℕ) → n < length more → WasThere ls more n ⊎ IsFresh more clause i n) → LemmasHold sys more
+changed sys ls more clause i parents h e proved stand cases =
     record {
       above = λ n lt. elim (cases n lt) [
         | inl w ↦ let a = h.above n w.old in let b = w.level in omega arith
@@ -88,7 +115,6 @@ changed sys ls more top clause i parents h e proved stand cases =
             subst (ClauseTrue y) (sym f.clause_is)
             (shown_step sys ls more clause i parents e proved stand n lt f x y (subst P f.level_is inside) step)
       ];
-      safe = λ j below x inside. h.safe j below x (fewer sys ls more e j x inside);
       covered = λ n lt off. elim (cases n lt) [
         | inl w ↦
             let c = h.covered n w.old (sym (e.live n w.old) ∙ off) in
@@ -114,13 +140,13 @@ Extends-added ls l =
       live = λ n lt. ap (λ (m : Lemma). m.live) (get_or-append ls (l ∷ []) no_lemma n lt);
     }
 
-pub added : (sys : TransitionSystem) (ls : List Lemma) (top : ℕ) (clause : List Lit) (i : ℕ) (parents : List Parent) →
-    LemmasHold sys ls top → IsProved record { system = sys; clause = clause; level = i; parents = parents } → AllStand ls (i - 1) parents →
-    LemmasHold sys (ls ++ record { clause = clause; level = i; live = true } ∷ []) top
-added sys ls top clause i parents h proved stand =
+pub added : (sys : TransitionSystem) (ls : List Lemma) (clause : List Lit) (i : ℕ) (parents : List Parent) →
+    LemmasHold sys ls → Shown sys clause i parents → AllStand ls (i - 1) parents →
+    LemmasHold sys (ls ++ record { clause = clause; level = i; live = true } ∷ [])
+added sys ls clause i parents h proved stand =
     let l : Lemma = record { clause = clause; level = i; live = true } in
     let more = ls ++ l ∷ [] in
-    changed sys ls more top clause i parents h (Extends-added ls l) proved stand (λ n lt.
+    changed sys ls more clause i parents h (Extends-added ls l) proved stand (λ n lt.
     elim (cases_lt n (length ls)) [
       | inl old ↦ inl (record { old = old; level = ap (λ (m : Lemma). m.level) (get_or-append ls (l ∷ []) no_lemma n old) })
       | inr new ↦
@@ -137,16 +163,12 @@ added sys ls top clause i parents h proved stand =
 abbrev pub at_level : Lemma → ℕ → Lemma
 at_level l i = record { clause = l.clause; level = i; live = l.live }
 
-pub raised : (sys : TransitionSystem) (ls : List Lemma) (top k i : ℕ) (parents : List Parent) → LemmasHold sys ls top → k < length ls →
-    (lemma_at ls k).level ≤ i → (lemma_at ls k).live ≡ true →
-    IsProved record { system = sys; clause = (lemma_at ls k).clause; level = i; parents = parents } → AllStand ls (i - 1) parents →
-    LemmasHold sys (set ls k (at_level (lemma_at ls k) i)) top
-raised sys ls top k i parents h lt low on proved stand =
+pub Extends-raised : (ls : List Lemma) (k i : ℕ) → k < length ls → (lemma_at ls k).level ≤ i → Extends ls (set ls k (at_level (lemma_at ls k) i))
+Extends-raised ls k i lt low =
     let l : Lemma = at_level (lemma_at ls k) i in
     let more = set ls k l in
     let here : lemma_at more k ≡ l = get_or-set_same ls k l no_lemma lt in
-    changed sys ls more top (lemma_at ls k).clause i parents h
-    (record {
+    record {
       longer = omega (arith, length-set ls k l);
       clause = λ n below. elim (cases_eq n k) [
         | inl e ↦ rw e (ap (λ (m : Lemma). m.clause) here)
@@ -160,7 +182,16 @@ raised sys ls top k i parents h lt low on proved stand =
         | inl e ↦ rw e (ap (λ (m : Lemma). m.live) here)
         | inr ne ↦ ap (λ (m : Lemma). m.live) (get_or-set_other ls k n l no_lemma ne)
       ];
-    }) proved stand (λ n below.
+    }
+
+pub raised : (sys : TransitionSystem) (ls : List Lemma) (k i : ℕ) (parents : List Parent) → LemmasHold sys ls → k < length ls →
+    (lemma_at ls k).level ≤ i → (lemma_at ls k).live ≡ true → Shown sys (lemma_at ls k).clause i parents → AllStand ls (i - 1) parents →
+    LemmasHold sys (set ls k (at_level (lemma_at ls k) i))
+raised sys ls k i parents h lt low on proved stand =
+    let l : Lemma = at_level (lemma_at ls k) i in
+    let more = set ls k l in
+    let here : lemma_at more k ≡ l = get_or-set_same ls k l no_lemma lt in
+    changed sys ls more (lemma_at ls k).clause i parents h (Extends-raised ls k i lt low) proved stand (λ n below.
     elim (cases_eq n k) [
       | inl e ↦
           let at : lemma_at more n ≡ l = rw e here in
@@ -177,20 +208,13 @@ raised sys ls top k i parents h lt low on proved stand =
     ])
 
 -- the top goes up where no state of its frame is bad
-pub opened : (sys : TransitionSystem) (ls : List Lemma) (top : ℕ) → LemmasHold sys ls top →
-    ((x : ℕ → Bool) → InFrame sys ls top x → BadBits sys x → ⊥) → LemmasHold sys ls (top + 1)
-opened sys ls top h clear =
-    record {
-      above = h.above;
-      within = h.within;
-      first = h.first;
-      step = h.step;
-      safe = λ i below x inside bad. elim (cases_eq i top) [
-        | inl e ↦ let P : ℕ → Type 0 = λ j. InFrame sys ls j x in clear x (subst P e inside) bad
-        | inr ne ↦ h.safe i (omega arith) x inside bad
-      ];
-      covered = h.covered;
-    }
+pub opened : (sys : TransitionSystem) (ls : List Lemma) (top : ℕ) → IsSafe sys ls top →
+    ((x : ℕ → Bool) → InFrame sys ls top x → BadBits sys x → ⊥) → IsSafe sys ls (top + 1)
+opened sys ls top safe clear i below x inside bad =
+    elim (cases_eq i top) [
+      | inl e ↦ let P : ℕ → Type 0 = λ j. InFrame sys ls j x in clear x (subst P e inside) bad
+      | inr ne ↦ safe i (omega arith) x inside bad
+    ]
 
 pub IsPart-trans : (a b c : List Lit) → IsPart a b → IsPart b c → IsPart a c
 IsPart-trans a b c p q k d lt = All-contains (Contains c) b (get_or a k d) q (p k d lt)
@@ -199,62 +223,80 @@ IsPart-trans a b c p q k d lt = All-contains (Contains c) b (get_or a k d) q (p 
 abbrev pub retired_lemma : Lemma → Lemma
 retired_lemma l = record { clause = l.clause; level = l.level; live = false }
 
-pub retired : (sys : TransitionSystem) (ls : List Lemma) (top k m : ℕ) → LemmasHold sys ls top → k < length ls → m < length ls → m ≢ k →
-    Covers (lemma_at ls m) (lemma_at ls k) → LemmasHold sys (set ls k (retired_lemma (lemma_at ls k))) top
-retired sys ls top k m h lt lm ne cover =
+abbrev pub without : List Lemma → ℕ → List Lemma
+without ls k = set ls k (retired_lemma (lemma_at ls k))
+
+same_clause : (ls : List Lemma) (k n : ℕ) → k < length ls → (lemma_at (without ls k) n).clause ≡ (lemma_at ls n).clause
+same_clause ls k n lt = elim (cases_eq n k) [
+  | inl e ↦ rw e (ap (λ (z : Lemma). z.clause) (get_or-set_same ls k (retired_lemma (lemma_at ls k)) no_lemma lt))
+  | inr ne ↦ ap (λ (z : Lemma). z.clause) (get_or-set_other ls k n (retired_lemma (lemma_at ls k)) no_lemma ne)
+]
+
+same_level : (ls : List Lemma) (k n : ℕ) → k < length ls → (lemma_at (without ls k) n).level ≡ (lemma_at ls n).level
+same_level ls k n lt = elim (cases_eq n k) [
+  | inl e ↦ rw e (ap (λ (z : Lemma). z.level) (get_or-set_same ls k (retired_lemma (lemma_at ls k)) no_lemma lt))
+  | inr ne ↦ ap (λ (z : Lemma). z.level) (get_or-set_other ls k n (retired_lemma (lemma_at ls k)) no_lemma ne)
+]
+
+less : (ls : List Lemma) (k n : ℕ) → n < length (without ls k) → n < length ls
+less ls k n b = omega (arith, length-set ls k (retired_lemma (lemma_at ls k)))
+
+more_than : (ls : List Lemma) (k n : ℕ) → n < length ls → n < length (without ls k)
+more_than ls k n b = omega (arith, length-set ls k (retired_lemma (lemma_at ls k)))
+
+back : (sys : TransitionSystem) (ls : List Lemma) (k : ℕ) → k < length ls → (i : ℕ) (x : ℕ → Bool) → InFrame sys (without ls k) i x → InFrame sys ls i x
+back sys ls k lt i x inside =
+    (inside.0, λ some n b le. let e = same_level ls k n lt in subst (ClauseTrue x) (same_clause ls k n lt) (inside.1 some n (more_than ls k n b) (omega arith)))
+
+kept : (ls : List Lemma) (k a n : ℕ) → k < length ls → Covers (lemma_at ls a) (lemma_at ls n) → a ≢ k →
+    Covers (lemma_at (without ls k) a) (lemma_at (without ls k) n)
+kept ls k a n lt c other =
+    let up = same_level ls k a lt in
+    let at = same_level ls k n lt in (
+      ap (λ (z : Lemma). z.live) (get_or-set_other ls k a (retired_lemma (lemma_at ls k)) no_lemma other) ∙ c.0,
+      subst (λ (z : List Lit). IsPart z (lemma_at (without ls k) n).clause) (sym (same_clause ls k a lt))
+          (subst (IsPart (lemma_at ls a).clause) (sym (same_clause ls k n lt)) c.1),
+      omega (arith, c.2),
+    )
+
+pub safe_without : (sys : TransitionSystem) (ls : List Lemma) (k top : ℕ) → k < length ls → IsSafe sys ls top → IsSafe sys (without ls k) top
+safe_without sys ls k top lt safe i below x inside = safe i below x (back sys ls k lt i x inside)
+
+pub retired : (sys : TransitionSystem) (ls : List Lemma) (k m : ℕ) → LemmasHold sys ls → k < length ls → m < length ls → m ≢ k →
+    Covers (lemma_at ls m) (lemma_at ls k) → LemmasHold sys (without ls k)
+retired sys ls k m h lt lm ne cover =
     let l : Lemma = retired_lemma (lemma_at ls k) in
-    let more = set ls k l in
+    let more = without ls k in
     record {
-      above = λ n b. let z = h.above n (less n b) in let e = level n in omega arith;
-      within = λ n b. subst (Within sys.state_bits) (sym (clause n)) (h.within n (less n b));
-      first = λ n b x f. subst (ClauseTrue x) (sym (clause n)) (h.first n (less n b) x f);
+      above = λ n b. let z = h.above n (less ls k n b) in let e = same_level ls k n lt in omega arith;
+      within = λ n b. subst (Within sys.state_bits) (sym (same_clause ls k n lt)) (h.within n (less ls k n b));
+      first = λ n b x f. subst (ClauseTrue x) (sym (same_clause ls k n lt)) (h.first n (less ls k n b) x f);
       step = λ n b x y inside step.
           let P : ℕ → Type 0 = λ v. InFrame sys more (v - 1) x in
-          subst (ClauseTrue y) (sym (clause n)) (h.step n (less n b) x y (back ((lemma_at ls n).level - 1) x (subst P (level n) inside)) step);
-      safe = λ i below x inside. h.safe i below x (back i x inside);
+          subst (ClauseTrue y) (sym (same_clause ls k n lt))
+          (h.step n (less ls k n b) x y (back sys ls k lt ((lemma_at ls n).level - 1) x (subst P (same_level ls k n lt) inside)) step);
       covered = λ n b off. elim (cases_eq n k) [
-        | inl e ↦ (m, more_than m lm, kept m n (rw e cover) ne)
+        | inl e ↦ (m, more_than ls k m lm, kept ls k m n lt (rw e cover) ne)
         | inr other ↦
-            let c = h.covered n (less n b) (sym (ap (λ (z : Lemma). z.live) (get_or-set_other ls k n l no_lemma other)) ∙ off) in
+            let c = h.covered n (less ls k n b) (sym (ap (λ (z : Lemma). z.live) (get_or-set_other ls k n l no_lemma other)) ∙ off) in
             elim (cases_eq c.0 k) [
               | inl e ↦
                   let via : Covers (lemma_at ls k) (lemma_at ls n) = rw e at c.2 in
                   let both : Covers (lemma_at ls m) (lemma_at ls n) =
                   (cover.0, IsPart-trans (lemma_at ls m).clause (lemma_at ls k).clause (lemma_at ls n).clause cover.1 via.1, omega (arith, cover.2, via.2)) in
-                  (m, more_than m lm, kept m n both ne)
-              | inr other' ↦ (c.0, more_than c.0 c.1, kept c.0 n c.2 other')
+                  (m, more_than ls k m lm, kept ls k m n lt both ne)
+              | inr other' ↦ (c.0, more_than ls k c.0 c.1, kept ls k c.0 n lt c.2 other')
             ]
       ];
     }
-  where
-    clause : (n : ℕ) → (lemma_at (set ls k (retired_lemma (lemma_at ls k))) n).clause ≡ (lemma_at ls n).clause
-    clause n = elim (cases_eq n k) [
-      | inl e ↦ rw e (ap (λ (z : Lemma). z.clause) (get_or-set_same ls k (retired_lemma (lemma_at ls k)) no_lemma lt))
-      | inr ne ↦ ap (λ (z : Lemma). z.clause) (get_or-set_other ls k n (retired_lemma (lemma_at ls k)) no_lemma ne)
-    ]
 
-    level : (n : ℕ) → (lemma_at (set ls k (retired_lemma (lemma_at ls k))) n).level ≡ (lemma_at ls n).level
-    level n = elim (cases_eq n k) [
-      | inl e ↦ rw e (ap (λ (z : Lemma). z.level) (get_or-set_same ls k (retired_lemma (lemma_at ls k)) no_lemma lt))
-      | inr ne ↦ ap (λ (z : Lemma). z.level) (get_or-set_other ls k n (retired_lemma (lemma_at ls k)) no_lemma ne)
-    ]
-
-    less : (n : ℕ) → n < length (set ls k (retired_lemma (lemma_at ls k))) → n < length ls
-    less n b = omega (arith, length-set ls k (retired_lemma (lemma_at ls k)))
-
-    more_than : (n : ℕ) → n < length ls → n < length (set ls k (retired_lemma (lemma_at ls k)))
-    more_than n b = omega (arith, length-set ls k (retired_lemma (lemma_at ls k)))
-
-    back : (i : ℕ) (x : ℕ → Bool) → InFrame sys (set ls k (retired_lemma (lemma_at ls k))) i x → InFrame sys ls i x
-    back i x inside = (inside.0, λ some n b le. let e = level n in subst (ClauseTrue x) (clause n) (inside.1 some n (more_than n b) (omega arith)))
-
-    kept : (a n : ℕ) → Covers (lemma_at ls a) (lemma_at ls n) → a ≢ k →
-        Covers (lemma_at (set ls k (retired_lemma (lemma_at ls k))) a) (lemma_at (set ls k (retired_lemma (lemma_at ls k))) n)
-    kept a n c other =
-        let up = level a in
-        let at = level n in (
-          ap (λ (z : Lemma). z.live) (get_or-set_other ls k a (retired_lemma (lemma_at ls k)) no_lemma other) ∙ c.0,
-          subst (λ (z : List Lit). IsPart z (lemma_at (set ls k (retired_lemma (lemma_at ls k))) n).clause) (sym (clause a))
-              (subst (IsPart (lemma_at ls a).clause) (sym (clause n)) c.1),
-          omega (arith, c.2),
-        )
+-- the lemmas hold in a system whose first states and steps, cut to the bits of the old one, are among those of the old one
+pub carried : (old new : TransitionSystem) (ls : List Lemma) → IsCut old new → LemmasHold old ls → LemmasHold new ls
+carried old new ls cut h =
+    record {
+      above = h.above;
+      within = λ n lt k d below. let w = h.within n lt k d below in let b = cut.bits in omega arith;
+      first = λ n lt x f. h.first n lt x (cut.first x f);
+      step = λ n lt x y inside step. h.step n lt x y ((λ none. cut.first x (inside.0 none)), inside.1) (cut.step x y step);
+      covered = h.covered;
+    }

@@ -1,11 +1,15 @@
 -- Lemmas that hold a clause.
-use Rattle.std.proofs.Common.{◌≡◌, ℕ, ◌<◌, ◌≤◌, Bool, true, List, length, get_or, subst, ◌↔◌, Option, Some, None}
-use Rattle.std.specs.List.{All}
-use Rattle.std.proofs.lemmas.List.{get_or_read}
+use Rattle.std.proofs.Common.{◌≡◌, ℕ, ◌+◌, ◌<◌, ◌≤◌, Bool, true, List, [], ◌∷◌, ◌++◌, length, get_or, subst, sym, ◌∙◌, inl, inr, arith, length-append, ◌↔◌, Option, Some, None}
+use Rattle.std.specs.List.{All, Contains}
+use Rattle.std.proofs.Math.ListN.{get_or-append}
+use Rattle.std.proofs.Math.Seq.{get_or-append_seam}
+use Rattle.std.proofs.lemmas.Bool.{cases_eq}
+use Rattle.std.proofs.lemmas.List.Elements.{All-append, All-cons, All-nil}
 use Rattle.clause_core.specs.declared.literal.Lit.{Lit}
-use Rattle.frame_core.specs.declared.lemmas.Lemma.{Lemma}
-use Rattle.frame_core.specs.Law.{no_lemma, lemma_at, IsPart}
-use Rattle.frame_core.specs.Looking.{IsHeldBy, IsHeldByNone, IsSetOf}
+use Rattle.frame_core.specs.declared.parts.Lemma.{Lemma}
+use Rattle.frame_core.specs.Facts.{IsPart}
+use Rattle.frame_core.specs.Law.{lemma_at}
+use Rattle.frame_core.specs.Looking.{IsHeldBy, IsHeldByNone, IsSetOf, CoversAt, AreCoveredBy}
 use Rattle.std.specs.Prelude.{MatchOption}
 
 -- the literals of one clause are marked just where they are a part of those that were marked
@@ -17,9 +21,8 @@ part_of_marked clause part test is = (
 
 -- a lemma that is read holds the clause just where it has a part of it and the level
 pub held_by : (lemmas : List Lemma) (clause : List Lit) (level n : ℕ) (l : Lemma) (test : Lit → Bool) → IsSetOf clause test → n < length lemmas →
-    l ≡ get_or lemmas n l → (All (λ m. test m ≡ true) l.clause × (level ≤ l.level)) ↔ IsHeldBy lemmas clause level n
-held_by lemmas clause level n l test is lt read =
-    let e : l ≡ lemma_at lemmas n = get_or_read lemmas n l lt read no_lemma in
+    l ≡ lemma_at lemmas n → (All (λ m. test m ≡ true) l.clause × (level ≤ l.level)) ↔ IsHeldBy lemmas clause level n
+held_by lemmas clause level n l test is lt e =
     let P : Lemma → Type 0 = λ m. (All (λ k. test k ≡ true) l.clause × (level ≤ l.level)) ↔ ((n < length lemmas) × IsPart m.clause clause × (level ≤ m.level)) in
     subst P e (
       λ h. (lt, (part_of_marked clause l.clause test is).0 h.0, h.1),
@@ -45,3 +48,39 @@ holder_is lemmas clause level n found is h = let P : Option ℕ → Type 0 = Hol
 pub holder_none : (lemmas : List Lemma) (clause : List Lit) (level : ℕ) (found : Option ℕ) → found ≡ None → Holder lemmas clause level found →
     IsHeldByNone lemmas clause level
 holder_none lemmas clause level found is h = let P : Option ℕ → Type 0 = Holder lemmas clause level in subst P is h
+
+-- a lemma that is read is covered
+pub covers_is : (lemmas : List Lemma) (clause : List Lit) (level n : ℕ) (l : Lemma) (b : Bool) → l ≡ lemma_at lemmas n → n < length lemmas → l.live ≡ true →
+    l.level ≤ level → (b ≡ true) ↔ IsPart clause l.clause → (b ≡ true) ↔ CoversAt lemmas clause level n
+covers_is lemmas clause level n l b e lt live high is =
+    let P : Lemma → Type 0 = λ m. (m.live ≡ true) × (m.level ≤ level) × IsPart clause m.clause in (
+      λ t. let s = subst P e (live, high, is.0 t) in (lt, s.0, s.1, s.2),
+      λ h. is.1 (subst (λ (m : Lemma). IsPart clause m.clause) (sym e) h.3),
+    )
+
+-- one lemma more was looked at: it is covered, and its number is taken
+pub covered_more : (lemmas : List Lemma) (clause : List Lit) (level n : ℕ) (numbers : List ℕ) → CoversAt lemmas clause level n →
+    AreCoveredBy lemmas clause level n numbers → AreCoveredBy lemmas clause level (n + 1) (numbers ++ n ∷ [])
+covered_more lemmas clause level n numbers here are =
+    record {
+      each = All-append (CoversAt lemmas clause level) numbers (n ∷ []) are.each (All-cons (CoversAt lemmas clause level) n [] here (All-nil (CoversAt lemmas clause level)));
+      whole = λ k lt c. elim (cases_eq k n) [
+        | inl e ↦ subst (Contains (numbers ++ n ∷ [])) (sym e)
+            (length numbers, omega (arith, length-append numbers (n ∷ [])), get_or-append_seam numbers n [] n)
+        | inr ne ↦
+            let old : Contains numbers k = are.whole k (omega arith) c in
+            (old.0, omega (arith, old.1, length-append numbers (n ∷ [])), get_or-append numbers (n ∷ []) k old.0 old.1 ∙ old.2)
+      ];
+    }
+
+-- it is not
+pub covered_same : (lemmas : List Lemma) (clause : List Lit) (level n : ℕ) (numbers : List ℕ) → (CoversAt lemmas clause level n → ⊥) →
+    AreCoveredBy lemmas clause level n numbers → AreCoveredBy lemmas clause level (n + 1) numbers
+covered_same lemmas clause level n numbers none are =
+    record {
+      each = are.each;
+      whole = λ k lt c. elim (cases_eq k n) [
+        | inl e ↦ absurd (none (subst (CoversAt lemmas clause level) e c))
+        | inr ne ↦ are.whole k (omega arith) c
+      ];
+    }

@@ -1,8 +1,11 @@
 pub mod Changing
+mod Copied
+pub mod Counts
 mod Held
+mod Kept
 mod Looked
 pub mod Reaching
 pub mod Running
-mod Same
-mod SmallSystems
+pub mod Same
+mod Signed
 pub mod States

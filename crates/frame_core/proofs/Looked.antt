@@ -1,8 +1,8 @@
 -- Lemmas that are looked up.
 use Rattle.std.proofs.Common.{◌≡◌, ℕ, ◌<◌, ◌≤◌, List, length, get_or, sym, ap, ◌∙◌, inl, inr, arith}
 use Rattle.std.proofs.lemmas.List.{get_or_read}
-use Rattle.frame_core.specs.declared.lemmas.Lemma.{Lemma}
-use Rattle.frame_core.specs.declared.lemmas.Parent.{Parent}
+use Rattle.frame_core.specs.declared.parts.Lemma.{Lemma}
+use Rattle.frame_core.specs.declared.parts.Parent.{Parent}
 use Rattle.frame_core.specs.Law.{no_lemma, lemma_at, Stands}
 use Rattle.frame_core.specs.Looking.{IsKeptLevel}
 

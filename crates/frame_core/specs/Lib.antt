@@ -1,7 +1,9 @@
 pub mod Changes
+pub mod Copies
+pub mod Counting
 pub mod Differences
-pub mod Examples
 pub mod Facts
 pub mod Law
 pub mod Looking
 pub mod Runs
+pub mod Signatures

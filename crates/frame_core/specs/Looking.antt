@@ -1,9 +1,10 @@
 -- Lemmas that are looked up.
-use Rattle.std.specs.Prelude.{◌≡◌, ◌⊎◌, ◌↔◌, ℕ, ◌<◌, ◌≤◌, Bool, true, false, List, [], length, slice_index_or, Contains, if◌then◌else◌}
+use Rattle.std.specs.Prelude.{◌≡◌, ◌⊎◌, ◌↔◌, ℕ, ◌<◌, ◌≤◌, Bool, true, false, List, [], length, slice_index_or, All, Contains, if◌then◌else◌}
 use Rattle.clause_core.specs.declared.literal.Lit.{Lit}
-use Rattle.frame_core.specs.declared.lemmas.Lemma.{Lemma}
-use Rattle.frame_core.specs.declared.lemmas.Parent.{Parent}
-use Rattle.frame_core.specs.Law.{lemma_at, IsPart}
+use Rattle.frame_core.specs.declared.parts.Lemma.{Lemma}
+use Rattle.frame_core.specs.declared.parts.Parent.{Parent}
+use Rattle.frame_core.specs.Facts.{IsPart}
+use Rattle.frame_core.specs.Law.{lemma_at}
 
 -- for numbers past the last parent
 abbrev pub no_parent : Parent
@@ -43,3 +44,13 @@ has_literal marks l = slice_index_or (if l.positive then marks.0 else marks.1) l
 -- the test tells just the literals of the clause
 abbrev pub IsSetOf : List Lit → (Lit → Bool) → Type 0
 IsSetOf clause test = (l : Lit) → (test l ≡ true) ↔ Contains clause l
+
+-- lemma n is live, has all these literals and at most this level
+abbrev pub CoversAt : List Lemma → List Lit → ℕ → ℕ → Type 0
+CoversAt lemmas clause level n =
+    (n < length lemmas) × ((lemma_at lemmas n).live ≡ true) × ((lemma_at lemmas n).level ≤ level) × IsPart clause (lemma_at lemmas n).clause
+
+-- the numbers are those of the lemmas below the bound that a lemma with this clause and level covers
+pub record AreCoveredBy (lemmas : List Lemma) (clause : List Lit) (level bound : ℕ) (numbers : List ℕ) : Type 0 where
+  pub each : All (CoversAt lemmas clause level) numbers
+  pub whole : (n : ℕ) → n < bound → CoversAt lemmas clause level n → Contains numbers n

@@ -1,5 +1,6 @@
-ghost use Rattle.std.specs.Prelude.{◌≡◌, ◌↔◌, IsTrue, MatchOption};
+ghost use Rattle.std.specs.Prelude.{◌≡◌, ◌<◌, ◌↔◌, false, length, IsTrue, MatchOption};
 ghost use Rattle.frame_core.specs.Differences.{DifferFirstAt, IsSameSystem, DifferAt};
+ghost use Rattle.frame_core.specs.Law.{AreAlike, system_at};
 
 use clause_core::{Clauses, Lit, System};
 
@@ -11,6 +12,7 @@ pub enum Place {
     Init(usize),
     Step(usize),
     Bad(usize),
+    Good(usize),
 }
 
 pub(crate) fn is_same_clause(a: &[Lit], b: &[Lit]) -> bool
@@ -36,7 +38,7 @@ fn first_difference(a: &Clauses, b: &Clauses) -> Option<usize>
     }
 }
 
-// The first place at which the systems differ; the bad clauses count only where `with_bad` is true.
+// The first place at which the systems differ; the bad and good clauses count only where `with_bad` is true.
 pub(crate) fn difference(a: &System, b: &System, with_bad: bool) -> Option<Place>
     ensures { MatchOption result (IsSameSystem with_bad a.now b.now) (DifferAt with_bad a.now b.now) }
 {
@@ -52,6 +54,21 @@ pub(crate) fn difference(a: &System, b: &System, with_bad: bool) -> Option<Place
     if with_bad {
         if let Some(k) = first_difference(a.bad(), b.bad()) {
             return Some(Place::Bad(k));
+        }
+        if let Some(k) = first_difference(a.good(), b.good()) {
+            return Some(Place::Good(k));
+        }
+    }
+    None
+}
+
+/// The first system that differs from the first one by more than its bad and good clauses, and where.
+pub fn first_unlike(systems: &[System]) -> Option<(usize, Place)>
+    ensures { MatchOption result (AreAlike systems.now) (λ u. (u.0 < length systems.now) × DifferAt false (system_at systems.now 0) (system_at systems.now u.0) u.1) }
+{
+    for j in 0..systems.len() {
+        if let Some(place) = difference(&systems[0], &systems[j], false) {
+            return Some((j, place));
         }
     }
     None

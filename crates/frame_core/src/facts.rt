@@ -1,15 +1,25 @@
-use crate::lemmas::Parent;
+use crate::parts::Parent;
 use clause_core::{Bits, Clause, Lit, System};
 use std::marker::Model;
 
 /// A clause that a query showed to hold one step on: first states meet it, and a step from a state that
-/// meets the parents and the clause (at level 1: from a first state) ends in it.
+/// meets the parents and the clause (at level 1: from a first state) ends in its part. The part has some
+/// of its literals, those that the query needed: so such a step ends in the clause, too.
 #[derive(Drop)]
 pub struct Proved<'a> {
     system: &'a System,
     clause: Clause,
-    level: u64,
+    part: Clause,
+    level: u32,
     parents: Vec<Parent>,
+}
+
+/// A proof taken apart.
+#[derive(Drop)]
+pub struct ProvedParts {
+    pub clause: Clause,
+    pub part: Clause,
+    pub parents: Vec<Parent>,
 }
 
 impl<'a> Model for Proved<'a> {
@@ -17,9 +27,9 @@ impl<'a> Model for Proved<'a> {
 
     ghost Value = { ProvedClause };
 
-    ghost view = { λ p. record { system = p.system.now; clause = p.clause; level = p.level; parents = p.parents.items } };
+    ghost view = { λ p. record { system = p.system.now; clause = p.clause; part = p.part; level = p.level; parents = p.parents.items } };
 
-    ghost invariant = { λ p. IsProved record { system = p.system.now; clause = p.clause; level = p.level; parents = p.parents.items } };
+    ghost invariant = { λ p. IsProved record { system = p.system.now; clause = p.clause; part = p.part; level = p.level; parents = p.parents.items } };
 }
 
 impl<'a> Proved<'a> {
@@ -27,13 +37,20 @@ impl<'a> Proved<'a> {
     ghost use Rattle.frame_core.specs.Facts.{ProvedClause, IsProved};
 
     /// The fact, of which the caller has a proof.
-    pub fn new(system: &'a System, clause: Clause, level: u64, parents: Vec<Parent>) -> Proved<'a>
-        requires { IsProved record { system = system.now; clause = clause; level = level; parents = parents.items } }
-        ensures { result ≡ record { system = system.now; clause = clause; level = level; parents = parents.items } }
+    pub fn new(
+        system: &'a System,
+        clause: Clause,
+        part: Clause,
+        level: u32,
+        parents: Vec<Parent>,
+    ) -> Proved<'a>
+        requires { IsProved record { system = system.now; clause = clause; part = part; level = level; parents = parents.items } }
+        ensures { result ≡ record { system = system.now; clause = clause; part = part; level = level; parents = parents.items } }
     {
         Proved {
             system,
             clause,
+            part,
             level,
             parents,
         }
@@ -61,14 +78,43 @@ impl<'a> Proved<'a> {
         let Proved {
             system: _,
             clause,
+            part: _,
             level: _,
             parents: _,
         } = self;
         clause
     }
 
+    /// The clause, its part and the parents; takes no memory.
+    pub fn into_parts(self) -> ProvedParts
+        ensures clause { result.clause ≡ self.entry.clause }
+        ensures part { result.part ≡ self.entry.part }
+        ensures parents { result.parents.items ≡ self.entry.parents }
+        ensures shown { IsProved self.entry }
+    {
+        let Proved {
+            system: _,
+            clause,
+            part,
+            level: _,
+            parents,
+        } = self;
+        ProvedParts {
+            clause,
+            part,
+            parents,
+        }
+    }
+
+    /// The literals of the clause that the query needed: the step ends in one of them.
+    pub fn part(&self) -> &[Lit]
+        ensures { result.now ≡ self.now.part }
+    {
+        self.part.as_slice()
+    }
+
     /// The level at which it was shown.
-    pub fn level(&self) -> u64
+    pub fn level(&self) -> u32
         ensures { result ≡ self.now.level }
     {
         self.level
@@ -87,7 +133,7 @@ impl<'a> Proved<'a> {
 #[derive(Drop)]
 pub struct Clear<'a> {
     system: &'a System,
-    level: u64,
+    level: u32,
     parents: Vec<Parent>,
 }
 
@@ -106,7 +152,7 @@ impl<'a> Clear<'a> {
     ghost use Rattle.frame_core.specs.Facts.{ClearLevel, IsClear};
 
     /// The fact, of which the caller has a proof.
-    pub fn new(system: &'a System, level: u64, parents: Vec<Parent>) -> Clear<'a>
+    pub fn new(system: &'a System, level: u32, parents: Vec<Parent>) -> Clear<'a>
         requires { IsClear record { system = system.now; level = level; parents = parents.items } }
         ensures { result ≡ record { system = system.now; level = level; parents = parents.items } }
     {
@@ -126,7 +172,7 @@ impl<'a> Clear<'a> {
     }
 
     /// The level without bad states.
-    pub fn level(&self) -> u64
+    pub fn level(&self) -> u32
         ensures { result ≡ self.now.level }
     {
         self.level
@@ -137,6 +183,72 @@ impl<'a> Clear<'a> {
         ensures { result.now ≡ self.now.parents }
     {
         &self.parents
+    }
+
+    /// The same, taken out; takes no memory.
+    pub fn into_parents(self) -> Vec<Parent>
+        ensures value { result.items ≡ self.entry.parents }
+        ensures shown { IsClear self.entry }
+    {
+        let Clear {
+            system: _,
+            level: _,
+            parents,
+        } = self;
+        parents
+    }
+}
+
+/// A step that a query found: values of all bits, which show its two states.
+#[derive(Drop)]
+pub struct Step<'a> {
+    system: &'a System,
+    values: Bits,
+}
+
+impl<'a> Model for Step<'a> {
+    ghost use Rattle.frame_core.specs.Facts.{FoundStep, IsStep};
+
+    ghost Value = { FoundStep };
+
+    ghost view = { λ s. record { system = s.system.now; values = s.values } };
+
+    ghost invariant = { λ s. IsStep record { system = s.system.now; values = s.values } };
+}
+
+impl<'a> Step<'a> {
+    ghost use Rattle.std.specs.Prelude.{◌≡◌};
+    ghost use Rattle.frame_core.specs.Facts.{FoundStep, IsStep};
+
+    /// The fact, of which the caller has a proof.
+    pub fn new(system: &'a System, values: Bits) -> Step<'a>
+        requires { IsStep record { system = system.now; values = values } }
+        ensures { result ≡ record { system = system.now; values = values } }
+    {
+        Step { system, values }
+    }
+
+    /// The system that it speaks of.
+    pub fn system(&self) -> &'a System
+        ensures value { result.now ≡ self.now.system }
+        ensures shown { IsStep self.now }
+    {
+        self.system
+    }
+
+    /// Values of all bits: first those of the state that it leads from, then those of the next one.
+    pub fn values(&self) -> &Bits
+        ensures { result.now ≡ self.now.values }
+    {
+        &self.values
+    }
+
+    /// The values; takes no memory.
+    pub fn into_values(self) -> Bits
+        ensures { result ≡ self.entry.values }
+    {
+        let Step { system: _, values } = self;
+        values
     }
 }
 
@@ -161,8 +273,8 @@ impl<'a> Model for Found<'a> {
 }
 
 impl<'a> Found<'a> {
-    ghost use Rattle.std.specs.Prelude.{◌≡◌};
-    ghost use Rattle.frame_core.specs.Facts.{FoundState, IsFound};
+    ghost use Rattle.std.specs.Prelude.{◌≡◌, true};
+    ghost use Rattle.frame_core.specs.Facts.{FoundState, IsFound, IsFirstFlag};
 
     /// The fact, of which the caller has a proof.
     pub fn new(system: &'a System, values: Bits, is_step: bool, first: bool) -> Found<'a>
@@ -175,6 +287,16 @@ impl<'a> Found<'a> {
             is_step,
             first,
         }
+    }
+
+    /// The state that a step leads from, where it is known whether it is a first one; takes no memory.
+    pub fn of_step(step: Step<'a>, first: bool) -> Found<'a>
+        requires { IsFirstFlag step.system step.values first }
+        ensures { result ≡ record { system = step.entry.system; values = step.entry.values; is_step = true; first = first } }
+    {
+        let system = step.system();
+        let values = step.into_values();
+        Found::new(system, values, true, first)
     }
 
     /// The system that it speaks of.

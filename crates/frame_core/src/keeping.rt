@@ -1,68 +1,121 @@
-ghost use Rattle.std.specs.Prelude.{◌≡◌, ◌<◌, ◌↔◌, length, IsTrue, vec_len};
-ghost use Rattle.frame_core.specs.Law.{IsAsHigh, raised_at, retired_at};
+ghost use Rattle.std.specs.Prelude.{◌<◌, ◌↔◌, length, IsTrue};
+ghost use Rattle.frame_core.specs.Law.{IsAsHigh};
 
 use crate::comparing::difference;
+use crate::counting::{
+    count_below, count_less, count_more, empty_level, lower, mark, set_top, unmark,
+};
 use crate::facts::{Clear, Found, Proved};
-use crate::lemmas::{Lemma, Obligation};
-use crate::looking::{empty_level, first_behind, first_obligation, holder};
+use crate::lemma_list::Lemmas;
+use crate::looking::{first_behind, holder};
 use crate::outcomes::{Insertion, Noting, Opening, Raising, Verdict};
+use crate::parts::{Lemma, Obligation};
 use crate::runs::BitRun;
 use clause_core::{Bits, System};
 use std::alloc::{AllocError, Global};
 use std::marker::Model;
+use std::slice::from_ref;
 
-/// The frames of a system: lemmas with levels, the top, and obligations. Its type keeps the law of the
-/// frames, and contracts see it as that data.
+/// The frames of some systems that differ in their bad states alone: lemmas with levels, a top for each
+/// system, and obligations. Its type keeps the law of the frames, and contracts see it as that data.
 #[derive(Drop)]
 pub struct Frames<'a> {
-    system: &'a System,
-    lemmas: Vec<Lemma>,
-    top: u64,
+    systems: &'a [System],
+    lemmas: Lemmas,
+    tops: Vec<u32>,
     obligations: Vec<Obligation>,
+    // how many live lemmas each level has; there is a count for each level below a top
+    counts: Vec<usize>,
+    // for each system its first obligation that is a first state
+    marks: Vec<Option<usize>>,
 }
 
 impl<'a> Model for Frames<'a> {
-    ghost use Rattle.frame_core.specs.Law.{FrameState, FramesHold};
+    ghost use Rattle.frame_core.specs.Law.{FrameState};
+    ghost use Rattle.frame_core.specs.Counting.{IsKept};
 
     ghost Value = { FrameState };
 
-    ghost view = { λ f. record { system = f.system.now; lemmas = f.lemmas.items; top = f.top; obligations = f.obligations.items } };
+    ghost view = { λ f. record { systems = f.systems.now; lemmas = f.lemmas; tops = f.tops.items; obligations = f.obligations.items } };
 
-    ghost invariant = { λ f. FramesHold record { system = f.system.now; lemmas = f.lemmas.items; top = f.top; obligations = f.obligations.items } };
+    ghost invariant = { λ f. IsKept record { systems = f.systems.now; lemmas = f.lemmas; tops = f.tops.items; obligations = f.obligations.items } f.counts.items f.marks.items };
 }
 
 impl<'a> Frames<'a> {
-    ghost use Rattle.std.specs.Prelude.{◌≡◌, ◌<◌, ◌+◌, ◌^◌, [], length, IfOk, OnErr};
-    ghost use Rattle.frame_core.specs.Law.{FrameState, FramesHold, lemma_at, obligation_at};
-    ghost use Rattle.frame_core.specs.Changes.{Inserts, Raises, IsCovered, with_retired, Opens, MayHaveParent, Notes, VerdictSays, IsFirstObligation};
+    ghost use Rattle.std.specs.Prelude.{◌≡◌, ◌<◌, ◌+◌, ◌^◌, [], ◌∷◌, false, true, length, is_none, IfOk, OnErr};
+    ghost use Rattle.frame_core.specs.Law.{FrameState, FramesHold, AreAlike, system_at, top_at, lemma_at, obligation_at};
+    ghost use Rattle.frame_core.specs.Changes.{IsOfSystem, Inserts, InsertsSame, Raises, RaisesSame, IsCovered, with_retired, Opens, OpensSame, MayHaveParent, Notes, NotesSame, VerdictSays, IsFirstObligation, IsCut, fresh};
     ghost use Rattle.frame_core.specs.Runs.{IsBadRun};
 
-    /// The frames with no lemma, no obligation and top 0; takes no memory.
-    pub fn new(alloc: Global, system: &'a System) -> Frames<'a>
-        ensures { result ≡ record { system = system.now; lemmas = []; top = 0; obligations = [] } }
+    /// The frames of these systems with no lemma, no obligation and tops 0.
+    pub fn new(alloc: Global, systems: &'a [System]) -> Result<Frames<'a>, AllocError>
+        requires some { 0 < length systems.now }
+        requires alike { AreAlike systems.now }
+        ensures { IfOk result (λ f. f ≡ fresh systems.now []) }
     {
-        Frames {
-            system,
-            lemmas: Vec::new(alloc),
-            top: 0,
+        let tops = vec![in alloc; 0u32; systems.len()]?;
+        let marks: Vec<Option<usize>> = vec![in alloc; None; systems.len()]?;
+        Ok(Frames {
+            systems,
+            lemmas: Lemmas::new(alloc),
+            tops,
             obligations: Vec::new(alloc),
+            counts: Vec::new(alloc),
+            marks,
+        })
+    }
+
+    /// The frames of one system.
+    pub fn of_one(alloc: Global, system: &'a System) -> Result<Frames<'a>, AllocError>
+        ensures { IfOk result (λ f. f ≡ fresh (system.now ∷ []) []) }
+    {
+        Frames::new(alloc, from_ref(system))
+    }
+
+    /// The same lemmas for other systems, as many: they keep their levels, which may be above the tops;
+    /// the tops are 0, and there is no obligation. Takes no memory.
+    pub fn carry<'b>(self, systems: &'b [System]) -> Frames<'b>
+        requires number { length systems.now ≡ length self.systems }
+        requires alike { AreAlike systems.now }
+        requires cut { IsCut (system_at self.systems 0) (system_at systems.now 0) }
+        ensures { result ≡ fresh systems.now self.entry.lemmas }
+    {
+        let Frames {
+            systems: _,
+            lemmas,
+            mut tops,
+            mut obligations,
+            counts,
+            mut marks,
+        } = self;
+        lower(&mut tops);
+        unmark(&mut marks);
+        obligations.clear();
+        Frames {
+            systems,
+            lemmas,
+            tops,
+            obligations,
+            counts,
+            marks,
         }
     }
 
-    /// The system that they speak of.
-    pub fn system(&self) -> &'a System
-        ensures value { result.now ≡ self.now.system }
+    /// The systems that they speak of.
+    pub fn systems(&self) -> &'a [System]
+        ensures value { result.now ≡ self.now.systems }
         ensures law { FramesHold self.now }
     {
-        self.system
+        self.systems
     }
 
-    /// The top: no frame below it has a bad state.
-    pub fn top(&self) -> u64
-        ensures value { result ≡ self.now.top }
+    /// The top of system `j`: no frame below it has a state that is bad for `j`.
+    pub fn top(&self, j: usize) -> u32
+        requires { j < length self.now.systems }
+        ensures value { result ≡ top_at self.now.tops j }
         ensures law { FramesHold self.now }
     {
-        self.top
+        self.tops[j]
     }
 
     /// How many lemmas there are, retired ones too.
@@ -77,7 +130,15 @@ impl<'a> Frames<'a> {
         requires { n < length self.now.lemmas }
         ensures { result.now ≡ lemma_at self.now.lemmas n }
     {
-        &self.lemmas[n]
+        self.lemmas.lemma(n)
+    }
+
+    /// All lemmas.
+    pub fn all_lemmas(&self) -> &Lemmas
+        ensures value { result.now ≡ self.now.lemmas }
+        ensures law { FramesHold self.now }
+    {
+        &self.lemmas
     }
 
     /// How many obligations there are.
@@ -98,38 +159,47 @@ impl<'a> Frames<'a> {
     /// Adds the clause as a lemma, unless it is of another system, a lemma holds it already, or a parent's
     /// level, looked up now, is too low. After want of memory the frames are as before.
     ///
-    /// It takes a table of two entries for each state bit, compares the systems clause by clause, and looks
-    /// at each lemma once: where its level is high enough, at its literals up to the first that the clause
-    /// lacks, each by one look into the table. So the test of a lemma costs no more than the shorter of the
-    /// two clauses, and one look.
+    /// It compares the systems clause by clause, and then does as `insert_same`.
     pub fn insert(&mut self, proved: Proved) -> Result<Insertion, AllocError>
         ensures done { IfOk result (λ r. Inserts self.old proved.entry r self.new) }
         ensures err { OnErr result (self.new ≡ self.old) }
     {
-        if let Some(place) = difference(self.system, proved.system(), false) {
+        let systems = self.systems;
+        if let Some(place) = difference(&systems[0], proved.system(), false) {
             return Ok(Insertion::OtherSystem { place });
         }
-        let alloc = *self.lemmas.allocator();
+        let insertion = self.insert_same(proved)?;
+        Ok(insertion)
+    }
+
+    /// The same where the clause is known to be of the frames' systems; compares no systems.
+    ///
+    /// It takes a table of two entries for each state bit, and looks at one word of each lemma. Where that
+    /// does not rule the lemma out and its level is high enough, it looks at its literals up to the first
+    /// that the clause lacks, each by one look into the table.
+    pub fn insert_same(&mut self, proved: Proved) -> Result<Insertion, AllocError>
+        requires { IsOfSystem self.old 0 false proved.system }
+        ensures done { IfOk result (λ r. InsertsSame self.old proved.entry r self.new) }
+        ensures err { OnErr result (self.new ≡ self.old) }
+    {
+        let alloc = self.lemmas.alloc();
         let vars = proved.system().state_bits();
         if let Some(n) = holder(alloc, vars, &self.lemmas, proved.clause(), proved.level())? {
             return Ok(Insertion::Held(n));
         }
         if let Some((parent, level)) = first_behind(
-            &self.lemmas,
+            self.lemmas.as_slice(),
             proved.level() - 1,
             proved.parents(),
         ) {
             return Ok(Insertion::Behind { parent, level });
         }
         let number = self.lemmas.len();
-        self.lemmas.reserve(1)?;
         let level = proved.level();
         let clause = proved.into_clause();
-        self.lemmas.push_reserved(Lemma {
-            clause,
-            level,
-            live: true,
-        });
+        self.lemmas.push(clause, level)?;
+        let _after = self.lemmas.len();
+        count_more(&mut self.counts, level);
         Ok(Insertion::Added(number))
     }
 
@@ -140,17 +210,37 @@ impl<'a> Frames<'a> {
         requires clause { proved.clause ≡ (lemma_at self.old.lemmas n).clause }
         ensures { Raises self.old n proved.entry result self.new }
     {
-        if let Some(place) = difference(self.system, proved.system(), false) {
+        let systems = self.systems;
+        if let Some(place) = difference(&systems[0], proved.system(), false) {
             return Raising::OtherSystem { place };
         }
+        self.raise_same(n, proved)
+    }
+
+    /// The same where the proof is known to be of the frames' systems; compares no systems.
+    pub fn raise_same(&mut self, n: usize, proved: Proved) -> Raising
+        requires in_range { n < length self.old.lemmas }
+        requires clause { proved.clause ≡ (lemma_at self.old.lemmas n).clause }
+        requires same { IsOfSystem self.old 0 false proved.system }
+        ensures { RaisesSame self.old n proved.entry result self.new }
+    {
+        let _system = proved.system();
         let level = proved.level();
-        if needs_no_raise(&self.lemmas, n, level) {
+        if needs_no_raise(self.lemmas.as_slice(), n, level) {
             return Raising::Dropped;
         }
-        if let Some((parent, level)) = first_behind(&self.lemmas, level - 1, proved.parents()) {
+        if let Some((parent, level)) = first_behind(
+            self.lemmas.as_slice(),
+            level - 1,
+            proved.parents(),
+        ) {
             return Raising::Behind { parent, level };
         }
-        set_level(&mut self.lemmas, n, level);
+        let before = self.lemmas.lemma(n).level;
+        self.lemmas.raise(n, level);
+        let _number = self.lemmas.len();
+        count_less(&mut self.counts, true, before);
+        count_more(&mut self.counts, level);
         Raising::Raised
     }
 
@@ -160,72 +250,119 @@ impl<'a> Frames<'a> {
         requires covered { IsCovered self.old n }
         ensures { self.new ≡ with_retired self.old n }
     {
-        set_retired(&mut self.lemmas, n);
+        let level = self.lemmas.lemma(n).level;
+        let live = self.lemmas.lemma(n).live;
+        self.lemmas.retire(n);
+        count_less(&mut self.counts, live, level);
     }
 
-    /// Opens the top: it is one more where its frame has no bad state. Takes no memory.
-    pub fn open(&mut self, clear: Clear) -> Opening
-        requires room { self.old.top + 1 < 2 ^ 64 }
-        ensures { Opens self.old clear.entry result self.new }
+    /// Opens the top of system `j`: it is one more where its frame has no state that is bad for `j`. After
+    /// want of memory the frames are as before.
+    pub fn open(&mut self, j: usize, clear: Clear) -> Result<Opening, AllocError>
+        requires in_range { j < length self.old.systems }
+        requires room { top_at self.old.tops j + 1 < 2 ^ 32 }
+        ensures done { IfOk result (λ r. Opens self.old j clear.entry r self.new) }
+        ensures err { OnErr result (self.new ≡ self.old) }
     {
-        if let Some(place) = difference(self.system, clear.system(), true) {
-            return Opening::OtherSystem { place };
+        let systems = self.systems;
+        if let Some(place) = difference(&systems[j], clear.system(), true) {
+            return Ok(Opening::OtherSystem { place });
         }
-        if clear.level() != self.top {
-            return Opening::Dropped;
-        }
-        if let Some((parent, level)) = first_behind(&self.lemmas, self.top, clear.parents()) {
-            return Opening::Behind { parent, level };
-        }
-        self.top += 1;
-        Opening::Opened
+        let opening = self.open_same(j, clear)?;
+        Ok(opening)
     }
 
-    /// Notes a state that leads to a bad one: a bad state has no parent, and a step ends in the parent's
-    /// state. After want of memory the frames are as before.
+    /// The same where the proof is known to be of system `j`; compares no systems.
+    pub fn open_same(&mut self, j: usize, clear: Clear) -> Result<Opening, AllocError>
+        requires in_range { j < length self.old.systems }
+        requires room { top_at self.old.tops j + 1 < 2 ^ 32 }
+        requires same { IsOfSystem self.old j true clear.system }
+        ensures done { IfOk result (λ r. OpensSame self.old j clear.entry r self.new) }
+        ensures err { OnErr result (self.new ≡ self.old) }
+    {
+        let _system = clear.system();
+        let top = self.tops[j];
+        if clear.level() != top {
+            return Ok(Opening::Dropped);
+        }
+        if let Some((parent, level)) = first_behind(self.lemmas.as_slice(), top, clear.parents()) {
+            return Ok(Opening::Behind { parent, level });
+        }
+        count_below(&mut self.counts, self.lemmas.as_slice(), top + 1)?;
+        set_top(&mut self.tops, j, top + 1);
+        Ok(Opening::Opened)
+    }
+
+    /// Notes a state that leads to one that is bad for system `j`: a bad state has no parent, and a step
+    /// ends in the state of the parent, which is of `j`. After want of memory the frames are as before.
     pub fn add_obligation(
         &mut self,
+        j: usize,
         found: Found,
         parent: Option<usize>,
     ) -> Result<Noting, AllocError>
-        requires { MayHaveParent self.old found parent }
-        ensures done { IfOk result (λ r. Notes self.old found.entry parent r self.new) }
+        requires in_range { j < length self.old.systems }
+        requires parent { MayHaveParent self.old j found parent }
+        ensures done { IfOk result (λ r. Notes self.old j found.entry parent r self.new) }
         ensures err { OnErr result (self.new ≡ self.old) }
     {
-        if let Some(place) = difference(self.system, found.system(), parent.is_none()) {
+        let systems = self.systems;
+        if let Some(place) = difference(&systems[j], found.system(), parent.is_none()) {
             return Ok(Noting::OtherSystem { place });
         }
+        let noting = self.add_obligation_same(j, found, parent)?;
+        Ok(noting)
+    }
+
+    /// The same where the state is known to be of system `j`; compares no systems.
+    pub fn add_obligation_same(
+        &mut self,
+        j: usize,
+        found: Found,
+        parent: Option<usize>,
+    ) -> Result<Noting, AllocError>
+        requires in_range { j < length self.old.systems }
+        requires parent { MayHaveParent self.old j found parent }
+        requires same { IsOfSystem self.old j (is_none parent) found.system }
+        ensures done { IfOk result (λ r. NotesSame self.old j found.entry parent r self.new) }
+        ensures err { OnErr result (self.new ≡ self.old) }
+    {
+        let _system = found.system();
         let number = self.obligations.len();
         self.obligations.reserve(1)?;
         let first = found.is_first();
         let values = found.into_values();
         self.obligations.push_reserved(Obligation {
+            system: j,
             values,
             parent,
             first,
         });
+        mark(&mut self.marks, j, first, number);
         Ok(Noting::Noted(number))
     }
 
-    /// What the frames say: an obligation that is a first state, else a level from 1 below the top that no
-    /// live lemma has. Takes no memory; looks at each obligation once, and at the lemmas once a level.
-    pub fn verdict(&self) -> Option<Verdict>
-        ensures { VerdictSays self.now result }
+    /// What the frames say of system `j`: an obligation of `j` that is a first state, else a level from 1
+    /// below the top of `j` that no live lemma has. Takes no memory, and looks at a count for each level
+    /// below the top, at no lemma and at no obligation.
+    pub fn verdict(&self, j: usize) -> Option<Verdict>
+        requires { j < length self.now.systems }
+        ensures { VerdictSays self.now j result }
     {
-        if let Some(n) = first_obligation(&self.obligations) {
+        if let Some(n) = self.marks[j] {
             return Some(Verdict::Reached(n));
         }
-        match empty_level(&self.lemmas, self.top) {
+        match empty_level(&self.counts, self.tops[j]) {
             Some(level) => Some(Verdict::Invariant(level)),
             None => None,
         }
     }
 
-    /// The run from obligation `n`, which is a first state, to a bad state.
+    /// The run from obligation `n`, which is a first state, to a state that is bad for its system.
     pub fn run_of(&self, alloc: Global, n: usize) -> Result<BitRun, AllocError>
         requires in_range { n < length self.now.obligations }
         requires first { IsFirstObligation self.now n }
-        ensures { IfOk result (IsBadRun self.now.system) }
+        ensures { IfOk result (IsBadRun (system_at self.now.systems (obligation_at self.now.obligations n).system)) }
     {
         let mut rows = Vec::new(alloc);
         let mut at = n;
@@ -242,23 +379,9 @@ impl<'a> Frames<'a> {
 }
 
 // Whether the lemma is retired, or has at least this level.
-fn needs_no_raise(lemmas: &[Lemma], n: usize, level: u64) -> bool
+fn needs_no_raise(lemmas: &[Lemma], n: usize, level: u32) -> bool
     requires { n < length lemmas.now }
     ensures { IsTrue result ↔ IsAsHigh lemmas.now n level }
 {
     !lemmas[n].live || lemmas[n].level >= level
-}
-
-fn set_level(lemmas: &mut Vec<Lemma>, n: usize, level: u64)
-    requires { n < vec_len lemmas.old }
-    ensures { lemmas.new.items ≡ raised_at lemmas.old.items n level }
-{
-    lemmas[n].level = level;
-}
-
-fn set_retired(lemmas: &mut Vec<Lemma>, n: usize)
-    requires { n < vec_len lemmas.old }
-    ensures { lemmas.new.items ≡ retired_at lemmas.old.items n }
-{
-    lemmas[n].live = false;
 }

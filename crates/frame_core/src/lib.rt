@@ -3,21 +3,24 @@
 #![tactic(auto)]
 
 mod comparing;
+mod counting;
+mod covering;
 pub mod facts;
 pub mod keeping;
 pub mod laws;
-pub mod lemmas;
+pub mod lemma_list;
 mod looking;
 pub mod outcomes;
+pub mod parts;
 pub mod runs;
+mod signing;
 mod subset;
 
-pub use comparing::Place;
-pub use facts::{Clear, Found, Proved};
+pub use comparing::{Place, first_unlike};
+pub use covering::is_part_of;
+pub use facts::{Clear, Found, Proved, ProvedParts, Step};
 pub use keeping::Frames;
-pub use lemmas::{Lemma, Obligation, Parent};
+pub use lemma_list::Lemmas;
 pub use outcomes::{Insertion, Noting, Opening, Raising, Verdict};
+pub use parts::{Lemma, Obligation, Parent};
 pub use runs::BitRun;
-
-#[cfg(test)]
-mod tests;

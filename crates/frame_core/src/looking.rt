@@ -1,17 +1,18 @@
-ghost use Rattle.std.specs.Prelude.{◌≡◌, ◌<◌, ◌≤◌, ℕ, true, false, length, IfOk, IsTrue, All, ◌↔◌, MatchOption, MatchBool};
+ghost use Rattle.std.specs.Prelude.{◌≡◌, ◌≤◌, ℕ, true, IfOk, IsTrue, All, ◌↔◌, MatchOption};
 ghost use Rattle.clause_core.specs.Literals.{Within};
-ghost use Rattle.frame_core.specs.Law.{AllStand, obligation_at};
-ghost use Rattle.frame_core.specs.Changes.{HasLiveAt, HasNoneAt};
+ghost use Rattle.frame_core.specs.Law.{AllStand};
 ghost use Rattle.frame_core.specs.Looking.{IsKeptLevel, IsBehind, IsHeldBy, IsHeldByNone, has_literal};
 
 use crate::comparing::is_same_clause;
-use crate::lemmas::{Lemma, Obligation, Parent};
+use crate::lemma_list::Lemmas;
+use crate::parts::{Lemma, Parent};
+use crate::signing::signature_of;
 use crate::subset::{LiteralSet, is_part};
 use clause_core::Lit;
 use std::alloc::{AllocError, Global};
 
 // The level that the parent has here; 0 where no lemma has its number and clause.
-fn kept_level(lemmas: &[Lemma], parent: &Parent) -> u64
+fn kept_level(lemmas: &[Lemma], parent: &Parent) -> u32
     ensures { IsKeptLevel lemmas.now parent.now result }
 {
     if parent.number < lemmas.len() {
@@ -24,7 +25,7 @@ fn kept_level(lemmas: &[Lemma], parent: &Parent) -> u64
 }
 
 // The first parent that is below this level here, with its level.
-pub(crate) fn first_behind(lemmas: &[Lemma], least: u64, parents: &[Parent]) -> Option<(usize, u64)>
+pub(crate) fn first_behind(lemmas: &[Lemma], least: u32, parents: &[Parent]) -> Option<(usize, u32)>
     ensures { MatchOption result (AllStand lemmas.now least parents.now) (λ b. IsBehind lemmas.now least parents.now b.0 b.1) }
 {
     for k in 0..parents.len() {
@@ -41,16 +42,20 @@ pub(crate) fn first_behind(lemmas: &[Lemma], least: u64, parents: &[Parent]) -> 
 pub(crate) fn holder(
     alloc: Global,
     vars: usize,
-    lemmas: &[Lemma],
+    lemmas: &Lemmas,
     clause: &[Lit],
-    level: u64,
+    level: u32,
 ) -> Result<Option<usize>, AllocError>
     requires { Within vars clause.now }
     ensures { IfOk result (λ r. MatchOption r (IsHeldByNone lemmas.now clause.now level) (IsHeldBy lemmas.now clause.now level)) }
 {
+    let signature = signature_of(clause);
     let literals = LiteralSet::of(alloc, vars, clause)?;
     for n in 0..lemmas.len() {
-        if holds(&lemmas[n], &literals, level) {
+        if !lemmas.may_be_part(n, signature) {
+            continue;
+        }
+        if holds(lemmas.lemma(n), &literals, level) {
             return Ok(Some(n));
         }
     }
@@ -58,45 +63,8 @@ pub(crate) fn holder(
 }
 
 // Whether the lemma has a part of these literals and at least this level.
-fn holds(lemma: &Lemma, literals: &LiteralSet, level: u64) -> bool
+fn holds(lemma: &Lemma, literals: &LiteralSet, level: u32) -> bool
     ensures { IsTrue result ↔ (All (λ l. has_literal literals.now l ≡ true) lemma.now.clause × level ≤ lemma.now.level) }
 {
     lemma.level >= level && is_part(lemma.clause.as_slice(), literals)
-}
-
-// The first obligation that is a first state.
-pub(crate) fn first_obligation(obligations: &[Obligation]) -> Option<usize>
-    ensures { MatchOption result ((n : ℕ) → n < length obligations.now → (obligation_at obligations.now n).first ≡ false) (λ n. (n < length obligations.now) × ((obligation_at obligations.now n).first ≡ true)) }
-{
-    for n in 0..obligations.len() {
-        if obligations[n].first {
-            return Some(n);
-        }
-    }
-    None
-}
-
-// Whether some live lemma has this level.
-fn has_live_at(lemmas: &[Lemma], level: u64) -> bool
-    ensures { MatchBool result (HasLiveAt lemmas.now level) (HasNoneAt lemmas.now level) }
-{
-    for n in 0..lemmas.len() {
-        let lemma = &lemmas[n];
-        if lemma.live && lemma.level == level {
-            return true;
-        }
-    }
-    false
-}
-
-// The first level from 1 below the top that no live lemma has.
-pub(crate) fn empty_level(lemmas: &[Lemma], top: u64) -> Option<u64>
-    ensures { MatchOption result ((i : ℕ) → 0 < i → i < top → HasLiveAt lemmas.now i) (λ i. (0 < i) × (i < top) × HasNoneAt lemmas.now i) }
-{
-    for i in 1..top {
-        if !has_live_at(lemmas, i) {
-            return Some(i);
-        }
-    }
-    None
 }

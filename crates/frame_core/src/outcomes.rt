@@ -8,7 +8,7 @@ pub enum Insertion {
     /// Lemma n has a part of its literals and at least its level.
     Held(usize),
     /// This parent has this level here, which is too low.
-    Behind { parent: usize, level: u64 },
+    Behind { parent: usize, level: u32 },
     /// It speaks of another system, which differs first at this place.
     OtherSystem { place: Place },
 }
@@ -21,7 +21,7 @@ pub enum Raising {
     /// It is retired, or has at least the proof's level.
     Dropped,
     /// This parent has this level here, which is too low.
-    Behind { parent: usize, level: u64 },
+    Behind { parent: usize, level: u32 },
     /// The proof speaks of another system, which differs first at this place.
     OtherSystem { place: Place },
 }
@@ -34,7 +34,7 @@ pub enum Opening {
     /// The proof is of another level than the top.
     Dropped,
     /// This parent has this level here, which is below the top.
-    Behind { parent: usize, level: u64 },
+    Behind { parent: usize, level: u32 },
     /// The proof speaks of another system, which differs first at this place.
     OtherSystem { place: Place },
 }
@@ -52,7 +52,7 @@ pub enum Noting {
 #[derive(Clone, Copy, PartialEq, Eq, Debug)]
 pub enum Verdict {
     /// No live lemma has this level: the lemmas above are an inductive invariant that excludes bad states.
-    Invariant(u64),
+    Invariant(u32),
     /// This obligation is a first state: a run leads from it to a bad one.
     Reached(usize),
 }

@@ -42,18 +42,13 @@ impl LiteralSet {
     pub(crate) fn has(&self, l: Lit) -> bool
         ensures { result ≡ has_literal self.now l }
     {
-        if l.positive {
-            marked(&self.positive, l.var)
+        let marks: &[bool] = if l.positive {
+            &self.positive
         } else {
-            marked(&self.negative, l.var)
-        }
+            &self.negative
+        };
+        l.var < marks.len() && marks[l.var]
     }
-}
-
-fn marked(marks: &[bool], var: usize) -> bool
-    ensures { result ≡ slice_index_or marks.now var false }
-{
-    var < marks.len() && marks[var]
 }
 
 fn mark(positive: &mut Vec<bool>, negative: &mut Vec<bool>, l: Lit)

@@ -1,20 +1,23 @@
 -- A broken run as a test of lists of states and inputs, and as a run that breaks a specification.
-use Rattle.std.proofs.Common.{◌≡◌, ◌⊎◌, inl, inr, ℕ, zero, suc, ◌+◌, ◌<◌, Bool, true, false, ◌&&◌, List, [], ◌∷◌, length, refl, sym, subst, arith, add-one}
+use Rattle.std.proofs.Common.{◌≡◌, ◌⊎◌, inl, inr, ℕ, zero, suc, ◌+◌, ◌<◌, ◌==◌, Bool, true, false, ◌&&◌, None, Some, List, [], ◌∷◌, length, refl, sym, subst, arith, add-one}
+use Rattle.std.specs.List.{list_all, zip}
 use Rattle.std.proofs.lemmas.Bool.{eqb-true}
 use Rattle.smv_tree.specs.declared.tree.Program.{Program}
 use Rattle.smv_value.specs.declared.value.Value.{Value}
 use Rattle.smv_value.specs.declared.value.Value.TheVariants as value
 use Rattle.smv_scope.specs.declared.slot.Slot.{Slot}
-use Rattle.smv_scope.specs.Items.{ResolvedItem}
-use Rattle.smv_scope.specs.Resolved.{Resolved}
+use Rattle.smv_scope.specs.declared.slot.ValueType.{ValueType}
+use Rattle.smv_scope.specs.declared.slot.ValueType.TheVariants.{Boolean}
+use Rattle.smv_resolve.specs.Items.{ResolvedItem}
+use Rattle.smv_resolve.specs.Resolved.{Resolved}
 use Rattle.smv_scope.specs.Slots.{slots_of}
 use Rattle.smv_meaning.specs.declared.value.Outcome.{Outcome}
-use Rattle.smv_meaning.specs.declared.value.Outcome.TheVariants.{One, Nothing}
-use Rattle.smv_meaning.specs.Runs.{Breaks, IsStep, at_time, fits, input_slots, is_first_state, is_step, state_slots}
-use Rattle.smv_meaning.specs.Values.{outcome_in}
+use Rattle.smv_meaning.specs.declared.value.Outcome.TheVariants.{Fault, Values}
+use Rattle.smv_meaning.specs.Runs.{Breaks, IsStep, at_time, fits, in_type, input_slots, is_first_state, is_step, state_slots}
+use Rattle.smv_meaning.specs.Values.{one, outcome_in}
 use Rattle.invariant_queries.specs.Edges.{input_width, is_one, state_width}
 use Rattle.invariant_queries.specs.Frames.{is_broken_run, is_broken_step, steps_hold}
-use Rattle.invariant_queries.proofs.Encoding.{Each}
+use Rattle.invariant_queries.proofs.Encoding.{Each, Has, is_boolean}
 
 pub left : (a b : Bool) → (a && b) ≡ true → a ≡ true
 left true b e = refl
@@ -31,30 +34,51 @@ eq_or_lt : (j n : ℕ) → j < suc n → (j ≡ n) ⊎ (j < n)
 eq_or_lt j n h = grind (arith, h)
 
 -- the outcome is FALSE, as a test and as an equation
-pub is_false : (o : Outcome) → is_one false o ≡ true → o ≡ One (value.Bool false)
-is_false (One (value.Bool true)) e = let no : ⊥ = cc in absurd no
-is_false (One (value.Bool false)) e = refl
-is_false Nothing e = let no : ⊥ = cc in absurd no
+pub is_false : (o : Outcome) → is_one false o ≡ true → o ≡ one (value.Bool false)
+is_false (Values (Some (value.Bool true))) e = let no : ⊥ = cc in absurd no
+is_false (Values (Some (value.Bool false))) e = refl
+is_false (Values (Some (value.Int z))) e = let no : ⊥ = cc in absurd no
+is_false (Values (Some (value.Sym n))) e = let no : ⊥ = cc in absurd no
+is_false (Values (Some (value.Word s w bits))) e = let no : ⊥ = cc in absurd no
+is_false (Values None) e = let no : ⊥ = cc in absurd no
+is_false (Fault rule place) e = let no : ⊥ = cc in absurd no
 
-pub false_is : (o : Outcome) → o ≡ One (value.Bool false) → is_one false o ≡ true
+pub false_is : (o : Outcome) → o ≡ one (value.Bool false) → is_one false o ≡ true
 false_is o e = rw e refl
 
-fits_width : (slots : List Slot) (s : List Value) → fits slots s ≡ true → length s ≡ length slots
-fits_width slots s e = sym (eqb-true (length slots) (length s) (left _ _ e))
+in_boolean : (v : Value) (declared : ValueType) → in_type v declared ≡ true → is_boolean v ≡ true
+in_boolean (value.Bool b) Boolean e = refl
+in_boolean (value.Int z) declared e = e
+in_boolean (value.Sym n) declared e = e
+in_boolean (value.Word s w bits) declared e = e
 
--- both states of a step, and its inputs, have a value for each slot
+all_booleans : (slots : List Slot) (s : List Value) → length slots ≡ length s → list_all (λ (pair : Slot × Value). in_type pair.1 pair.0.declared) (zip slots s) ≡ true →
+    list_all is_boolean s ≡ true
+all_booleans [] [] long all = refl
+all_booleans [] (v ∷ s) long all = absurd (omega (arith, long))
+all_booleans (slot ∷ slots) [] long all = refl
+all_booleans (slot ∷ slots) (v ∷ s) long all =
+    both (is_boolean v) (list_all is_boolean s) (in_boolean v slot.declared (left (in_type v slot.declared) _ all))
+    (all_booleans slots s (omega (arith, long)) (right (in_type v slot.declared) _ all))
+
+fits_has : (slots : List Slot) (s : List Value) → fits slots s ≡ true → Has (length slots) s
+fits_has slots s e =
+    let long : length slots ≡ length s = eqb-true (length slots) (length s) (left (length slots == length s) _ e) in
+    record { long = sym long; booleans = all_booleans slots s long (right (length slots == length s) _ e) }
+
+-- both states of a step, and its inputs, have a boolean for each slot
 pub record Widths (p : Program) (s u t : List Value) : Type 0 where
-  pub from : length s ≡ state_width p
-  pub given : length u ≡ input_width p
-  pub to : length t ≡ state_width p
+  pub from : Has (state_width p) s
+  pub given : Has (input_width p) u
+  pub to : Has (state_width p) t
 
 pub step_widths : (p : Program) (s u t : List Value) → is_step p s u t ≡ true → Widths p s u t
 step_widths p s u t step =
     let values = left _ _ (left _ _ (left _ _ step)) in
     record {
-      from = fits_width (state_slots (slots_of p)) s (left _ _ (left _ _ values));
-      given = fits_width (input_slots (slots_of p)) u (right _ _ (left _ _ values));
-      to = fits_width (state_slots (slots_of p)) t (right _ _ values);
+      from = fits_has (state_slots (slots_of p)) s (left _ _ (left _ _ values));
+      given = fits_has (input_slots (slots_of p)) u (right _ _ (left _ _ values));
+      to = fits_has (state_slots (slots_of p)) t (right _ _ values);
     }
 
 module _ (p : Program) (states inputs : List (List Value)) where
@@ -79,11 +103,11 @@ module _ (p : Program) (states inputs : List (List Value)) where
     steps : steps_hold p states inputs (length inputs) ≡ true
     steps = right _ _ (left _ _ broken)
 
-    width_at : (i : ℕ) → i < length inputs + 1 → length (at_time states i) ≡ state_width p
-    width_at zero h = fits_width (state_slots (slots_of p)) (at_time states 0) (left _ _ first_holds)
+    width_at : (i : ℕ) → i < length inputs + 1 → Has (state_width p) (at_time states i)
+    width_at zero h = fits_has (state_slots (slots_of p)) (at_time states 0) (left _ _ first_holds)
     width_at (suc j) h = (step_widths p (at_time states j) (at_time inputs j) (at_time states (suc j)) (step_at (length inputs) j steps (omega (arith, h)))).to
 
-    input_width_at : (i : ℕ) → i < length inputs → length (at_time inputs i) ≡ input_width p
+    input_width_at : (i : ℕ) → i < length inputs → Has (input_width p) (at_time inputs i)
     input_width_at j h = (step_widths p (at_time states j) (at_time inputs j) (at_time states (suc j)) (step_at (length inputs) j steps h)).given
 
   -- a broken run breaks the specification
@@ -104,12 +128,12 @@ module _ (p : Program) (states inputs : List (List Value)) where
       (steps_from (length inputs) (λ j h. subst (λ i. IsStep p (at_time states j) (at_time inputs j) (at_time states i)) (add-one j) (b.run.steps j h))))
       (false_is (outcome_in (slots_of p) (at_time states (length inputs)) spec.value) b.broken)
 
-each_from : (k : ℕ) (ss : List (List Value)) → ((i : ℕ) → i < length ss → length (at_time ss i) ≡ k) → Each k ss
+each_from : (k : ℕ) (ss : List (List Value)) → ((i : ℕ) → i < length ss → Has k (at_time ss i)) → Each k ss
 each_from k [] h = tt
 each_from k (s ∷ ss) h = (h 0 (omega arith), each_from k ss (λ i lt. h (suc i) (omega (arith, lt))))
 
 module _ (p : Program) (e : Resolved) (states inputs : List (List Value)) (broken : is_broken_run p e states inputs ≡ true) where
-  -- each state of a broken run has a value for each slot
+  -- each state of a broken run has a boolean for each slot
   pub broken_each : length states ≡ length inputs + 1 → Each (state_width p) states
   broken_each long = each_from (state_width p) states (λ i lt. width_at p states inputs e broken i (omega (arith, lt, long)))
 

@@ -10,3 +10,4 @@ pub mod Decoding
 pub mod BrokenRuns
 pub mod Queries
 pub mod InductionLaws
+mod Telling

@@ -1,13 +1,15 @@
 -- The truth of one node more.
-use Rattle.std.proofs.Common.{◌≡◌, ◌∙◌, ℕ, zero, suc, ◌+◌, ◌<◌, Bool, List, [], ◌∷◌, ◌++◌, take, length, get_or, sym, ap, arith}
-use Rattle.std.proofs.lemmas.List.{map-append, take-map}
+use Rattle.std.proofs.Common.{◌≡◌, ◌∙◌, ℕ, zero, suc, ◌+◌, ◌-◌, ◌<◌, Bool, List, [], ◌∷◌, ◌++◌, take, drop, length, get_or, sym, ap, subst, arith}
+use Rattle.smv_resolve.specs.Resolved.{last_of}
+use Rattle.smv_meaning.specs.declared.value.Outcome.{Outcome}
+use Rattle.std.proofs.lemmas.List.{get_or-drop, length-drop, map-append, take-map}
 use Rattle.std.proofs.lemmas.List.Elements.{All-append}
 use Rattle.bit_graph.specs.declared.edge.Edge.{Edge}
 use Rattle.bit_graph.specs.declared.edge.Node.{Node}
 use Rattle.bit_graph.specs.Growth.{Extends}
 use Rattle.bit_graph.specs.Meaning.{Consistent}
 use Rattle.smv_value.specs.declared.value.Value.{Value}
-use Rattle.smv_scope.specs.declared.node.Node as scope
+use Rattle.smv_resolve.specs.declared.node.Node as scope
 use Rattle.smv_scope.specs.declared.slot.Slot.{Slot}
 use Rattle.smv_meaning.specs.Tables.{outcome_by, outcomes_of}
 use Rattle.smv_meaning.proofs.Tables.{outcomes_next, outcomes_of-take}
@@ -49,3 +51,16 @@ module _ (g h : List Node) (extends : Extends g h) where
         (so_far v t (extends.kept v c) next)
         (ap (all_told v) first_is ∙ sym (take-map (told v) i later) ∙ ap (take i) next ∙ outcomes_of-take slots t [] [] nodes i (omega (arith, within)))
         (tells.told v c)
+
+-- operands
+
+-- what leads to nodes in all leads there in the last
+pub last_stand : (g : List Node) (count : ℕ) (truths : List Truth) → TruthsStand g truths → TruthsStand g (last_of count truths)
+last_stand g count truths stand i d lt =
+    let n = length truths - count in
+    let size = length-drop n truths in
+    let same : get_or (drop n truths) i d ≡ get_or truths (n + i) d = get_or-drop n truths i d in
+    subst (TruthStands g) (sym same) (stand (n + i) d (omega (arith, lt, size)))
+
+pub tells_along : (g : List Node) (truth : Truth) (f e : (ℕ → Bool) → Outcome) → ((v : ℕ → Bool) → f v ≡ e v) → TellsTruth g truth f → TellsTruth g truth e
+tells_along g truth f e same t = record { stands = t.stands; told = λ v c. t.told v c ∙ same v }

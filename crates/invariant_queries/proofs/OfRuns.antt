@@ -1,11 +1,11 @@
 -- What edges tell of runs.
-use Rattle.std.proofs.Common.{◌≡◌, ◌∙◌, ℕ, suc, ◌+◌, Bool, true, false, not, ◌&&◌, List, [], map, get_or, ap, sym, refl, arith}
+use Rattle.std.proofs.Common.{◌≡◌, ◌∙◌, ℕ, suc, ◌+◌, Bool, ◌&&◌, List, [], map, get_or, ap, sym, arith}
 use Rattle.std.proofs.Math.ListN.{get_or-map}
 use Rattle.std.proofs.Math.Bool.{and_assoc}
 use Rattle.bit_graph.specs.declared.edge.Edge.{Edge}
 use Rattle.bit_graph.specs.declared.edge.Node.{Node}
 use Rattle.bit_graph.specs.Growth.{Extends}
-use Rattle.bit_graph.specs.Meaning.{edge_value, exclusive_or}
+use Rattle.bit_graph.specs.Meaning.{edge_value}
 use Rattle.smv_tree.specs.declared.tree.Program.{Program}
 use Rattle.smv_meaning.specs.declared.typed.Typed.{Typed}
 use Rattle.smv_meaning.specs.Runs.{at_time, is_first_state, is_step}
@@ -52,18 +52,12 @@ module _ (typed : Typed) (states inputs : List (List Edge)) where
       ∙ and_assoc first so_far (is_step program (at_time ss i) (at_time us i) (at_time ss (suc i)))
       ∙ ap (λ n. first && steps_hold program ss us n) (sym next)
 
-exclusive_not : (n b : Bool) → exclusive_or (not n) b ≡ not (exclusive_or n b)
-exclusive_not true true = refl
-exclusive_not true false = refl
-exclusive_not false b = refl
-
 -- the edge of a broken step, by what its parts say
-pub broken_is : (v : ℕ → Bool) (before negated step begun after edge : Edge) (b st a : Bool) → negated ≡ record before { negated = not before.negated }
-    → edge_value v before ≡ b → edge_value v step ≡ st → edge_value v begun ≡ (edge_value v negated && edge_value v step)
-    → edge_value v after ≡ a → edge_value v edge ≡ (edge_value v begun && edge_value v after) → edge_value v edge ≡ ((not b && st) && a)
-broken_is v before negated step begun after edge b st a negated_is before_is step_is begun_is after_is edge_is =
-    let opposite : edge_value v negated ≡ not b = ap (edge_value v) negated_is ∙ exclusive_not before.negated (v before.node) ∙ ap not before_is in
+pub broken_is : (v : ℕ → Bool) (before step begun after edge : Edge) (b st a : Bool)
+    → edge_value v before ≡ b → edge_value v step ≡ st → edge_value v begun ≡ (edge_value v before && edge_value v step)
+    → edge_value v after ≡ a → edge_value v edge ≡ (edge_value v begun && edge_value v after) → edge_value v edge ≡ ((b && st) && a)
+broken_is v before step begun after edge b st a before_is step_is begun_is after_is edge_is =
     edge_is ∙ ap (λ (x : Bool). x && edge_value v after) begun_is
-    ∙ ap (λ (x : Bool). (x && edge_value v step) && edge_value v after) opposite
-    ∙ ap (λ (x : Bool). (not b && x) && edge_value v after) step_is
-    ∙ ap (λ (x : Bool). (not b && st) && x) after_is
+    ∙ ap (λ (x : Bool). (x && edge_value v step) && edge_value v after) before_is
+    ∙ ap (λ (x : Bool). (b && x) && edge_value v after) step_is
+    ∙ ap (λ (x : Bool). (b && st) && x) after_is

@@ -6,9 +6,9 @@ use Rattle.bit_graph.specs.declared.edge.Node.{Node}
 use Rattle.bit_graph.specs.Growth.{Extends}
 use Rattle.bit_graph.specs.Meaning.{Consistent, Denotes, edge_value}
 use Rattle.smv_tree.specs.declared.tree.Program.{Program}
-use Rattle.smv_scope.specs.declared.item.Item.{Item}
+use Rattle.smv_resolve.specs.declared.item.Item.{Item}
 use Rattle.smv_scope.specs.declared.slot.Slot.{Slot}
-use Rattle.smv_scope.specs.Items.{items_of}
+use Rattle.smv_resolve.specs.Items.{items_of}
 use Rattle.smv_scope.specs.Slots.{slots_of}
 use Rattle.smv_meaning.specs.declared.typed.Typed.{Typed}
 use Rattle.smv_meaning.specs.declared.value.Outcome.{Outcome}

@@ -9,7 +9,7 @@ use Rattle.edge_query.specs.Findings.{Finds}
 use Rattle.edge_query.specs.declared.found.Found.TheVariants.{Values, Nothing}
 use Rattle.smv_tree.specs.declared.tree.Program.{Program}
 use Rattle.smv_value.specs.declared.value.Value.{Value}
-use Rattle.smv_scope.specs.Resolved.{Resolved}
+use Rattle.smv_resolve.specs.Resolved.{Resolved}
 use Rattle.smv_meaning.specs.Runs.{at_time}
 use Rattle.invariant_queries.specs.declared.frames.Layout.{Layout}
 use Rattle.invariant_queries.specs.Edges.{input_width, state_under, state_width}

@@ -2,7 +2,7 @@
 use Rattle.std.specs.Prelude.{◌≡◌, ℕ, ◌≤◌, Bool, List, length, IsTrue}
 use Rattle.smv_tree.specs.declared.tree.Program.{Program}
 use Rattle.smv_value.specs.declared.value.Value.{Value}
-use Rattle.smv_scope.specs.Items.{ResolvedItem}
+use Rattle.smv_resolve.specs.Items.{ResolvedItem}
 use Rattle.smv_meaning.specs.Runs.{Breaks}
 use Rattle.invariant_queries.specs.declared.cause.Cause.{Cause}
 use Rattle.invariant_queries.specs.declared.cause.Cause.TheVariants.{Conflicts, Bound}
@@ -19,7 +19,7 @@ IsUnbroken p spec = (states inputs : List (List Value)) → Breaks p spec states
 abbrev pub IsUnbrokenWithin : Program → ResolvedItem → ℕ → Type 0
 IsUnbrokenWithin p spec most = (states inputs : List (List Value)) → length inputs ≤ most → Breaks p spec states inputs → ⊥
 
--- some step leads from a state in which the specification is not FALSE to one in which it is
+-- some step leads from a state in which the specification is TRUE to one in which it is FALSE
 abbrev pub IsNotInductive : Program → ResolvedItem → Type 0
 IsNotInductive p spec = (s : List Value) × (u : List Value) × (t : List Value) × IsTrue (is_broken_step p spec.value s u t)
 

@@ -1,20 +1,24 @@
 -- What edges of a graph say of states, of outcomes and of the outcomes of nodes.
-use Rattle.std.specs.Prelude.{◌≡◌, ℕ, Bool, false, cond, List, [], length, map, All}
+use Rattle.std.specs.Prelude.{◌≡◌, ℕ, Bool, true, false, not, cond, Some, List, [], length, map, All}
 use Rattle.std.specs.Bool.{beq}
 use Rattle.std.specs.List.{list_all, zip}
 use Rattle.bit_graph.specs.declared.edge.Edge.{Edge}
 use Rattle.bit_graph.specs.declared.edge.Node.{Node}
 use Rattle.bit_graph.specs.Meaning.{edge_value, Consistent, Denotes, Stands}
 use Rattle.smv_tree.specs.declared.tree.Program.{Program}
+use Rattle.smv_value.specs.declared.operator.Operator.{Operator}
+use Rattle.smv_value.specs.declared.operator.Operator.TheVariants as operator
 use Rattle.smv_value.specs.declared.value.Value.{Value}
 use Rattle.smv_value.specs.declared.value.Value.TheVariants as value
-use Rattle.smv_scope.specs.declared.item.Item.{Item}
-use Rattle.smv_scope.specs.declared.item.ItemKind.{ItemKind}
+use Rattle.smv_value.specs.Results.{logic_truth}
+use Rattle.smv_resolve.specs.declared.item.Item.{Item}
+use Rattle.smv_resolve.specs.declared.item.ItemKind.{ItemKind}
 use Rattle.smv_scope.specs.declared.slot.Slot.{Slot}
 use Rattle.smv_scope.specs.Slots.{slots_of}
 use Rattle.smv_meaning.specs.declared.typed.Typed.{Typed}
 use Rattle.smv_meaning.specs.declared.value.Outcome.{Outcome}
-use Rattle.smv_meaning.specs.declared.value.Outcome.TheVariants.{One, Nothing}
+use Rattle.smv_meaning.specs.declared.value.Outcome.TheVariants.{Values}
+use Rattle.smv_meaning.specs.Values.{nothing, one}
 use Rattle.smv_meaning.specs.Runs.{asks_always, asks_first, asks_step, input_slots, keeps, meets_invariants, state_slots}
 use Rattle.smv_meaning.specs.Tables.{outcome_at, outcomes_of, target_at}
 use Rattle.invariant_queries.specs.declared.asking.When.{When}
@@ -33,16 +37,25 @@ AllStand g edges = All (Stands g) edges
 
 -- the outcome is this boolean
 abbrev pub is_one : Bool → Outcome → Bool
-is_one b (One (value.Bool c)) = beq b c
-is_one b Nothing = false
+is_one b (Values (Some (value.Bool c))) = beq b c
+is_one b other = false
 
--- the value as a boolean
-abbrev pub truth_value : Value → Bool
-truth_value (value.Bool b) = b
+-- the operator gives a boolean of two booleans, and this one
+abbrev pub is_of_booleans : Operator → Bool
+is_of_booleans (operator.Logic o) = true
+is_of_booleans operator.Equal = true
+is_of_booleans operator.NotEqual = true
+is_of_booleans other = false
+
+abbrev pub boolean_of : Operator → Bool → Bool → Bool
+boolean_of (operator.Logic o) a b = logic_truth o a b
+boolean_of operator.Equal a b = beq a b
+boolean_of operator.NotEqual a b = not (beq a b)
+boolean_of other a b = false
 
 -- the outcome that two edges say: a value where the first is true, and then that of the second
 abbrev pub told : (ℕ → Bool) → Truth → Outcome
-told v truth = cond (edge_value v truth.known) (One (value.Bool (edge_value v truth.value))) Nothing
+told v truth = cond (edge_value v truth.known) (one (value.Bool (edge_value v truth.value))) nothing
 
 -- both edges lead to nodes of the graph
 abbrev pub TruthStands : List Node → Truth → Type 0

@@ -1,6 +1,6 @@
 -- The states and inputs of a run as values of a graph's inputs: so many for each state, one after another, and then so many
 -- for the inputs of each step.
-use Rattle.std.specs.Prelude.{◌≡◌, ℕ, zero, suc, ◌+◌, ◌*◌, Bool, true, false, not, ◌&&◌, List, [], ◌∷◌, length, map, take, drop, slice_index_or, All}
+use Rattle.std.specs.Prelude.{◌≡◌, ℕ, zero, suc, ◌+◌, ◌*◌, Bool, true, false, ◌&&◌, List, [], ◌∷◌, length, map, take, drop, slice_index_or, All}
 use Rattle.std.specs.List.{range_with_len}
 use Rattle.bit_graph.specs.declared.edge.Edge.{Edge}
 use Rattle.bit_graph.specs.declared.edge.Node.{Node}
@@ -8,7 +8,7 @@ use Rattle.bit_graph.specs.Meaning.{Denotes, Stands}
 use Rattle.smv_tree.specs.declared.tree.Program.{Program}
 use Rattle.smv_value.specs.declared.value.Value.{Value}
 use Rattle.smv_value.specs.declared.value.Value.TheVariants as value
-use Rattle.smv_scope.specs.Resolved.{Resolved}
+use Rattle.smv_resolve.specs.Resolved.{Resolved}
 use Rattle.smv_scope.specs.Slots.{slots_of}
 use Rattle.smv_meaning.specs.declared.typed.Typed.{Typed}
 use Rattle.smv_meaning.specs.Runs.{at_time, is_first_state, is_step}
@@ -63,10 +63,10 @@ is_broken_run p e states inputs =
     (is_first_state p (at_time states 0) && steps_hold p states inputs (length inputs))
     && is_one false (outcome_in (slots_of p) (at_time states (length inputs)) e)
 
--- a step leads from a state in which the expression is not FALSE to one in which it is
+-- a step leads from a state in which the expression is TRUE to one in which it is FALSE
 abbrev pub is_broken_step : Program → Resolved → List Value → List Value → List Value → Bool
 is_broken_step p e s u t =
-    (not (is_one false (outcome_in (slots_of p) s e)) && is_step p s u t) && is_one false (outcome_in (slots_of p) t e)
+    (is_one true (outcome_in (slots_of p) s e) && is_step p s u t) && is_one false (outcome_in (slots_of p) t e)
 
 -- the same of the first step of these states
 abbrev pub breaks_in_two : Program → Resolved → List (List Value) → List (List Value) → Bool

@@ -2,7 +2,7 @@
 use Rattle.std.specs.Prelude.{◌≡◌, ℕ, ◌+◌, Bool, true, List, length, IsTrue}
 use Rattle.smv_tree.specs.declared.tree.Program.{Program}
 use Rattle.smv_value.specs.declared.value.Value.{Value}
-use Rattle.smv_scope.specs.Resolved.{Resolved}
+use Rattle.smv_resolve.specs.Resolved.{Resolved}
 use Rattle.invariant_queries.specs.declared.unrolling.Unrolled.{Unrolled}
 use Rattle.invariant_queries.specs.declared.unrolling.Unrolled.TheVariants.{Run, Nothing, Spent}
 use Rattle.invariant_queries.specs.declared.unrolling.Induction.{Induction}
@@ -25,7 +25,7 @@ Unrolls p e n budget over (Run states inputs) = IsBrokenRun p e n states inputs
 Unrolls p e n budget over Nothing = (states inputs : List (List Value)) → IsBrokenRun p e n states inputs → ⊥
 Unrolls p e n budget over (Spent drawn b) = WasSpent budget over drawn b
 
--- that some step leads from a state in which the expression is not FALSE to one in which it is; or that none does
+-- that some step leads from a state in which the expression is TRUE to one in which it is FALSE; or that none does
 abbrev pub TellsInduction : Program → Resolved → ℕ → Bool → Induction → Type 0
 TellsInduction p e budget over induction.Fails = (s : List Value) × (u : List Value) × (t : List Value) × IsTrue (is_broken_step p e s u t)
 TellsInduction p e budget over induction.Holds = (s u t : List Value) → IsTrue (is_broken_step p e s u t) → ⊥

@@ -10,7 +10,8 @@ ghost use Rattle.invariant_queries.specs.Edges.{AllStand, TruthStands, TruthsSta
 
 use crate::truths::{Truth, same, target_at, truth_at};
 use bit_graph::{Edge, Graph};
-use smv_scope::{Item, ItemKind, Slot};
+use smv_resolve::{Item, ItemKind};
+use smv_scope::Slot;
 use smv_tree::{AssignmentKind, ConstraintKind, VariableKind};
 use std::alloc::AllocError;
 

@@ -1,14 +1,15 @@
 //! What is said of a specification.
 
-ghost use Rattle.std.specs.Prelude.{◌≡◌, IfOk};
-ghost use Rattle.smv_scope.specs.Items.{item_by};
+ghost use Rattle.std.specs.Prelude.{◌≡◌, Contains, IfOk};
+ghost use Rattle.smv_meaning.specs.Runs.{specifications_of};
+ghost use Rattle.smv_resolve.specs.Items.{item_by};
 ghost use Rattle.invariant_queries.specs.Deciding.{IsDecided, IsNotInductive, IsUnbrokenWithin};
 
 use crate::cause::Cause;
 use crate::unrolling::{Induction, Unrolled, is_inductive, unroll};
 use effort_purse::Purse;
 use smv_meaning::{Inputs, State, Typed};
-use smv_scope::Item;
+use smv_resolve::Item;
 use sqlite_items::Items;
 use std::alloc::{AllocError, Global};
 
@@ -26,8 +27,8 @@ pub enum Decision {
     Unknown(Cause),
 }
 
-/// Decides an invariant by queries that the purse pays, in this order: is it broken in a first state; does a step lead
-/// from a state in which it is not FALSE to one in which it is, else no run breaks it; do runs of 1, 2, .. steps
+/// Decides a specification of the program by queries that the purse pays, in this order: is it broken in a first state; does a step lead
+/// from a state in which it is TRUE to one in which it is FALSE, else no run breaks it; do runs of 1, 2, .. steps
 /// break it, up to the bound.
 #[tactic(auto, using(crate::proofs::InductionLaws::broken, crate::proofs::InductionLaws::within_none))]
 pub fn decide<Q: Purse>(
@@ -37,6 +38,7 @@ pub fn decide<Q: Purse>(
     bound: usize,
     purse: &mut Q,
 ) -> Result<Decision, AllocError>
+    requires claim { Contains (specifications_of typed.now.scope.program) (item_by typed.now.nodes spec.now) }
     requires ready { Q.ready purse.old }
     ensures found { IfOk result (IsDecided typed.now.scope.program (item_by typed.now.nodes spec.now) (Q.budget purse.old) bound (Q.spent purse.new)) }
     ensures ready { Q.ready purse.new }

@@ -20,7 +20,7 @@ pub use deciding::{Decision, decide};
 pub use frames::{Layout, layout_of};
 pub use runs::{RunEdges, broken_run_edge, broken_step_edge};
 pub use states::{
-    Shared, StateEdges, false_edge, first_edge, shared_edges, state_edges, step_edge,
+    Shared, StateEdges, first_edge, shared_edges, state_edges, step_edge, truth_edge,
 };
 pub use tables::{nowhere, table};
 pub use truths::Truth;

@@ -3,13 +3,13 @@
 ghost use Rattle.std.specs.Prelude.{◌≡◌, ◌&&◌, length, map, IfOk};
 ghost use Rattle.bit_graph.specs.Growth.{Extends};
 ghost use Rattle.bit_graph.specs.Meaning.{Denotes, Stands, edge_value};
-ghost use Rattle.smv_scope.specs.Resolved.{part_of};
+ghost use Rattle.smv_resolve.specs.Resolved.{part_of};
 ghost use Rattle.smv_meaning.specs.Runs.{is_first_state, is_step};
 ghost use Rattle.invariant_queries.specs.Edges.{AllStand, Supports, TellsState, input_width, state_under, state_width};
 ghost use Rattle.invariant_queries.specs.Frames.{FramesStand, TellsRun, breaks_in_two, is_broken_run, is_broken_step};
 
 use crate::states::{
-    Shared, StateEdges, false_edge, first_edge, shared_edges, state_edges, step_edge,
+    Shared, StateEdges, first_edge, shared_edges, state_edges, step_edge, truth_edge,
 };
 use bit_graph::{Edge, Graph};
 use smv_meaning::Typed;
@@ -117,13 +117,13 @@ pub fn broken_run_edge(
 {
     let shared = shared_edges(alloc, graph, typed)?;
     let run = run_edges(alloc, graph, typed, &shared, states, inputs)?;
-    let broken = false_edge(graph, typed, &run.last, e)?;
+    let broken = truth_edge(graph, typed, &run.last, e, false)?;
     let edge = graph.and(run.edge, broken)?;
     Ok(edge)
 }
 
-// The edge that is true where a step with these inputs leads from the one state, in which the node of this number is not
-// FALSE, to the other, in which it is.
+// The edge that is true where a step with these inputs leads from the one state, in which the node of this number is TRUE,
+// to the other, in which it is FALSE.
 fn broken_to(
     alloc: Global,
     graph: &mut Graph,
@@ -144,14 +144,14 @@ fn broken_to(
     ensures value { IfOk result (λ edge. Denotes graph.new edge (λ v. is_broken_step typed.now.scope.program (part_of typed.now.nodes e) (state_under v from.now.bits) (state_under v inputs.now) (state_under v to.now.bits))) }
 {
     let step = step_edge(alloc, graph, typed, shared, from, inputs, to)?;
-    let before = false_edge(graph, typed, from, e)?;
-    let after = false_edge(graph, typed, to, e)?;
-    let begun = graph.and(before.negation(), step)?;
+    let before = truth_edge(graph, typed, from, e, true)?;
+    let after = truth_edge(graph, typed, to, e, false)?;
+    let begun = graph.and(before, step)?;
     let edge = graph.and(begun, after)?;
     Ok(edge)
 }
 
-// The edge that is true where a step leads from a state in which the node of this number is not FALSE to one in which it is.
+// The edge that is true where a step leads from a state in which the node of this number is TRUE to one in which it is FALSE.
 fn broken_between(
     alloc: Global,
     graph: &mut Graph,
@@ -179,7 +179,7 @@ fn broken_between(
 }
 
 /// The edge that is true where the first step of these states and inputs leads from a state in which the node of this number
-/// is not FALSE to one in which it is.
+/// is TRUE to one in which it is FALSE.
 pub fn broken_step_edge(
     alloc: Global,
     graph: &mut Graph,

@@ -4,8 +4,8 @@ ghost use Rattle.std.specs.Prelude.{◌≡◌, false, length, IfOk};
 ghost use Rattle.std.specs.List.{list_all};
 ghost use Rattle.bit_graph.specs.Growth.{Extends};
 ghost use Rattle.bit_graph.specs.Meaning.{Denotes, Stands};
-ghost use Rattle.smv_scope.specs.Items.{items_of};
-ghost use Rattle.smv_scope.specs.Resolved.{part_of};
+ghost use Rattle.smv_resolve.specs.Items.{items_of};
+ghost use Rattle.smv_resolve.specs.Resolved.{part_of};
 ghost use Rattle.smv_scope.specs.Slots.{slots_of};
 ghost use Rattle.smv_meaning.specs.Runs.{allows_step, is_first_state, is_step};
 ghost use Rattle.smv_meaning.specs.Values.{outcome_in};
@@ -170,19 +170,20 @@ pub fn step_edge(
     Ok(step)
 }
 
-/// The edge that is true where the node of this number is FALSE in the state.
-pub fn false_edge(
+/// The edge that is true where the node of this number is this boolean in the state.
+pub fn truth_edge(
     graph: &mut Graph,
     typed: &Typed,
     state: &StateEdges,
     e: usize,
+    wanted: bool,
 ) -> Result<Edge, AllocError>
     requires { TellsState graph.old typed.now state.now }
     ensures extends { Extends graph.old graph.new }
     ensures stands { IfOk result (λ edge. Stands graph.new edge) }
-    ensures value { IfOk result (λ edge. Denotes graph.new edge (λ v. is_one false (outcome_in (slots_of typed.now.scope.program) (state_under v state.now.bits) (part_of typed.now.nodes e)))) }
+    ensures value { IfOk result (λ edge. Denotes graph.new edge (λ v. is_one wanted (outcome_in (slots_of typed.now.scope.program) (state_under v state.now.bits) (part_of typed.now.nodes e)))) }
 {
     let truth = truth_at(graph, state.truths.as_slice(), e);
-    let edge = graph.and(truth.known, truth.value.negation())?;
+    let edge = graph.and(truth.known, truth.value_as(wanted))?;
     Ok(edge)
 }

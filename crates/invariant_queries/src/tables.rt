@@ -1,25 +1,25 @@
 //! The truths of the nodes of a list.
 
-ghost use Rattle.std.specs.Prelude.{◌≡◌, ℕ, Bool, List, [], take, IfOk};
+ghost use Rattle.std.specs.Prelude.{◌≡◌, ℕ, Bool, List, [], ◌∷◌, IfOk};
 ghost use Rattle.bit_graph.specs.Growth.{Extends};
 ghost use Rattle.bit_graph.specs.Meaning.{Consistent};
 ghost use Rattle.smv_value.specs.declared.value.Value.{Value};
-ghost use Rattle.smv_value.specs.Operators.{implication, negation};
+ghost use Rattle.smv_resolve.specs.Resolved.{last_of};
 ghost use Rattle.smv_meaning.specs.Tables.{outcome_at, outcome_by, outcomes_of};
-ghost use Rattle.smv_meaning.specs.Values.{chosen, on_both, on_one, operation};
+ghost use Rattle.smv_meaning.specs.Values.{applied};
 ghost use Rattle.invariant_queries.specs.Edges.{AllStand, TellsEach, TellsTruth, TruthsStand, all_told, state_under};
 
-use crate::truths::{
-    Truth, conditional, constant, implied, linked, negation, nothing, of_slot, settled, truth_at,
-};
+use crate::truths::{Truth, applied, constant, nothing, of_slot, settled, truth_at};
 use bit_graph::{Edge, Graph};
 use smv_meaning::{Outcome, outcomes};
-use smv_scope::{Node, Slot};
-use smv_tree::ChainOperator;
+use smv_resolve::{Node, first, last};
+use smv_scope::Slot;
+use smv_tree::Place;
+use smv_value::Operator;
 use sqlite_items::Items;
 use std::alloc::{AllocError, Global};
 
-/// The truth of each node where there is no state.
+/// The truth of each node where there is no state. Nodes of which `table` says so count as want of memory.
 pub fn nowhere(
     alloc: Global,
     graph: &Graph,
@@ -43,13 +43,13 @@ fn all_settled(
 {
     let mut truths = Vec::new(alloc);
     for outcome in outcomes {
-        truths.push(settled(graph, *outcome))?;
+        truths.push(settled(graph, *outcome)?)?;
     }
     Ok(Items::from_vec(truths))
 }
 
 /// The truth of each node in the state of these edges with the inputs of these, where `later` has the truths in the next
-/// state.
+/// state. An operator that is not of booleans, or over another number of operands, counts as want of memory.
 pub fn table(
     alloc: Global,
     graph: &mut Graph,
@@ -77,17 +77,6 @@ pub fn table(
     Ok(Items::from_vec(truths))
 }
 
-// The first truths, so many if there are.
-fn first(truths: &[Truth], count: usize) -> &[Truth]
-    ensures { result.now ≡ take count truths.now }
-{
-    if count < truths.len() {
-        &truths[..count]
-    } else {
-        truths
-    }
-}
-
 // The truth of a node, by those of the nodes before it.
 fn truth_of_node(
     graph: &mut Graph,
@@ -109,69 +98,45 @@ fn truth_of_node(
         Node::Constant(_, b) => Ok(constant(graph, b)),
         Node::Slot(_, n) => Ok(of_slot(graph, slots, bits, inputs, n)),
         Node::Whole(..) => Ok(nothing(graph)),
-        Node::Given(_, a) => Ok(truth_at(graph, here, a)),
-        Node::Defined(_, a) => Ok(truth_at(graph, here, a)),
-        Node::Not(_, a) => Ok(negated_at(graph, here, a)),
+        Node::Named(_, _, a) => Ok(truth_at(graph, here, a)),
         Node::Next(_, a) => Ok(truth_at(graph, later, a)),
-        Node::Implies(_, a, b) => implied_at(graph, here, a, b),
-        Node::Link(_, operator, a, b) => linked_at(graph, here, operator, a, b),
-        Node::Conditional(_, c, a, b) => conditional_at(graph, here, c, a, b),
+        Node::Operand(a) => Ok(truth_at(graph, here, a)),
+        Node::Apply(place, operator, count) => applied_at(graph, here, operator, place, count),
+        Node::Link(place, operator, a, b) => linked_at(graph, here, operator, place, a, b),
     }
 }
 
-// The truth of `!` on a node.
-fn negated_at(graph: &Graph, here: &[Truth], a: usize) -> Truth
-    requires { TruthsStand graph.now here.now }
-    ensures { TellsTruth graph.now result (λ v. on_one negation (outcome_at (all_told v here.now) a)) }
-{
-    negation(truth_at(graph, here, a))
-}
-
-// The truth of `->` on two nodes.
-fn implied_at(graph: &mut Graph, here: &[Truth], a: usize, b: usize) -> Result<Truth, AllocError>
+// The truth of an operator over as many of the last nodes.
+fn applied_at(
+    graph: &mut Graph,
+    here: &[Truth],
+    operator: Operator,
+    _place: Place,
+    count: usize,
+) -> Result<Truth, AllocError>
     requires { TruthsStand graph.old here.now }
     ensures extends { Extends graph.old graph.new }
-    ensures told { IfOk result (λ t. TellsTruth graph.new t (λ v. on_both implication (outcome_at (all_told v here.now) a) (outcome_at (all_told v here.now) b))) }
+    ensures told { IfOk result (λ t. TellsTruth graph.new t (λ v. applied operator _place (last_of count (all_told v here.now)))) }
 {
-    let first = truth_at(graph, here, a);
-    let second = truth_at(graph, here, b);
-    let truth = implied(graph, first, second)?;
+    let truth = applied(graph, operator, last(here, count))?;
     Ok(truth)
 }
 
-// The truth of an operator of a chain on two nodes.
+// The truth of an operator over two nodes.
 fn linked_at(
     graph: &mut Graph,
     here: &[Truth],
-    operator: ChainOperator,
+    operator: Operator,
+    _place: Place,
     a: usize,
     b: usize,
 ) -> Result<Truth, AllocError>
     requires { TruthsStand graph.old here.now }
     ensures extends { Extends graph.old graph.new }
-    ensures told { IfOk result (λ t. TellsTruth graph.new t (λ v. on_both (operation operator) (outcome_at (all_told v here.now) a) (outcome_at (all_told v here.now) b))) }
+    ensures told { IfOk result (λ t. TellsTruth graph.new t (λ v. applied operator _place (outcome_at (all_told v here.now) a ∷ outcome_at (all_told v here.now) b ∷ []))) }
 {
-    let first = truth_at(graph, here, a);
-    let second = truth_at(graph, here, b);
-    let truth = linked(graph, operator, first, second)?;
-    Ok(truth)
-}
-
-// The truth of `? :` on three nodes.
-fn conditional_at(
-    graph: &mut Graph,
-    here: &[Truth],
-    c: usize,
-    a: usize,
-    b: usize,
-) -> Result<Truth, AllocError>
-    requires { TruthsStand graph.old here.now }
-    ensures extends { Extends graph.old graph.new }
-    ensures told { IfOk result (λ t. TellsTruth graph.new t (λ v. chosen (outcome_at (all_told v here.now) c) (outcome_at (all_told v here.now) a) (outcome_at (all_told v here.now) b))) }
-{
-    let condition = truth_at(graph, here, c);
-    let first = truth_at(graph, here, a);
-    let second = truth_at(graph, here, b);
-    let truth = conditional(graph, condition, first, second)?;
+    let one = truth_at(graph, here, a);
+    let other = truth_at(graph, here, b);
+    let truth = applied(graph, operator, &[one, other])?;
     Ok(truth)
 }

@@ -3,8 +3,10 @@ ghost use Rattle.bit_graph.specs.Meaning.{Stands};
 
 use crate::{Truth, nowhere, table};
 use bit_graph::{Edge, Graph, evaluate};
-use smv_scope::{Node, Slot, ValueType};
-use smv_tree::{ChainOperator, Place, VariableKind};
+use smv_resolve::{Naming, Node};
+use smv_scope::{Slot, ValueType};
+use smv_tree::{Place, VariableKind};
+use smv_value::{Logic, Operator};
 use sqlite_items::Items;
 use std::alloc::Global;
 use std::test::Fail;
@@ -29,21 +31,31 @@ const SLOTS: [Slot; 2] = [
     },
 ];
 
-const NODES: [Node; 14] = [
+const NODES: [Node; 24] = [
     Node::Constant(HERE, true),
     Node::Slot(HERE, 0),
     Node::Slot(HERE, 1),
     Node::Whole(HERE, 0),
-    Node::Given(HERE, 1),
-    Node::Defined(HERE, 2),
-    Node::Not(HERE, 1),
+    Node::Named(HERE, Naming::Given, 1),
+    Node::Named(HERE, Naming::Defined, 2),
+    Node::Operand(1),
+    Node::Apply(HERE, Operator::Not, 1),
     Node::Next(HERE, 1),
-    Node::Implies(HERE, 1, 2),
-    Node::Link(HERE, ChainOperator::And, 1, 4),
-    Node::Conditional(HERE, 2, 3, 1),
+    Node::Operand(1),
+    Node::Operand(2),
+    Node::Apply(HERE, Operator::Logic(Logic::Implies), 2),
+    Node::Operand(1),
+    Node::Operand(4),
+    Node::Apply(HERE, Operator::Logic(Logic::And), 2),
+    Node::Operand(2),
+    Node::Operand(3),
+    Node::Operand(1),
+    Node::Apply(HERE, Operator::Choice, 3),
     Node::Slot(HERE, 5),
     Node::Next(HERE, 2),
-    Node::Link(HERE, ChainOperator::Or, 3, 1),
+    Node::Operand(3),
+    Node::Operand(1),
+    Node::Apply(HERE, Operator::Logic(Logic::Or), 2),
 ];
 
 // The truths in the state of the edge `x` with the input of the edge `i`, where `next` is the edge of the next state.
@@ -94,10 +106,10 @@ fn said(alloc: Global, known: &[bool], truths: &[Truth]) -> Result<String, Fail>
 #[test]
 fn truth_of_each_node(rt: HostRuntime) -> Result<(), Fail> {
     let alloc = rt.alloc();
-    let mut graph = Graph::new(alloc, 3, 0)?;
+    let mut graph = Graph::new(alloc, 3)?;
     let truths = truths_of(alloc, &mut graph, Edge::to(0), Edge::to(1), Edge::to(2))?;
     let known = evaluate(alloc, &graph, &[true, false, false])?;
     let text = said(alloc, &known, truths.as_slice())?;
-    assert_eq!(rt; text.as_str(), "TTF-TFFFFTT---");
+    assert_eq!(rt; text.as_str(), "TTF-TFTFFTFFTTTF-TT---T-");
     Ok(())
 }

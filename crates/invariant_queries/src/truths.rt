@@ -1,21 +1,23 @@
 //! The truth of an expression as two edges of a graph.
 
-ghost use Rattle.std.specs.Prelude.{◌≡◌, ◌&&◌, ℕ, Bool, List, cond, slice_get, IfOk};
+ghost use Rattle.std.specs.Prelude.{◌≡◌, ℕ, Bool, List, [], ◌∷◌, cond, slice_get, IfOk, IsTrue};
 ghost use Rattle.std.specs.Bool.{beq};
 ghost use Rattle.bit_graph.specs.declared.edge.Node.{Node};
 ghost use Rattle.bit_graph.specs.Growth.{Extends};
 ghost use Rattle.bit_graph.specs.Meaning.{Denotes, Stands, edge_value};
-ghost use Rattle.smv_value.specs.Operators.{implication, negation};
+ghost use Rattle.smv_tree.specs.declared.place.Place.{Place};
+ghost use Rattle.smv_value.specs.declared.operator.Operator.TheVariants as operator;
+ghost use Rattle.smv_value.specs.Results.{logic_truth};
 ghost use Rattle.smv_scope.specs.Slots.{item_of};
 ghost use Rattle.smv_meaning.specs.Tables.{outcome_at, target_at};
-ghost use Rattle.smv_meaning.specs.Values.{chosen, on_both, on_one, one_or_nothing, operation};
-ghost use Rattle.invariant_queries.specs.Edges.{AllStand, TellsTruth, TruthStands, TruthsStand, all_told, state_under, told, truth_value};
+ghost use Rattle.smv_meaning.specs.Values.{applied, nothing, one};
+ghost use Rattle.invariant_queries.specs.Edges.{AllStand, TellsTruth, TruthStands, TruthsStand, all_told, boolean_of, is_of_booleans, state_under, told};
 
 use bit_graph::{Edge, Graph};
 use smv_meaning::Outcome;
 use smv_scope::Slot;
-use smv_tree::{ChainOperator, VariableKind};
-use smv_value::Value;
+use smv_tree::VariableKind;
+use smv_value::{Logic, Operator, Value};
 use std::alloc::AllocError;
 
 /// Whether an expression has a value, and where it has one, whether that is TRUE.
@@ -25,19 +27,46 @@ pub struct Truth {
     pub value: Edge,
 }
 
-// The truth of an outcome that is known.
-pub fn settled(graph: &Graph, outcome: Outcome) -> Truth
-    ensures { TellsTruth graph.now result (λ v. outcome) }
+impl Truth {
+    // The edge that is true where the value is this boolean.
+    pub fn value_as(self, wanted: bool) -> Edge
+        ensures stands { (g : List Node) → Stands g self.value → Stands g result }
+        ensures value { (v : ℕ → Bool) → edge_value v result ≡ beq wanted (edge_value v self.value) }
+    {
+        if wanted {
+            self.value
+        } else {
+            self.value.negation()
+        }
+    }
+}
+
+// The truth of an outcome that is known. One that is no boolean counts as want of memory.
+pub fn settled(graph: &Graph, outcome: Outcome) -> Result<Truth, AllocError>
+    ensures { IfOk result (λ truth. TellsTruth graph.now truth (λ v. outcome)) }
 {
     match outcome {
-        Outcome::One(Value::Bool(b)) => constant(graph, b),
-        Outcome::Nothing => nothing(graph),
+        Outcome::Values(None) => Ok(nothing(graph)),
+        Outcome::Values(Some(v)) => settled_value(graph, v),
+        Outcome::Fault(..) => Err(AllocError),
+    }
+}
+
+// The same of a value.
+fn settled_value(graph: &Graph, v: Value) -> Result<Truth, AllocError>
+    ensures { IfOk result (λ truth. TellsTruth graph.now truth (λ a. one v)) }
+{
+    match v {
+        Value::Bool(b) => Ok(constant(graph, b)),
+        Value::Int(_) => Err(AllocError),
+        Value::Sym(_) => Err(AllocError),
+        Value::Word { .. } => Err(AllocError),
     }
 }
 
 // The truth of a constant.
 pub fn constant(graph: &Graph, b: bool) -> Truth
-    ensures { TellsTruth graph.now result (λ v. Outcome.One (Value.Bool b)) }
+    ensures { TellsTruth graph.now result (λ v. one (Value.Bool b)) }
 {
     Truth {
         known: graph.constant(true),
@@ -47,7 +76,7 @@ pub fn constant(graph: &Graph, b: bool) -> Truth
 
 // The truth of what has no value.
 pub fn nothing(graph: &Graph) -> Truth
-    ensures { TellsTruth graph.now result (λ v. Outcome.Nothing) }
+    ensures { TellsTruth graph.now result (λ v. nothing) }
 {
     Truth {
         known: graph.constant(false),
@@ -58,7 +87,7 @@ pub fn nothing(graph: &Graph) -> Truth
 // The truth of what the edge of this number says.
 fn of_edge(graph: &Graph, edges: &[Edge], i: usize) -> Truth
     requires { AllStand graph.now edges.now }
-    ensures { TellsTruth graph.now result (λ v. one_or_nothing (slice_get (state_under v edges.now) i)) }
+    ensures { TellsTruth graph.now result (λ v. Outcome.Values (slice_get (state_under v edges.now) i)) }
 {
     match edges.get(i) {
         None => nothing(graph),
@@ -73,7 +102,7 @@ fn of_edge(graph: &Graph, edges: &[Edge], i: usize) -> Truth
 pub fn of_slot(graph: &Graph, slots: &[Slot], bits: &[Edge], inputs: &[Edge], n: usize) -> Truth
     requires bits { AllStand graph.now bits.now }
     requires inputs { AllStand graph.now inputs.now }
-    ensures { TellsTruth graph.now result (λ v. one_or_nothing (item_of slots.now (state_under v bits.now) (state_under v inputs.now) n)) }
+    ensures { TellsTruth graph.now result (λ v. Outcome.Values (item_of slots.now (state_under v bits.now) (state_under v inputs.now) n)) }
 {
     match slots.get(n) {
         None => nothing(graph),
@@ -107,9 +136,9 @@ pub fn target_at(graph: &Graph, truths: &[Truth], target: Option<usize>) -> Trut
 }
 
 // The truth of `!`.
-pub fn negation(truth: Truth) -> Truth
+fn negation(truth: Truth) -> Truth
     ensures stands { (g : List Node) → TruthStands g truth → TruthStands g result }
-    ensures told { (v : ℕ → Bool) → told v result ≡ on_one negation (told v truth) }
+    ensures told { (place : Place) (v : ℕ → Bool) → told v result ≡ applied operator.Not place (told v truth ∷ []) }
 {
     Truth {
         known: truth.known,
@@ -129,88 +158,121 @@ pub fn same(graph: &mut Graph, a: Edge, b: Edge) -> Result<Edge, AllocError>
     Ok(differ.negation())
 }
 
-// The edge that is as `a` where the condition is true, and else as `b`.
-fn choose(graph: &mut Graph, condition: Edge, a: Edge, b: Edge) -> Result<Edge, AllocError>
-    requires condition { Stands graph.old condition }
+// The edge of what a logical operator gives.
+fn logical(graph: &mut Graph, operator: Logic, a: Edge, b: Edge) -> Result<Edge, AllocError>
     requires a { Stands graph.old a }
     requires b { Stands graph.old b }
     ensures extends { Extends graph.old graph.new }
     ensures stands { IfOk result (λ e. Stands graph.new e) }
-    ensures value { IfOk result (λ e. Denotes graph.new e (λ v. cond (edge_value v condition) (edge_value v a) (edge_value v b))) }
-{
-    let first = graph.and(condition, a)?;
-    let second = graph.and(condition.negation(), b)?;
-    graph.or(first, second)
-}
-
-// The edge of what an operator of a chain gives, where the edges say whether its operands are TRUE.
-fn operation(
-    graph: &mut Graph,
-    operator: ChainOperator,
-    a: Edge,
-    b: Edge,
-) -> Result<Edge, AllocError>
-    requires a { Stands graph.old a }
-    requires b { Stands graph.old b }
-    ensures extends { Extends graph.old graph.new }
-    ensures stands { IfOk result (λ e. Stands graph.new e) }
-    ensures value { IfOk result (λ e. Denotes graph.new e (λ v. truth_value (operation operator (Value.Bool (edge_value v a)) (Value.Bool (edge_value v b))))) }
+    ensures value { IfOk result (λ e. Denotes graph.new e (λ v. logic_truth operator (edge_value v a) (edge_value v b))) }
 {
     match operator {
-        ChainOperator::Iff => same(graph, a, b),
-        ChainOperator::Or => graph.or(a, b),
-        ChainOperator::Xor => graph.xor(a, b),
-        ChainOperator::Xnor => same(graph, a, b),
-        ChainOperator::And => graph.and(a, b),
-        ChainOperator::Equal => same(graph, a, b),
-        ChainOperator::NotEqual => graph.xor(a, b),
+        Logic::And => graph.and(a, b),
+        Logic::Or => graph.or(a, b),
+        Logic::Xor => graph.xor(a, b),
+        Logic::Xnor => same(graph, a, b),
+        Logic::Implies => graph.or(a.negation(), b),
+        Logic::Iff => same(graph, a, b),
     }
 }
 
-// The truth of an operator of a chain.
-pub fn linked(
+// The edge of what an operator gives of two booleans. One that is not of two booleans counts as want of memory.
+fn operation(graph: &mut Graph, operator: Operator, a: Edge, b: Edge) -> Result<Edge, AllocError>
+    requires a { Stands graph.old a }
+    requires b { Stands graph.old b }
+    ensures extends { Extends graph.old graph.new }
+    ensures stands { IfOk result (λ e. Stands graph.new e) }
+    ensures value { IfOk result (λ e. Denotes graph.new e (λ v. boolean_of operator (edge_value v a) (edge_value v b))) }
+    ensures boolean { IfOk result (λ e. IsTrue (is_of_booleans operator)) }
+{
+    match operator {
+        Operator::Logic(operator) => logical(graph, operator, a, b),
+        Operator::Equal => same(graph, a, b),
+        Operator::NotEqual => graph.xor(a, b),
+        _ => Err(AllocError),
+    }
+}
+
+// The truth of an operator on two booleans.
+fn linked(
     graph: &mut Graph,
-    operator: ChainOperator,
+    operator: Operator,
     first: Truth,
     second: Truth,
 ) -> Result<Truth, AllocError>
     requires first { TruthStands graph.old first }
     requires second { TruthStands graph.old second }
     ensures extends { Extends graph.old graph.new }
-    ensures told { IfOk result (λ t. TellsTruth graph.new t (λ v. on_both (operation operator) (told v first) (told v second))) }
+    ensures told { IfOk result (λ t. (place : Place) → TellsTruth graph.new t (λ v. applied operator place (told v first ∷ told v second ∷ []))) }
 {
     let known = graph.and(first.known, second.known)?;
     let value = operation(graph, operator, first.value, second.value)?;
     Ok(Truth { known, value })
 }
 
-// The truth of `->`.
-pub fn implied(graph: &mut Graph, first: Truth, second: Truth) -> Result<Truth, AllocError>
-    requires first { TruthStands graph.old first }
-    requires second { TruthStands graph.old second }
-    ensures extends { Extends graph.old graph.new }
-    ensures told { IfOk result (λ t. TellsTruth graph.new t (λ v. on_both implication (told v first) (told v second))) }
-{
-    let known = graph.and(first.known, second.known)?;
-    let value = graph.or(first.value.negation(), second.value)?;
-    Ok(Truth { known, value })
-}
-
 // The truth of `? :`.
-pub fn conditional(
-    graph: &mut Graph,
-    condition: Truth,
-    a: Truth,
-    b: Truth,
-) -> Result<Truth, AllocError>
+fn conditional(graph: &mut Graph, condition: Truth, a: Truth, b: Truth) -> Result<Truth, AllocError>
     requires condition { TruthStands graph.old condition }
     requires a { TruthStands graph.old a }
     requires b { TruthStands graph.old b }
     ensures extends { Extends graph.old graph.new }
-    ensures told { IfOk result (λ t. TellsTruth graph.new t (λ v. chosen (told v condition) (told v a) (told v b))) }
+    ensures told { IfOk result (λ t. (place : Place) → TellsTruth graph.new t (λ v. applied operator.Choice place (told v condition ∷ told v a ∷ told v b ∷ []))) }
 {
-    let branch_known = choose(graph, condition.value, a.known, b.known)?;
+    let branch_known = graph.choose(condition.value, a.known, b.known)?;
     let known = graph.and(condition.known, branch_known)?;
-    let value = choose(graph, condition.value, a.value, b.value)?;
+    let value = graph.choose(condition.value, a.value, b.value)?;
     Ok(Truth { known, value })
+}
+
+/// The truth of an operator over those of its operands. Operands that are not as many as its kind asks for count as want of
+/// memory, and so does an operator that is not of booleans.
+pub fn applied(
+    graph: &mut Graph,
+    operator: Operator,
+    operands: &[Truth],
+) -> Result<Truth, AllocError>
+    requires { TruthsStand graph.old operands.now }
+    ensures extends { Extends graph.old graph.new }
+    ensures told { IfOk result (λ t. (place : Place) → TellsTruth graph.new t (λ v. applied operator place (all_told v operands.now))) }
+{
+    match operator {
+        Operator::Not => unary(operands),
+        Operator::Choice => choice(graph, operands),
+        other => binary(graph, other, operands),
+    }
+}
+
+// The truth of `!` over that of its operand.
+fn unary(operands: &[Truth]) -> Result<Truth, AllocError>
+    ensures stands { IfOk result (λ t. (g : List Node) → TruthsStand g operands.now → TruthStands g t) }
+    ensures told { IfOk result (λ t. (place : Place) (v : ℕ → Bool) → told v t ≡ applied operator.Not place (all_told v operands.now)) }
+{
+    match operands {
+        [a] => Ok(negation(*a)),
+        _ => Err(AllocError),
+    }
+}
+
+// The truth of an operator of two values over those of its operands.
+fn binary(graph: &mut Graph, operator: Operator, operands: &[Truth]) -> Result<Truth, AllocError>
+    requires { TruthsStand graph.old operands.now }
+    ensures extends { Extends graph.old graph.new }
+    ensures told { IfOk result (λ t. (place : Place) → TellsTruth graph.new t (λ v. applied operator place (all_told v operands.now))) }
+{
+    match operands {
+        [a, b] => linked(graph, operator, *a, *b),
+        _ => Err(AllocError),
+    }
+}
+
+// The truth of `? :` over those of its operands.
+fn choice(graph: &mut Graph, operands: &[Truth]) -> Result<Truth, AllocError>
+    requires { TruthsStand graph.old operands.now }
+    ensures extends { Extends graph.old graph.new }
+    ensures told { IfOk result (λ t. (place : Place) → TellsTruth graph.new t (λ v. applied operator.Choice place (all_told v operands.now))) }
+{
+    match operands {
+        [condition, a, b] => conditional(graph, *condition, *a, *b),
+        _ => Err(AllocError),
+    }
 }

@@ -2,7 +2,7 @@
 
 ghost use Rattle.std.specs.Prelude.{◌≡◌, drop, map, take, IfOk};
 ghost use Rattle.smv_value.specs.declared.value.Value.TheVariants.{Bool};
-ghost use Rattle.smv_scope.specs.Resolved.{part_of};
+ghost use Rattle.smv_resolve.specs.Resolved.{part_of};
 ghost use Rattle.invariant_queries.specs.Frames.{values_of};
 ghost use Rattle.invariant_queries.specs.Unrolling.{TellsInduction, Unrolls};
 
@@ -36,7 +36,7 @@ pub enum Unrolled {
 /// What a query about one step finds.
 #[derive(Clone, Copy, Debug, PartialEq, Eq)]
 pub enum Induction {
-    /// No step leads from a state in which the expression is not FALSE to one in which it is.
+    /// No step leads from a state in which the expression is TRUE to one in which it is FALSE.
     Holds,
     /// Some step does.
     Fails,
@@ -59,7 +59,7 @@ pub fn unroll<Q: Purse>(
     ensures budget { Q.budget purse.new ≡ Q.budget purse.old }
 {
     let layout = layout_of(alloc, typed, steps)?;
-    let mut graph = Graph::new(alloc, layout.size, 0)?;
+    let mut graph = Graph::new(alloc, layout.size)?;
     let states = layout.states.as_slice();
     let root = broken_run_edge(
         alloc,
@@ -125,7 +125,7 @@ fn list_of(alloc: Global, values: &[bool]) -> Result<Items<Value>, AllocError>
     Ok(Items::from_vec(list))
 }
 
-/// Whether a step leads from a state in which the node of this number is not FALSE to one in which it is.
+/// Whether a step leads from a state in which the node of this number is TRUE to one in which it is FALSE.
 pub fn is_inductive<Q: Purse>(
     alloc: Global,
     typed: &Typed,
@@ -139,7 +139,7 @@ pub fn is_inductive<Q: Purse>(
     ensures budget { Q.budget purse.new ≡ Q.budget purse.old }
 {
     let layout = layout_of(alloc, typed, 1)?;
-    let mut graph = Graph::new(alloc, layout.size, 0)?;
+    let mut graph = Graph::new(alloc, layout.size)?;
     let states = layout.states.as_slice();
     let root = broken_step_edge(
         alloc,

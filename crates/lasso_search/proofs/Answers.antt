@@ -9,7 +9,7 @@ use Rattle.clause_core.specs.Derivations.{Derives}
 use Rattle.clause_core.proofs.Sound.{refutes}
 use Rattle.sat_core.specs.declared.answer.Answer.{Answer}
 use Rattle.sat_core.specs.declared.answer.Answer.TheVariants as solver
-use Rattle.sat_core.specs.Queries.{State, Learns, AnswerSays, units}
+use Rattle.sat_core.specs.Queries.{State, Learns, AnswerSays, log_of, units}
 use Rattle.sat_core.specs.Queries.{IsPaid as SolverIsPaid, IsSpent as SolverIsSpent}
 use Rattle.ltl_monitor.proofs.Clauses.{met_from, all_from}
 use Rattle.lasso_search.specs.declared.searched.Searched.{Searched}
@@ -35,25 +35,27 @@ module _ (m : TransitionSystem) (n : ℕ) (keeps : IsSystem m) where
             (All-map (ClauseTrue a) (λ q. q ∷ []) core (λ k d lt. (let c = empty k d lt in absurd (omega (arith, c.1)))))));
       }
 
-  finds_at : (answer : Answer) (f : Searched) (budget : ℕ) (over : Bool) → AnswerSays (vars_of m n) (clauses_of m n) [] budget over answer → Tells (plan_of m n) answer f →
-      Finds m n budget over f
+  finds_at : (learned : List (List Lit)) (answer : Answer) (f : Searched) (budget : ℕ) (over : Bool) →
+      AnswerSays (vars_of m n) (clauses_of m n) learned [] budget over answer → Tells (plan_of m n) answer f → Finds m n budget over f
   unfolding clauses_of vars_of
-  finds_at (solver.Sat model) (Found r) budget over said told =
+  finds_at learned (solver.Sat model) (Found r) budget over said told =
       let a = assignment_of model in
       from_model m n keeps a (meets_from (plan_of m n) m a (met_from a (clauses_of m n) said.1.0)) r told.0 told.1
-  finds_at (solver.Sat model) None budget over said told = absurd told
-  finds_at (solver.Sat model) (Spent drawn b) budget over said told = absurd told
-  finds_at (solver.Unsat core log) f budget over said told = subst (Finds m n budget over) (sym told) (none_there core.items log said.0 said.1)
-  finds_at (solver.Spent drawn b) f budget over said told = subst (Finds m n budget over) (sym told) said
+  finds_at learned (solver.Sat model) None budget over said told = absurd told
+  finds_at learned (solver.Sat model) (Spent drawn b) budget over said told = absurd told
+  finds_at learned (solver.Unsat core) f budget over said told =
+      subst (Finds m n budget over) (sym told) (none_there core.items (log_of learned) said.0 said.1)
+  finds_at learned (solver.Spent drawn b) f budget over said told = subst (Finds m n budget over) (sym told) said
 
   -- the same of what a solver of the query answers
-  pub finds : (s : State) (answer : Answer) (f : Searched) (budget : ℕ) (over : Bool) → s ≡ asked m n → AnswerSays s.vars s.given [] budget over answer →
-      Tells (plan_of m n) answer f → Finds m n budget over f
-  finds s answer f budget over is said told = finds_at answer f budget over (subst (λ (t : State). AnswerSays t.vars t.given [] budget over answer) is said) told
+  pub finds : (s : State) (learned : List (List Lit)) (answer : Answer) (f : Searched) (budget : ℕ) (over : Bool) → s ≡ asked m n →
+      AnswerSays s.vars s.given learned [] budget over answer → Tells (plan_of m n) answer f → Finds m n budget over f
+  finds s learned answer f budget over is said told =
+      finds_at learned answer f budget over (subst (λ (t : State). AnswerSays t.vars t.given learned [] budget over answer) is said) told
 
   spent_too : (answer : Answer) (f : Searched) → Tells (plan_of m n) answer f → SolverIsSpent answer → IsSpent f
   spent_too (solver.Sat model) f told h = absurd h
-  spent_too (solver.Unsat core log) f told h = absurd h
+  spent_too (solver.Unsat core) f told h = absurd h
   spent_too (solver.Spent drawn b) f told h = subst IsSpent (sym told) h
 
   -- what the solver drew and learned is what the search did

@@ -7,3 +7,5 @@ mod WithinVars
 mod Answers
 mod Recorded
 mod Stretched
+mod OwnLassos
+mod OwnRows

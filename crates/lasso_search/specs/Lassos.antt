@@ -2,6 +2,7 @@
 use Rattle.std.specs.Prelude.{◌≡◌, ℕ, ◌+◌, ◌<◌, Bool, List, [], length, All, slice_index_or, nat_lt, if◌then◌else◌}
 use Rattle.clause_core.specs.Assignments.{assignment_of, ClauseTrue}
 use Rattle.clause_core.specs.Systems.{TransitionSystem, NextIs}
+use Rattle.ltl_monitor.specs.States.{IsOwnRow}
 use Rattle.ltl_monitor.specs.Lassos.{IsLasso, IsFair}
 
 -- values of all bits for each state, and the state that comes after the last
@@ -29,6 +30,12 @@ pub record IsFairLasso (m : TransitionSystem) (n : ℕ) (r : Lasso) : Type 0 whe
   pub steps : KeepsSteps m r
   pub lasso : IsLasso m (state r) n r.start
   pub fair : IsFair m (state r) n r.start
+
+-- own is the lasso r of the monitored system m, with values of the bits of the system that is monitored
+pub record IsOwnLasso (sys m : TransitionSystem) (r own : Lasso) : Type 0 where
+  pub size : length own.rows ≡ length r.rows
+  pub start : own.start ≡ r.start
+  pub rows : (i : ℕ) → i < length r.rows → IsOwnRow sys m (slice_index_or r.rows i []) (slice_index_or own.rows i [])
 
 -- the system m has no fair lasso of n states
 pub record HasNoFairLasso (m : TransitionSystem) (n : ℕ) : Type 0 where

@@ -59,5 +59,5 @@ abbrev pub Tells : Plan → Answer → Searched → Type 0
 Tells p (solver.Sat model) (Found r) = Reads p model r
 Tells p (solver.Sat model) None = ⊥
 Tells p (solver.Sat model) (Spent drawn budget) = ⊥
-Tells p (solver.Unsat core log) answer = answer ≡ None
+Tells p (solver.Unsat core) answer = answer ≡ None
 Tells p (solver.Spent drawn budget) answer = answer ≡ Spent drawn budget

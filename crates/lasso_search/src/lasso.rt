@@ -1,6 +1,12 @@
-ghost use Rattle.std.specs.Prelude.{◌≡◌, ◌<◌, [], length, slice_index_or};
+ghost use Rattle.std.specs.Prelude.{◌≡◌, ◌<◌, ℕ, [], List, length, slice_index_or, IfOk};
+ghost use Rattle.clause_core.specs.declared.literal.Lit.{Lit};
+ghost use Rattle.ltl_meaning.specs.Ltl.{Ltl};
+ghost use Rattle.ltl_monitor.specs.States.{IsMonitor, IsOwnRow};
+ghost use Rattle.lasso_search.specs.Lassos.{IsOwnLasso};
 
-use clause_core::Bits;
+use clause_core::{Bits, System};
+use ltl_monitor::{Monitored, own_row};
+use std::alloc::{AllocError, Global};
 use std::marker::Model;
 
 /// A lasso: for each of its states values of all bits, with which the step clauses are met, and the
@@ -48,4 +54,38 @@ impl BitLasso {
     {
         &self.rows[k]
     }
+
+    /// This lasso of a monitored system, with the values of the bits of the system that is monitored: its
+    /// states, and the inputs of its steps. The only error is want of memory.
+    pub fn own(
+        &self,
+        alloc: Global,
+        system: &System,
+        monitored: &Monitored,
+    ) -> Result<BitLasso, AllocError>
+        ensures { IfOk result (λ own. (f : Ltl) (atoms : List Lit) → IsMonitor system.now f atoms monitored.now.system → IsOwnLasso system.now monitored.now.system self.now own) }
+    {
+        let rows = own_rows(alloc, system, monitored, &self.rows)?;
+        Ok(BitLasso {
+            rows,
+            start: self.start,
+        })
+    }
+}
+
+// The values of the system's own bits in each row.
+fn own_rows(
+    alloc: Global,
+    system: &System,
+    monitored: &Monitored,
+    rows: &[Bits],
+) -> Result<Vec<Bits>, AllocError>
+    ensures size { IfOk result (λ own. length own.items ≡ length rows.now) }
+    ensures each { IfOk result (λ own. (f : Ltl) (atoms : List Lit) → IsMonitor system.now f atoms monitored.now.system → (i : ℕ) → i < length rows.now → IsOwnRow system.now monitored.now.system (slice_index_or rows.now i []) (slice_index_or own.items i [])) }
+{
+    let mut all = Vec::new(alloc);
+    for row in rows {
+        all.push(own_row(alloc, system, monitored, row)?)?;
+    }
+    Ok(all)
 }

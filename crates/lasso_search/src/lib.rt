@@ -14,6 +14,3 @@ pub use book::LassoBook;
 pub use lasso::BitLasso;
 pub use searched::Searched;
 pub use searching::search;
-
-#[cfg(test)]
-mod tests;

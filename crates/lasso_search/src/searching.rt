@@ -1,7 +1,6 @@
 ghost use Rattle.std.specs.Prelude.{◌≡◌, [], false, All, IfOk, slice_index_or};
 ghost use Rattle.clause_core.specs.Literals.{Within};
 ghost use Rattle.clause_core.specs.Assignments.{assignment_of};
-ghost use Rattle.clause_core.specs.Systems.{IsSystem};
 ghost use Rattle.lasso_search.specs.Searches.{Finds, IsPaid, IsStart, Reads, Tells, row_of, rows_of};
 ghost use Rattle.lasso_search.specs.Unrolling.{plan_of};
 
@@ -41,6 +40,7 @@ pub fn search<Q: Purse>(
     ensures budget { Q.budget purse.new ≡ Q.budget purse.old }
 {
     let system = &monitored.system;
+    system.law();
     let plan = plan(system, n);
     let vars = variables(&plan, system)?;
     let clauses = clauses(alloc, &plan, system)?;
@@ -50,16 +50,10 @@ pub fn search<Q: Purse>(
     Ok(searched)
 }
 
-// The plan for a lasso of so many states, and what the type of a system keeps.
+// The plan for a lasso of so many states.
 fn plan(system: &System, states: usize) -> Plan
-    ensures plan { result ≡ plan_of system.now states }
-    ensures keeps { IsSystem system.now }
+    ensures { result ≡ plan_of system.now states }
 {
-    let _ = system.init();
-    let _ = system.step();
-    let _ = system.bad();
-    let _ = system.fair();
-    let _ = system.defs();
     Plan {
         states,
         bits: system.state_bits(),

@@ -6,6 +6,4 @@ pub mod formula;
 mod height;
 pub mod laws;
 pub mod node;
-#[cfg(test)]
-mod tests;
 pub mod word;

@@ -5,7 +5,7 @@ use Rattle.std.proofs.lemmas.Bool.{cases_lt}
 use Rattle.clause_core.specs.declared.literal.Lit.{Lit}
 use Rattle.clause_core.specs.Literals.{Within}
 use Rattle.clause_core.specs.Assignments.{ClauseTrue, Agrees}
-use Rattle.clause_core.specs.Systems.{TransitionSystem, Gives, IsSystem, FirstBits, StepBits}
+use Rattle.clause_core.specs.Systems.{TransitionSystem, Meets, Opposed, Gives, IsSystem, FirstBits, StepBits}
 use Rattle.ltl_monitor.specs.declared.layout.Layout.{Layout}
 use Rattle.ltl_monitor.specs.declared.layout.Space.{Space}
 use Rattle.ltl_monitor.specs.declared.draft.Draft.{Draft}
@@ -140,26 +140,113 @@ module _ (sys : TransitionSystem) (n : ℕ) (atoms : List Lit) (ok : IsSystem sy
     now_met : (w : ℕ → Bool) (cs : List (List Lit)) → Met w (all_moved p Space.Now cs) → Met (before p w) cs
     now_met w cs h = sym (all_renamed w (place p Space.Now) cs) ∙ h
 
-    module _ (bad : List (List Lit)) (bad_in : Lits (Below top) bad) where
-      abbrev pub m : TransitionSystem
-      m = assembled p sys bad d
+    abbrev pub fair : List Lit
+    fair = map (moved p Space.Now) d.sets
 
-      pub gives : Gives wide_bits m.fair m.defs
-      gives = record {
-        extends = λ y.
-            let e = sound.some y in
-            let w : ℕ → Bool = glue p y y y e.0 e.0 in
-            let same : before p w ≡ e.0 = λ i v. glue_now p y y y e.0 e.0 wide (λ j h. sym (e.1 j h)) v i in (
-              w,
-              λ v h. glue_x p y y y e.0 e.0 wide v h,
-              all_from w m.defs (all_renamed w (place p Space.Now) d.defs ∙ ap (λ u. all u d.defs) same ∙ e.2),
-            );
-        one_way = λ a b g h k.
-            let o = sound.one (before p a) (before p b) (now_both a b g) (now_met a d.defs (met_from a m.defs h)) (now_met b d.defs (met_from b m.defs k)) in (
-              each_all (Alike a b) m.fair (each_map_to (Alike a b) (moved p Space.Now) d.sets o.1),
-              lits_all (Alike a b) m.defs (lits_renamed (Alike a b) (place p Space.Now) d.defs o.0),
-            );
-      }
+    abbrev pub defs : List (List Lit)
+    defs = all_moved p Space.Now d.defs
+
+    pub gives : Gives wide_bits fair defs
+    gives = record {
+      extends = λ y.
+          let e = sound.some y in
+          let w : ℕ → Bool = glue p y y y e.0 e.0 in
+          let same : before p w ≡ e.0 = λ i v. glue_now p y y y e.0 e.0 wide (λ j h. sym (e.1 j h)) v i in (
+            w,
+            λ v h. glue_x p y y y e.0 e.0 wide v h,
+            all_from w defs (all_renamed w (place p Space.Now) d.defs ∙ ap (λ u. all u d.defs) same ∙ e.2),
+          );
+      one_way = λ a b g h k.
+          let o = sound.one (before p a) (before p b) (now_both a b g) (now_met a d.defs (met_from a defs h)) (now_met b d.defs (met_from b defs k)) in (
+            each_all (Alike a b) fair (each_map_to (Alike a b) (moved p Space.Now) d.sets o.1),
+            lits_all (Alike a b) defs (lits_renamed (Alike a b) (place p Space.Now) d.defs o.0),
+          );
+    }
+
+    -- a list of clauses in its parts
+    two_parts : (w : ℕ → Bool) (xs bs cs : List (List Lit)) → Met w (xs ++ bs ++ cs) → Met w xs × Met w bs × Met w cs
+    two_parts w xs bs cs h =
+        let k = met_parts w (xs ++ bs) cs h in
+        let j = met_parts w xs bs k.0 in
+        (j.0, j.1, k.1)
+
+    two_join : (w : ℕ → Bool) (xs bs cs : List (List Lit)) → Met w xs → Met w bs → Met w cs → Met w (xs ++ bs ++ cs)
+    two_join w xs bs cs h k j = met_join w (xs ++ bs) cs (met_join w xs bs h k) j
+
+    -- the system's own clauses
+    system_agrees : (w y : ℕ → Bool) → Agrees wide_bits w y → Agrees sys.state_bits (from_system w) y
+    system_agrees w y g v h = ap w (system_low p v h) ∙ g v (omega (arith, h))
+
+    system_met : (w : ℕ → Bool) (cs : List (List Lit)) → Met w (all_moved p Space.System cs) → All (ClauseTrue (from_system w)) cs
+    system_met w cs h = all_from (from_system w) cs (sym (all_renamed w (place p Space.System) cs) ∙ h)
+
+    met_system : (w b : ℕ → Bool) (cs : List (List Lit)) → All (Within sys.all_bits) cs → ((v : ℕ) → v < sys.all_bits → from_system w v ≡ b v) →
+        All (ClauseTrue b) cs → Met w (all_moved p Space.System cs)
+    met_system w b cs inside same h =
+        all_renamed w (place p Space.System) cs
+        ∙ all_like (from_system w) b cs (lits_more (Below sys.all_bits) (Alike (from_system w) b) (λ l lt. same l.var lt) cs (all_lits (Below sys.all_bits) cs inside))
+        ∙ met_from b cs h
+
+    -- the values of the atoms and of JUSTICE, from one state's variables
+    module _ (y a u : ℕ → Bool) (ea : Extends sys y a) (agrees : Agrees wide_bits u y) (met : Met u d.defs) where
+      pub local_same : Agrees sys.state_bits (from_local u) a
+      local_same v h = ap u (local_low p v h) ∙ agrees v (omega (arith, h)) ∙ sym (ea.0 v h)
+
+      begun_met : All (ClauseTrue (from_local u)) sys.defs
+      begun_met = local_met u (later.back u met)
+
+      atoms_same : map (value (from_local u)) atoms ≡ map (value a) atoms
+      atoms_same = values_like (from_local u) a atoms (all_each (Alike (from_local u) a) atoms (given.one_way (from_local u) a local_same begun_met ea.1).0)
+
+      pub fair_same : map (value (from_local u)) sys.fair ≡ map (value a) sys.fair
+      fair_same = values_like (from_local u) a sys.fair (all_each (Alike (from_local u) a) sys.fair (ok.gives.one_way (from_local u) a local_same begun_met ea.1).0)
+
+      pub lits_same : map (value u) s.atoms ≡ map (value a) (atoms ++ sys.fair)
+      lits_same =
+          map_append (value u) (map (moved p Space.Local) atoms) (map (moved p Space.Local) sys.fair)
+          ∙ ap (λ c. c ++ map (value u) (map (moved p Space.Local) sys.fair)) (values_renamed u (place p Space.Local) atoms ∙ atoms_same)
+          ∙ ap (λ c. map (value a) atoms ++ c) (values_renamed u (place p Space.Local) sys.fair ∙ fair_same)
+          ∙ sym (map_append (value a) atoms sys.fair)
+
+    -- what is defined of a state
+    pub local_extends : (y e : ℕ → Bool) → Agrees wide_bits e y → All (ClauseTrue e) defs → Agrees wide_bits (before p e) y × Met (before p e) d.defs
+    local_extends y e g h = (now_agrees e y g, now_met e d.defs (met_from e defs h))
+
+    -- clauses of the system's own
+    pub own_from : (y : ℕ → Bool) (cs : List (List Lit)) (w : ℕ → Bool) → Agrees wide_bits w y → Met w (all_moved p Space.System cs) →
+        (b : ℕ → Bool) × Agrees sys.state_bits b y × All (ClauseTrue b) cs
+    own_from y cs w g h = (from_system w, system_agrees w y g, system_met w cs h)
+
+    pub own_to : (y : ℕ → Bool) (cs : List (List Lit)) → All (Within sys.all_bits) cs → (b : ℕ → Bool) × Agrees sys.state_bits b y × All (ClauseTrue b) cs →
+        (w : ℕ → Bool) × Agrees wide_bits w y × Met w (all_moved p Space.System cs)
+    own_to y cs inside h =
+        let b = h.0 in
+        let z : ℕ → Bool = λ j. b (sys.state_bits + j) in
+        let w : ℕ → Bool = glue p y z b y y in (
+          w,
+          λ v lt. glue_x p y z b y y wide v lt,
+          met_system w b cs inside (glue_system p y z b y y wide sys.all_bits refl (λ v lt. sym (h.1 v lt)) (λ v lt. refl)) h.2,
+        )
+
+    pub own_meets : (y : ℕ → Bool) (cs : List (List Lit)) → Meets wide_bits y (all_moved p Space.System cs) → Meets sys.state_bits y cs
+    own_meets y cs h = own_from y cs h.0 h.1 (met_from h.0 (all_moved p Space.System cs) h.2)
+
+    pub own_true : (y : ℕ → Bool) (cs : List (List Lit)) → All (Within sys.all_bits) cs → Meets sys.state_bits y cs → Meets wide_bits y (all_moved p Space.System cs)
+    own_true y cs inside h = let w = own_to y cs inside h in (w.0, w.1, all_from w.0 (all_moved p Space.System cs) w.2)
+
+    -- what opposes in the system, opposes in the monitored one
+    pub own_opposed : Opposed wide_bits (all_moved p Space.System sys.good) (all_moved p Space.System sys.bad)
+    own_opposed = record {
+      either = λ y. elim (ok.opposed.either y) [
+        | inl h ↦ inl (own_true y sys.good ok.good_in h)
+        | inr h ↦ inr (own_true y sys.bad ok.bad_in h)
+      ];
+      never_both = λ y g b. ok.opposed.never_both y (own_meets y sys.good g) (own_meets y sys.bad b);
+    }
+
+    module _ (bad good : List (List Lit)) (bad_in : Lits (Below top) bad) (good_in : Lits (Below top) good) (opposed : Opposed wide_bits good bad) where
+      abbrev pub m : TransitionSystem
+      m = assembled p sys bad good d
 
       pub is_system : IsSystem m
       is_system = record {
@@ -174,57 +261,14 @@ module _ (sys : TransitionSystem) (n : ℕ) (atoms : List Lit) (ok : IsSystem sy
             (each_join _ (all_moved p Space.System sys.step) (all_moved p Space.Now d.defs) (system_lits sys.step ok.step_in) (now_lits d.defs sound.defs_in))
             (next_lits d.defs sound.defs_in)) sound.rows_in);
         bad_in = lits_all (Below m.all_bits) bad bad_in;
+        good_in = lits_all (Below m.all_bits) good good_in;
+        opposed = opposed;
         fair_in = each_all (Below m.all_bits) m.fair
             (each_map_to (Below m.all_bits) (moved p Space.Now) d.sets
             (each_more (Below d.gate) (λ l. Below m.all_bits (moved p Space.Now l)) (λ l lt. now_in p d.gate l.var wide room lt) d.sets sound.sets_in));
         defs_in = lits_all (Below m.all_bits) m.defs (now_lits d.defs sound.defs_in);
         gives = gives;
       }
-
-      -- a list of clauses in its parts
-      two_parts : (w : ℕ → Bool) (xs bs cs : List (List Lit)) → Met w (xs ++ bs ++ cs) → Met w xs × Met w bs × Met w cs
-      two_parts w xs bs cs h =
-          let k = met_parts w (xs ++ bs) cs h in
-          let j = met_parts w xs bs k.0 in
-          (j.0, j.1, k.1)
-
-      two_join : (w : ℕ → Bool) (xs bs cs : List (List Lit)) → Met w xs → Met w bs → Met w cs → Met w (xs ++ bs ++ cs)
-      two_join w xs bs cs h k j = met_join w (xs ++ bs) cs (met_join w xs bs h k) j
-
-      -- the system's own clauses
-      system_agrees : (w y : ℕ → Bool) → Agrees wide_bits w y → Agrees sys.state_bits (from_system w) y
-      system_agrees w y g v h = ap w (system_low p v h) ∙ g v (omega (arith, h))
-
-      system_met : (w : ℕ → Bool) (cs : List (List Lit)) → Met w (all_moved p Space.System cs) → All (ClauseTrue (from_system w)) cs
-      system_met w cs h = all_from (from_system w) cs (sym (all_renamed w (place p Space.System) cs) ∙ h)
-
-      met_system : (w b : ℕ → Bool) (cs : List (List Lit)) → All (Within sys.all_bits) cs → ((v : ℕ) → v < sys.all_bits → from_system w v ≡ b v) →
-          All (ClauseTrue b) cs → Met w (all_moved p Space.System cs)
-      met_system w b cs inside same h =
-          all_renamed w (place p Space.System) cs
-          ∙ all_like (from_system w) b cs (lits_more (Below sys.all_bits) (Alike (from_system w) b) (λ l lt. same l.var lt) cs (all_lits (Below sys.all_bits) cs inside))
-          ∙ met_from b cs h
-
-      -- the values of the atoms and of JUSTICE, from one state's variables
-      module _ (y a u : ℕ → Bool) (ea : Extends sys y a) (agrees : Agrees wide_bits u y) (met : Met u d.defs) where
-        pub local_same : Agrees sys.state_bits (from_local u) a
-        local_same v h = ap u (local_low p v h) ∙ agrees v (omega (arith, h)) ∙ sym (ea.0 v h)
-
-        begun_met : All (ClauseTrue (from_local u)) sys.defs
-        begun_met = local_met u (later.back u met)
-
-        atoms_same : map (value (from_local u)) atoms ≡ map (value a) atoms
-        atoms_same = values_like (from_local u) a atoms (all_each (Alike (from_local u) a) atoms (given.one_way (from_local u) a local_same begun_met ea.1).0)
-
-        pub fair_same : map (value (from_local u)) sys.fair ≡ map (value a) sys.fair
-        fair_same = values_like (from_local u) a sys.fair (all_each (Alike (from_local u) a) sys.fair (ok.gives.one_way (from_local u) a local_same begun_met ea.1).0)
-
-        pub lits_same : map (value u) s.atoms ≡ map (value a) (atoms ++ sys.fair)
-        lits_same =
-            map_append (value u) (map (moved p Space.Local) atoms) (map (moved p Space.Local) sys.fair)
-            ∙ ap (λ c. c ++ map (value u) (map (moved p Space.Local) sys.fair)) (values_renamed u (place p Space.Local) atoms ∙ atoms_same)
-            ∙ ap (λ c. map (value a) atoms ++ c) (values_renamed u (place p Space.Local) sys.fair ∙ fair_same)
-            ∙ sym (map_append (value a) atoms sys.fair)
 
       -- a first state
       pub first_from : (y : ℕ → Bool) → FirstBits m y → FirstBits sys y × ((u : ℕ → Bool) × Agrees wide_bits u y × Met u d.defs × Met u d.starts)
@@ -313,22 +357,9 @@ module _ (sys : TransitionSystem) (n : ℕ) (atoms : List Lit) (ok : IsSystem sy
                 (rows w gb ga mb ma)),
           )
 
-      -- what is defined of a state
-      pub local_extends : (y e : ℕ → Bool) → Extends m y e → Agrees wide_bits (before p e) y × Met (before p e) d.defs
-      local_extends y e h = (now_agrees e y h.0, now_met e d.defs (met_from e m.defs h.1))
-
-      -- clauses of the system's own
-      pub own_bad_from : (y : ℕ → Bool) (cs : List (List Lit)) (w : ℕ → Bool) → Agrees wide_bits w y → Met w (all_moved p Space.System cs) →
-          (b : ℕ → Bool) × Agrees sys.state_bits b y × All (ClauseTrue b) cs
-      own_bad_from y cs w g h = (from_system w, system_agrees w y g, system_met w cs h)
-
-      pub own_bad_to : (y : ℕ → Bool) (cs : List (List Lit)) → All (Within sys.all_bits) cs → (b : ℕ → Bool) × Agrees sys.state_bits b y × All (ClauseTrue b) cs →
-          (w : ℕ → Bool) × Agrees wide_bits w y × Met w (all_moved p Space.System cs)
-      own_bad_to y cs inside h =
-          let b = h.0 in
-          let z : ℕ → Bool = λ j. b (sys.state_bits + j) in
-          let w : ℕ → Bool = glue p y z b y y in (
-            w,
-            λ v lt. glue_x p y z b y y wide v lt,
-            met_system w b cs inside (glue_system p y z b y y wide sys.all_bits refl (λ v lt. sym (h.1 v lt)) (λ v lt. refl)) h.2,
-          )
+      -- all values of a step have values of the system's own among them
+      pub own_step : (w : ℕ → Bool) → All (ClauseTrue w) m.step → All (ClauseTrue (from_system w)) sys.step
+      own_step w h =
+          let k = met_parts w (all_moved p Space.System sys.step ++ all_moved p Space.Now d.defs ++ all_moved p Space.Next d.defs) d.rows (met_from w m.step h) in
+          let j = two_parts w (all_moved p Space.System sys.step) (all_moved p Space.Now d.defs) (all_moved p Space.Next d.defs) k.0 in
+          system_met w sys.step j.0

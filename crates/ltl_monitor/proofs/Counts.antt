@@ -1,12 +1,12 @@
 -- The counted system is a system, and its marks, signal and counter are those of the monitored one.
 use Rattle.std.proofs.Common.{inl, inr, ◌≡◌, ℕ, zero, suc, ◌+◌, ◌-◌, ◌*◌, ◌<◌, ◌≤◌, Bool, true, false, not, ◌&&◌, ◌||◌, List, [], ◌∷◌, ◌++◌, map, length, refl, sym, ap, ◌∙◌, subst, arith}
-use Rattle.std.specs.Prelude.{◌↔◌, slice_index_or}
-use Rattle.std.proofs.lemmas.Bool.{cases_lt}
+use Rattle.std.specs.Prelude.{◌↔◌, slice_index_or, All}
+use Rattle.std.proofs.lemmas.Bool.{cases_Bool, cases_lt, and_from, and_parts}
 use Rattle.std.proofs.lemmas.List.{length-map}
 use Rattle.clause_core.specs.declared.literal.Lit.{Lit}
 use Rattle.clause_core.specs.Literals.{negate, at, Within}
-use Rattle.clause_core.specs.Assignments.{Agrees}
-use Rattle.clause_core.specs.Systems.{TransitionSystem, Gives, IsSystem, FirstBits, StepBits, BadBits}
+use Rattle.clause_core.specs.Assignments.{ClauseTrue, Agrees}
+use Rattle.clause_core.specs.Systems.{TransitionSystem, Meets, Opposed, Gives, IsSystem, FirstBits, StepBits}
 use Rattle.ltl_monitor.specs.declared.layout.Layout.{Layout}
 use Rattle.ltl_monitor.specs.declared.layout.Space.{Space}
 use Rattle.ltl_monitor.specs.declared.draft.Draft.{Draft}
@@ -17,7 +17,7 @@ use Rattle.ltl_monitor.specs.Counter.{fires, MarkRows, at_least, CountRows}
 use Rattle.ltl_monitor.specs.Counted.{holds, marks, counts, signals, IsCounted}
 use Rattle.ltl_monitor.specs.Drafting.{place, moved, all_moved, plain, is_or, is_or_and, gate_added, row_added, Drafted}
 use Rattle.ltl_monitor.specs.Assembly.{layout_of, scene_of, begun, assembled}
-use Rattle.ltl_monitor.specs.Counting.{bit, unset_added, fired, marked, counted_up, yes_added, counting, bad_of, counted_at, counted_of}
+use Rattle.ltl_monitor.specs.Counting.{bit, unset_added, fired, marked, counted_up, yes_added, counting, bad_of, good_of, counted_at, counted_of}
 use Rattle.ltl_monitor.proofs.FromBits.{each_join}
 use Rattle.ltl_monitor.proofs.Clauses.{all, Met, met_parts, met_join, met_more, met_one, met_from, all_from, value_negate, is_or_means, is_or_and_means, is_and_or_means, Lits, Below, Alike, values_renamed}
 use Rattle.ltl_monitor.proofs.Meaning.{before, after, at_map}
@@ -52,6 +52,19 @@ both_not false y = refl
 false_from : (x : Bool) → not x ≡ true → x ≡ false
 false_from true h = sym h
 false_from false h = refl
+
+nand_table : (x y : Bool) → ((not x || (not y || false)) && true) ≡ not (x && y)
+nand_table true true = refl
+nand_table true false = refl
+nand_table false y = refl
+
+-- a clause of two negations
+pub nand_means : (v : ℕ → Bool) (x y : Lit) → Met v ((negate x ∷ negate y ∷ []) ∷ []) ↔ ((value v x && value v y) ≡ false)
+nand_means v x y =
+    let e : all v ((negate x ∷ negate y ∷ []) ∷ []) ≡ not (value v x && value v y) = simp value_negate (nand_table (value v x) (value v y)) in (
+      λ h. false_from (value v x && value v y) (sym e ∙ h),
+      λ h. e ∙ ap not h,
+    )
 
 pub unset_means : (v : ℕ → Bool) (b : Lit) → Met v ((negate b ∷ []) ∷ []) ↔ (value v b ≡ false)
 unset_means v b = (
@@ -208,11 +221,25 @@ module _ (m : TransitionSystem) (k : ℕ) (ok : IsSystem m) where
       (one_lits (λ v. v < last s d) (moved p Space.Now x.lit) (now_below s wide d x.lit y_gated.sound ks)))
       (one_lits (λ v. v < last s d) (moved p Space.Now y.lit) (now_below s wide d y.lit y_gated.sound y_gated.known))
 
+  -- a clause that the count is not full or the signal is false
+  abbrev pub missed : List Lit
+  missed = negate (moved p Space.Now x.lit) ∷ negate (moved p Space.Now y.lit) ∷ []
+
+  abbrev pub good : List (List Lit)
+  good = good_of p (counting p m k)
+
+  good_in : Lits (Below (p.inner + 2 * (d.gate - wide_bits))) good
+  good_in =
+      let ks = known_later s x.draft d x.lit y_gated.later x_gated.known in
+      each_join _ (all_moved p Space.Now d.defs) (missed ∷ [])
+      (base.now_lits m (z + k) [] ok none_in given d y_gated.sound later d.defs y_gated.sound.defs_in)
+      ((now_below s wide d x.lit y_gated.sound ks, (now_below s wide d y.lit y_gated.sound y_gated.known, tt)), tt)
+
+  abbrev pub defs : List (List Lit)
+  defs = all_moved p Space.Now d.defs
+
   abbrev pub c : TransitionSystem
   c = counted_of m k
-
-  pub is_system : IsSystem c
-  is_system = base.is_system m (z + k) [] ok none_in given d y_gated.sound later bad bad_in
 
   -- what is drafted last leaves the gates as they are
   marked_defs : (e : Draft) (j : ℕ) → (marked p x.lit ls j e).defs ≡ e.defs
@@ -268,13 +295,84 @@ module _ (m : TransitionSystem) (k : ℕ) (ok : IsSystem m) where
     set_value i lt =
         at_map u ls i (omega (arith, lt, sets_length))
         ∙ ap (λ (bs : List Bool). slice_index_or bs i false)
-        (values_renamed u (place p Space.Local) m.fair ∙ base.fair_same m (z + k) [] ok none_in given d y_gated.sound later bad bad_in t a u ea agrees met)
+        (values_renamed u (place p Space.Local) m.fair ∙ base.fair_same m (z + k) [] ok none_in given d y_gated.sound later t a u ea agrees met)
 
     signal_value : value u x.lit ≡ signals m t a
     signal_value = fired_value u z x_met ∙ fires_like z _ _ _ _ mark_value set_value
 
     full_value : value u y.lit ≡ at_least (counts m t) k
     full_value = reached_value u x_met k ∙ at_least_like k _ _ (λ i lt. agrees (m.state_bits + (z + i)) (omega (arith, lt)))
+
+  -- the count is full and the signal is true
+  abbrev pub over : (ℕ → Bool) → (ℕ → Bool) → Bool
+  over t a = signals m t a && at_least (counts m t) k
+
+  -- what each state has beside the definitions
+  module _ (t a : ℕ → Bool) (ea : Extends m t a) where
+    pub over_value : (w : ℕ → Bool) → Agrees wide_bits w t → All (ClauseTrue w) defs →
+        (value (before p w) x.lit && value (before p w) y.lit) ≡ over t a
+    over_value w g h =
+        let e = base.local_extends m (z + k) [] ok none_in given d y_gated.sound later t w g h in
+        ap (λ b. b && value (before p w) y.lit) (signal_value t a (before p w) ea e.0 e.1)
+        ∙ ap (λ b. signals m t a && b) (full_value t a (before p w) ea e.0 e.1)
+
+    bad_from : Meets wide_bits t bad → over t a ≡ true
+    bad_from h =
+        let w = h.0 in
+        let q = met_parts w (all_moved p Space.Now d.defs ++ (moved p Space.Now x.lit ∷ []) ∷ []) ((moved p Space.Now y.lit ∷ []) ∷ []) (met_from w bad h.2) in
+        let r = met_parts w (all_moved p Space.Now d.defs) ((moved p Space.Now x.lit ∷ []) ∷ []) q.0 in
+        sym (over_value w h.1 (all_from w defs r.0))
+        ∙ and_from (value (before p w) x.lit) (value (before p w) y.lit) ((met_one w (moved p Space.Now x.lit)).0 r.1) ((met_one w (moved p Space.Now y.lit)).0 q.1)
+
+    bad_to : over t a ≡ true → Meets wide_bits t bad
+    bad_to h =
+        let g = (base.gives m (z + k) [] ok none_in given d y_gated.sound later).extends t in
+        let w = g.0 in
+        let b = and_parts (value (before p w) x.lit) (value (before p w) y.lit) (over_value w g.1 g.2 ∙ h) in (
+          w,
+          g.1,
+          all_from w bad
+              (met_join w (all_moved p Space.Now d.defs ++ (moved p Space.Now x.lit ∷ []) ∷ []) ((moved p Space.Now y.lit ∷ []) ∷ [])
+              (met_join w (all_moved p Space.Now d.defs) ((moved p Space.Now x.lit ∷ []) ∷ []) (met_from w defs g.2) ((met_one w (moved p Space.Now x.lit)).1 b.0))
+              ((met_one w (moved p Space.Now y.lit)).1 b.1)),
+        )
+
+    good_from : Meets wide_bits t good → over t a ≡ false
+    good_from h =
+        let w = h.0 in
+        let q = met_parts w (all_moved p Space.Now d.defs) (missed ∷ []) (met_from w good h.2) in
+        sym (over_value w h.1 (all_from w defs q.0)) ∙ (nand_means w (moved p Space.Now x.lit) (moved p Space.Now y.lit)).0 q.1
+
+    good_to : over t a ≡ false → Meets wide_bits t good
+    good_to h =
+        let g = (base.gives m (z + k) [] ok none_in given d y_gated.sound later).extends t in
+        let w = g.0 in (
+          w,
+          g.1,
+          all_from w good
+              (met_join w (all_moved p Space.Now d.defs) (missed ∷ []) (met_from w defs g.2)
+              ((nand_means w (moved p Space.Now x.lit) (moved p Space.Now y.lit)).1 (over_value w g.1 g.2 ∙ h))),
+        )
+
+  opposed : Opposed wide_bits good bad
+  opposed = record {
+    either = λ t.
+        let e = ok.gives.extends t in
+        let ea : Extends m t e.0 = (e.1, e.2) in
+        elim (cases_Bool (over t e.0)) [
+          | inl yes_ ↦ inr (bad_to t e.0 ea yes_)
+          | inr no_ ↦ inl (good_to t e.0 ea no_)
+        ];
+    never_both = λ t g b.
+        let e = ok.gives.extends t in
+        let ea : Extends m t e.0 = (e.1, e.2) in
+        let u = good_from t e.0 ea g in
+        let v = bad_from t e.0 ea b in
+        absurd cc;
+  }
+
+  pub is_system : IsSystem c
+  is_system = base.is_system m (z + k) [] ok none_in given d y_gated.sound later bad good bad_in good_in opposed
 
   -- the rules of the first state
   abbrev pub Off : (ℕ → Bool) → ℕ → Type 0
@@ -324,13 +422,13 @@ module _ (m : TransitionSystem) (k : ℕ) (ok : IsSystem m) where
 
   first_from : (t : ℕ → Bool) → FirstBits c t → FirstBits m t × ((j : ℕ) → j < z + k → t (m.state_bits + j) ≡ false)
   first_from t h =
-      let r = base.first_from m (z + k) [] ok none_in given d y_gated.sound later bad bad_in t h in
+      let r = base.first_from m (z + k) [] ok none_in given d y_gated.sound later bad good bad_in good_in opposed t h in
       (r.0, λ j lt. sym (r.1.1 (m.state_bits + j) (omega (arith, lt))) ∙ (starts_tell r.1.0).0 r.1.3 j lt)
 
   first_to : (t : ℕ → Bool) → FirstBits m t × ((j : ℕ) → j < z + k → t (m.state_bits + j) ≡ false) → FirstBits c t
   first_to t h =
       let e = y_gated.sound.some t in
-      base.first_to m (z + k) [] ok none_in given d y_gated.sound later bad bad_in t h.0 e.0 e.1 e.2
+      base.first_to m (z + k) [] ok none_in given d y_gated.sound later bad good bad_in good_in opposed t h.0 e.0 e.1 e.2
       ((starts_tell e.0).1 (λ j lt. e.1 (m.state_bits + j) (omega (arith, lt)) ∙ h.1 j lt))
 
   -- the rules of a step, by one state's variables before it and after
@@ -406,40 +504,15 @@ module _ (m : TransitionSystem) (k : ℕ) (ok : IsSystem m) where
   step_from : (t t' a : ℕ → Bool) → Extends m t a → StepBits c t t' →
       StepBits m t t' × MarkRows z (signals m t a) (marks m t) (holds m a) (marks m t') × CountRows k (signals m t a) (counts m t) (counts m t')
   step_from t t' a ea h =
-      let g = base.step_from m (z + k) [] ok none_in given d y_gated.sound later bad bad_in t t' h in
+      let g = base.step_from m (z + k) [] ok none_in given d y_gated.sound later bad good bad_in good_in opposed t t' h in
       let r = rows_here g.w t t' a ea g.here g.there g.met_here g.met_rows in
       (g.own, r.0, r.1)
 
   step_to : (t t' a : ℕ → Bool) → Extends m t a →
       StepBits m t t' × MarkRows z (signals m t a) (marks m t) (holds m a) (marks m t') × CountRows k (signals m t a) (counts m t) (counts m t') → StepBits c t t'
   step_to t t' a ea h =
-      base.step_to m (z + k) [] ok none_in given d y_gated.sound later bad bad_in t t' h.0
+      base.step_to m (z + k) [] ok none_in given d y_gated.sound later bad good bad_in good_in opposed t t' h.0
       (λ w gb ga mb ma. rows_back w t t' a ea gb ga mb (h.1, h.2))
-
-  -- bad states
-  bad_from : (t a : ℕ → Bool) → Extends m t a → BadBits c t → (signals m t a ≡ true) × (at_least (counts m t) k ≡ true)
-  bad_from t a ea h =
-      let w = h.0 in
-      let q = met_parts w (all_moved p Space.Now d.defs ++ (moved p Space.Now x.lit ∷ []) ∷ []) ((moved p Space.Now y.lit ∷ []) ∷ []) (met_from w bad h.2) in
-      let r = met_parts w (all_moved p Space.Now d.defs) ((moved p Space.Now x.lit ∷ []) ∷ []) q.0 in
-      let e = base.local_extends m (z + k) [] ok none_in given d y_gated.sound later bad bad_in t w (h.1, all_from w (all_moved p Space.Now d.defs) r.0) in (
-        sym (signal_value t a (before p w) ea e.0 e.1) ∙ (met_one w (moved p Space.Now x.lit)).0 r.1,
-        sym (full_value t a (before p w) ea e.0 e.1) ∙ (met_one w (moved p Space.Now y.lit)).0 q.1,
-      )
-
-  bad_to : (t a : ℕ → Bool) → Extends m t a → (signals m t a ≡ true) × (at_least (counts m t) k ≡ true) → BadBits c t
-  bad_to t a ea h =
-      let g = (base.gives m (z + k) [] ok none_in given d y_gated.sound later bad bad_in).extends t in
-      let w = g.0 in
-      let e = base.local_extends m (z + k) [] ok none_in given d y_gated.sound later bad bad_in t w (g.1, g.2) in (
-        w,
-        g.1,
-        all_from w bad
-            (met_join w (all_moved p Space.Now d.defs ++ (moved p Space.Now x.lit ∷ []) ∷ []) ((moved p Space.Now y.lit ∷ []) ∷ [])
-            (met_join w (all_moved p Space.Now d.defs) ((moved p Space.Now x.lit ∷ []) ∷ []) (met_from w (all_moved p Space.Now d.defs) g.2)
-            ((met_one w (moved p Space.Now x.lit)).1 (signal_value t a (before p w) ea e.0 e.1 ∙ h.0)))
-            ((met_one w (moved p Space.Now y.lit)).1 (full_value t a (before p w) ea e.0 e.1 ∙ h.1))),
-      )
 
   pub is_counted : IsCounted m k c
   is_counted = record {
@@ -447,13 +520,15 @@ module _ (m : TransitionSystem) (k : ℕ) (ok : IsSystem m) where
     first = λ t. (first_from t, first_to t);
     step = λ t t' a ea. (step_from t t' a ea, step_to t t' a ea);
     bad = λ t a ea. (bad_from t a ea, bad_to t a ea);
+    good = λ t a ea. (good_from t a ea, good_to t a ea);
   }
 
 -- the system is put together of these parts
-pub counted_same : (m : TransitionSystem) (k n : ℕ) (p : Layout) (x : Counting) (cs : List (List Lit)) →
-    n ≡ length m.fair + k → p ≡ layout_of m n → x ≡ counting p m k → cs ≡ bad_of p x → assembled p m cs x.draft ≡ counted_of m k
-counted_same m k n p x cs en ep ex ec =
-    ap (λ t. assembled p m t x.draft) ec ∙ ap (λ (t : Counting). assembled p m (bad_of p t) t.draft) ex
+pub counted_same : (m : TransitionSystem) (k n : ℕ) (p : Layout) (x : Counting) (bs gs : List (List Lit)) →
+    n ≡ length m.fair + k → p ≡ layout_of m n → x ≡ counting p m k → bs ≡ bad_of p x → gs ≡ good_of p x → assembled p m bs gs x.draft ≡ counted_of m k
+counted_same m k n p x bs gs en ep ex eb eg =
+    ap (λ t. assembled p m t gs x.draft) eb ∙ ap (λ t. assembled p m (bad_of p x) t x.draft) eg
+    ∙ ap (λ (t : Counting). assembled p m (bad_of p t) (good_of p t) t.draft) ex
     ∙ ap (λ q. counted_at q m k) (ep ∙ ap (layout_of m) en)
 
 pub counted_room : (m : TransitionSystem) (k n : ℕ) (p : Layout) (x : Counting) → n ≡ length m.fair + k → p ≡ layout_of m n → x ≡ counting p m k →

@@ -12,3 +12,6 @@ pub mod Lassos
 pub mod BitLassos
 pub mod CountedLassos
 pub mod Signals
+pub mod CountedRuns
+pub mod SignalRuns
+mod OwnRows

@@ -1,24 +1,25 @@
 -- The monitored system is a system, and it is the monitor of its formula.
 use Rattle.std.proofs.Common.{◌≡◌, ℕ, ◌+◌, ◌-◌, ◌*◌, ◌<◌, ◌≤◌, Bool, true, false, not, List, [], ◌∷◌, ◌++◌, map, length, length-append, refl, sym, ap, ◌∙◌, subst, arith, append_assoc}
-use Rattle.std.specs.Prelude.{◌↔◌, slice_index_or}
+use Rattle.std.specs.Prelude.{◌↔◌, slice_index_or, All}
 use Rattle.std.proofs.lemmas.List.{length-map}
 use Rattle.ltl_meaning.specs.Ltl.{Ltl}
 use Rattle.clause_core.specs.declared.literal.Lit.{Lit}
 use Rattle.clause_core.specs.Literals.{negate, Within}
-use Rattle.clause_core.specs.Assignments.{Agrees}
-use Rattle.clause_core.specs.Systems.{TransitionSystem, Gives, IsSystem, FirstBits, StepBits, BadBits}
+use Rattle.clause_core.specs.Assignments.{ClauseTrue, Agrees}
+use Rattle.clause_core.specs.Systems.{TransitionSystem, Opposed, Gives, IsSystem, FirstBits, StepBits, BadBits, GoodBits}
 use Rattle.ltl_monitor.specs.declared.layout.Layout.{Layout}
 use Rattle.ltl_monitor.specs.declared.layout.Space.{Space}
 use Rattle.ltl_monitor.specs.declared.draft.Draft.{Draft}
 use Rattle.ltl_monitor.specs.declared.draft.Scene.{Scene}
 use Rattle.ltl_monitor.specs.Monitor.{Side, nodes, truth, rows, starts, Set, sets, all_sets}
-use Rattle.ltl_monitor.specs.States.{value, AtomsBelow, Extends, shown, numbers, justice_of, IsMonitor}
+use Rattle.ltl_monitor.specs.States.{value, AtomsBelow, Extends, shown, numbers, justice_of, own_var, own_values, IsMonitor}
 use Rattle.ltl_monitor.specs.Drafting.{place, moved, all_moved, Drafted, drafted}
 use Rattle.ltl_monitor.specs.Assembly.{layout_of, scene_of, begun, assembled, draft_of, monitor_at, monitor_of}
-use Rattle.ltl_monitor.proofs.Clauses.{Met, met_parts, met_join, met_one, met_from, all_from, value_negate, Lits, Below, values_renamed}
+use Rattle.ltl_monitor.proofs.Clauses.{Met, met_parts, met_join, met_one, value_negate, Lits, Below, values_renamed}
 use Rattle.ltl_monitor.proofs.Meaning.{before, after, side, Means, means, map_append}
 use Rattle.ltl_monitor.proofs.Sound.{Sound, Later, Grown, grown, one_lits, start_move}
 use Rattle.ltl_monitor.proofs.Near.{Near, near_back, truth_like, starts_like, rows_like, sets_like}
+use Rattle.ltl_monitor.proofs.Placed.{system_in}
 use Rattle.ltl_monitor.proofs.Assembled.{wide, begun_sound}
 use Rattle.ltl_monitor.proofs.Assembled as base
 
@@ -33,7 +34,7 @@ at_end : (pre : List Bool) (x : Bool) (xs : List Bool) → slice_index_or (pre +
 at_end [] x xs = refl
 at_end (y ∷ pre) x xs = at_end pre x xs
 
-numbered : (v : Lit → Bool) (pre : List Bool) (ls : List Lit) (n : ℕ) → n ≡ length pre →
+pub numbered : (v : Lit → Bool) (pre : List Bool) (ls : List Lit) (n : ℕ) → n ≡ length pre →
     map (λ k. slice_index_or (pre ++ map v ls) k false) (numbers n ls) ≡ map v ls
 numbered v pre [] n e = refl
 numbered v pre (l ∷ ls) n e =
@@ -43,7 +44,7 @@ numbered v pre (l ∷ ls) n e =
     ap (λ b. b ∷ map (λ k. slice_index_or (pre ++ map v (l ∷ ls)) k false) (numbers (n + 1) ls)) one
     ∙ ap (λ bs. v l ∷ bs) (ap (λ (zs : List Bool). map (λ k. slice_index_or zs k false) (numbers (n + 1) ls)) (sym (append_assoc pre (v l ∷ []) (map v ls))) ∙ rest)
 
-map_twice : {X Y Z : Type 0} (g : Y → Z) (f : X → Y) (xs : List X) → map g (map f xs) ≡ map (λ x. g (f x)) xs
+pub map_twice : {X Y Z : Type 0} (g : Y → Z) (f : X → Y) (xs : List X) → map g (map f xs) ≡ map (λ x. g (f x)) xs
 map_twice g f [] = refl
 map_twice g f (x ∷ xs) = ap (λ zs. g (f x) ∷ zs) (map_twice g f xs)
 
@@ -99,14 +100,23 @@ module _ (sys : TransitionSystem) (f : Ltl) (atoms : List Lit) (ok : IsSystem sy
   abbrev pub m : TransitionSystem
   m = monitor_of sys f atoms
 
+  abbrev pub good : List (List Lit)
+  good = all_moved p Space.System sys.good
+
+  good_in : Lits (Below (p.inner + 2 * (d.gate - wide_bits))) good
+  good_in = base.system_lits sys (nodes f) atoms ok atoms_in given d sound later sys.good ok.good_in
+
+  opposed : Opposed wide_bits good bad
+  opposed = base.own_opposed sys (nodes f) atoms ok atoms_in given d sound later
+
   pub is_system : IsSystem m
-  is_system = base.is_system sys (nodes f) atoms ok atoms_in given d sound later bad bad_in
+  is_system = base.is_system sys (nodes f) atoms ok atoms_in given d sound later bad good bad_in good_in opposed
 
   -- what one state's variables say of the formula
   module _ (y a u : ℕ → Bool) (ea : Extends sys y a) (agrees : Agrees wide_bits u y) (met : Met u d.defs) where
     near : Near (0 + nodes f) (side s u) (shown sys atoms a y)
     near = record {
-      atoms = λ k. ap (λ (bs : List Bool). slice_index_or bs k false) (base.lits_same sys (nodes f) atoms ok atoms_in given d sound later bad bad_in y a u ea agrees met);
+      atoms = λ k. ap (λ (bs : List Bool). slice_index_or bs k false) (base.lits_same sys (nodes f) atoms ok atoms_in given d sound later y a u ea agrees met);
       bits = λ j h. agrees (sys.state_bits + j) (omega (arith, h));
     }
 
@@ -136,14 +146,14 @@ module _ (sys : TransitionSystem) (f : Ltl) (atoms : List Lit) (ok : IsSystem sy
     formula_sets =
         let t : Side = shown sys atoms a y in
         formula_means.fair u met
-        ∙ ap (λ c. c ++ map (λ z. z (side s u)) (sets f 0)) (values_renamed u (place p Space.Local) sys.fair ∙ base.fair_same sys (nodes f) atoms ok atoms_in given d sound later bad bad_in y a u ea agrees met ∙ sym justice_values)
+        ∙ ap (λ c. c ++ map (λ z. z (side s u)) (sets f 0)) (values_renamed u (place p Space.Local) sys.fair ∙ base.fair_same sys (nodes f) atoms ok atoms_in given d sound later y a u ea agrees met ∙ sym justice_values)
         ∙ ap (λ c. map (λ k. slice_index_or (map (value a) (atoms ++ sys.fair)) k false) (justice_of sys atoms) ++ c) (sets_like f 0 (side s u) t near)
         ∙ ap (λ c. c ++ map (λ z. z t) (sets f 0)) (sym (map_twice (λ (z : Set). z t) (λ (k : ℕ) (r : Side). r.atom k) (justice_of sys atoms)))
         ∙ sym (map_append (λ (z : Set). z t) (map (λ (k : ℕ) (r : Side). r.atom k) (justice_of sys atoms)) (sets f 0))
 
   first_from : (y a : ℕ → Bool) → Extends sys y a → FirstBits m y → FirstBits sys y × starts f 0 (shown sys atoms a y) × (truth f 0 (shown sys atoms a y) ≡ false)
   first_from y a ea h =
-      let k = base.first_from sys (nodes f) atoms ok atoms_in given d sound later bad bad_in y h in
+      let k = base.first_from sys (nodes f) atoms ok atoms_in given d sound later bad good bad_in good_in opposed y h in
       let u = k.1.0 in
       let st = met_parts u x.draft.starts root_clause k.1.3 in
       (k.0, (formula_starts y a u ea k.1.1 k.1.2).0 st.0, (formula_root y a u ea k.1.1 k.1.2).0 st.1)
@@ -151,12 +161,12 @@ module _ (sys : TransitionSystem) (f : Ltl) (atoms : List Lit) (ok : IsSystem sy
   first_to : (y a : ℕ → Bool) → Extends sys y a → FirstBits sys y × starts f 0 (shown sys atoms a y) × (truth f 0 (shown sys atoms a y) ≡ false) → FirstBits m y
   first_to y a ea h =
       let e = sound.some y in
-      base.first_to sys (nodes f) atoms ok atoms_in given d sound later bad bad_in y h.0 e.0 e.1 e.2
+      base.first_to sys (nodes f) atoms ok atoms_in given d sound later bad good bad_in good_in opposed y h.0 e.0 e.1 e.2
       (met_join e.0 x.draft.starts root_clause ((formula_starts y a e.0 ea e.1 e.2).1 h.1) ((formula_root y a e.0 ea e.1 e.2).1 h.2))
 
   step_from : (y z a b : ℕ → Bool) → Extends sys y a → Extends sys z b → StepBits m y z → StepBits sys y z × rows f 0 (shown sys atoms a y) (shown sys atoms b z)
   step_from y z a b ea eb h =
-      let k = base.step_from sys (nodes f) atoms ok atoms_in given d sound later bad bad_in y z h in
+      let k = base.step_from sys (nodes f) atoms ok atoms_in given d sound later bad good bad_in good_in opposed y z h in
       let r = (formula_means.steps k.w k.met_here k.met_there).0 k.met_rows in (
         k.own,
         rows_like f 0 (side s (before p k.w)) (side s (after p k.w)) (shown sys atoms a y) (shown sys atoms b z)
@@ -165,7 +175,7 @@ module _ (sys : TransitionSystem) (f : Ltl) (atoms : List Lit) (ok : IsSystem sy
 
   step_to : (y z a b : ℕ → Bool) → Extends sys y a → Extends sys z b → StepBits sys y z × rows f 0 (shown sys atoms a y) (shown sys atoms b z) → StepBits m y z
   step_to y z a b ea eb h =
-      base.step_to sys (nodes f) atoms ok atoms_in given d sound later bad bad_in y z h.0
+      base.step_to sys (nodes f) atoms ok atoms_in given d sound later bad good bad_in good_in opposed y z h.0
       (λ w gb ga mb ma.
       (formula_means.steps w mb ma).1 (
         refl,
@@ -176,16 +186,34 @@ module _ (sys : TransitionSystem) (f : Ltl) (atoms : List Lit) (ok : IsSystem sy
 
   sets_tell : (y a e : ℕ → Bool) → Extends sys y a → Extends m y e → map (value e) m.fair ≡ map (λ z. z (shown sys atoms a y)) (all_sets (justice_of sys atoms) f)
   sets_tell y a e ea em =
-      let g = base.local_extends sys (nodes f) atoms ok atoms_in given d sound later bad bad_in y e em in
+      let g = base.local_extends sys (nodes f) atoms ok atoms_in given d sound later y e em.0 em.1 in
       values_renamed e (place p Space.Now) d.sets ∙ formula_sets y a (before p e) ea g.0 g.1
 
-  bad_from : (y : ℕ → Bool) → BadBits m y → BadBits sys y
-  bad_from y h = base.own_bad_from sys (nodes f) atoms ok atoms_in given d sound later bad bad_in y sys.bad h.0 h.1 (met_from h.0 m.bad h.2)
+  bad_same : (y : ℕ → Bool) → BadBits m y ↔ BadBits sys y
+  bad_same y = (
+    base.own_meets sys (nodes f) atoms ok atoms_in given d sound later y sys.bad,
+    base.own_true sys (nodes f) atoms ok atoms_in given d sound later y sys.bad ok.bad_in,
+  )
 
-  bad_to : (y : ℕ → Bool) → BadBits sys y → BadBits m y
-  bad_to y h =
-      let w = base.own_bad_to sys (nodes f) atoms ok atoms_in given d sound later bad bad_in y sys.bad ok.bad_in h in
-      (w.0, w.1, all_from w.0 m.bad w.2)
+  good_same : (y : ℕ → Bool) → GoodBits m y ↔ GoodBits sys y
+  good_same y = (
+    base.own_meets sys (nodes f) atoms ok atoms_in given d sound later y sys.good,
+    base.own_true sys (nodes f) atoms ok atoms_in given d sound later y sys.good ok.good_in,
+  )
+
+  more_bits : m.state_bits - sys.state_bits ≡ nodes f
+  more_bits = omega arith
+
+  own_in : (v : ℕ) → v < sys.all_bits → own_var sys m v < m.all_bits
+  own_in v lt =
+      let P : ℕ → Type 0 = λ n. place record { given = sys.state_bits; nodes = n; inner = p.inner } Space.System v < m.all_bits in
+      let k : place p Space.System v < p.inner = system_in p sys.all_bits v lt refl in
+      subst P (sym more_bits) (omega (arith, k))
+
+  own_step : (a : ℕ → Bool) → All (ClauseTrue a) m.step → All (ClauseTrue (own_values sys m a)) sys.step
+  own_step a h =
+      let P : ℕ → Type 0 = λ n. All (ClauseTrue (λ v. a (place record { given = sys.state_bits; nodes = n; inner = p.inner } Space.System v))) sys.step in
+      subst P (sym more_bits) (base.own_step sys (nodes f) atoms ok atoms_in given d sound later bad good bad_in good_in opposed a h)
 
   pub is_monitor : IsMonitor sys f atoms m
   is_monitor = record {
@@ -193,14 +221,19 @@ module _ (sys : TransitionSystem) (f : Ltl) (atoms : List Lit) (ok : IsSystem sy
     first = λ y a ea. (first_from y a ea, first_to y a ea);
     step = λ y z a b ea eb. (step_from y z a b ea eb, step_to y z a b ea eb);
     sets = sets_tell;
-    bad = λ y. (bad_from y, bad_to y);
+    bad = bad_same;
+    good = good_same;
+    own_in = own_in;
+    own_step = own_step;
   }
 
 -- the system is put together of these parts
-pub assembled_same : (sys : TransitionSystem) (f : Ltl) (atoms : List Lit) (p : Layout) (k : ℕ) (cs : List (List Lit)) (d : Draft) →
-    k ≡ nodes f → p ≡ layout_of sys k → cs ≡ all_moved p Space.System sys.bad → d ≡ draft_of p sys f atoms → assembled p sys cs d ≡ monitor_of sys f atoms
-assembled_same sys f atoms p k cs d en ep eb e =
-    ap (λ c. assembled p sys c d) eb ∙ ap (assembled p sys (all_moved p Space.System sys.bad)) e
+pub assembled_same : (sys : TransitionSystem) (f : Ltl) (atoms : List Lit) (p : Layout) (k : ℕ) (bs gs : List (List Lit)) (d : Draft) →
+    k ≡ nodes f → p ≡ layout_of sys k → bs ≡ all_moved p Space.System sys.bad → gs ≡ all_moved p Space.System sys.good →
+    d ≡ draft_of p sys f atoms → assembled p sys bs gs d ≡ monitor_of sys f atoms
+assembled_same sys f atoms p k bs gs d en ep eb eg e =
+    ap (λ c. assembled p sys c gs d) eb ∙ ap (λ c. assembled p sys (all_moved p Space.System sys.bad) c d) eg
+    ∙ ap (assembled p sys (all_moved p Space.System sys.bad) (all_moved p Space.System sys.good)) e
     ∙ ap (λ t. monitor_at t sys f atoms) (ep ∙ ap (layout_of sys) en)
 
 -- the draft's variables go on from the state's

@@ -31,15 +31,16 @@ begun p sys = record {
   sets = map (moved p Space.Local) sys.fair;
 }
 
--- the system, with the rules of the draft, and with these bad states
-abbrev pub assembled : Layout → TransitionSystem → List (List Lit) → Draft → TransitionSystem
-assembled p sys bad d = record {
+-- the system, with the rules of the draft, and with these bad states and good ones
+abbrev pub assembled : Layout → TransitionSystem → List (List Lit) → List (List Lit) → Draft → TransitionSystem
+assembled p sys bad good d = record {
   state_bits = p.given + p.nodes;
   all_bits = p.inner + 2 * (d.gate - (p.given + p.nodes));
   init = all_moved p Space.System sys.init ++ all_moved p Space.Now d.defs ++ all_moved p Space.Now d.starts;
   step =
       all_moved p Space.System sys.step ++ all_moved p Space.Now d.defs ++ all_moved p Space.Next d.defs ++ d.rows;
   bad = bad;
+  good = good;
   fair = map (moved p Space.Now) d.sets;
   defs = all_moved p Space.Now d.defs;
 }
@@ -51,7 +52,8 @@ draft_of p sys f atoms =
 
 -- the monitored system
 abbrev pub monitor_at : Layout → TransitionSystem → Ltl → List Lit → TransitionSystem
-monitor_at p sys f atoms = assembled p sys (all_moved p Space.System sys.bad) (draft_of p sys f atoms)
+monitor_at p sys f atoms =
+    assembled p sys (all_moved p Space.System sys.bad) (all_moved p Space.System sys.good) (draft_of p sys f atoms)
 
 abbrev pub monitor_of : TransitionSystem → Ltl → List Lit → TransitionSystem
 monitor_of sys f atoms = monitor_at (layout_of sys (nodes f)) sys f atoms

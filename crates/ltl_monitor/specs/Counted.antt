@@ -1,6 +1,6 @@
 -- A monitored system with signal and counter, over bits.
-use Rattle.std.specs.Prelude.{◌≡◌, ◌↔◌, ℕ, ◌+◌, ◌<◌, Bool, true, false, map, length, slice_index_or}
-use Rattle.clause_core.specs.Systems.{TransitionSystem, FirstBits, StepBits, BadBits}
+use Rattle.std.specs.Prelude.{◌≡◌, ◌↔◌, ℕ, ◌+◌, ◌<◌, Bool, true, false, ◌&&◌, map, length, slice_index_or}
+use Rattle.clause_core.specs.Systems.{TransitionSystem, FirstBits, StepBits, BadBits, GoodBits}
 use Rattle.ltl_monitor.specs.States.{value, Extends}
 use Rattle.ltl_monitor.specs.Counter.{fires, MarkRows, at_least, CountRows}
 
@@ -24,7 +24,7 @@ abbrev pub signals : TransitionSystem → (ℕ → Bool) → (ℕ → Bool) → 
 signals m x e = fires (marks m x) (holds m e) (sets_of m)
 
 -- c is the monitored system m with marks, signal and a counter up to k: at first no mark and no bit of the counter is
--- set, a step meets their rules, and a state is bad where the count is k and the signal is true
+-- set, a step meets their rules, and a state is bad where the count is k and the signal is true, and else good
 pub record IsCounted (m : TransitionSystem) (k : ℕ) (c : TransitionSystem) : Type 0 where
   pub bits : c.state_bits ≡ m.state_bits + (sets_of m + k)
   pub first : (x : ℕ → Bool) → FirstBits c x ↔ (FirstBits m x × ((j : ℕ) → j < sets_of m + k → x (m.state_bits + j) ≡ false))
@@ -32,4 +32,5 @@ pub record IsCounted (m : TransitionSystem) (k : ℕ) (c : TransitionSystem) : T
       StepBits c x y ↔ (StepBits m x y
       × MarkRows (sets_of m) (signals m x e) (marks m x) (holds m e) (marks m y)
       × CountRows k (signals m x e) (counts m x) (counts m y))
-  pub bad : (x e : ℕ → Bool) → Extends m x e → BadBits c x ↔ ((signals m x e ≡ true) × (at_least (counts m x) k ≡ true))
+  pub bad : (x e : ℕ → Bool) → Extends m x e → BadBits c x ↔ ((signals m x e && at_least (counts m x) k) ≡ true)
+  pub good : (x e : ℕ → Bool) → Extends m x e → GoodBits c x ↔ ((signals m x e && at_least (counts m x) k) ≡ false)

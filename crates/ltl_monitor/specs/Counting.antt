@@ -78,9 +78,15 @@ abbrev pub bad_of : Layout → Counting → List (List Lit)
 bad_of p x =
     all_moved p Space.Now x.draft.defs ++ (moved p Space.Now x.signal ∷ []) ∷ [] ++ (moved p Space.Now x.full ∷ []) ∷ []
 
+-- good where the signal is false or the count is not full
+abbrev pub good_of : Layout → Counting → List (List Lit)
+good_of p x =
+    all_moved p Space.Now x.draft.defs
+    ++ (negate (moved p Space.Now x.signal) ∷ negate (moved p Space.Now x.full) ∷ []) ∷ []
+
 -- the counted system
 abbrev pub counted_at : Layout → TransitionSystem → ℕ → TransitionSystem
-counted_at p m k = assembled p m (bad_of p (counting p m k)) (counting p m k).draft
+counted_at p m k = assembled p m (bad_of p (counting p m k)) (good_of p (counting p m k)) (counting p m k).draft
 
 abbrev pub counted_of : TransitionSystem → ℕ → TransitionSystem
 counted_of m k = counted_at (layout_of m (length m.fair + k)) m k

@@ -8,3 +8,4 @@ pub mod Assembly
 pub mod Counted
 pub mod Counting
 pub mod Lassos
+pub mod Runs

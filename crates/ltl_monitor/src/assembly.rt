@@ -5,20 +5,8 @@ ghost use Rattle.ltl_monitor.specs.Drafting.{all_moved};
 
 use crate::draft::{Draft, Scene};
 use crate::layout::{Layout, Space, sum};
-use clause_core::{Clause, Clauses, Lit, System};
+use clause_core::{Clause, Clauses, Lit, Parts, System};
 use std::alloc::{AllocError, Global};
-
-// What the type of a system keeps. It does nothing.
-pub fn keep(system: &System)
-    ensures { IsSystem system.now }
-{
-    let _ = system.state_bits();
-    let _ = system.init();
-    let _ = system.step();
-    let _ = system.bad();
-    let _ = system.fair();
-    let _ = system.defs();
-}
 
 // The layout of a system with more bits.
 pub fn layout_of(system: &System, nodes: usize) -> Result<Layout, AllocError>
@@ -79,11 +67,12 @@ pub fn assemble(
     layout: &Layout,
     system: &System,
     bad: Clauses,
+    good: Clauses,
     draft: &Draft,
 ) -> Result<System, AllocError>
-    requires valid { IsSystem (assembled layout.now system.now bad draft.now) }
+    requires valid { IsSystem (assembled layout.now system.now bad good draft.now) }
     requires room { layout.now.given + layout.now.nodes ≤ draft.now.gate }
-    ensures { IfOk result (λ m. m ≡ assembled layout.now system.now bad draft.now) }
+    ensures { IfOk result (λ m. m ≡ assembled layout.now system.now bad good draft.now) }
 {
     let mut init = copied(alloc, layout, Space::System, system.init())?;
     layout.copy(alloc, Space::Now, &draft.defs, &mut init)?;
@@ -97,7 +86,16 @@ pub fn assemble(
     let defs = copied(alloc, layout, Space::Now, &draft.defs)?;
     let state_bits = sum(layout.given, layout.nodes)?;
     let all_bits = all_bits(layout, draft.gate, state_bits)?;
-    Ok(System::new(state_bits, all_bits, init, step, bad, fair, defs))
+    Ok(System::new(Parts {
+        state_bits,
+        all_bits,
+        init,
+        step,
+        bad,
+        good,
+        fair,
+        defs,
+    }))
 }
 
 // How many variables the monitored system has, where those of one state end at `gate`.

@@ -1,9 +1,9 @@
 ghost use Rattle.std.specs.Prelude.{◌≡◌, ◌+◌, ◌++◌, ◌∷◌, [], ◌≤◌, IfOk, OnOk, length};
 ghost use Rattle.clause_core.specs.Literals.{at};
 ghost use Rattle.ltl_monitor.specs.Counted.{IsCounted};
-ghost use Rattle.ltl_monitor.specs.Counting.{bit, unset_added, set_fired, fired, set_marked, marked, bit_counted, counted_up, counting, bad_of, yes_added};
+ghost use Rattle.ltl_monitor.specs.Counting.{bit, unset_added, set_fired, fired, set_marked, marked, bit_counted, counted_up, counting, bad_of, good_of, yes_added};
 
-use crate::assembly::{assemble, begin, copied, keep, layout_of};
+use crate::assembly::{assemble, begin, copied, layout_of};
 use crate::draft::Draft;
 use crate::layout::{Layout, Space, sum};
 use crate::monitored_system::Monitored;
@@ -16,20 +16,21 @@ use std::alloc::{AllocError, Global};
 /// A state has, after the monitored system's bits, one bit for each set, which says that it was seen
 /// since the last signal, and one for each number below the bound, which says that there were more
 /// signals. The signal is true where each set was seen or holds. A state is bad where the count is at
-/// the bound and the signal is true, so where no bad state is reached, no run has more signals than
-/// that (Claessen and Sörensson 2012). Time and memory are linear in the system and the bound. The
-/// only error is want of memory, which a number of variables past `usize::MAX` counts as.
+/// the bound and the signal is true, and else good. So where no bad state is reached, no run has more
+/// signals than that (Claessen and Sörensson 2012). Time and memory are linear in the system and the
+/// bound. The only error is want of memory, which a number of variables past `usize::MAX` counts as.
 pub fn counted(alloc: Global, monitored: &Monitored, bound: usize) -> Result<System, AllocError>
     ensures { IfOk result (λ c. IsCounted monitored.now.system bound c) }
 {
     let system = &monitored.system;
-    keep(system);
+    system.law();
     let sets = system.fair().len();
     let bits = sum(sets, bound)?;
     let layout = layout_of(system, bits)?;
     let counting = count(alloc, &layout, system, bound)?;
     let bad = bad(alloc, &layout, &counting)?;
-    let system = assemble(alloc, &layout, system, bad, &counting.draft)?;
+    let good = good(alloc, &layout, &counting)?;
+    let system = assemble(alloc, &layout, system, bad, good, &counting.draft)?;
     Ok(system)
 }
 
@@ -172,4 +173,15 @@ fn bad(alloc: Global, layout: &Layout, counting: &Counting) -> Result<Clauses, A
     bad.push(&[layout.moved(Space::Now, counting.signal)?])?;
     bad.push(&[layout.moved(Space::Now, counting.full)?])?;
     Ok(bad)
+}
+
+// Where the count is not full or the signal is false.
+fn good(alloc: Global, layout: &Layout, counting: &Counting) -> Result<Clauses, AllocError>
+    ensures { IfOk result (λ cs. cs ≡ good_of layout.now counting.now) }
+{
+    let mut good = copied(alloc, layout, Space::Now, &counting.draft.defs)?;
+    let signal = layout.moved(Space::Now, counting.signal)?;
+    let full = layout.moved(Space::Now, counting.full)?;
+    good.push(&[signal.negated(), full.negated()])?;
+    Ok(good)
 }

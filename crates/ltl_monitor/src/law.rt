@@ -6,6 +6,7 @@ ghost use Rattle.ltl_monitor.specs.FairLasso.{Sequence, Loops, Violates, HasMoni
 ghost use Rattle.ltl_monitor.specs.States.{Extends, justice_of, IsMonitor};
 ghost use Rattle.ltl_monitor.specs.Lassos.{IsLasso, IsFair, word_of, HasFairLasso};
 ghost use Rattle.ltl_monitor.specs.Counted.{IsCounted};
+ghost use Rattle.ltl_monitor.specs.Runs.{SignalsWithin, BadWithin, IsCut};
 
 /// A lasso violates a formula exactly where its stretch, by as many passes of the loop as past
 /// operators nest, has bits that make it a fair monitored lasso. Where no monitored run along it has
@@ -26,4 +27,17 @@ pub fn monitored_lassos()
 /// fair lasso. It does nothing: its contract is the law.
 pub fn counted_lassos()
     ensures { (m c : TransitionSystem) (k : ℕ) → IsCounted m k c → Gives m.state_bits m.fair m.defs → ((j : ℕ) (x : ℕ → Bool) → ReachedWithin c j x → BadBits c x → ⊥) → (xs : ℕ → ℕ → Bool) (n l : ℕ) → IsLasso m xs n l → IsFair m xs n l → ⊥ }
+{}
+
+/// A monitored run of at most `n` steps has more than `k` signals exactly where a bad state of the system
+/// counted up to `k` is reached in at most `n` steps. It does nothing: its contract is the law.
+pub fn signal_runs()
+    ensures { (sys m c : TransitionSystem) (f : Ltl) (atoms : List Lit) (k n : ℕ) → IsMonitor sys f atoms m → IsCounted m k c → Gives sys.state_bits sys.fair sys.defs → Gives m.state_bits m.fair m.defs → SignalsWithin sys f atoms n (k + 1) ↔ BadWithin c n }
+{}
+
+/// A counter up to one more has one bit more, the last; cut to the others, first states and steps are those
+/// of the counter before. It does nothing: its contract is the law.
+pub fn counters()
+    ensures bits { (m c d : TransitionSystem) (k : ℕ) → IsCounted m k c → IsCounted m (k + 1) d → d.state_bits ≡ c.state_bits + 1 }
+    ensures cut { (m c d : TransitionSystem) (k : ℕ) → IsCounted m k c → IsCounted m (k + 1) d → Gives m.state_bits m.fair m.defs → IsCut c d }
 {}

@@ -50,7 +50,8 @@ pub fn sum(a: usize, b: usize) -> Result<usize, AllocError>
 }
 
 impl Layout {
-    fn place(&self, space: Space, var: usize) -> Result<usize, AllocError>
+    // Where a variable goes.
+    pub fn place(&self, space: Space, var: usize) -> Result<usize, AllocError>
         ensures { IfOk result (λ v. v ≡ place self.now space var) }
     {
         match space {

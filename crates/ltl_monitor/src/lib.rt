@@ -9,11 +9,10 @@ pub mod law;
 mod layout;
 mod monitored_system;
 mod monitoring;
+mod projection;
 mod rules;
 
 pub use counting::counted;
 pub use monitored_system::Monitored;
 pub use monitoring::{atoms_below, monitored};
-
-#[cfg(test)]
-mod tests;
+pub use projection::own_row;

@@ -7,7 +7,7 @@ ghost use Rattle.ltl_monitor.specs.States.{AtomsBelow, IsMonitor};
 ghost use Rattle.ltl_monitor.specs.Assembly.{layout_of, draft_of};
 ghost use Rattle.ltl_monitor.specs.Drafting.{all_moved};
 
-use crate::assembly::{assemble, begin, copied, keep, layout_of, scene};
+use crate::assembly::{assemble, begin, copied, layout_of, scene};
 use crate::draft::{Draft, binary_bits, unary_bits};
 use crate::layout::{Layout, Space, sum};
 use crate::monitored_system::Monitored;
@@ -34,12 +34,13 @@ pub fn monitored(
     requires given { Gives system.now.state_bits atoms.now system.now.defs }
     ensures { IfOk result (λ m. IsMonitor system.now (formula_of formula.now.root) atoms.now m.system) }
 {
-    keep(system);
+    system.law();
     let nodes = count_nodes(&formula.root)?;
     let layout = layout_of(system, nodes)?;
     let draft = draft(alloc, layout, system, formula, atoms)?;
     let bad = copied(alloc, &layout, Space::System, system.bad())?;
-    let system = assemble(alloc, &layout, system, bad, &draft)?;
+    let good = copied(alloc, &layout, Space::System, system.good())?;
+    let system = assemble(alloc, &layout, system, bad, good, &draft)?;
     Ok(Monitored { system })
 }
 

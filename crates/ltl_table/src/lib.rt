@@ -8,5 +8,3 @@ mod operators;
 mod pointwise;
 mod rules;
 pub mod table;
-#[cfg(test)]
-mod tests;

@@ -1,7 +1,7 @@
 //! What a run meets outside itself: where its text comes from, where its lines go, and a gate for its workers.
 //!
 //! A fault of reading or writing is known by a count that the source or sink keeps: an answer that
-//! tells of a fault comes only where that count rose in the call.
+//! tells of a fault comes only where that count rose in the call, and any other answer leaves the count as it was.
 #![tactic(auto)]
 
 ghost use Rattle.std.specs.Prelude.{List, ℕ, Option};
@@ -12,8 +12,6 @@ ghost use Rattle.outside.specs.Causes.{HasReadCause, HasWriteCause};
 mod memory;
 mod streams;
 mod sure;
-#[cfg(test)]
-mod tests;
 
 pub use memory::{MemSink, MemSource};
 use std::sync::Wait;
@@ -42,14 +40,14 @@ pub trait Source {
     /// The bytes still to come, where the source tells them.
     ghost left: { Self → Option (List ℕ) };
 
-    /// How often a read has failed. It never falls, and stands still at the greatest `u64`.
+    /// How often a read has failed. It rises where a read fails and nowhere else, and stands still at the greatest `u64`.
     ghost faults: { Self → ℕ };
 
     /// Takes the next bytes into the front of `buf`.
     ///
     /// `Ok(n)` took the first `n` bytes that were left, at most as many as `buf` has room for.
     /// `Ok(0)` into a buffer that is not empty is the end: nothing is left.
-    /// `Err(Failed)` takes nothing, and comes only where the count of faults rose in this call.
+    /// `Err(Failed)` takes nothing, and comes only where the count of faults rose in this call. `Ok` leaves the count as it was.
     /// What `buf` holds past `n`, and after an error, is left open.
     fn read(&mut self, buf: &mut [u8]) -> Result<usize, Failed>
         ensures bound { ReadsAtMost result buf.new }
@@ -62,7 +60,7 @@ pub trait Sink {
     /// The bytes taken so far, where the sink tells them.
     ghost taken: { Self → Option (List ℕ) };
 
-    /// How often a write has failed. It never falls, and stands still at the greatest `u64`.
+    /// How often a write has failed, or taken nothing. It rises nowhere else, and stands still at the greatest `u64`.
     ghost faults: { Self → ℕ };
 
     /// Takes the first bytes of a piece.
@@ -71,6 +69,7 @@ pub trait Sink {
     /// `Err(Stop::Failed)`, and `Ok(0)` of a piece that is not empty, come only where the count of
     /// faults rose in this call; who writes a whole piece in turns takes both as a fault.
     /// `Err(Stop::NoMemory)` is the answer of a sink in memory that finds no room. An error takes nothing.
+    /// A write that takes some bytes, and one that finds no memory, leave the count as it was.
     fn write(&mut self, bytes: &[u8]) -> Result<usize, Stop>
         ensures bound { WritesAtMost result bytes.now }
         ensures bytes { WriteAppends (taken self.old) (taken self.new) result bytes.now }

@@ -6,11 +6,7 @@ pub mod OfOr
 pub mod OfMaybe
 pub mod OfTo
 pub mod OfMany
-pub mod OfBind
-pub mod OfAfter
 pub mod OfNamed
-pub mod Level
-pub mod OfLanguage
 pub mod Alike
 pub mod Loops
 pub mod OfLevels

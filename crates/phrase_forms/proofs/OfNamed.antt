@@ -19,6 +19,3 @@ named_lawful {T} {A} {f} {m} {F} w = record {
   some = w.lawful.some;
   starts = λ k ts a rest y. elim (w.lawful.starts k ts a rest y) [ inl s ↦ inl (head_within F.first f ts w.first s) | inr n ↦ absurd (let a = n.0 in let b = w.full in cc) ];
 }
-
-pub fine_named : {T A : Type 0} {f m : T → Bool} {F : Form T A} → Fine f m F → Fine f m (named f m F)
-fine_named w = record { lawful = named_lawful w; first = λ t e. e; more = λ t e. e; full = refl }

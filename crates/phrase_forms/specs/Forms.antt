@@ -1,4 +1,20 @@
 -- Forms: what a phrase spells, and how it is read from the front of the tokens.
+--
+-- A form is one phrase of a language, seen twice: `yields` says what tokens spell, `parse` reads them. A worked line, of a
+-- number of `!`, a name, and an index or none, where `room` more levels may be opened:
+--
+--     named_by room = many bang ⨾ name ⨾ maybe (token (is_zero room) is_left ▹ number ◃ right)
+--
+-- - firsts (`first`): the tokens that a phrase may begin with, here `!` and a name. `or`, `maybe` and `many` read on where
+--   the next token is among them, and need no look further.
+-- - followers (`more`): the tokens that may go on a phrase that could end where they stand, here `[` alone, behind the name.
+--   `many bang` has the follower `!`; it may be followed by a name, since no name is among its followers.
+-- - `closed`, the first argument of `token`: the token opens a level, and no room is left for one. `parse` refuses it there
+--   as too deep. `yields k` lets it stand in the last k tokens alone, so that one can say where the first level too many is
+--   opened; with as many as there are tokens, and so where any depth will do, it is an ordinary token.
+--
+-- None of the three changes what is spelled. They are how `parse` chooses, and where they are wrong for a language, its
+-- laws (`Lawful`: what is read is spelled, what is spelled is read, and so on) have no proof.
 use Rattle.std.specs.Prelude.{◌≡◌, ℕ, zero, suc, Bool, true, false, cond, ◌&&◌, ◌||◌, ◌⊎◌, List, [], ◌∷◌, length, ◌≤◌, Option, Some, None, Result, Ok, Err}
 use Rattle.phrase_forms.specs.declared.fault.Fault.{Fault}
 use Rattle.phrase_forms.specs.declared.fault.Fault.TheVariants.{Unexpected, TooDeep}
@@ -116,34 +132,6 @@ infixr 20 ◌◃◌
 abbrev pub ◌◃◌ : {T A B : Type 0} → Form T A → Form T B → Form T A
 a ◃ b = to (λ x. x.0) (then a b)
 
--- a, and then the form that its value asks for, which m may go on
-abbrev pub bind : {T A B : Type 0} → Form T A → (T → Bool) → (A → Form T B) → Form T (A × B)
-bind {T} {A} {B} a m b = record {
-  yields = λ k ts x rest. (mid : List T) × a.yields k ts x.0 mid × (b x.0).yields k mid x.1 rest;
-  parse = λ ts. a.parse ts >>= λ x. (b x.0).parse x.1 >>= λ y. Ok ((x.0, y.0), y.1);
-  first = a.first;
-  more = m;
-  nullable = false;
-}
-
--- nothing, for this value
-abbrev pub pure : {T A : Type 0} → A → Form T A
-pure x = record { yields = λ k ts a rest. (a ≡ x) × (ts ≡ rest); parse = λ ts. Ok (x, ts); first = λ t. false; more = λ t. false; nullable = true }
-
--- a, and then the form that its value asks for: each begins with f, is gone on by m, and may be empty where n says
-abbrev pub after : {T A B : Type 0} → Form T A → (T → Bool) → (T → Bool) → Bool → (A → Form T B) → Form T (A × B)
-after {T} {A} {B} a f m n b = record {
-  yields = λ k ts x rest. (mid : List T) × a.yields k ts x.0 mid × (b x.0).yields k mid x.1 rest;
-  parse = λ ts. a.parse ts >>= λ x. (b x.0).parse x.1 >>= λ y. Ok ((x.0, y.0), y.1);
-  first = λ t. a.first t || (a.nullable && f t);
-  more = λ t. m t || (n && a.more t);
-  nullable = a.nullable && n;
-}
-
 -- a form that is not empty, with these sets of tokens that it begins with and that go on it
 abbrev pub named : {T A : Type 0} → (T → Bool) → (T → Bool) → Form T A → Form T A
 named f m a = record { yields = a.yields; parse = a.parse; first = f; more = m; nullable = false }
-
--- no token
-abbrev pub no_token : {T : Type 0} → T → Bool
-no_token t = false

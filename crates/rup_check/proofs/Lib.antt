@@ -1,1 +1,4 @@
+mod Keeping
+mod Leading
 mod Rounds
+mod Walking

@@ -7,8 +7,8 @@ use Rattle.clause_core.specs.declared.literal.Lit.{Lit}
 use Rattle.clause_core.specs.Literals.{negate}
 use Rattle.clause_core.specs.Propagation.{AllFalse, Settled, HasConflict, Follows}
 use Rattle.clause_core.proofs.Lists.{not_not}
-use Rattle.unit_propagation.specs.Values.{code, holds, Includes, Grows}
-use Rattle.unit_propagation.proofs.Setting.{holds_not_both, Grows-set, Includes-set, AllFalse-grows}
+use Rattle.clause_core.specs.Values.{code, holds, Includes, Grows}
+use Rattle.clause_core.proofs.Setting.{holds_not_both, Grows-set, Includes-set, AllFalse-grows}
 use Rattle.rup_check.specs.Passes.{PassSoFar}
 
 pub pass_rest : (old v : List ℕ) (cs : List (List Lit)) (i : ℕ) (d : List Lit) (b : Bool) → i < length cs →

@@ -1,2 +1,4 @@
+pub mod Chains
 pub mod Passes
+pub mod Searches
 pub mod Verdicts

@@ -3,7 +3,7 @@ use Rattle.std.specs.Prelude.{◌≡◌, ℕ, ◌<◌, Bool, true, false, List, 
 use Rattle.clause_core.specs.declared.literal.Lit.{Lit}
 use Rattle.clause_core.specs.Literals.{negate}
 use Rattle.clause_core.specs.Propagation.{AllFalse, Settled}
-use Rattle.unit_propagation.specs.Values.{holds, Includes, unset}
+use Rattle.clause_core.specs.Values.{holds, Includes, unset}
 use Rattle.rup_check.specs.declared.passes.Pass.{Pass}
 use Rattle.rup_check.specs.declared.passes.Pass.TheVariants.{Conflict, Changed, Still}
 

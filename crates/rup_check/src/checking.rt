@@ -1,9 +1,14 @@
-ghost use Rattle.std.specs.Prelude.{◌≡◌, ◌<◌, All, length, IfOk};
+ghost use Rattle.std.specs.Prelude.{◌≡◌, ◌<◌, ◌++◌, All, length, IfOk};
 ghost use Rattle.clause_core.specs.Literals.{Within};
+ghost use Rattle.rup_check.specs.Chains.{units_of, HintedVerdict};
+ghost use Rattle.rup_check.specs.Searches.{HintsSay};
 ghost use Rattle.rup_check.specs.Verdicts.{VerdictSays};
 
 use crate::following::follows;
-use clause_core::{Clauses, Log, is_within};
+use crate::searching::find_hints;
+use crate::steps::check_steps;
+use clause_core::{Clauses, Lit, Log, is_within};
+use hinted_log::Hinted;
 use std::alloc::{AllocError, Global};
 use std::marker::Model;
 
@@ -14,6 +19,15 @@ pub enum Verdict {
     Yes,
     /// This is the first step that does not follow; or, with the log's length, its last step is not empty
     /// or it has none.
+    No { step: usize },
+}
+
+/// What a look for hints gives.
+#[derive(Drop)]
+pub enum Hints {
+    /// The log's steps with their hints, without those that have a literal and its negation.
+    Found(Hinted),
+    /// The log fails first at this step, as `Checker::check` says it.
     No { step: usize },
 }
 
@@ -29,6 +43,10 @@ impl Model for Checker {
     ghost Value = { ℕ };
 
     ghost view = { λ c. length c.values.items };
+
+    ghost use Rattle.rup_check.specs.Chains.{IsClear};
+
+    ghost invariant = { λ c. IsClear c.values.items };
 }
 
 impl Checker {
@@ -53,7 +71,55 @@ impl Checker {
         ensures vars { self.new ≡ self.old }
         ensures says { VerdictSays self.old clauses.now log.now result }
     {
-        check_log(&mut self.values, clauses, log)
+        let verdict = check_log(&mut self.values, clauses, log);
+        self.values.fill(0);
+        verdict
+    }
+
+    /// Whether the steps follow by their hints from the clauses, and the last is empty: `Yes` exactly where
+    /// it is so, and `No` exactly with the first step that fails, or with the number of steps where each
+    /// follows and the last is not empty or there is none. A step with a literal past the variables does
+    /// not follow.
+    ///
+    /// Takes no memory. Its time is that of a few looks at each literal of the steps and of the clauses
+    /// that they name.
+    pub fn check_hinted(&mut self, clauses: &Clauses, log: &Hinted) -> Verdict
+        requires { All (Within self.old) clauses.now }
+        ensures vars { self.new ≡ self.old }
+        ensures says { HintedVerdict self.old clauses.now log.now result }
+    {
+        check_steps(&mut self.values, clauses, &[], log)
+    }
+
+    /// The hints by which the log's steps follow from the clauses and the units behind them: `No` exactly
+    /// where `check` says it, with the same step. More clauses than the greatest `usize` count as want of
+    /// memory.
+    pub fn hints(
+        &mut self,
+        alloc: Global,
+        clauses: &Clauses,
+        units: &[Lit],
+        log: &Log,
+    ) -> Result<Hints, AllocError>
+        requires clauses { All (Within self.old) clauses.now }
+        requires units { Within self.old units.now }
+        ensures vars { self.new ≡ self.old }
+        ensures says { IfOk result (HintsSay self.old (clauses.now ++ units_of units.now) log.now) }
+    {
+        let found = find_hints(alloc, &mut self.values, clauses, units, log);
+        self.values.fill(0);
+        found
+    }
+
+    /// The same as `check_hinted` from the clauses with a clause of one literal for each of the units behind them, numbered
+    /// through.
+    pub fn check_hinted_with(&mut self, clauses: &Clauses, units: &[Lit], log: &Hinted) -> Verdict
+        requires clauses { All (Within self.old) clauses.now }
+        requires units { Within self.old units.now }
+        ensures vars { self.new ≡ self.old }
+        ensures says { HintedVerdict self.old (clauses.now ++ units_of units.now) log.now result }
+    {
+        check_steps(&mut self.values, clauses, units, log)
     }
 }
 

@@ -4,8 +4,7 @@ ghost use Rattle.clause_core.specs.Propagation.{Follows};
 ghost use Rattle.rup_check.specs.Passes.{AssumeSays};
 
 use crate::passes::{Pass, pass_over};
-use clause_core::{Clauses, Lit, Log};
-use unit_propagation::{is_set, set};
+use clause_core::{Clauses, Lit, Log, is_set, set};
 
 // Sets each literal of the clause false, and no other. True: it has a literal and its negation.
 fn assume_false(values: &mut [u8], c: &[Lit]) -> bool

@@ -1,10 +1,9 @@
 ghost use Rattle.std.specs.Prelude.{◌≤◌, All, length, take};
 ghost use Rattle.clause_core.specs.Literals.{Within};
-ghost use Rattle.unit_propagation.specs.Values.{Consequent, Grows, unset};
+ghost use Rattle.clause_core.specs.Values.{Consequent, Grows, unset};
 ghost use Rattle.rup_check.specs.Passes.{PassSays};
 
-use clause_core::Clauses;
-use unit_propagation::{Scan, scan_clause, set};
+use clause_core::{Clauses, Scan, scan_clause, set};
 
 // What a pass over clauses found.
 #[derive(Clone, Copy, Drop)]

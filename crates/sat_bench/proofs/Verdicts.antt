@@ -7,7 +7,7 @@ use Rattle.clause_core.specs.Assignments.{assignment_of, ClauseTrue}
 use Rattle.clause_core.proofs.Sound.{refutes}
 use Rattle.sat_core.specs.declared.answer.Answer.{Answer}
 use Rattle.sat_core.specs.declared.answer.Answer.TheVariants.{Sat, Unsat, Spent}
-use Rattle.sat_core.specs.Queries.{AnswerSays, units}
+use Rattle.sat_core.specs.Queries.{AnswerSays, units, log_of}
 use Rattle.sat_bench.specs.Verdicts.{verdict_of, VerdictSays}
 
 -- where no literal is assumed, the clauses of a core are true, since there are none
@@ -18,9 +18,9 @@ core_true a core parts =
     All-map (ClauseTrue a) (λ l. l ∷ []) core (λ k d lt. (0, get_or core k d, omega arith, refl, All-contains P [] (get_or core k d) on (parts k d lt)))
 
 -- a right answer gives a right verdict
-pub right : (vars : ℕ) (cs : List (List Lit)) (budget conflicts : ℕ) (over : Bool) (answer : Answer) → AnswerSays vars cs [] budget over answer →
+pub right : (vars : ℕ) (cs learned : List (List Lit)) (budget conflicts : ℕ) (over : Bool) (answer : Answer) → AnswerSays vars cs learned [] budget over answer →
     (over ≡ true → conflicts ≡ budget - 1) → VerdictSays cs budget conflicts (verdict_of answer)
-right vars cs budget conflicts over (Sat model) said paid = (assignment_of model, said.1.0)
-right vars cs budget conflicts over (Unsat core log) said paid = λ a holds.
-    refutes vars (cs ++ units core.items) log said.1 a (All-append (ClauseTrue a) cs (units core.items) holds (core_true a core.items said.0))
-right vars cs budget conflicts over (Spent drawn b) said paid = paid said.2
+right vars cs learned budget conflicts over (Sat model) said paid = (assignment_of model, said.1.0)
+right vars cs learned budget conflicts over (Unsat core) said paid = λ a holds.
+    refutes vars (cs ++ units core.items) (log_of learned) said.1 a (All-append (ClauseTrue a) cs (units core.items) holds (core_true a core.items said.0))
+right vars cs learned budget conflicts over (Spent drawn b) said paid = paid said.2

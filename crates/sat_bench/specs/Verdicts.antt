@@ -11,7 +11,7 @@ use Rattle.sat_bench.specs.declared.solving.Outcome.{Outcome}
 -- the verdict that a solver's answer gives
 abbrev pub verdict_of : Answer → Verdict
 verdict_of (Sat model) = Satisfiable
-verdict_of (Unsat core log) = Unsatisfiable
+verdict_of (Unsat core) = Unsatisfiable
 verdict_of (Spent drawn budget) = Unknown
 
 -- the verdict is right: some assignment makes the clauses true; or none does; or each ticket of the budget was drawn, the

@@ -9,7 +9,7 @@ use Rattle.clause_core.specs.Literals.{negate, none_lit, at, Within}
 use Rattle.clause_core.specs.Propagation.{AllFalse}
 use Rattle.sat_prop.specs.Trails.{Forced}
 use Rattle.sat_core.specs.Positions.{Marked}
-use Rattle.unit_propagation.specs.Values.{code, holds, unset, unset_one}
+use Rattle.clause_core.specs.Values.{code, holds, unset, unset_one}
 use Rattle.clause_core.specs.Propagation.{Reaches, Conflicting, DecisionsOpen}
 use Rattle.sat_prop.specs.declared.trail.Trail.{Trail}
 use Rattle.sat_prop.specs.Trails.{among, AtRest, FalseOn, Based, DecisionsBegin, reason_at}

@@ -5,6 +5,8 @@ pub mod Levels
 pub mod Marked
 pub mod Marking
 pub mod Origins
+pub mod Payments
 pub mod Reasons
 pub mod Results
+pub mod Seeing
 pub mod Shortening

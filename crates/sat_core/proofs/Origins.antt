@@ -1,5 +1,5 @@
 -- Which clauses were given, and which learned.
-use Rattle.std.proofs.Common.{◌≡◌, ◌<◌, ◌≤◌, Bool, true, false, List, [], ◌∷◌, ◌++◌, length, get_or, refl, ap, arith}
+use Rattle.std.proofs.Common.{◌≡◌, ℕ, ◌<◌, ◌≤◌, ◌+◌, Bool, true, false, List, [], ◌∷◌, ◌++◌, length, get_or, refl, sym, ap, ◌∙◌, arith, length-append}
 use Rattle.std.specs.List.{All, Contains}
 use Rattle.std.proofs.lemmas.List.Elements.{All-append, All-weaker, All-contains, All-contains_itself, All-nil, All-cons, Contains-append_left, Contains-append_right}
 use Rattle.clause_core.specs.declared.literal.Lit.{Lit}
@@ -46,6 +46,23 @@ learned_push [] (d ∷ cs) c e = absurd (omega (arith, e))
 learned_push (mark ∷ marks) [] c e = absurd (omega (arith, e))
 learned_push (true ∷ marks) (d ∷ cs) c e = learned_push marks cs c (omega (arith, e))
 learned_push (false ∷ marks) (d ∷ cs) c e = ap (λ ys. d ∷ ys) (learned_push marks cs c (omega (arith, e)))
+
+-- each clause was given or learned
+pub count_both : (marks : List Bool) (cs : List (List Lit)) → length (given_of marks cs) + length (learned_of marks cs) ≡ length cs
+count_both [] cs = omega arith
+count_both (mark ∷ marks) [] = omega arith
+count_both (true ∷ marks) (c ∷ cs) = omega (arith, count_both marks cs)
+count_both (false ∷ marks) (c ∷ cs) = omega (arith, count_both marks cs)
+
+-- how many were given, where the marks say the same, and where one more is marked so
+pub count_same : (n : ℕ) (old new : List Bool) (cs cs' : List (List Lit)) → n ≡ length (given_of old cs) → SameMarks old new cs → cs' ≡ cs → n ≡ length (given_of new cs')
+count_same n old new cs cs' count same e = count ∙ ap length (sym same.0) ∙ ap (λ xs. length (given_of new xs)) (sym e)
+
+pub count_add : (n : ℕ) (old ms new : List Bool) (cs cs' : List (List Lit)) (c : List Lit) → n ≡ length (given_of old cs) → SameMarks old ms cs → length ms ≡ length cs →
+    cs' ≡ cs ++ c ∷ [] → new ≡ ms ++ true ∷ [] → n + 1 ≡ length (given_of new cs')
+count_add n old ms new cs cs' c count same full grown marked =
+    let e : given_of new cs' ≡ given_of ms cs ++ c ∷ [] = ap (λ m. given_of m cs') marked ∙ ap (given_of (ms ++ true ∷ [])) grown ∙ given_push ms cs c full in
+    omega (arith, count, ap length same.0, ap length e, length-append (given_of ms cs) (c ∷ []))
 
 pub learned_nil : (marks : List Bool) → learned_of marks [] ≡ []
 learned_nil [] = refl

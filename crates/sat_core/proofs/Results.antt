@@ -12,7 +12,7 @@ use Rattle.clause_core.specs.Propagation.{UnitIn, Closed, HasConflict, Follows, 
 use Rattle.clause_core.specs.Assignments.{ClauseTrue, assignment_of}
 use Rattle.clause_core.specs.Derivations.{AllStepsBelow, Derives}
 use Rattle.clause_core.specs.Learning.{Asserting}
-use Rattle.unit_propagation.specs.Values.{holds, code}
+use Rattle.clause_core.specs.Values.{holds, code}
 use Rattle.clause_core.proofs.Sound.{clause_cases, agrees_from, agrees_not_both}
 use Rattle.sat_prop.specs.declared.trail.Trail.{Trail}
 use Rattle.sat_prop.specs.Trails.{among, AtRest}

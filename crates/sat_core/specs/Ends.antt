@@ -1,10 +1,11 @@
 -- What the steps of the search say.
-use Rattle.std.specs.Prelude.{◌≡◌, ℕ, Bool, true, false, List, Contains, All}
+use Rattle.std.specs.Prelude.{◌≡◌, ℕ, ◌≤◌, Bool, true, false, List, length, take, Contains, All}
 use Rattle.clause_core.specs.declared.literal.Lit.{Lit}
 use Rattle.clause_core.specs.Literals.{negate}
 use Rattle.sat_prop.specs.Trails.{among, AtRest}
 use Rattle.sat_core.specs.declared.search.Next.{Next}
 use Rattle.sat_core.specs.declared.search.Next.TheVariants.{AllTrue, Decide, Fails}
+use Rattle.sat_core.specs.declared.search.Seen.{Seen}
 use Rattle.sat_core.specs.declared.search.Outcome.{Outcome}
 use Rattle.sat_core.specs.declared.search.Outcome.TheVariants.{Sat, Unsat, Spent}
 use Rattle.sat_core.specs.Searching.{Refutes, AllSet}
@@ -14,6 +15,11 @@ abbrev pub NextSays : List Lit → List Lit → Next → Type 0
 NextSays literals assumptions AllTrue = All (λ a. among literals a ≡ true) assumptions
 NextSays literals assumptions (Decide l) = Contains assumptions l × (among literals l ≡ false) × (among literals (negate l) ≡ false)
 NextSays literals assumptions (Fails a) = Contains assumptions a × (among literals (negate a) ≡ true)
+
+-- the first `count` assumptions are true, by the first `until` literals of the trail
+abbrev pub IsSeen : List Lit → List Lit → Seen → Type 0
+IsSeen literals assumptions seen =
+    (seen.until ≤ length literals) × All (λ a. among (take seen.until literals) a ≡ true) (take seen.count assumptions)
 
 -- how a search ended: with all set and nothing left to do; with a core of the assumptions; or with a spent purse
 abbrev pub OutcomeSays : ℕ → List Lit → ℕ → Bool → List (List Lit) → List Lit → Outcome → Type 0

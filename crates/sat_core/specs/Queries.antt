@@ -67,17 +67,21 @@ IsModel cs assumptions values =
 abbrev pub units : List Lit → List (List Lit)
 units literals = map (λ l. l ∷ []) literals
 
--- the answer is right: `budget` is the purse's, and `over` says whether the purse is spent afterwards
-abbrev pub AnswerSays : ℕ → List (List Lit) → List Lit → ℕ → Bool → Answer → Type 0
-AnswerSays vars given assumptions budget over (Sat model) = (length model ≡ vars) × IsModel given assumptions model
-AnswerSays vars given assumptions budget over (Unsat core log) =
-    All (Contains assumptions) core.items × Derives vars (given ++ units core.items) log
-AnswerSays vars given assumptions budget over (Spent d b) = (d ≡ budget) × (b ≡ budget) × (over ≡ true)
+-- the derivation that these learned clauses and the empty clause are
+abbrev pub log_of : List (List Lit) → List (List Lit)
+log_of learned = learned ++ [] ∷ []
+
+-- the answer is right, where these clauses were learned by then: `budget` is the purse's, and `over` says whether the purse is spent afterwards
+abbrev pub AnswerSays : ℕ → List (List Lit) → List (List Lit) → List Lit → ℕ → Bool → Answer → Type 0
+AnswerSays vars given learned assumptions budget over (Sat model) = (length model ≡ vars) × IsModel given assumptions model
+AnswerSays vars given learned assumptions budget over (Unsat core) =
+    All (Contains assumptions) core.items × Derives vars (given ++ units core.items) (log_of learned)
+AnswerSays vars given learned assumptions budget over (Spent d b) = (d ≡ budget) × (b ≡ budget) × (over ≡ true)
 
 -- the answer is that the purse was spent
 abbrev pub IsSpent : Answer → Type 0
 IsSpent (Sat model) = ⊥
-IsSpent (Unsat core log) = ⊥
+IsSpent (Unsat core) = ⊥
 IsSpent (Spent d b) = ⊤
 
 -- so many tickets were drawn

@@ -8,7 +8,8 @@ use Rattle.clause_core.specs.Propagation.{Holds, Reaches, Conflicting, Decisions
 use Rattle.clause_core.specs.Learning.{Asserting}
 use Rattle.sat_prop.specs.declared.trail.Trail.{Trail}
 use Rattle.sat_prop.specs.Trails.{is_literal, among, reason_at, AtRest}
-use Rattle.sat_core.specs.Queries.{IsLearned, IsSound, given_of, learned_of, state_of}
+use Rattle.sat_core.specs.Queries.{IsLearned, IsSound, Draws, given_of, learned_of, state_of}
+use Rattle.sat_core.specs.Paying.{LearnedInTurn}
 
 -- the decisions of the trail
 abbrev pub decided : List Lit → List ℕ → List Lit
@@ -127,6 +128,16 @@ AllSet vars literals = (l : Lit) → l.var < vars → among literals l ≡ true 
 -- a ticket was drawn for each clause that was learned
 abbrev pub PaidFor : List ℕ → List ℕ → List (List Lit) → List (List Lit) → Type 0
 PaidFor before after cs cs' = (drawn : List ℕ) × (after ≡ before ++ drawn) × (length cs' ≡ length cs + length drawn)
+
+-- clauses were learned one after another and paid for by a ticket each; the first of them, in number `kept`, came to the
+-- clauses
+abbrev pub PaysInTurn : ℕ → List Lit → List (List Lit) → List (List Lit) → List ℕ → List ℕ → Type 0
+PaysInTurn vars assumptions old new before after =
+    (learned : List (List Lit))
+    × (kept : ℕ)
+    × LearnedInTurn vars assumptions old learned
+    × (new ≡ old ++ take kept learned)
+    × Draws before after (length learned)
 
 -- what a solver keeps of the marks that tell which of its clauses were given
 pub record Keeps (vars : ℕ) (marks : List Bool) (cs : List (List Lit)) : Type 0 where

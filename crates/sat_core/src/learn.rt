@@ -72,7 +72,7 @@ fn jump_level(starts: &[usize], low: &[usize], best: usize, stay: bool) -> usize
 }
 
 // What a conflict teaches.
-fn analyze<P: Propagator>(
+pub fn analyze<P: Propagator>(
     alloc: Global,
     inner: &P,
     k: usize,
@@ -105,22 +105,22 @@ fn analyze<P: Propagator>(
     })
 }
 
-// Learns from a conflict, and goes back.
-pub fn learn_from<P: Propagator>(
-    alloc: Global,
+// Goes back as far as a lesson says, and adds its clause.
+pub fn follow<P: Propagator>(
     inner: &mut P,
-    k: usize,
     order: &mut Order,
+    lesson: &Lesson,
 ) -> Result<(), AllocError>
-    requires conflict { FalseClause (P.clauses inner.old) (P.trail inner.old) k }
-    requires level { 0 < length (P.trail inner.old).starts.items }
+    requires within { Within (length (P.trail inner.old).values.items) lesson.now.clause.items }
+    requires learned { LearnedFrom (P.clauses inner.old) (decided (P.trail inner.old).literals.items (P.trail inner.old).starts.items) lesson.now.clause.items }
+    requires level_in { lesson.now.level < length (P.trail inner.old).starts.items }
+    requires watch { WatchBelow (P.trail inner.old).literals.items (P.trail inner.old).starts.items lesson.now.level lesson.now.clause.items lesson.now.second }
+    requires settled { SettledBelow (P.trail inner.old).literals.items (P.trail inner.old).starts.items lesson.now.level lesson.now.clause.items }
     requires rest { PerLevel (λ low _. AtRest (P.clauses inner.old) low) (P.trail inner.old).literals.items (P.trail inner.old).starts.items }
     ensures done { OnOk result (LearnSays (length (P.trail inner.old).values.items) (P.clauses inner.old) (P.trail inner.old).literals.items (P.trail inner.old).starts.items (P.clauses inner.new) (P.trail inner.new).literals.items (P.trail inner.new).starts.items) }
     ensures failed { OnErr result (P.clauses inner.new ≡ P.clauses inner.old) }
     ensures vars { length (P.trail inner.new).values.items ≡ length (P.trail inner.old).values.items }
 {
-    order.bump_all(inner.clause(k));
-    let lesson = analyze(alloc, inner, k, order)?;
     order.keep(inner.assignment(), lesson.level)?;
     inner.undo(lesson.level);
     inner.learn(&lesson.clause, lesson.second)?;

@@ -10,8 +10,6 @@ mod query;
 mod search;
 mod shorten;
 mod solver;
-#[cfg(test)]
-mod tests;
 
 pub use answer::Answer;
 pub use solver::Solver;

@@ -13,6 +13,10 @@ pub struct Order {
     slot: Vec<usize>,
     activity: Vec<u64>,
     phase: Vec<bool>,
+    // Which variables are decided only once all others are set; the list of these, and how many of it are set for now.
+    is_last: Vec<bool>,
+    last: Vec<usize>,
+    passed: usize,
     // What a variable's activity gains.
     step: u64,
     // Which restart comes next, and after how many conflicts.
@@ -30,6 +34,11 @@ fn put(v: &mut [usize], i: usize, x: usize) {
     if i < v.len() {
         v[i] = x;
     }
+}
+
+// Whether the variable is marked.
+fn is_on(v: &[bool], i: usize) -> bool {
+    if i < v.len() { v[i] } else { false }
 }
 
 // A variable's activity, 0 for one that is not there.
@@ -74,11 +83,15 @@ impl Order {
         }
         let activity = vec![in alloc; 0; vars]?;
         let phase = vec![in alloc; false; vars]?;
+        let is_last = vec![in alloc; false; vars]?;
         Ok(Order {
             heap,
             slot,
             activity,
             phase,
+            is_last,
+            last: Vec::new(alloc),
+            passed: 0,
             step: 1,
             round: 1,
             left: 64,
@@ -138,7 +151,7 @@ impl Order {
     }
 
     // Takes the most active variable out of the heap.
-    pub fn pop(&mut self) -> Option<usize> {
+    fn pop(&mut self) -> Option<usize> {
         let top = entry(&self.heap, 0);
         match self.heap.pop() {
             None => None,
@@ -151,6 +164,57 @@ impl Order {
                 }
                 Some(top)
             }
+        }
+    }
+
+    // The next variable of those that are decided last, as long as each before it is set.
+    fn pop_last(&mut self) -> Option<usize> {
+        if self.passed < self.last.len() {
+            let v = self.last[self.passed];
+            self.passed += 1;
+            Some(v)
+        } else {
+            None
+        }
+    }
+
+    // The variable to be decided next: the most active one, and those that come last once there is no other.
+    pub fn next(&mut self) -> Option<usize> {
+        let n = self.heap.len();
+        for _ in 0..n {
+            match self.pop() {
+                None => break,
+                Some(v) => {
+                    if !is_on(&self.is_last, v) {
+                        return Some(v);
+                    }
+                }
+            }
+        }
+        self.pop_last()
+    }
+
+    // From now on this variable is decided once all others are set, and made false.
+    pub fn put_last(&mut self, v: usize) -> Result<(), AllocError> {
+        if v < self.is_last.len() && v < self.phase.len() && !self.is_last[v] {
+            self.last.push(v)?;
+            self.is_last[v] = true;
+            self.phase[v] = false;
+        }
+        Ok(())
+    }
+
+    // The sign that a variable gets when it is decided next.
+    pub fn set_sign(&mut self, v: usize, positive: bool) {
+        if v < self.phase.len() {
+            self.phase[v] = positive;
+        }
+    }
+
+    // Makes a variable as active as one that came up in so many late conflicts.
+    pub fn raise(&mut self, v: usize, conflicts: u64) {
+        for _ in 0..conflicts {
+            self.bump(v);
         }
     }
 
@@ -221,10 +285,11 @@ impl Order {
     // Notes the signs of the literals from a level on, which are about to be unset, and puts their variables back
     // into the heap.
     pub fn keep(&mut self, trail: &Trail, level: usize) -> Result<(), AllocError> {
+        self.passed = 0;
         if level < trail.starts.len() {
             for p in trail.starts[level]..trail.literals.len() {
                 let l = trail.literals[p];
-                if l.var < self.phase.len() {
+                if l.var < self.phase.len() && !is_on(&self.is_last, l.var) {
                     self.phase[l.var] = l.positive;
                     if entry(&self.slot, l.var) == 0 {
                         let n = self.heap.len();

@@ -1,7 +1,8 @@
 ghost use Rattle.std.specs.Prelude.{◌≡◌, ◌≤◌, ◌-◌, ◌+◌, List, [], ◌∷◌, ◌++◌, false, IfOk, OnOk, OnErr, length, map, eqb, slice_index_or};
 ghost use Rattle.clause_core.specs.declared.literal.Lit.{Lit};
 ghost use Rattle.clause_core.specs.Literals.{Within};
-ghost use Rattle.sat_core.specs.Queries.{state_of, learned_of, Learns, AnswerSays, IsPaid, Draws};
+ghost use Rattle.sat_core.specs.Queries.{state_of, given_of, learned_of, Learns, AnswerSays, IsPaid, Draws};
+ghost use Rattle.sat_core.specs.Paying.{PaysForLearned, PaysForOne};
 ghost use Rattle.sat_core.specs.Searching.{Keeps, SameMarks};
 ghost use Rattle.sat_core.specs.Ends.{OutcomeSays};
 
@@ -26,19 +27,25 @@ fn mark_learned(marks: &mut Vec<bool>, n: usize) -> Result<(), AllocError>
     Ok(())
 }
 
-// Adds a clause, and the mark that it was given.
+// Adds a clause, and the mark that it was given; `given` counts those that were.
 pub fn add_on<P: Propagator>(
     inner: &mut P,
     marks: &mut Vec<bool>,
+    given: &mut usize,
     order: &mut Order,
     c: &[Lit],
 ) -> Result<(), AllocError>
     requires within { Within (length (P.trail inner.old).values.items) c.now }
     requires keeps { Keeps (length (P.trail inner.old).values.items) marks.old.items (P.clauses inner.old) }
+    requires count { given.old ≡ length (given_of marks.old.items (P.clauses inner.old)) }
     ensures keeps { Keeps (length (P.trail inner.new).values.items) marks.new.items (P.clauses inner.new) }
+    ensures count { given.new ≡ length (given_of marks.new.items (P.clauses inner.new)) }
     ensures done { OnOk result (state_of (length (P.trail inner.new).values.items) marks.new.items (P.clauses inner.new) ≡ record (state_of (length (P.trail inner.old).values.items) marks.old.items (P.clauses inner.old)) { given = (state_of (length (P.trail inner.old).values.items) marks.old.items (P.clauses inner.old)).given ++ c.now ∷ [] }) }
     ensures failed { OnErr result (state_of (length (P.trail inner.new).values.items) marks.new.items (P.clauses inner.new) ≡ state_of (length (P.trail inner.old).values.items) marks.old.items (P.clauses inner.old)) }
 {
+    if *given == usize::MAX {
+        return Err(AllocError);
+    }
     restart(inner, order)?;
     let n = inner.clause_count();
     mark_learned(marks, n)?;
@@ -47,6 +54,7 @@ pub fn add_on<P: Propagator>(
         marks.truncate(n);
         return Err(e);
     }
+    *given += 1;
     Ok(())
 }
 
@@ -68,8 +76,16 @@ fn is_given(marks: &[bool], k: usize) -> bool
     if k < marks.len() { marks[k] } else { false }
 }
 
+// How many clauses are not marked as given.
+pub fn learned_count<P: Propagator>(inner: &P, given: usize, marks: &[bool]) -> usize
+    requires { given ≡ length (given_of marks.now (P.clauses inner.now)) }
+    ensures { result ≡ length (learned_of marks.now (P.clauses inner.now)) }
+{
+    inner.clause_count() - given
+}
+
 // The learned clauses, and the empty one.
-fn log_of<P: Propagator>(alloc: Global, inner: &P, marks: &[bool]) -> Result<Log, AllocError>
+pub fn log_of<P: Propagator>(alloc: Global, inner: &P, marks: &[bool]) -> Result<Log, AllocError>
     ensures { IfOk result (λ log. log ≡ learned_of marks.now (P.clauses inner.now) ++ [] ∷ []) }
 {
     let mut log = Clauses::new(alloc);
@@ -100,6 +116,7 @@ fn run<P: Propagator, Q: Purse>(
     ensures ready { Q.ready purse.new }
     ensures budget { Q.budget purse.new ≡ Q.budget purse.old }
     ensures paid { IfOk result (λ _. Draws (Q.tickets purse.old) (Q.tickets purse.new) (length (learned_of marks.now (P.clauses inner.new)) - length (learned_of marks.now (P.clauses inner.old)))) }
+    ensures log { PaysForLearned (state_of (length (P.trail inner.old).values.items) marks.now (P.clauses inner.old)) assumptions.now (state_of (length (P.trail inner.new).values.items) marks.now (P.clauses inner.new)) (Q.tickets purse.old) (Q.tickets purse.new) }
     ensures says { IfOk result (OutcomeSays (length (P.trail inner.new).values.items) assumptions.now (Q.budget purse.old) (Q.spent purse.new) (P.clauses inner.new) (P.trail inner.new).literals.items) }
 {
     search(alloc, inner, assumptions, purse, order)
@@ -123,17 +140,15 @@ fn answer<P: Propagator, Q: Purse>(
     ensures ready { Q.ready purse.new }
     ensures budget { Q.budget purse.new ≡ Q.budget purse.old }
     ensures paid { IfOk result (λ _. Draws (Q.tickets purse.old) (Q.tickets purse.new) (length (learned_of marks.now (P.clauses inner.new)) - length (learned_of marks.now (P.clauses inner.old)))) }
-    ensures says { IfOk result (AnswerSays (state_of (length (P.trail inner.new).values.items) marks.now (P.clauses inner.new)).vars (state_of (length (P.trail inner.new).values.items) marks.now (P.clauses inner.new)).given assumptions.now (Q.budget purse.old) (Q.spent purse.new)) }
+    ensures log { PaysForLearned (state_of (length (P.trail inner.old).values.items) marks.now (P.clauses inner.old)) assumptions.now (state_of (length (P.trail inner.new).values.items) marks.now (P.clauses inner.new)) (Q.tickets purse.old) (Q.tickets purse.new) }
+    ensures says { IfOk result (AnswerSays (state_of (length (P.trail inner.new).values.items) marks.now (P.clauses inner.new)).vars (state_of (length (P.trail inner.new).values.items) marks.now (P.clauses inner.new)).given (learned_of marks.now (P.clauses inner.new)) assumptions.now (Q.budget purse.old) (Q.spent purse.new)) }
 {
     match run(alloc, inner, marks, order, assumptions, purse)? {
         Outcome::Sat => {
             let model = model_of(alloc, inner.assignment())?;
             Ok(Answer::Sat(Bits::from_vec(model)))
         }
-        Outcome::Unsat(core) => {
-            let log = log_of(alloc, inner, marks)?;
-            Ok(Answer::Unsat { core, log })
-        }
+        Outcome::Unsat(core) => Ok(Answer::Unsat { core }),
         Outcome::Spent { drawn, budget } => Ok(Answer::Spent { drawn, budget }),
     }
 }
@@ -156,7 +171,8 @@ pub fn ask<P: Propagator, Q: Purse>(
     ensures ready { Q.ready purse.new }
     ensures budget { Q.budget purse.new ≡ Q.budget purse.old }
     ensures paid { IfOk result (IsPaid (Q.tickets purse.old) (Q.tickets purse.new) (length (learned_of marks.now (P.clauses inner.new)) - length (learned_of marks.now (P.clauses inner.old)))) }
-    ensures says { IfOk result (AnswerSays (state_of (length (P.trail inner.old).values.items) marks.now (P.clauses inner.old)).vars (state_of (length (P.trail inner.old).values.items) marks.now (P.clauses inner.old)).given assumptions.now (Q.budget purse.old) (Q.spent purse.new)) }
+    ensures log { PaysForOne (state_of (length (P.trail inner.old).values.items) marks.now (P.clauses inner.old)) assumptions.now (state_of (length (P.trail inner.new).values.items) marks.now (P.clauses inner.new)) (Q.tickets purse.old) (Q.tickets purse.new) }
+    ensures says { IfOk result (AnswerSays (state_of (length (P.trail inner.old).values.items) marks.now (P.clauses inner.old)).vars (state_of (length (P.trail inner.old).values.items) marks.now (P.clauses inner.old)).given (learned_of marks.now (P.clauses inner.new)) assumptions.now (Q.budget purse.old) (Q.spent purse.new)) }
 {
     if let Draw::Spent { drawn, budget } = purse.draw() {
         return Ok(Answer::Spent { drawn, budget });

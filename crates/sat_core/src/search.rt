@@ -1,20 +1,19 @@
-ghost use Rattle.std.specs.Prelude.{Bool, ◌⊎◌, [], ◌≡◌, ◌<◌, ℕ, true, IfOk, OnOk, MatchOption, length, All, Contains, slice_index};
+ghost use Rattle.std.specs.Prelude.{Bool, ◌⊎◌, [], ◌≡◌, ◌<◌, ℕ, true, IfOk, OnOk, MatchOption, List, length, take, All, Contains, slice_index};
 ghost use Rattle.clause_core.specs.declared.literal.Lit.{Lit};
 ghost use Rattle.clause_core.specs.Literals.{Within, negate, at};
-ghost use Rattle.unit_propagation.specs.Values.{unset};
+ghost use Rattle.clause_core.specs.Values.{unset};
 ghost use Rattle.sat_core.specs.Positions.{Marked};
 ghost use Rattle.sat_prop.specs.Trails.{FalseOn, among, AtRest};
-ghost use Rattle.sat_core.specs.Searching.{MarksFalse, decided, PerLevel, Level, GrowsByLearning, PaidFor, Refutes, AllSet};
-ghost use Rattle.sat_core.specs.Ends.{NextSays, OutcomeSays};
+ghost use Rattle.sat_core.specs.Searching.{MarksFalse, decided, PerLevel, Level, GrowsByLearning, PaidFor, PaysInTurn, Refutes, AllSet};
+ghost use Rattle.sat_core.specs.Ends.{NextSays, IsSeen, OutcomeSays};
 
-use crate::learn::learn_from;
+use crate::learn::{analyze, follow};
 use crate::marks::mark;
 use crate::order::Order;
-use clause_core::Lit;
+use clause_core::{Lit, is_false, is_set};
 use effort_purse::{Draw, Purse};
 use sat_prop::{Propagator, Trail};
 use std::alloc::{AllocError, Global};
-use unit_propagation::{is_false, is_set};
 
 // What the assumptions ask for.
 #[derive(Clone, Copy, Drop)]
@@ -27,6 +26,13 @@ pub enum Next {
     Fails(Lit),
 }
 
+// How far the assumptions were looked at: the first `count` of them are true, by the first `until` literals of the trail.
+#[derive(Clone, Copy, Drop)]
+pub struct Seen {
+    pub count: usize,
+    pub until: usize,
+}
+
 // How a search ends.
 #[derive(Drop)]
 pub enum Outcome {
@@ -37,21 +43,39 @@ pub enum Outcome {
     Spent { drawn: u64, budget: u64 },
 }
 
-// The first assumption that is not true.
-fn next_of(trail: &Trail, assumptions: &[Lit]) -> Next
-    requires { Within (length trail.now.values.items) assumptions.now }
-    ensures { NextSays trail.now.literals.items assumptions.now result }
+// The first assumption that is not true, after those that were seen to be.
+fn next_of(trail: &Trail, assumptions: &[Lit], seen: &mut Seen) -> Next
+    requires within { Within (length trail.now.values.items) assumptions.now }
+    requires seen { IsSeen trail.now.literals.items assumptions.now seen.old }
+    ensures says { NextSays trail.now.literals.items assumptions.now result }
+    ensures seen { IsSeen trail.now.literals.items assumptions.now seen.new }
 {
-    for x in assumptions {
-        let a = *x;
+    let until = trail.literals.len();
+    for j in seen.count..assumptions.len() {
+        let a = assumptions[j];
         if !is_set(&trail.values, a) {
             if is_false(&trail.values, a) {
                 return Next::Fails(a);
             }
             return Next::Decide(a);
         }
+        *seen = Seen {
+            count: j + 1,
+            until,
+        };
     }
     Next::AllTrue
+}
+
+// What is still seen of the assumptions after the trail went back: all that was, or nothing.
+fn still_seen(trail: &Trail, seen: Seen) -> Seen
+    ensures { (before assumptions : List Lit) (n : ℕ) → trail.now.literals.items ≡ take n before → IsSeen before assumptions seen → IsSeen trail.now.literals.items assumptions result }
+{
+    if seen.until <= trail.literals.len() {
+        seen
+    } else {
+        Seen { count: 0, until: 0 }
+    }
 }
 
 // A variable that is not set.
@@ -72,7 +96,7 @@ fn pick(order: &mut Order, trail: &Trail) -> Option<usize>
     ensures some { MatchOption result (AllSet (length trail.now.values.items) trail.now.literals.items) (λ v. (v < length trail.now.values.items) × ((slice_index trail.now.values.items v ≡ 1 → ⊥) × (slice_index trail.now.values.items v ≡ 2 → ⊥))) }
 {
     for _ in 0..trail.values.len() {
-        match order.pop() {
+        match order.next() {
             None => break,
             Some(v) => {
                 if v < trail.values.len() {
@@ -155,18 +179,21 @@ fn choose<P: Propagator>(
     alloc: Global,
     inner: &mut P,
     assumptions: &[Lit],
+    seen: &mut Seen,
     order: &mut Order,
 ) -> Result<Option<Outcome>, AllocError>
     requires within { Within (length (P.trail inner.old).values.items) assumptions.now }
+    requires seen { IsSeen (P.trail inner.old).literals.items assumptions.now seen.old }
     requires rest { AtRest (P.clauses inner.old) (P.trail inner.old).literals.items }
     requires rested { P.rested inner.old }
     requires levels { PerLevel (Level (P.clauses inner.old) assumptions.now) (P.trail inner.old).literals.items (P.trail inner.old).starts.items }
     ensures clauses { P.clauses inner.new ≡ P.clauses inner.old }
     ensures vars { length (P.trail inner.new).values.items ≡ length (P.trail inner.old).values.items }
     ensures levels { IfOk result (λ _. PerLevel (Level (P.clauses inner.new) assumptions.now) (P.trail inner.new).literals.items (P.trail inner.new).starts.items) }
+    ensures seen { IfOk result (λ _. IsSeen (P.trail inner.new).literals.items assumptions.now seen.new) }
     ensures says { IfOk result (λ o. MatchOption o (unset (P.trail inner.new).values.items < unset (P.trail inner.old).values.items) (λ e. (budget : ℕ) (over : Bool) → OutcomeSays (length (P.trail inner.old).values.items) assumptions.now budget over (P.clauses inner.new) (P.trail inner.new).literals.items e)) }
 {
-    match next_of(inner.assignment(), assumptions) {
+    match next_of(inner.assignment(), assumptions, seen) {
         Next::Fails(a) => Ok(Some(Outcome::Unsat(core_of(alloc, inner, a)?))),
         Next::Decide(l) => {
             inner.decide(l)?;
@@ -184,7 +211,8 @@ fn choose<P: Propagator>(
 }
 
 // Decides and propagates, learns from each conflict and goes back, until all is set, or an assumption is
-// false, or a conflict comes with no decision. Each clause that is learned is paid for before.
+// false, or a conflict comes with no decision. A clause is paid for once it is known from its conflict, and before it is
+// kept; after want of memory the last one may not be.
 pub fn search<P: Propagator, Q: Purse>(
     alloc: Global,
     inner: &mut P,
@@ -200,22 +228,27 @@ pub fn search<P: Propagator, Q: Purse>(
     ensures ready { Q.ready purse.new }
     ensures budget { Q.budget purse.new ≡ Q.budget purse.old }
     ensures paid { IfOk result (λ _. PaidFor (Q.tickets purse.old) (Q.tickets purse.new) (P.clauses inner.old) (P.clauses inner.new)) }
+    ensures log { PaysInTurn (length (P.trail inner.old).values.items) assumptions.now (P.clauses inner.old) (P.clauses inner.new) (Q.tickets purse.old) (Q.tickets purse.new) }
     ensures says { IfOk result (OutcomeSays (length (P.trail inner.old).values.items) assumptions.now (Q.budget purse.old) (Q.spent purse.new) (P.clauses inner.new) (P.trail inner.new).literals.items) }
 {
     restart(inner, order)?;
+    let mut seen = Seen { count: 0, until: 0 };
     'search: loop {
         match inner.propagate()? {
             Some(k) => {
                 if inner.assignment().starts.len() == 0 {
                     return Ok(Outcome::Unsat(Vec::new(alloc)));
                 }
+                order.bump_all(inner.clause(k));
+                let lesson = analyze(alloc, inner, k, order)?;
                 if let Draw::Spent { drawn, budget } = purse.draw() {
                     return Ok(Outcome::Spent { drawn, budget });
                 }
-                learn_from(alloc, inner, k, order)?;
+                follow(inner, order, &lesson)?;
+                seen = still_seen(inner.assignment(), seen);
             }
             None => {
-                if let Some(e) = choose(alloc, inner, assumptions, order)? {
+                if let Some(e) = choose(alloc, inner, assumptions, &mut seen, order)? {
                     return Ok(e);
                 }
             }

@@ -1,11 +1,12 @@
 ghost use Rattle.std.specs.Prelude.{◌≡◌, ◌-◌, ◌++◌, [], ◌∷◌, IfOk, OnOk, OnErr, All, length};
 ghost use Rattle.clause_core.specs.Literals.{Within};
-ghost use Rattle.sat_core.specs.Queries.{State, Learns, IsSound, AnswerSays, IsPaid};
+ghost use Rattle.sat_core.specs.Queries.{State, Learns, IsSound, AnswerSays, IsPaid, log_of};
+ghost use Rattle.sat_core.specs.Paying.{PaysForOne};
 
 use crate::answer::Answer;
 use crate::order::Order;
-use crate::query::{add_on, ask};
-use clause_core::{Clause, Clauses, Lit};
+use crate::query::{add_on, ask, learned_count, log_of as query_log};
+use clause_core::{Clause, Clauses, Lit, Log};
 use effort_purse::Purse;
 use sat_prop::Propagator;
 use std::alloc::{AllocError, Global};
@@ -19,20 +20,23 @@ use std::marker::Model;
 #[derive(Drop)]
 pub struct Solver<P: Propagator + Drop> {
     inner: P,
+    // Which of the clauses were given; those past the end were learned.
     marks: Vec<bool>,
+    // How many were given.
+    given: usize,
     order: Order,
 }
 
 impl<P: Propagator + Drop> Model for Solver<P> {
-    ghost use Rattle.std.specs.Prelude.{length};
-    ghost use Rattle.sat_core.specs.Queries.{State, state_of};
+    ghost use Rattle.std.specs.Prelude.{◌≡◌, length};
+    ghost use Rattle.sat_core.specs.Queries.{State, state_of, given_of};
     ghost use Rattle.sat_core.specs.Searching.{Keeps};
 
     ghost Value = { State };
 
     ghost view = { λ s. state_of (length (P.trail s.inner).values.items) s.marks.items (P.clauses s.inner) };
 
-    ghost invariant = { λ s. Keeps (length (P.trail s.inner).values.items) s.marks.items (P.clauses s.inner) };
+    ghost invariant = { λ s. Keeps (length (P.trail s.inner).values.items) s.marks.items (P.clauses s.inner) × (s.given ≡ length (given_of s.marks.items (P.clauses s.inner))) };
 }
 
 impl<P: Propagator + Drop> Solver<P> {
@@ -46,6 +50,7 @@ impl<P: Propagator + Drop> Solver<P> {
         Ok(Solver {
             inner,
             marks: Vec::new(alloc),
+            given: 0,
             order,
         })
     }
@@ -82,20 +87,58 @@ impl<P: Propagator + Drop> Solver<P> {
         self.push(c.as_slice())
     }
 
-    // Adds the clause of these literals. After want of memory all is as before.
-    fn push(&mut self, c: &[Lit]) -> Result<(), AllocError>
+    /// Adds the clause of these literals. After want of memory all is as before.
+    pub fn push(&mut self, c: &[Lit]) -> Result<(), AllocError>
         requires { Within self.old.vars c.now }
         ensures done { OnOk result (self.new ≡ record self.old { given = self.old.given ++ c.now ∷ [] }) }
         ensures failed { OnErr result (self.new ≡ self.old) }
     {
-        add_on(&mut self.inner, &mut self.marks, &mut self.order, c)
+        add_on(
+            &mut self.inner,
+            &mut self.marks,
+            &mut self.given,
+            &mut self.order,
+            c,
+        )
+    }
+
+    /// How many clauses were learned so far. Takes a few steps, however many there are.
+    pub fn learned(&self) -> usize
+        ensures { result ≡ length self.now.learned }
+    {
+        learned_count(&self.inner, self.given, &self.marks)
+    }
+
+    /// From now on the variable is decided only once all others are set, and false, as suits an activation literal that a
+    /// query does not assume. A hint: no answer depends on it.
+    pub fn decide_last(&mut self, var: usize) -> Result<(), AllocError>
+        ensures { self.new ≡ self.old }
+    {
+        self.order.put_last(var)
+    }
+
+    /// The variable gets this sign when it is decided next, unless propagation sets it before. A hint: no answer depends
+    /// on it.
+    pub fn prefer(&mut self, var: usize, positive: bool)
+        ensures { self.new ≡ self.old }
+    {
+        self.order.set_sign(var, positive)
+    }
+
+    /// The variable is decided as early as one that came up in so many of the latest conflicts. A hint: no answer depends
+    /// on it.
+    pub fn decide_early(&mut self, var: usize, conflicts: u64)
+        ensures { self.new ≡ self.old }
+    {
+        self.order.raise(var, conflicts)
     }
 
     /// Whether the clauses and the assumptions can all be true.
     ///
     /// It draws one ticket for the query and one for each clause that it learns; `Spent` comes only where the
     /// purse refused one. After each answer, and after want of memory too, the given clauses are as before
-    /// and the learned ones follow from them.
+    /// and the learned ones follow from them; and the tickets that were drawn are those of at most one query. A clause is
+    /// paid for when it is known from its conflict: after want of memory the last one may not be kept.
     pub fn solve<Q: Purse>(
         &mut self,
         alloc: Global,
@@ -104,10 +147,11 @@ impl<P: Propagator + Drop> Solver<P> {
     ) -> Result<Answer, AllocError>
         requires within { Within self.old.vars assumptions.now }
         requires ready { Q.ready purse.old }
-        ensures answer { IfOk result (AnswerSays self.old.vars self.old.given assumptions.now (Q.budget purse.old) (Q.spent purse.new)) }
+        ensures answer { IfOk result (AnswerSays self.old.vars self.old.given self.new.learned assumptions.now (Q.budget purse.old) (Q.spent purse.new)) }
         ensures learned { Learns assumptions.now self.old self.new }
         ensures sound { IsSound self.new }
         ensures tickets { IfOk result (IsPaid (Q.tickets purse.old) (Q.tickets purse.new) (length self.new.learned - length self.old.learned)) }
+        ensures log { PaysForOne self.old assumptions.now self.new (Q.tickets purse.old) (Q.tickets purse.new) }
         ensures kept { Q.kept purse.old purse.new }
         ensures ready { Q.ready purse.new }
         ensures budget { Q.budget purse.new ≡ Q.budget purse.old }
@@ -120,5 +164,13 @@ impl<P: Propagator + Drop> Solver<P> {
             assumptions,
             purse,
         )
+    }
+
+    /// The clauses that were learned, and the empty one. Where the last query was answered `Unsat`, and no
+    /// clause was added since, they derive that from the given clauses and the core.
+    pub fn log(&self, alloc: Global) -> Result<Log, AllocError>
+        ensures { IfOk result (λ log. log ≡ log_of self.now.learned) }
+    {
+        query_log(alloc, &self.inner, &self.marks)
     }
 }

@@ -2,8 +2,8 @@ use Rattle.std.proofs.Common.{◌≡◌, ℕ, ◌<◌, ◌+◌, Bool, false, Lis
 use Rattle.std.proofs.lemmas.List.Sums.{sum_by-set}
 use Rattle.clause_core.specs.declared.literal.Lit.{Lit}
 use Rattle.clause_core.specs.Literals.{negate}
-use Rattle.unit_propagation.specs.Values.{code, holds, unset, unset_one}
-use Rattle.unit_propagation.proofs.Setting.{unset_one_code, unset_one_free}
+use Rattle.clause_core.specs.Values.{code, holds, unset, unset_one}
+use Rattle.clause_core.proofs.Setting.{unset_one_code, unset_one_free}
 
 -- length literals + unset values ≡ length values, at each step
 pub count_push : (v : List ℕ) (tr : List Lit) (l : Lit) → l.var < length v → holds v l ≡ false → holds v (negate l) ≡ false →

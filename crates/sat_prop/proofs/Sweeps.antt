@@ -4,9 +4,9 @@ use Rattle.std.proofs.lemmas.List.{take_all, take-append-le, length-take, get_or
 use Rattle.std.proofs.lemmas.List.Elements.{All-more, Contains-get_or}
 use Rattle.clause_core.specs.declared.literal.Lit.{Lit}
 use Rattle.clause_core.specs.Literals.{negate, none_lit, at}
-use Rattle.unit_propagation.specs.Values.{code, holds, unset, unset_one}
+use Rattle.clause_core.specs.Values.{code, holds, unset, unset_one}
 use Rattle.clause_core.specs.Propagation.{Settled, AllFalse, UnitIn}
-use Rattle.unit_propagation.proofs.Setting.{unset_less, unset_one_code, unset_one_free}
+use Rattle.clause_core.proofs.Setting.{unset_less, unset_one_code, unset_one_free}
 use Rattle.std.proofs.lemmas.List.Sums.{sum_by-set}
 use Rattle.sat_prop.specs.declared.trail.Trail.{Trail}
 use Rattle.sat_prop.specs.Trails.{among, ValuesMatch, Reasoned, Based, reason_at, FalseOn, AtRest}

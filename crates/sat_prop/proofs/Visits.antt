@@ -6,7 +6,7 @@ use Rattle.std.proofs.lemmas.List.{get_or_append_left, get_or_default, length-ma
 use Rattle.std.proofs.lemmas.List.Elements.{All-contains}
 use Rattle.clause_core.specs.declared.literal.Lit.{Lit}
 use Rattle.clause_core.specs.Literals.{Within, negate, none_lit, at}
-use Rattle.unit_propagation.specs.Values.{holds}
+use Rattle.clause_core.specs.Values.{holds}
 use Rattle.sat_prop.specs.declared.watch.Watches.{Watches}
 use Rattle.sat_prop.specs.declared.watch.Finding.TheVariants.{Move}
 use Rattle.sat_prop.specs.declared.trail.Trail.{Trail}

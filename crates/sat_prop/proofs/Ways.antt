@@ -7,11 +7,11 @@ use Rattle.std.proofs.lemmas.List.Folds.{Any-from_list_any, list_any_at, list_an
 use Rattle.std.proofs.lemmas.List.Elements.{All-take, All-push}
 use Rattle.clause_core.specs.declared.literal.Lit.{Lit}
 use Rattle.clause_core.specs.Literals.{negate, none_lit, at, Within}
-use Rattle.unit_propagation.specs.Values.{code, holds}
+use Rattle.clause_core.specs.Values.{code, holds}
 use Rattle.sat_prop.specs.Trails.{PlacesMatch, Forced}
 use Rattle.clause_core.specs.Propagation.{UnitIn}
 use Rattle.clause_core.proofs.Lists.{lit_same}
-use Rattle.unit_propagation.proofs.Setting.{code_same}
+use Rattle.clause_core.proofs.Setting.{code_same}
 use Rattle.sat_prop.specs.Trails.{is_literal, among, ValuesMatch, reason_at, StartsRise, StartsIn, DecisionsBegin, Reasoned}
 
 pub lit_is_same : (l m : Lit) → is_literal l m ≡ true → l ≡ m

@@ -2,7 +2,7 @@
 use Rattle.std.specs.Prelude.{◌≡◌, ℕ, ◌+◌, ◌<◌, ◌≤◌, Bool, true, false, List, [], length, take, slice_index_or, All}
 use Rattle.clause_core.specs.declared.literal.Lit.{Lit}
 use Rattle.clause_core.specs.Propagation.{Settled}
-use Rattle.unit_propagation.specs.Values.{unset}
+use Rattle.clause_core.specs.Values.{unset}
 use Rattle.sat_prop.specs.declared.trail.Trail.{Trail}
 use Rattle.sat_prop.specs.declared.sweep.Swept.{Swept}
 use Rattle.sat_prop.specs.declared.sweep.Swept.TheVariants.{False, Changed, Still}

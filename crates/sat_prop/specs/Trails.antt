@@ -2,7 +2,7 @@
 use Rattle.std.specs.Prelude.{◌≡◌, ℕ, ◌-◌, ◌<◌, ◌≤◌, ◌&&◌, Bool, true, List, [], length, take, eqb, slice_index, slice_index_or, Contains, All}
 use Rattle.std.specs.List.{list_any}
 use Rattle.clause_core.specs.declared.literal.Lit.{Lit}
-use Rattle.unit_propagation.specs.Values.{code, holds}
+use Rattle.clause_core.specs.Values.{code, holds}
 use Rattle.clause_core.specs.Literals.{negate, at}
 use Rattle.clause_core.specs.Propagation.{Settled}
 

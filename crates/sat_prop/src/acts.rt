@@ -1,10 +1,11 @@
 ghost use Rattle.std.specs.Prelude.{◌+◌, ◌-◌, ◌*◌, ◌^◌, [], ◌∷◌, ◌≡◌, ◌<◌, ◌≤◌, ℕ, ◌++◌, true, false, IfOk, OnOk, OnErr, length, take, All, List, slice_set, slice_index, slice_index_or};
 ghost use Rattle.clause_core.specs.Literals.{Within, negate};
-ghost use Rattle.unit_propagation.specs.Values.{holds, unset};
+ghost use Rattle.clause_core.specs.Values.{holds, unset};
 ghost use Rattle.sat_prop.specs.Trails.{Based, among};
 ghost use Rattle.sat_prop.specs.Entries.{AllEntries, fits, numbers_of};
 ghost use Rattle.sat_prop.specs.Packing.{RowsMatch, pairs};
 ghost use Rattle.sat_prop.specs.Watches.{AllWatchesIn, AllListed, AllGuarded, ShortListed, ShortTrue, LevelsGuarded, Watchable, HasTwo};
+ghost use Rattle.sat_prop.specs.Roots.{ShortSwept, root};
 
 use crate::attach::{attach, watches_of};
 use crate::cover::Recent;
@@ -12,9 +13,8 @@ use crate::lists::WatchLists;
 use crate::rows::Rows;
 use crate::trail::Trail;
 use crate::watch::Watches;
-use clause_core::{Clauses, Lit};
+use clause_core::{Clauses, Lit, is_false};
 use std::alloc::AllocError;
-use unit_propagation::is_false;
 
 // The last place up to n before which the literal is not false.
 fn open_until(trail: &Trail, l: Lit, n: usize) -> usize
@@ -30,6 +30,18 @@ fn open_until(trail: &Trail, l: Lit, n: usize) -> usize
         }
     }
     n
+}
+
+// Where a literal of the clause stands that is not false and differs from its first one, 0 if none does: with it as the
+// second watch little is to be looked at again.
+pub fn open_place(trail: &Trail, c: &[Lit]) -> usize {
+    for j in 1..c.len() {
+        let l = c[j];
+        if l.var < trail.values.len() && !is_false(&trail.values, l) && !l.is_same(c[0]) {
+            return j;
+        }
+    }
+    0
 }
 
 // The last place up to n before which no watch is false, where there are two.
@@ -56,6 +68,7 @@ pub fn add_on(
     rows: &mut Rows,
     lists: &mut WatchLists,
     short: &mut Vec<usize>,
+    swept: usize,
     head: &mut usize,
     c: &[Lit],
     w: usize,
@@ -72,6 +85,7 @@ pub fn add_on(
     requires cells { length lists.old ≡ 2 * length trail.now.values.items }
     requires fit { AllEntries (fits clauses.old) lists.old }
     requires short_listed { ShortListed clauses.old (pairs rows.old) short.old.items }
+    requires swept { ShortSwept clauses.old short.old.items swept (root trail.now.literals.items trail.now.starts.items) }
     requires low { head.old ≤ length trail.now.literals.items }
     requires queue { AllGuarded clauses.old (pairs rows.old) (take head.old trail.now.literals.items) trail.now.literals.items }
     requires levels { LevelsGuarded clauses.old (pairs rows.old) trail.now.literals.items trail.now.starts.items }
@@ -84,6 +98,7 @@ pub fn add_on(
     ensures cells { length lists.new ≡ 2 * length trail.now.values.items }
     ensures fit { AllEntries (fits clauses.new) lists.new }
     ensures short_listed { ShortListed clauses.new (pairs rows.new) short.new.items }
+    ensures swept { ShortSwept clauses.new short.new.items swept (root trail.now.literals.items trail.now.starts.items) }
     ensures low { head.new ≤ length trail.now.literals.items }
     ensures queue { AllGuarded clauses.new (pairs rows.new) (take head.new trail.now.literals.items) trail.now.literals.items }
     ensures levels { LevelsGuarded clauses.new (pairs rows.new) trail.now.literals.items trail.now.starts.items }
@@ -105,6 +120,7 @@ pub fn learn_on(
     rows: &mut Rows,
     lists: &mut WatchLists,
     short: &mut Vec<usize>,
+    swept: usize,
     head: &mut usize,
     recent: &mut Recent,
     c: &[Lit],
@@ -122,6 +138,7 @@ pub fn learn_on(
     requires cells { length lists.old ≡ 2 * length trail.now.values.items }
     requires fit { AllEntries (fits clauses.old) lists.old }
     requires short_listed { ShortListed clauses.old (pairs rows.old) short.old.items }
+    requires swept { ShortSwept clauses.old short.old.items swept (root trail.now.literals.items trail.now.starts.items) }
     requires low { head.old ≤ length trail.now.literals.items }
     requires queue { AllGuarded clauses.old (pairs rows.old) (take head.old trail.now.literals.items) trail.now.literals.items }
     requires levels { LevelsGuarded clauses.old (pairs rows.old) trail.now.literals.items trail.now.starts.items }
@@ -134,6 +151,7 @@ pub fn learn_on(
     ensures cells { length lists.new ≡ 2 * length trail.now.values.items }
     ensures fit { AllEntries (fits clauses.new) lists.new }
     ensures short_listed { ShortListed clauses.new (pairs rows.new) short.new.items }
+    ensures swept { ShortSwept clauses.new short.new.items swept (root trail.now.literals.items trail.now.starts.items) }
     ensures low { head.new ≤ length trail.now.literals.items }
     ensures queue { AllGuarded clauses.new (pairs rows.new) (take head.new trail.now.literals.items) trail.now.literals.items }
     ensures levels { LevelsGuarded clauses.new (pairs rows.new) trail.now.literals.items trail.now.starts.items }
@@ -141,7 +159,7 @@ pub fn learn_on(
     ensures failed { OnErr result (clauses.new ≡ clauses.old) }
 {
     recent.note(c, clauses.len())?;
-    add_on(clauses, trail, rows, lists, short, head, c, w)?;
+    add_on(clauses, trail, rows, lists, short, swept, head, c, w)?;
     recent.retire_covered(clauses, rows);
     Ok(())
 }
@@ -150,6 +168,8 @@ pub fn learn_on(
 pub fn decide_on(
     clauses: &Clauses,
     rows: &Rows,
+    short: &[usize],
+    swept: usize,
     head: usize,
     trail: &mut Trail,
     l: Lit,
@@ -160,9 +180,11 @@ pub fn decide_on(
     requires rested { head ≡ length trail.old.literals.items }
     requires rested_short { ShortTrue clauses.now (pairs rows.now) trail.old.literals.items }
     requires based_in { Based trail.old.literals.items trail.old.reasons.items clauses.now }
+    requires swept { ShortSwept clauses.now short.now swept (root trail.old.literals.items trail.old.starts.items) }
     requires queue { AllGuarded clauses.now (pairs rows.now) (take head trail.old.literals.items) trail.old.literals.items }
     requires levels { LevelsGuarded clauses.now (pairs rows.now) trail.old.literals.items trail.old.starts.items }
     ensures based_in { Based trail.new.literals.items trail.new.reasons.items clauses.now }
+    ensures swept { ShortSwept clauses.now short.now swept (root trail.new.literals.items trail.new.starts.items) }
     ensures low { head ≤ length trail.new.literals.items }
     ensures queue { AllGuarded clauses.now (pairs rows.now) (take head trail.new.literals.items) trail.new.literals.items }
     ensures levels { LevelsGuarded clauses.now (pairs rows.now) trail.new.literals.items trail.new.starts.items }
@@ -176,11 +198,21 @@ pub fn decide_on(
 }
 
 // Takes back decision number `level` and all after it: what is left is at rest.
-pub fn undo_on(clauses: &Clauses, rows: &Rows, head: &mut usize, trail: &mut Trail, level: usize)
+pub fn undo_on(
+    clauses: &Clauses,
+    rows: &Rows,
+    short: &[usize],
+    swept: usize,
+    head: &mut usize,
+    trail: &mut Trail,
+    level: usize,
+)
     requires level { level < length trail.old.starts.items }
     requires based_in { Based trail.old.literals.items trail.old.reasons.items clauses.now }
+    requires swept { ShortSwept clauses.now short.now swept (root trail.old.literals.items trail.old.starts.items) }
     requires levels { LevelsGuarded clauses.now (pairs rows.now) trail.old.literals.items trail.old.starts.items }
     ensures based_in { Based trail.new.literals.items trail.new.reasons.items clauses.now }
+    ensures swept { ShortSwept clauses.now short.now swept (root trail.new.literals.items trail.new.starts.items) }
     ensures low { head.new ≤ length trail.new.literals.items }
     ensures queue { AllGuarded clauses.now (pairs rows.now) (take head.new trail.new.literals.items) trail.new.literals.items }
     ensures levels { LevelsGuarded clauses.now (pairs rows.now) trail.new.literals.items trail.new.starts.items }

@@ -102,6 +102,7 @@ fn enlist(
     ensures failed { OnErr result (lists.new ≡ lists.old) }
     ensures short { ShortMore short.old.items short.new.items }
     ensures short_done { OnOk result (is_literal h.a h.b ≡ true → InShort short.new.items k) }
+    ensures short_kept { take (length short.old.items) short.new.items ≡ short.old.items }
 {
     if h.a.is_same(h.b) {
         short.push(k)?;
@@ -156,6 +157,7 @@ pub fn attach(
     ensures rows_match { RowsMatch clauses.new rows.new }
     ensures all_listed { AllListed (pairs rows.new) (numbers_of lists.new) }
     ensures short_listed { ShortListed clauses.new (pairs rows.new) short.new.items }
+    ensures short_kept { take (length short.old.items) short.new.items ≡ short.old.items }
     ensures done { OnOk result (clauses.new ≡ clauses.old ++ c.now ∷ []) }
     ensures done_rows { OnOk result (rows.new ≡ rows.old ++ row_of h c.now ∷ []) }
     ensures failed { OnErr result (clauses.new ≡ clauses.old) }

@@ -12,8 +12,6 @@ mod rows;
 mod scan;
 mod settle;
 mod sweep;
-#[cfg(test)]
-mod tests;
 mod trail;
 mod visit;
 mod watch;

@@ -1,7 +1,7 @@
 ghost use Rattle.std.specs.Prelude.{◌≡◌, ◌<◌, ℕ, [], ◌∷◌, ◌++◌, true, false, IfOk, OnOk, OnErr, length, take, All, List, slice_index, slice_index_or, MatchOption};
 ghost use Rattle.clause_core.specs.declared.literal.Lit.{Lit};
 ghost use Rattle.clause_core.specs.Literals.{Within, negate};
-ghost use Rattle.unit_propagation.specs.Values.{unset};
+ghost use Rattle.clause_core.specs.Values.{unset};
 ghost use Rattle.sat_prop.specs.declared.trail.Trail.{Trail};
 ghost use Rattle.sat_prop.specs.Trails.{Based, AtRest, among};
 ghost use Rattle.sat_prop.specs.Moves.{Extends, FalseClause};

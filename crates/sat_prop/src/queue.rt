@@ -1,4 +1,4 @@
-ghost use Rattle.std.specs.Prelude.{◌+◌, ◌-◌, ◌*◌, ◌^◌, [], ◌∷◌, ◌≡◌, ◌<◌, ◌≤◌, ℕ, ◌++◌, true, false, IfOk, length, take, All, List, slice_set, slice_index, slice_index_or, MatchOption};
+ghost use Rattle.std.specs.Prelude.{◌+◌, ◌-◌, ◌*◌, ◌^◌, [], ◌∷◌, ◌≡◌, ◌<◌, ◌≤◌, ℕ, ◌++◌, true, false, IfOk, length, take, All, List, slice_set, slice_index, slice_index_or, MatchOption, ◌⊎◌};
 ghost use Rattle.clause_core.specs.declared.literal.Lit.{Lit};
 ghost use Rattle.clause_core.specs.Literals.{Within, negate};
 ghost use Rattle.sat_prop.specs.Trails.{Based, AtRest, among};
@@ -6,14 +6,14 @@ ghost use Rattle.sat_prop.specs.Moves.{Extends, FalseClause};
 ghost use Rattle.sat_prop.specs.Entries.{AllEntries, fits, numbers_of};
 ghost use Rattle.sat_prop.specs.Packing.{RowsMatch, pairs};
 ghost use Rattle.sat_prop.specs.Watches.{AllWatchesIn, AllListed, Kept, KeepsTwo, AllGuarded, ShortDone, ShortListed, ShortTrue, LevelsGuarded};
+ghost use Rattle.sat_prop.specs.Roots.{ShortSwept};
 
 use crate::lists::WatchLists;
 use crate::rows::Rows;
 use crate::trail::Trail;
 use crate::visit::visit_list;
-use clause_core::{Clauses, Lit};
+use clause_core::{Clauses, Lit, Scan, scan_clause};
 use std::alloc::AllocError;
-use unit_propagation::{Scan, scan_clause};
 
 // Visits the watch lists of the literals of the trail from `head` on.
 pub fn run_queue(
@@ -58,19 +58,35 @@ pub fn run_queue(
     Ok(None)
 }
 
-// Sets what clauses of one literal force.
+// One place more was swept, if all before it were and a clause has the number that stands there.
+fn swept_to(swept: usize, j: usize, k: usize, clauses: usize) -> usize
+    requires { j + 1 < 2 ^ 64 }
+    ensures { (result ≡ swept) ⊎ ((swept ≡ j) × (k < clauses) × (result ≡ j + 1)) }
+{
+    if swept == j && k < clauses {
+        j + 1
+    } else {
+        swept
+    }
+}
+
+// Sets what clauses of one literal force, from number `swept` of their list on, before which all was done.
 pub fn sweep_short(
     clauses: &Clauses,
     trail: &mut Trail,
     short: &[usize],
+    swept: &mut usize,
 ) -> Result<Option<usize>, AllocError>
     requires within { All (Within (length trail.old.values.items)) clauses.now }
     requires based { Based trail.old.literals.items trail.old.reasons.items clauses.now }
+    requires swept { ShortSwept clauses.now short.now swept.old trail.old.literals.items }
     ensures based { Based trail.new.literals.items trail.new.reasons.items clauses.now }
     ensures extends { Extends trail.old trail.new }
+    ensures swept { ShortSwept clauses.now short.now swept.new trail.new.literals.items }
     ensures says { IfOk result (λ o. MatchOption o ((j : ℕ) → j < length short.now → ShortDone clauses.now trail.new.literals.items (slice_index short.now j)) (FalseClause clauses.now trail.new)) }
 {
-    'short: for j in 0..short.len() {
+    let from = *swept;
+    'short: for j in from..short.len() {
         let k = short[j];
         if k < clauses.len() {
             match scan_clause(&trail.values, clauses.get(k)) {
@@ -79,6 +95,7 @@ pub fn sweep_short(
                 Scan::Rest => {}
             }
         }
+        *swept = swept_to(*swept, j, k, clauses.len());
     }
     Ok(None)
 }

@@ -5,6 +5,7 @@ ghost use Rattle.sat_prop.specs.Moves.{Extends, FalseClause};
 ghost use Rattle.sat_prop.specs.Entries.{AllEntries, fits, numbers_of};
 ghost use Rattle.sat_prop.specs.Packing.{RowsMatch, pairs};
 ghost use Rattle.sat_prop.specs.Watches.{AllWatchesIn, AllListed, AllGuarded, ShortListed, ShortTrue, LevelsGuarded};
+ghost use Rattle.sat_prop.specs.Roots.{ShortSwept, root};
 
 use crate::lists::WatchLists;
 use crate::queue::{run_queue, sweep_short};
@@ -19,17 +20,20 @@ fn settle_short(
     trail: &mut Trail,
     rows: &Rows,
     short: &[usize],
+    swept: &mut usize,
 ) -> Result<Option<usize>, AllocError>
     requires within { All (Within (length trail.old.values.items)) clauses.now }
     requires based { Based trail.old.literals.items trail.old.reasons.items clauses.now }
     requires short_listed { ShortListed clauses.now (pairs rows.now) short.now }
     requires levels { LevelsGuarded clauses.now (pairs rows.now) trail.old.literals.items trail.old.starts.items }
+    requires swept { ShortSwept clauses.now short.now swept.old (root trail.old.literals.items trail.old.starts.items) }
     ensures based { Based trail.new.literals.items trail.new.reasons.items clauses.now }
     ensures extends { Extends trail.old trail.new }
+    ensures swept { ShortSwept clauses.now short.now swept.new (root trail.new.literals.items trail.new.starts.items) }
     ensures says { IfOk result (λ o. MatchOption o (ShortTrue clauses.now (pairs rows.now) trail.new.literals.items) (FalseClause clauses.now trail.new)) }
 {
     if trail.starts.len() == 0 {
-        match sweep_short(clauses, trail, short)? {
+        match sweep_short(clauses, trail, short, swept)? {
             Some(k) => Ok(Some(k)),
             None => Ok(None),
         }
@@ -45,6 +49,7 @@ pub fn settle(
     rows: &mut Rows,
     lists: &mut WatchLists,
     short: &[usize],
+    swept: &mut usize,
     head: &mut usize,
 ) -> Result<Option<usize>, AllocError>
     requires room { 2 * length trail.old.values.items < 2 ^ 32 }
@@ -60,6 +65,7 @@ pub fn settle(
     requires low { head.old ≤ length trail.old.literals.items }
     requires queue { AllGuarded clauses.now (pairs rows.old) (take head.old trail.old.literals.items) trail.old.literals.items }
     requires levels { LevelsGuarded clauses.now (pairs rows.old) trail.old.literals.items trail.old.starts.items }
+    requires swept { ShortSwept clauses.now short.now swept.old (root trail.old.literals.items trail.old.starts.items) }
     ensures based { Based trail.new.literals.items trail.new.reasons.items clauses.now }
     ensures extends { Extends trail.old trail.new }
     ensures rows_len { length rows.new ≡ length clauses.now }
@@ -72,9 +78,10 @@ pub fn settle(
     ensures low { head.new ≤ length trail.new.literals.items }
     ensures queue { AllGuarded clauses.now (pairs rows.new) (take head.new trail.new.literals.items) trail.new.literals.items }
     ensures levels { LevelsGuarded clauses.now (pairs rows.new) trail.new.literals.items trail.new.starts.items }
+    ensures swept { ShortSwept clauses.now short.now swept.new (root trail.new.literals.items trail.new.starts.items) }
     ensures says { IfOk result (λ o. MatchOption o (AtRest clauses.now trail.new.literals.items × ((head.new ≡ length trail.new.literals.items) × ShortTrue clauses.now (pairs rows.new) trail.new.literals.items)) (FalseClause clauses.now trail.new)) }
 {
-    match settle_short(clauses, trail, rows, short)? {
+    match settle_short(clauses, trail, rows, short, swept)? {
         Some(k) => Ok(Some(k)),
         None => match run_queue(clauses, trail, rows, lists, head)? {
             Some(k) => Ok(Some(k)),

@@ -1,13 +1,12 @@
 ghost use Rattle.std.specs.Prelude.{◌+◌, ◌-◌, ◌*◌, ◌^◌, [], ◌∷◌, ◌≡◌, ◌<◌, ◌≤◌, ℕ, ◌++◌, true, false, IfOk, OnOk, OnErr, length, take, All, List, slice_set, slice_index, MatchBool, MatchOption};
-ghost use Rattle.unit_propagation.specs.Values.{holds, code, unset};
+ghost use Rattle.clause_core.specs.Values.{holds, code, unset};
 ghost use Rattle.clause_core.specs.Literals.{negate, Within, at};
 ghost use Rattle.sat_prop.specs.Trails.{Based, AtRest};
 ghost use Rattle.sat_prop.specs.Moves.{Extends, SweptSays, FalseClause};
 
 use crate::trail::Trail;
-use clause_core::{Clauses, Lit};
+use clause_core::{Clauses, Lit, Scan, scan_clause};
 use std::alloc::{AllocError, Global};
-use unit_propagation::{Scan, scan_clause};
 
 // What one pass over the clauses found: a false clause, something to set, or nothing left to do.
 #[derive(Clone, Copy, Drop)]

@@ -1,6 +1,6 @@
 ghost use Rattle.std.specs.Prelude.{◌+◌, ◌-◌, ◌*◌, ◌^◌, [], ◌∷◌, ◌≡◌, ◌<◌, ◌≤◌, ℕ, ◌++◌, true, false, IfOk, OnOk, OnErr, length, take, All, List, slice_set, slice_index, MatchBool};
 ghost use Rattle.clause_core.specs.declared.literal.Lit.{Lit};
-ghost use Rattle.unit_propagation.specs.Values.{holds, code, unset};
+ghost use Rattle.clause_core.specs.Values.{holds, code, unset};
 ghost use Rattle.clause_core.specs.Literals.{negate, Within, at};
 ghost use Rattle.sat_prop.specs.Trails.{PlacesMatch};
 ghost use Rattle.sat_prop.specs.Trails.{ValuesMatch, StartsRise, StartsIn, DecisionsBegin, Based};

@@ -13,9 +13,8 @@ use crate::rows::Rows;
 use crate::trail::Trail;
 use crate::watch::{Finding, cell_of, look_at, other_of};
 use crate::words::{literal, word_of};
-use clause_core::{Clauses, Lit};
+use clause_core::{Clauses, Lit, is_set};
 use std::alloc::AllocError;
-use unit_propagation::is_set;
 
 // Visits the clauses of what is left of the list of f, which became false.
 fn visit_entries(

@@ -1,13 +1,12 @@
 ghost use Rattle.std.specs.Prelude.{◌+◌, ◌-◌, ◌*◌, ◌^◌, [], ◌∷◌, ◌≡◌, ◌<◌, ◌≤◌, ℕ, ◌++◌, true, false, IfOk, OnOk, OnErr, length, take, All, List, Contains, map, ⊤, slice_set, slice_index_or, MatchOption, ◌⊎◌};
-ghost use Rattle.unit_propagation.specs.Values.{holds};
+ghost use Rattle.clause_core.specs.Values.{holds};
 ghost use Rattle.clause_core.specs.Literals.{Within, negate};
 ghost use Rattle.sat_prop.specs.Words.{literal_of};
 ghost use Rattle.sat_prop.specs.Packing.{pair_of};
 ghost use Rattle.sat_prop.specs.Watches.{FindingSays, OtherSays, cell};
 
 use crate::words::literal;
-use clause_core::Lit;
-use unit_propagation::{is_false, is_set};
+use clause_core::{Lit, is_false, is_set};
 
 // The two watched literals of a clause. A clause that has no two different literals gets two that are the same.
 #[derive(Clone, Copy, Drop)]

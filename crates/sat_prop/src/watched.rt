@@ -4,8 +4,9 @@ ghost use Rattle.sat_prop.specs.Trails.{Based};
 ghost use Rattle.sat_prop.specs.Entries.{AllEntries, fits, numbers_of};
 ghost use Rattle.sat_prop.specs.Packing.{RowsMatch, pairs};
 ghost use Rattle.sat_prop.specs.Watches.{AllWatchesIn, AllListed, AllGuarded, ShortListed, ShortTrue, LevelsGuarded};
+ghost use Rattle.sat_prop.specs.Roots.{ShortSwept, root};
 
-use crate::acts::{add_on, decide_on, learn_on, undo_on};
+use crate::acts::{add_on, decide_on, learn_on, open_place, undo_on};
 use crate::cover::Recent;
 use crate::lists::WatchLists;
 use crate::propagator::Propagator;
@@ -25,6 +26,8 @@ pub struct Watched {
     rows: Rows,
     lists: WatchLists,
     short: Vec<usize>,
+    // How many of the short clauses, from the first on, are true before all decisions.
+    swept: usize,
     head: usize,
     recent: Recent,
     ghost based_in: { Based trail.literals.items trail.reasons.items clauses },
@@ -37,6 +40,7 @@ pub struct Watched {
     ghost cells: { length lists ≡ 2 * length trail.values.items },
     ghost fit: { AllEntries (fits clauses) lists },
     ghost short_listed: { ShortListed clauses (pairs rows) short.items },
+    ghost swept_in: { ShortSwept clauses short.items swept (root trail.literals.items trail.starts.items) },
     ghost low: { head ≤ length trail.literals.items },
     ghost queue: { AllGuarded clauses (pairs rows) (take head trail.literals.items) trail.literals.items },
     ghost levels: { LevelsGuarded clauses (pairs rows) trail.literals.items trail.starts.items },
@@ -61,6 +65,7 @@ impl Propagator for Watched {
             rows: Rows::new(alloc),
             lists,
             short: Vec::new(alloc),
+            swept: 0,
             head: 0,
             recent: Recent::new(alloc),
         })
@@ -79,15 +84,17 @@ impl Propagator for Watched {
     }
 
     fn add(&mut self, c: &[Lit]) -> Result<(), AllocError> {
+        let w = open_place(&self.trail, c);
         add_on(
             &mut self.clauses,
             &self.trail,
             &mut self.rows,
             &mut self.lists,
             &mut self.short,
+            self.swept,
             &mut self.head,
             c,
-            0,
+            w,
         )
     }
 
@@ -98,6 +105,7 @@ impl Propagator for Watched {
             &mut self.rows,
             &mut self.lists,
             &mut self.short,
+            self.swept,
             &mut self.head,
             &mut self.recent,
             c,
@@ -106,13 +114,23 @@ impl Propagator for Watched {
     }
 
     fn decide(&mut self, l: Lit) -> Result<(), AllocError> {
-        decide_on(&self.clauses, &self.rows, self.head, &mut self.trail, l)
+        decide_on(
+            &self.clauses,
+            &self.rows,
+            &self.short,
+            self.swept,
+            self.head,
+            &mut self.trail,
+            l,
+        )
     }
 
     fn undo(&mut self, level: usize) {
         undo_on(
             &self.clauses,
             &self.rows,
+            &self.short,
+            self.swept,
             &mut self.head,
             &mut self.trail,
             level,
@@ -126,6 +144,7 @@ impl Propagator for Watched {
             &mut self.rows,
             &mut self.lists,
             &self.short,
+            &mut self.swept,
             &mut self.head,
         )
     }

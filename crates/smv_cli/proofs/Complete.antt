@@ -1,34 +1,26 @@
 -- A model gets its report.
-use Rattle.std.proofs.Common.{◌≡◌, ◌⊎◌, inl, inr, ℕ, zero, suc, ◌≤◌, List, [], ◌∷◌, sym, subst, ◌∙◌, arith, refl, Some, None, IfSome}
-use Rattle.std.specs.Prelude.{fold}
+use Rattle.std.proofs.Common.{◌≡◌, ◌⊎◌, inl, inr, ℕ, ◌≤◌, Bool, true, false, List, sym, subst, ◌∙◌, arith, refl, Some, None, IfSome}
+use Rattle.std.specs.Prelude.{if◌then◌else◌}
 use Rattle.std.specs.declared.option.Option.{Option}
 use Rattle.command_words.specs.declared.command.Command.{Command}
 use Rattle.command_words.specs.Grammar.{IsCommandLine}
 use Rattle.smv_tree.specs.declared.refusal.Refusal.{Refusal}
 use Rattle.smv_front.specs.Sources.{IsRefusedBy}
 use Rattle.smv_front.proofs.OfSources.{never_both}
-use Rattle.smv_cli.specs.declared.record.Verdict.{Verdict}
-use Rattle.smv_cli.specs.declared.record.Verdict.TheVariants.{True, False, Unknown}
 use Rattle.smv_cli.specs.declared.record.Record.{Record}
-use Rattle.smv_cli.specs.Records.{at_least_unknown, status_with, status_of}
+use Rattle.smv_cli.specs.Records.{status_of}
 use Rattle.smv_cli.specs.Report.{IsSomeModel, CommandStage, nothing, refused, judging, judged, listed, Stage, begun, said, usage, Answered}
 
 not_refused : (bytes : List ℕ) (r : Refusal) → IsSomeModel bytes → IsRefusedBy bytes r → ⊥
 not_refused bytes r (p, model) h = never_both bytes p r model h
 
-at_least_unknown_small : (a : ℕ) → at_least_unknown a ≤ 2
-at_least_unknown_small zero = omega arith
-at_least_unknown_small (suc zero) = omega arith
-at_least_unknown_small (suc (suc a)) = omega arith
+status_by_small : (a b : Bool) → (if a then 1 else if b then 2 else 0) ≤ 2
+status_by_small true b = omega arith
+status_by_small false true = omega arith
+status_by_small false false = omega arith
 
-status_with_small : (a : ℕ) (v : Verdict) → a ≤ 2 → status_with a v ≤ 2
-status_with_small a True h = h
-status_with_small a (False trace) h = omega arith
-status_with_small a (Unknown cause) h = at_least_unknown_small a
-
-status_small : (a : ℕ) (rs : List Record) → a ≤ 2 → fold (λ status (r : Record). status_with status r.verdict) a rs ≤ 2
-status_small a [] h = h
-status_small a (r ∷ rs) h = status_small (status_with a r.verdict) rs (status_with_small a r.verdict h)
+status_small : (rs : List Record) → status_of rs ≤ 2
+status_small rs = status_by_small _ _
 
 module _ (bytes t : List ℕ) (s : Option ℕ) (n : ℕ) where
   model_status : (command : Command) → s ≡ Some n → IsSomeModel bytes → CommandStage command bytes t s → n ≤ 2
@@ -37,7 +29,7 @@ module _ (bytes t : List ℕ) (s : Option ℕ) (n : ℕ) where
   model_status command e model (judging effort p records is j a b) = let h : None ≡ Some n = sym b ∙ e in cc
   model_status command e model (judged effort p records is j k a b) =
       let h : status_of records ≡ n = cc in
-      subst (λ (m : ℕ). m ≤ 2) h (status_small 0 records (omega arith))
+      subst (λ (m : ℕ). m ≤ 2) h (status_small records)
   model_status command e model (listed p is m a b) = let h : Some 0 ≡ Some n = sym b ∙ e in let same : 0 ≡ n = cc in omega (arith, same)
 
   words_status : (words : List (List ℕ)) → s ≡ Some n → IsCommandLine words → IsSomeModel bytes → Stage words bytes t s → n ≤ 2

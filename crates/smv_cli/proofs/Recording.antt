@@ -1,19 +1,48 @@
 -- One more record.
-use Rattle.std.proofs.Common.{◌≡◌, ℕ, ◌+◌, List, [], ◌∷◌, ◌++◌, length, take, drop, sym, ap, subst, ◌∙◌, arith, refl, append_assoc, append-nil, get_or, take-append-drop, length-take, length-append, take_all, ◌<◌}
+use Rattle.std.proofs.Common.{◌≡◌, ℕ, ◌+◌, List, [], ◌∷◌, ◌++◌, length, take, drop, sym, ap, subst, ◌∙◌, arith, refl, append_assoc, append-nil, get_or, take-append-drop, length-take, length-append, take_all, ◌<◌, Bool, true, false, ◌||◌, ap₂}
 use Rattle.std.proofs.lemmas.List.{take_more}
-use Rattle.std.specs.Prelude.{fold}
+use Rattle.std.proofs.lemmas.List.Folds.{list_any-append}
+use Rattle.std.specs.Prelude.{if◌then◌else◌}
 use Rattle.std.specs.declared.option.Option.{Option}
 use Rattle.std.specs.List.{flat_map}
 use Rattle.std.proofs.Math.Seq.{take-append-add}
 use Rattle.std.proofs.KnownBytes.{Appends-trans}
 use Rattle.std.specs.Io.KnownBytes.{Appends}
 use Rattle.command_words.specs.declared.command.Effort.{Effort}
+use Rattle.effort_purse.specs.declared.plain.PlainPurse.{PlainPurse}
+use Rattle.effort_purse.specs.Plain.{plain_budget, plain_spent}
 use Rattle.smv_tree.specs.declared.tree.Program.{Program}
-use Rattle.smv_scope.specs.Items.{ResolvedItem}
+use Rattle.smv_tree.specs.declared.tree.SpecificationKind.{SpecificationKind}
+use Rattle.smv_resolve.specs.declared.item.ItemKind.{ItemKind}
+use Rattle.smv_resolve.specs.declared.item.ItemKind.TheVariants as item
+use Rattle.smv_resolve.specs.Items.{ResolvedItem}
+use Rattle.smv_meaning.specs.Runs.{is_claim}
+use Rattle.invariant_queries.specs.Deciding.{IsCause}
+use Rattle.smv_cli.specs.declared.record.Verdict.{Verdict}
+use Rattle.smv_cli.specs.declared.record.Verdict.TheVariants.{True, False, Unknown}
 use Rattle.smv_cli.specs.declared.record.Record.{Record}
 use Rattle.smv_cli.specs.Streams.{AppendsFront}
-use Rattle.smv_cli.specs.Records.{IsPaid, RightFrom, Recorded, RecordedPart, status_with}
+use Rattle.smv_cli.specs.Records.{IsRight, RightFrom, is_false, is_unknown, status_of}
 use Rattle.smv_cli.specs.Texts.{record_text}
+use Rattle.smv_cli.specs.Written.{IsVerdict, Recorded, RecordedPart, status_with}
+
+-- a right record of the specification of this number
+abbrev pub IsRecordOf : Program → Effort → ℕ → ResolvedItem → Record → Type 0
+IsRecordOf p effort number spec r = (r.number ≡ number) × (spec.kind ≡ item.Specification r.kind) × IsRight p effort spec r.verdict
+
+-- what a purse of the effort's budget paid for is right
+pub paid : (p : Program) (effort : Effort) (spec : ResolvedItem) (fresh used : PlainPurse) (v : Verdict) → plain_budget fresh ≡ effort.conflicts → plain_budget used ≡ plain_budget fresh
+    → IsVerdict p spec (plain_budget fresh) effort.bound (plain_spent used) v → IsRight p effort spec v
+paid p effort spec fresh used True made same right = right
+paid p effort spec fresh used (False trace) made same right = right
+paid p effort spec fresh used (Unknown cause) made same right =
+    (used, same ∙ made, subst (λ (budget : ℕ). IsCause p spec budget effort.bound (plain_spent used) cause) made right)
+
+-- what is a claim is a specification
+pub claimed : (kind : ItemKind) → is_claim kind ≡ true → (k : SpecificationKind) × (kind ≡ item.Specification k)
+claimed (item.Specification k) e = (k, refl)
+claimed (item.Constraint k) e = cc
+claimed (item.Assignment k) e = cc
 
 -- what was taken in one call, and a front of what came in the next
 pub AppendsFront-after : (old mid new : Option (List ℕ)) (first second : List ℕ) → Appends old mid first → AppendsFront mid new second → AppendsFront old new (first ++ second)
@@ -27,48 +56,63 @@ module _ (p : Program) (effort : Effort) where
   RightFrom-more : (i : ℕ) (xs ys : List ResolvedItem) (rs : List Record) → RightFrom p effort i xs rs → RightFrom p effort i (xs ++ ys) rs
   RightFrom-more i xs ys [] h = tt
   RightFrom-more i [] ys (r ∷ rs) h = absurd h
-  RightFrom-more i (x ∷ xs) ys (r ∷ rs) (h, k) = (h, RightFrom-more (i + 1) xs ys rs k)
+  RightFrom-more i (x ∷ xs) ys (r ∷ rs) (n, o, h, k) = (n, o, h, RightFrom-more (i + 1) xs ys rs k)
 
   RightFrom-push : (i : ℕ) (xs : List ResolvedItem) (x : ResolvedItem) (rs : List Record) (r : Record) → RightFrom p effort i xs rs → length rs ≡ length xs
-      → IsPaid p effort (i + length xs) x r → RightFrom p effort i (xs ++ x ∷ []) (rs ++ r ∷ [])
-  RightFrom-push i [] x [] r h e k = (subst (λ (n : ℕ). IsPaid p effort n x r) (omega arith) k, tt)
+      → IsRecordOf p effort (i + length xs) x r → RightFrom p effort i (xs ++ x ∷ []) (rs ++ r ∷ [])
+  RightFrom-push i [] x [] r h e (n, o, k) = (n ∙ (let same : i + 0 ≡ i = omega arith in same), o, k, tt)
   RightFrom-push i [] x (q ∷ rs) r h e k = absurd h
   RightFrom-push i (y ∷ xs) x [] r h e k = absurd (omega (arith, e))
-  RightFrom-push i (y ∷ xs) x (q ∷ rs) r (h, k) e m = (h, RightFrom-push (i + 1) xs x rs r k (omega (arith, e)) (subst (λ (n : ℕ). IsPaid p effort n x r) (omega arith) m))
+  RightFrom-push i (y ∷ xs) x (q ∷ rs) r (n, o, h, k) e m =
+      (n, o, h, RightFrom-push (i + 1) xs x rs r k (omega (arith, e)) (subst (λ (n : ℕ). IsRecordOf p effort n x r) (omega arith) m))
 
 flat_map-push : (rs : List Record) (r : Record) → flat_map record_text (rs ++ r ∷ []) ≡ flat_map record_text rs ++ record_text r
 flat_map-push [] r = append-nil (record_text r)
 flat_map-push (q ∷ rs) r = ap (λ (l : List ℕ). record_text q ++ l) (flat_map-push rs r) ∙ sym (append_assoc (record_text q) (flat_map record_text rs) (record_text r))
 
-abbrev with_record : ℕ → Record → ℕ
-with_record status r = status_with status r.verdict
+-- the status where some record is false, and where some is unknown
+abbrev status_by : Bool → Bool → ℕ
+status_by some_false some_unknown = if some_false then 1 else if some_unknown then 2 else 0
 
-status-push : (a : ℕ) (rs : List Record) (r : Record) → fold with_record a (rs ++ r ∷ []) ≡ with_record (fold with_record a rs) r
-status-push a [] r = refl
-status-push a (q ∷ rs) r = status-push (with_record a q) rs r
+status_by-next : (some_false some_unknown : Bool) (v : Verdict)
+    → status_by (some_false || (is_false v || false)) (some_unknown || (is_unknown v || false)) ≡ status_with (status_by some_false some_unknown) v
+status_by-next true b True = refl
+status_by-next true b (False trace) = refl
+status_by-next true b (Unknown cause) = refl
+status_by-next false true True = refl
+status_by-next false true (False trace) = refl
+status_by-next false true (Unknown cause) = refl
+status_by-next false false True = refl
+status_by-next false false (False trace) = refl
+status_by-next false false (Unknown cause) = refl
+
+status-push : (rs : List Record) (r : Record) → status_of (rs ++ r ∷ []) ≡ status_with (status_of rs) r.verdict
+status-push rs r =
+    ap₂ status_by (list_any-append (λ (q : Record). is_false q.verdict) rs (r ∷ [])) (list_any-append (λ (q : Record). is_unknown q.verdict) rs (r ∷ []))
+    ∙ status_by-next _ _ r.verdict
 
 module _ (p : Program) (effort : Effort) (specs : List ResolvedItem) (i : ℕ) where
   right-whole : (rs : List Record) → RightFrom p effort 1 (take i specs) rs → RightFrom p effort 1 specs rs
   right-whole rs right = subst (λ (xs : List ResolvedItem). RightFrom p effort 1 xs rs) (take-append-drop i specs) (RightFrom-more p effort 1 (take i specs) (drop i specs) rs right)
 
   -- right records of the first i specifications and one more
-  right-push : (rs : List Record) (spec : ResolvedItem) (r : Record) → i < length specs → IsPaid p effort (i + 1) (get_or specs i spec) r
+  right-push : (rs : List Record) (spec : ResolvedItem) (r : Record) → i < length specs → IsRecordOf p effort (i + 1) (get_or specs i spec) r
       → RightFrom p effort 1 (take i specs) rs → length rs ≡ length (take i specs) → RightFrom p effort 1 (take (i + 1) specs) (rs ++ r ∷ [])
   right-push rs spec r h k right each =
       let front : take (i + 1) specs ≡ take i specs ++ get_or specs i spec ∷ [] = take_more specs i spec h in
       let n : i + 1 ≡ 1 + length (take i specs) = omega (arith, length-take i specs) in
       subst (λ (xs : List ResolvedItem). RightFrom p effort 1 xs (rs ++ r ∷ [])) (sym front)
-      (RightFrom-push p effort 1 (take i specs) (get_or specs i spec) rs r right each (subst (λ (m : ℕ). IsPaid p effort m (get_or specs i spec) r) n k))
+      (RightFrom-push p effort 1 (take i specs) (get_or specs i spec) rs r right each (subst (λ (m : ℕ). IsRecordOf p effort m (get_or specs i spec) r) n k))
 
   pub Recorded-push : (spec : ResolvedItem) (r : Record) (old mid new : Option (List ℕ)) (status next : ℕ) → i < length specs
-      → IsPaid p effort (i + 1) (get_or specs i spec) r → Recorded p effort (take i specs) old mid status → Appends mid new (record_text r)
+      → IsRecordOf p effort (i + 1) (get_or specs i spec) r → Recorded p effort (take i specs) old mid status → Appends mid new (record_text r)
       → next ≡ status_with status r.verdict → Recorded p effort (take (i + 1) specs) old new next
   Recorded-push spec r old mid new status next h k so_far took e = record {
     records = so_far.records ++ r ∷ [];
     right = right-push so_far.records spec r h k so_far.right so_far.each;
     each = omega (arith, so_far.each, length-append so_far.records (r ∷ []), length-take i specs, length-take (i + 1) specs);
     took = subst (Appends old new) (sym (flat_map-push so_far.records r)) (Appends-trans old mid new _ _ so_far.took took);
-    worst = e ∙ ap (λ (a : ℕ). with_record a r) so_far.worst ∙ sym (status-push 0 so_far.records r);
+    worst = e ∙ ap (λ (a : ℕ). status_with a r.verdict) so_far.worst ∙ sym (status-push so_far.records r);
   }
 
   pub RecordedPart-whole : (old new : Option (List ℕ)) (status : ℕ) → Recorded p effort (take i specs) old new status → RecordedPart p effort specs old new
@@ -79,7 +123,7 @@ module _ (p : Program) (effort : Effort) (specs : List ResolvedItem) (i : ℕ) w
   }
 
 pub RecordedPart-push : (p : Program) (effort : Effort) (specs : List ResolvedItem) (i : ℕ) (spec : ResolvedItem) (r : Record) (old mid new : Option (List ℕ)) (status : ℕ) → i < length specs
-    → IsPaid p effort (i + 1) (get_or specs i spec) r → Recorded p effort (take i specs) old mid status → AppendsFront mid new (record_text r)
+    → IsRecordOf p effort (i + 1) (get_or specs i spec) r → Recorded p effort (take i specs) old mid status → AppendsFront mid new (record_text r)
     → RecordedPart p effort specs old new
 RecordedPart-push p effort specs i spec r old mid new status h k so_far took = record {
   records = so_far.records ++ r ∷ [];

@@ -19,10 +19,10 @@ use Rattle.smv_front.specs.Sources.{IsModel, IsRefusedBy, in_text, in_grammar, i
 use Rattle.smv_meaning.specs.Runs.{specifications_of}
 use Rattle.smv_cli.specs.declared.record.Record.{Record}
 use Rattle.smv_cli.specs.Streams.{AppendsFront, ReadsFirst}
-use Rattle.smv_cli.specs.Records.{Recorded, RecordedPart}
 use Rattle.smv_cli.specs.Listing.{listing_text}
 use Rattle.smv_cli.specs.Texts.{record_text, usage_text}
-use Rattle.smv_cli.specs.Report.{IsJudged, CommandStage, nothing, refused, judging, judged, listed, Stage, begun, said, usage, Held, Answered, Begun, CommandDone, CommandPart}
+use Rattle.smv_cli.specs.Report.{IsJudged, CommandStage, nothing, refused, judging, judged, listed, Stage, begun, said, usage, Held, Answered, Begun}
+use Rattle.smv_cli.specs.Written.{CommandDone, CommandPart, Recorded, RecordedPart}
 
 module _ (command : Command) where
   pub refused-done : (bytes : List ℕ) (r : Refusal) (old new : Option (List ℕ)) → IsRefusedBy bytes r → Appends old new (refusal_text r) → CommandDone command bytes old new 3

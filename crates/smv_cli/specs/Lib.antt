@@ -3,3 +3,4 @@ pub mod Records
 pub mod Report
 pub mod Streams
 pub mod Texts
+pub mod Written

@@ -7,12 +7,12 @@ use Rattle.smv_tree.specs.declared.tree.ConstraintKind.TheVariants as asked
 use Rattle.smv_tree.specs.declared.tree.VariableKind.{VariableKind}
 use Rattle.smv_tree.specs.declared.tree.VariableKind.TheVariants as sort
 use Rattle.smv_tree.specs.Texts.{kind_text, line_end, place_text}
-use Rattle.smv_scope.specs.declared.item.ItemKind.{ItemKind}
-use Rattle.smv_scope.specs.declared.item.ItemKind.TheVariants as item
+use Rattle.smv_resolve.specs.declared.item.ItemKind.{ItemKind}
+use Rattle.smv_resolve.specs.declared.item.ItemKind.TheVariants as item
 use Rattle.smv_scope.specs.declared.slot.Slot.{Slot}
 use Rattle.smv_scope.specs.declared.slot.ValueType.{ValueType}
 use Rattle.smv_scope.specs.declared.slot.ValueType.TheVariants.{Boolean}
-use Rattle.smv_scope.specs.Items.{ResolvedItem, items_of}
+use Rattle.smv_resolve.specs.Items.{ResolvedItem, items_of}
 use Rattle.smv_scope.specs.Paths.{path_of, shown_path, slot_name}
 use Rattle.smv_scope.specs.Slots.{slots_of}
 use Rattle.smv_meaning.specs.Runs.{is_claim}

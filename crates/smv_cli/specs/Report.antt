@@ -61,19 +61,6 @@ pub record Begun (stage : List ℕ → List ℕ → Option ℕ → Type 0) (left
   pub took : AppendsFront before now text
   pub part : stage bytes text status
 
--- what the sink took is a report on these bytes
-pub record CommandDone (command : Command) (bytes : List ℕ) (before now : Option (List ℕ)) (status : ℕ) : Type 0 where
-  pub text : List ℕ
-  pub took : Appends before now text
-  pub stage : CommandStage command bytes text (Some status)
-
--- what the sink took is a prefix of a report on these bytes
-pub record CommandPart (command : Command) (bytes : List ℕ) (before now : Option (List ℕ)) : Type 0 where
-  pub text : List ℕ
-  pub status : Option ℕ
-  pub took : AppendsFront before now text
-  pub stage : CommandStage command bytes text status
-
 -- the bytes are a model of some program
 abbrev pub IsSomeModel : List ℕ → Type 0
 IsSomeModel bytes = (p : Program) × IsModel bytes p

@@ -11,9 +11,9 @@ use Rattle.smv_cli.specs.declared.record.Verdict.{Verdict}
 use Rattle.smv_cli.specs.declared.record.Verdict.TheVariants.{True, False, Unknown}
 use Rattle.smv_cli.specs.declared.record.Record.{Record}
 
--- NAME = VALUE
+-- NAME = VALUE, in a language without symbols
 abbrev pub binding_text : List ℕ × Value → List ℕ
-binding_text b = b.0 ++ (codes " = " ++ value_text b.1)
+binding_text b = b.0 ++ (codes " = " ++ value_text [] b.1)
 
 -- each behind a comma
 abbrev pub more_bindings : List (List ℕ × Value) → List ℕ

@@ -1,56 +1,68 @@
 //! What is said of a specification: it is decided by queries to a solver.
 
-ghost use Rattle.std.specs.Prelude.{◌≡◌, map, IfOk};
-ghost use Rattle.smv_scope.specs.declared.item.ItemKind.TheVariants as item;
-ghost use Rattle.smv_scope.specs.Items.{item_by};
+ghost use Rattle.std.specs.Prelude.{◌≡◌, Contains, map, IfOk};
+ghost use Rattle.smv_resolve.specs.Items.{item_by};
 ghost use Rattle.smv_scope.specs.Paths.{slot_name};
+ghost use Rattle.smv_meaning.specs.Runs.{specifications_of};
 ghost use Rattle.smv_cli.specs.Records.{AreNames, IsRight};
+ghost use Rattle.smv_cli.specs.Written.{IsVerdict};
 
 use crate::record::{Record, Trace, Verdict};
-use effort_purse::Purse;
+use command_words::Effort;
+use effort_purse::{PlainPurse, Purse};
 use invariant_queries::{Decision, decide};
 use plain_text::Text;
 use smv_meaning::{Inputs, State, Typed, input_slots, state_slots};
-use smv_scope::{Item, Scope, Slot, slot_name};
+use smv_resolve::Item;
+use smv_scope::{Scope, Slot, slot_name};
 use smv_tree::SpecificationKind;
 use sqlite_items::Items;
 use std::alloc::{AllocError, Global};
 
-/// The record of a specification under this number, as far as this purse pays and runs of so many steps show.
-pub fn judge<Q: Purse>(
+/// The record of a specification under this number, as far as a purse of this effort pays and runs of so many steps show.
+pub fn judge(
     alloc: Global,
     typed: &Typed,
     number: usize,
     kind: SpecificationKind,
     spec: &Item,
+    effort: &Effort,
+) -> Result<Record, AllocError>
+    requires { Contains (specifications_of typed.now.scope.program) (item_by typed.now.nodes spec.now) }
+    ensures number { IfOk result (λ r. r.number ≡ number) }
+    ensures kind { IfOk result (λ r. r.kind ≡ kind) }
+    ensures right { IfOk result (λ r. IsRight typed.now.scope.program effort.now (item_by typed.now.nodes spec.now) r.verdict) }
+{
+    let mut purse = PlainPurse::new(effort.conflicts);
+    let verdict = verdict_of(alloc, typed, spec, effort.bound, &mut purse)?;
+    Ok(Record {
+        number,
+        kind,
+        verdict,
+    })
+}
+
+// What is said of a specification, as far as this purse pays and runs of so many steps show.
+fn verdict_of<Q: Purse>(
+    alloc: Global,
+    typed: &Typed,
+    spec: &Item,
     bound: usize,
     purse: &mut Q,
-) -> Result<Record, AllocError>
-    requires kind { spec.now.kind ≡ item.Specification kind }
+) -> Result<Verdict, AllocError>
+    requires claim { Contains (specifications_of typed.now.scope.program) (item_by typed.now.nodes spec.now) }
     requires ready { Q.ready purse.old }
-    ensures right { IfOk result (IsRight typed.now.scope.program (Q.budget purse.old) bound (Q.spent purse.new) number (item_by typed.now.nodes spec.now)) }
+    ensures right { IfOk result (IsVerdict typed.now.scope.program (item_by typed.now.nodes spec.now) (Q.budget purse.old) bound (Q.spent purse.new)) }
     ensures ready { Q.ready purse.new }
     ensures budget { Q.budget purse.new ≡ Q.budget purse.old }
 {
     match decide(alloc, typed, spec, bound, purse)? {
-        Decision::True => Ok(record(number, kind, Verdict::True)),
+        Decision::True => Ok(Verdict::True),
         Decision::False { states, inputs } => {
             let trace = trace(alloc, &typed.scope, states, inputs)?;
-            Ok(record(number, kind, Verdict::False(trace)))
+            Ok(Verdict::False(trace))
         }
-        Decision::Unknown(cause) => Ok(record(number, kind, Verdict::Unknown(cause))),
-    }
-}
-
-fn record(number: usize, kind: SpecificationKind, verdict: Verdict) -> Record
-    ensures number { result.number ≡ number }
-    ensures kind { result.kind ≡ kind }
-    ensures verdict { result.verdict ≡ verdict }
-{
-    Record {
-        number,
-        kind,
-        verdict,
+        Decision::Unknown(cause) => Ok(Verdict::Unknown(cause)),
     }
 }
 

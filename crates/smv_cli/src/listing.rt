@@ -2,8 +2,8 @@
 
 ghost use Rattle.std.specs.Prelude.{◌≡◌, ◌++◌, filter, length, map, not, IfOk, IfSome, OnOk, Some, codes};
 ghost use Rattle.std.specs.Fmt.{decimal};
-ghost use Rattle.smv_scope.specs.declared.item.ItemKind.TheVariants as item;
-ghost use Rattle.smv_scope.specs.Items.{ResolvedItem, item_by, items_of};
+ghost use Rattle.smv_resolve.specs.declared.item.ItemKind.TheVariants as item;
+ghost use Rattle.smv_resolve.specs.Items.{ResolvedItem, item_by, items_of};
 ghost use Rattle.smv_scope.specs.Paths.{path_of, shown_path, slot_name};
 ghost use Rattle.smv_scope.specs.Slots.{slots_of};
 ghost use Rattle.smv_tree.specs.Texts.{line_end, place_text};
@@ -12,7 +12,8 @@ ghost use Rattle.smv_cli.specs.Listing.{item_kind_text, item_line, items_text, l
 
 use plain_text::Text;
 use smv_meaning::{Typed, is_claim};
-use smv_scope::{Item, ItemKind, Scope, Slot, ValueType, path_of, slot_name};
+use smv_resolve::{Item, ItemKind};
+use smv_scope::{Scope, Slot, ValueType, path_of, slot_name};
 use smv_tree::{AssignmentKind, ConstraintKind, Place, VariableKind};
 use std::alloc::{AllocError, Global};
 use std::fmt;

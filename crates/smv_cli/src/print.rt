@@ -1,30 +1,29 @@
 //! Parts of a report, each written when it is made.
-ghost use Rattle.std.specs.Prelude.{◌≡◌, ◌≤◌, map, IfSome, IfOk, OnOk, IsErrOf};
+ghost use Rattle.std.specs.Prelude.{◌≡◌, ◌≤◌, true, map, All, IfSome, IfOk, OnOk, IsErrOf};
 ghost use Rattle.std.specs.Io.KnownBytes.{Appends};
 ghost use Rattle.outside.specs.Causes.{Rose};
-ghost use Rattle.smv_scope.specs.declared.item.ItemKind.TheVariants as item;
-ghost use Rattle.smv_scope.specs.Items.{item_by};
+ghost use Rattle.smv_resolve.specs.Items.{item_by};
+ghost use Rattle.smv_meaning.specs.Runs.{is_claim, specifications_of};
 ghost use Rattle.smv_cli.specs.Streams.{AppendsFront};
-ghost use Rattle.smv_cli.specs.Records.{IsPaid, Recorded, RecordedPart, status_with};
+ghost use Rattle.smv_cli.specs.Written.{Recorded, RecordedPart, status_with};
 
 use crate::judging::judge;
-use crate::record::{Record, Verdict};
+use crate::record::Verdict;
 use crate::streams::write_all;
 use command_words::Effort;
-use effort_purse::PlainPurse;
 use outside::{Sink, Stop};
 use smv_meaning::Typed;
-use smv_scope::{Item, ItemKind};
-use smv_tree::SpecificationKind;
-use std::alloc::{AllocError, Global};
+use smv_resolve::{Item, ItemKind};
+use std::alloc::Global;
 use std::fmt;
 
 /// Writes one part.
 pub fn put<K: Sink, D: fmt::Display>(alloc: Global, sink: &mut K, part: &D) -> Result<(), Stop>
     ensures ok { OnOk result (IfSome (D.output part.now) (λ text. Appends (K.taken sink.old) (K.taken sink.new) text)) }
     ensures front { IfSome (D.output part.now) (λ text. AppendsFront (K.taken sink.old) (K.taken sink.new) text) }
-    ensures later { K.faults sink.old ≤ K.faults sink.new }
+    ensures kept { OnOk result (K.faults sink.new ≡ K.faults sink.old) }
     ensures failed { IsErrOf result Stop.Failed → Rose (K.faults sink.old) (K.faults sink.new) }
+    ensures no_memory { IsErrOf result Stop.NoMemory → K.faults sink.new ≡ K.faults sink.old }
 {
     let Ok(text) = part.to_string(alloc) else {
         return Err(Stop::NoMemory);
@@ -45,22 +44,6 @@ fn status_with(status: u8, verdict: &Verdict) -> u8
     }
 }
 
-// The record of a specification, paid from a purse of its own.
-fn judge_anew(
-    alloc: Global,
-    typed: &Typed,
-    number: usize,
-    kind: SpecificationKind,
-    spec: &Item,
-    effort: &Effort,
-) -> Result<Record, AllocError>
-    requires { spec.now.kind ≡ item.Specification kind }
-    ensures { IfOk result (IsPaid typed.now.scope.program effort.now number (item_by typed.now.nodes spec.now)) }
-{
-    let mut purse = PlainPurse::new(effort.conflicts);
-    judge(alloc, typed, number, kind, spec, effort.bound, &mut purse)
-}
-
 /// Writes the record of each specification of a program, one by one, each when it is made. The answer is 1 where one
 /// is false, else 2 where one is unknown, else 0.
 pub fn put_records<K: Sink>(
@@ -70,18 +53,21 @@ pub fn put_records<K: Sink>(
     specs: &[Item],
     effort: &Effort,
 ) -> Result<u8, Stop>
+    requires claims { All (λ spec. is_claim spec.kind ≡ true) specs.now }
+    requires listed { map (item_by typed.now.nodes) specs.now ≡ specifications_of typed.now.scope.program }
     ensures ok { IfOk result (λ status. Recorded typed.now.scope.program effort.now (map (item_by typed.now.nodes) specs.now) (K.taken sink.old) (K.taken sink.new) status) }
     ensures small { IfOk result (λ status. status ≤ 2) }
     ensures part { RecordedPart typed.now.scope.program effort.now (map (item_by typed.now.nodes) specs.now) (K.taken sink.old) (K.taken sink.new) }
-    ensures later { K.faults sink.old ≤ K.faults sink.new }
+    ensures kept { OnOk result (K.faults sink.new ≡ K.faults sink.old) }
     ensures failed { IsErrOf result Stop.Failed → Rose (K.faults sink.old) (K.faults sink.new) }
+    ensures no_memory { IsErrOf result Stop.NoMemory → K.faults sink.new ≡ K.faults sink.old }
 {
     let mut status = 0;
     'specs: for (i, spec) in specs.iter().enumerate() {
         let ItemKind::Specification(kind) = spec.kind else {
-            return Err(Stop::NoMemory);
+            unreachable!()
         };
-        let Ok(made) = judge_anew(alloc, typed, i + 1, kind, spec, effort) else {
+        let Ok(made) = judge(alloc, typed, i + 1, kind, spec, effort) else {
             return Err(Stop::NoMemory);
         };
         put(alloc, sink, &made)?;

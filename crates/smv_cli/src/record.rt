@@ -1,6 +1,6 @@
 //! The records of a report: what is said of each specification, with the run that breaks it.
 
-ghost use Rattle.std.specs.Prelude.{Some, slice_get};
+ghost use Rattle.std.specs.Prelude.{◌≡◌, [], Some, slice_get};
 ghost use Rattle.std.specs.Fmt.{WritesOnOk};
 ghost use Rattle.std.specs.List.{zip};
 ghost use Rattle.smv_cli.specs.Texts.{bindings_text, input_line, inputs_text, moment_text, more_bindings, record_text, state_line, trace_text};
@@ -9,7 +9,7 @@ use invariant_queries::Cause;
 use plain_text::Text;
 use smv_meaning::{Inputs, State};
 use smv_tree::SpecificationKind;
-use smv_value::Value;
+use smv_value::{Shown, Value};
 use sqlite_items::Items;
 use std::fmt;
 
@@ -147,8 +147,16 @@ fn write_bindings<W: fmt::Write>(
     let [value, values @ ..] = values else {
         return Ok(());
     };
-    write!(f, " {name} = {value}")?;
+    write!(f, " {name} = {}", shown(*value))?;
     write_more_bindings(f, names, values)
+}
+
+// A value of a language without symbols.
+fn shown(value: Value) -> Shown<'static>
+    ensures value { result.value ≡ value }
+    ensures names { result.names.now ≡ [] }
+{
+    Shown { value, names: &[] }
 }
 
 fn write_more_bindings<W: fmt::Write>(
@@ -160,7 +168,7 @@ fn write_more_bindings<W: fmt::Write>(
 {
     for i in 0..names.len().min(values.len()) {
         let (name, value) = (&names[i], values[i]);
-        write!(f, ", {name} = {value}")?;
+        write!(f, ", {name} = {}", shown(value))?;
     }
     Ok(())
 }

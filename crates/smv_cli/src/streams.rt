@@ -1,8 +1,8 @@
 //! The whole of a source, and the whole of a piece to a sink.
-ghost use Rattle.std.specs.Prelude.{◌≡◌, ◌<◌, ◌≤◌, IfOk, OnOk, IsErrOf, vec_len};
+ghost use Rattle.std.specs.Prelude.{◌≡◌, ◌≤◌, IfOk, OnOk, IsErrOf, vec_len};
 ghost use Rattle.std.specs.Io.KnownBytes.{Appends};
 ghost use Rattle.outside.specs.Causes.{Rose};
-ghost use Rattle.smv_cli.specs.Streams.{ReadsFirst, AppendsFront};
+ghost use Rattle.smv_cli.specs.Streams.{AppendsFront, ReadsFirst};
 
 use outside::{Sink, Source, Stop};
 use std::alloc::Global;
@@ -24,8 +24,9 @@ pub fn read_all<S: Source>(
 ) -> Result<Vec<u8>, SourceStop>
     ensures bytes { IfOk result (λ text. ReadsFirst limit (S.left source.old) text.items) }
     ensures bound { IfOk result (λ text. vec_len text ≤ limit) }
-    ensures later { S.faults source.old ≤ S.faults source.new }
+    ensures kept { OnOk result (S.faults source.new ≡ S.faults source.old) }
     ensures failed { IsErrOf result SourceStop.Failed → Rose (S.faults source.old) (S.faults source.new) }
+    ensures no_memory { IsErrOf result SourceStop.NoMemory → S.faults source.new ≡ S.faults source.old }
 {
     let mut text = Vec::new(alloc);
     let mut buf = [0u8; 4096];
@@ -49,8 +50,9 @@ pub fn read_all<S: Source>(
 pub fn write_all<K: Sink>(sink: &mut K, piece: &[u8]) -> Result<(), Stop>
     ensures ok { OnOk result (Appends (K.taken sink.old) (K.taken sink.new) piece.now) }
     ensures front { AppendsFront (K.taken sink.old) (K.taken sink.new) piece.now }
-    ensures later { K.faults sink.old ≤ K.faults sink.new }
+    ensures kept { OnOk result (K.faults sink.new ≡ K.faults sink.old) }
     ensures failed { IsErrOf result Stop.Failed → Rose (K.faults sink.old) (K.faults sink.new) }
+    ensures no_memory { IsErrOf result Stop.NoMemory → K.faults sink.new ≡ K.faults sink.old }
 {
     let mut at = 0;
     while at < piece.len() {

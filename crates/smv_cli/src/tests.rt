@@ -1,65 +1,47 @@
-// The top call over sources and sinks in memory.
-use crate::{Record, Verdict, run};
-use invariant_queries::Cause;
-use outside::{MemSink, MemSource, OpenGate};
-use smv_tree::SpecificationKind;
+// The top call over sources and sinks in memory, and over std's readers and writers.
+use crate::{run, run_over_bytes};
+use outside::{MemSink, MemSource, OpenGate, StdSink, StdSource};
 use std::alloc::{AllocError, Global};
+use std::io;
+use std::io::{Read, Write};
 use std::sync::Wait;
 use std::test::Fail;
 use std::thread::Threads;
 
-// Does what the words say; the report goes to the sink.
-fn status_of<R: Threads + Wait + Sync>(
-    rt: &R,
-    alloc: Global,
-    words: &[&str],
-    source: &mut MemSource,
-    sink: &mut MemSink,
-) -> u8 {
-    run(rt, alloc, words, source, sink, &OpenGate)
-}
+// The number of a call that is to fail, where none is.
+const NONE: u64 = u64::MAX;
 
-// The number of a call that fails, if there is one.
-fn numbers(alloc: Global, call: Option<u64>) -> Result<Vec<u64>, AllocError> {
-    let mut numbers = Vec::new(alloc);
-    if let Some(call) = call {
-        numbers.push(call)?;
-    }
-    Ok(numbers)
-}
-
-// A run over this text: reads and writes of at most `chunk` bytes, those numbered failing.
-fn over<R: Threads + Wait + Sync>(
-    rt: &R,
-    alloc: Global,
-    words: &[&str],
-    text: &[u8],
-    chunk: usize,
-    bad_read: Option<u64>,
-    bad_write: Option<u64>,
-) -> Result<(u8, MemSink), AllocError> {
-    let chunk = chunk.max(1);
-    let reads = numbers(alloc, bad_read)?;
-    let mut source = MemSource::new(text.to_vec(alloc)?, chunk, reads);
-    let mut sink = MemSink::new(alloc, chunk, numbers(alloc, bad_write)?);
-    let status = status_of(rt, alloc, words, &mut source, &mut sink);
-    Ok((status, sink))
-}
-
-// Whether a run over this text, as `over`, prints this and answers this status.
+// Whether a run over this text, with reads and writes of at most `chunk` bytes, of which those numbered so fail, prints
+// this and answers this status.
 fn prints<R: Threads + Wait + Sync>(
     rt: &R,
     alloc: Global,
     words: &[&str],
     text: &[u8],
     chunk: usize,
-    bad_read: Option<u64>,
-    bad_write: Option<u64>,
+    bad_read: u64,
+    bad_write: u64,
     want: &[u8],
     want_status: u8,
 ) -> Result<bool, AllocError> {
-    let (status, sink) = over(rt, alloc, words, text, chunk, bad_read, bad_write)?;
+    let chunk = chunk.max(1);
+    let mut source = MemSource::new(text.to_vec(alloc)?, chunk, vec![in alloc; bad_read]?);
+    let mut sink = MemSink::new(alloc, chunk, vec![in alloc; bad_write]?);
+    let status = run(rt, alloc, words, &mut source, &mut sink, &OpenGate);
     Ok(status == want_status && sink.bytes() == want)
+}
+
+// The same in one piece, with no failure.
+fn prints_whole<R: Threads + Wait + Sync>(
+    rt: &R,
+    alloc: Global,
+    words: &[&str],
+    text: &[u8],
+    want: &[u8],
+    want_status: u8,
+) -> Result<bool, AllocError> {
+    let (status, printed) = run_over_bytes(rt, alloc, words, text.to_vec(alloc)?);
+    Ok(status == want_status && printed.as_slice() == want)
 }
 
 const STANDING: &str =
@@ -92,23 +74,23 @@ fn answers<R: Threads + Wait + Sync>(
     want_status: u8,
 ) -> Result<bool, AllocError> {
     let words: Vec<&str> = line.split_whitespace().collect(alloc)?;
-    for chunk in [1usize, 7, 5000] {
-        let (text, want) = (text.as_bytes(), want.as_bytes());
+    let (text, want) = (text.as_bytes(), want.as_bytes());
+    for chunk in [1usize, 7] {
         if !prints(
             rt,
             alloc,
             &words,
             text,
             chunk,
-            None,
-            None,
+            NONE,
+            NONE,
             want,
             want_status,
         )? {
             return Ok(false);
         }
     }
-    Ok(true)
+    prints_whole(rt, alloc, &words, text, want, want_status)
 }
 
 // The words, a source, what is printed, and the status.
@@ -131,7 +113,7 @@ fn first_wrong<R: Threads + Wait + Sync>(
 const TWO: &str =
     "MODULE main\nVAR a : boolean; b : boolean;\nASSIGN init(a) := FALSE; init(b) := FALSE; next(a) := b; next(b) := FALSE;\nINVARSPEC !a\n";
 
-const CASES: [Case; 43] = [
+const CASES: [Case; 141] = [
     // Command lines.
     ("check", STANDING, TRUE, 0),
     ("check", TOGGLING, BROKEN, 1),
@@ -152,6 +134,36 @@ const CASES: [Case; 43] = [
     ("flat --bound 1", STANDING, USAGE, 4),
     ("flat check", STANDING, USAGE, 4),
     ("--version", STANDING, USAGE, 4),
+    ("check --bound 007", STANDING, TRUE, 0),
+    (
+        "check --bound 10000 --conflicts 1099511627776",
+        STANDING,
+        TRUE,
+        0,
+    ),
+    ("check --conflicts=5 --bound 6", TOGGLING, BROKEN, 1),
+    ("check --", STANDING, TRUE, 0),
+    ("flat --", STANDING, LISTED, 0),
+    ("check --bound x", STANDING, USAGE, 4),
+    ("check --conflicts=", STANDING, USAGE, 4),
+    ("check --bound 1 --bound 1", STANDING, USAGE, 4),
+    (
+        "check --conflicts 1 --bound 1 --conflicts 2",
+        STANDING,
+        USAGE,
+        4,
+    ),
+    ("--bound 1 check", STANDING, USAGE, 4),
+    ("check -b 1", STANDING, USAGE, 4),
+    ("--help", STANDING, USAGE, 4),
+    ("-h", STANDING, USAGE, 4),
+    ("help", STANDING, USAGE, 4),
+    ("help check", STANDING, USAGE, 4),
+    ("check help", STANDING, USAGE, 4),
+    ("Check", STANDING, USAGE, 4),
+    ("flat --conflicts=1", STANDING, USAGE, 4),
+    ("--bound 1 flat", STANDING, USAGE, 4),
+    ("flat x", STANDING, USAGE, 4),
     // Verdicts.
     // a is TRUE in no state that is reached, and one step from where b is TRUE would break it.
     (
@@ -283,17 +295,7 @@ const CASES: [Case; 43] = [
         "-- refused 201 Unexpected at 1:28: end\n",
         3,
     ),
-];
-
-#[test]
-fn cases(rt: HostRuntime) -> Result<(), Fail> {
-    let wrong = first_wrong(&rt, rt.alloc(), &CASES)?;
-    assert_eq!(rt; wrong, None);
-    Ok(())
-}
-
-// One row for each rule of modules, names, kinds and assignments; places and details were worked out by hand.
-const RULES: [Case; 59] = [
+    // One row for each rule of modules, names, kinds and assignments; places and details were worked out by hand.
     (
         "check",
         "MODULE m\nMODULE main\nMODULE m\n",
@@ -643,16 +645,7 @@ const RULES: [Case; 59] = [
         "-- refused 203 Unsupported at 3:1: LTLSPEC\n",
         3,
     ),
-];
-
-#[test]
-fn rules(rt: HostRuntime) -> Result<(), Fail> {
-    let wrong = first_wrong(&rt, rt.alloc(), &RULES)?;
-    assert_eq!(rt; wrong, None);
-    Ok(())
-}
-
-const MODELS: [Case; 19] = [
+    // Models of more modules, inputs and frozen variables, and listings.
     // An inverter.
     (
         "check",
@@ -779,33 +772,9 @@ const MODELS: [Case; 19] = [
 ];
 
 #[test]
-fn models(rt: HostRuntime) -> Result<(), Fail> {
-    let wrong = first_wrong(&rt, rt.alloc(), &MODELS)?;
+fn cases(rt: HostRuntime) -> Result<(), Fail> {
+    let wrong = first_wrong(&rt, rt.alloc(), &CASES)?;
     assert_eq!(rt; wrong, None);
-    Ok(())
-}
-
-fn is_recorded_so(alloc: Global, cause: Cause, want: &str) -> Result<bool, AllocError> {
-    let record = Record {
-        number: 2,
-        kind: SpecificationKind::Invariant,
-        verdict: Verdict::Unknown(cause),
-    };
-    let text = record.to_string(alloc)?;
-    Ok(text.as_str() == want)
-}
-
-#[test]
-fn unknown_records(rt: HostRuntime) -> Result<(), Fail> {
-    let bound = Cause::Bound { bound: 30 };
-    let want = "-- spec 2 INVARSPEC is unknown: bound 30\n";
-    assert!(rt; is_recorded_so(rt.alloc(), bound, want)?);
-    let conflicts = Cause::Conflicts {
-        drawn: 7,
-        budget: 7,
-    };
-    let want = "-- spec 2 INVARSPEC is unknown: conflicts 7 of 7\n";
-    assert!(rt; is_recorded_so(rt.alloc(), conflicts, want)?);
     Ok(())
 }
 
@@ -817,28 +786,11 @@ fn untold_read<R: Threads + Wait + Sync>(
     text: &[u8],
 ) -> Result<Option<usize>, AllocError> {
     for call in 0..=text.len() {
-        if !prints(
-            rt,
-            alloc,
-            &["check"],
-            text,
-            1,
-            Some(call as u64),
-            None,
-            &[],
-            5,
-        )? {
+        if !prints(rt, alloc, &["check"], text, 1, call as u64, NONE, &[], 5)? {
             return Ok(Some(call));
         }
     }
     Ok(None)
-}
-
-#[test]
-fn failing_reads(rt: HostRuntime) -> Result<(), Fail> {
-    let untold = untold_read(&rt, rt.alloc(), TOGGLING.as_bytes())?;
-    assert_eq!(rt; untold, None);
-    Ok(())
 }
 
 // The first write whose failing is not told, or before which another text is printed: each byte of the report is written
@@ -851,17 +803,7 @@ fn untold_write<R: Threads + Wait + Sync>(
 ) -> Result<Option<usize>, AllocError> {
     for call in 0..report.len() {
         let front = &report[..call];
-        if !prints(
-            rt,
-            alloc,
-            &["check"],
-            text,
-            1,
-            None,
-            Some(call as u64),
-            front,
-            6,
-        )? {
+        if !prints(rt, alloc, &["check"], text, 1, NONE, call as u64, front, 6)? {
             return Ok(Some(call));
         }
     }
@@ -869,44 +811,83 @@ fn untold_write<R: Threads + Wait + Sync>(
 }
 
 #[test]
-fn failing_writes(rt: HostRuntime) -> Result<(), Fail> {
-    let untold = untold_write(&rt, rt.alloc(), TOGGLING.as_bytes(), BROKEN.as_bytes())?;
-    assert_eq!(rt; untold, None);
-    Ok(())
-}
-
-// The second write fails; and words that are judged before anything is read.
-#[test]
-fn longer_pieces(rt: HostRuntime) -> Result<(), Fail> {
-    let (alloc, standing) = (rt.alloc(), STANDING.as_bytes());
+fn failing_calls(rt: HostRuntime) -> Result<(), Fail> {
+    let (alloc, text, report) = (rt.alloc(), TOGGLING.as_bytes(), BROKEN.as_bytes());
+    assert_eq!(rt; untold_read(&rt, alloc, text)?, None);
+    assert_eq!(rt; untold_write(&rt, alloc, text, report)?, None);
+    // The second write of ten bytes.
     let front = b"-- spec 1 ".as_slice();
     assert!(rt;
         prints(
             &rt,
             alloc,
             &["check"],
-            standing,
+            STANDING.as_bytes(),
             10,
-            None,
-            Some(1),
+            NONE,
+            1,
             front,
             6
         )?
     );
-    let usage = USAGE.as_bytes();
+    // The words are judged before anything is read.
     assert!(rt;
         prints(
             &rt,
             alloc,
             &["recheck"],
-            standing,
+            text,
             7,
-            Some(0),
-            None,
-            usage,
+            0,
+            NONE,
+            USAGE.as_bytes(),
             4
         )?
     );
+    Ok(())
+}
+
+// A stream whose calls all fail.
+#[derive(Drop)]
+struct Broken;
+
+impl Read for Broken {
+    fn read(&mut self, _buf: &mut [u8]) -> io::Result<usize> {
+        Err(io::Error::from(io::ErrorKind::Other))
+    }
+}
+
+impl Write for Broken {
+    fn write(&mut self, _buf: &[u8]) -> io::Result<usize> {
+        Err(io::Error::from(io::ErrorKind::Other))
+    }
+
+    fn flush(&mut self) -> io::Result<()> {
+        Ok(())
+    }
+}
+
+// The status of a run over these streams.
+fn piped<R: Threads + Wait + Sync, I: Read + Drop, O: Write + Drop>(
+    rt: &R,
+    alloc: Global,
+    reader: I,
+    writer: O,
+) -> u8 {
+    let mut source = StdSource::new(reader);
+    let mut sink = StdSink::new(writer);
+    run(rt, alloc, &["check"], &mut source, &mut sink, &OpenGate)
+}
+
+#[test]
+fn adapters(rt: HostRuntime) -> Result<(), Fail> {
+    let (alloc, text) = (rt.alloc(), TOGGLING.as_bytes());
+    assert_eq!(rt; piped(&rt, alloc, text, Vec::new(alloc)), 1);
+    assert_eq!(rt; piped(&rt, alloc, Broken, Vec::new(alloc)), 5);
+    assert_eq!(rt; piped(&rt, alloc, text, Broken), 6);
+    // What is full takes nothing more, and tells no error.
+    let mut room = [0u8; 10];
+    assert_eq!(rt; piped(&rt, alloc, text, room.as_mut_slice()), 6);
     Ok(())
 }
 
@@ -916,8 +897,8 @@ fn is_judged<R: Threads + Wait + Sync>(
     alloc: Global,
     text: &[u8],
 ) -> Result<bool, AllocError> {
-    let (status, sink) = over(rt, alloc, &["check"], text, 5000, None, None)?;
-    if sink.bytes().starts_with(b"-- refused ") {
+    let (status, printed) = run_over_bytes(rt, alloc, &["check"], text.to_vec(alloc)?);
+    if printed.as_slice().starts_with(b"-- refused ") {
         Ok(status == 3)
     } else {
         Ok(status == 0 || status == 1)
@@ -946,61 +927,25 @@ fn every_prefix_is_judged(rt: HostRuntime) -> Result<(), Fail> {
     Ok(())
 }
 
-// Whether so many blanks are refused so.
-fn are_refused<R: Threads + Wait + Sync>(
-    rt: &R,
-    alloc: Global,
-    count: usize,
-    want: &str,
-) -> Result<bool, AllocError> {
-    let text = vec![in alloc; b' '; count]?;
-    prints(
-        rt,
-        alloc,
-        &["check"],
-        &text,
-        1_000_000,
-        None,
-        None,
-        want.as_bytes(),
-        3,
-    )
-}
-
-#[test]
-fn a_source_over_the_limit(rt: HostRuntime) -> Result<(), Fail> {
-    let alloc = rt.alloc();
-    let over = "-- refused 105 SourceTooLarge at 1:1\n";
-    assert!(rt; are_refused(&rt, alloc, 16_777_217, over)?);
-    let fitting = "-- refused 301 NoMain at 1:1\n";
-    assert!(rt; are_refused(&rt, alloc, 16_777_216, fitting)?);
-    Ok(())
-}
-
-// Whether this source is answered so, read in one piece.
-fn gives<R: Threads + Wait + Sync>(
-    rt: &R,
-    alloc: Global,
-    text: &String,
-    want: &str,
-    want_status: u8,
-) -> Result<bool, AllocError> {
-    let (text, want) = (text.as_bytes(), want.as_bytes());
-    prints(
-        rt,
-        alloc,
-        &["check"],
-        text,
-        1_000_000,
-        None,
-        None,
-        want,
-        want_status,
-    )
+// What a long source is made of.
+#[derive(Clone, Copy)]
+enum Parts {
+    Blanks,
+    // Modules, each but for the last with two instances of the next.
+    Modules,
+    Variables,
+    // Definitions, each the next one; the last is x.
+    Names,
+    // Definitions, each the next one and x.
+    Operands,
+    // Definitions, each the next one in parentheses.
+    Parentheses,
+    // Definitions, each twice the next one.
+    Twice,
 }
 
 // As many modules, each with two instances of the next, but for the last.
-fn doubled_modules(alloc: Global, count: u32) -> Result<String, AllocError> {
+fn modules(alloc: Global, count: usize) -> Result<String, AllocError> {
     let mut text = String::new(alloc);
     text.push_str("MODULE main VAR a : m1; b : m1;\n")?;
     for n in 1..count {
@@ -1012,19 +957,8 @@ fn doubled_modules(alloc: Global, count: u32) -> Result<String, AllocError> {
     Ok(text)
 }
 
-#[test]
-fn too_many_instances(rt: HostRuntime) -> Result<(), Fail> {
-    let alloc = rt.alloc();
-    let fitting = doubled_modules(alloc, 15)?;
-    assert!(rt; gives(&rt, alloc, &fitting, "", 0)?);
-    let over = doubled_modules(alloc, 16)?;
-    let want = "-- refused 311 TooManyInstances at 1:8\n";
-    assert!(rt; gives(&rt, alloc, &over, want, 3)?);
-    Ok(())
-}
-
 // As many variables.
-fn variables(alloc: Global, count: u32) -> Result<String, AllocError> {
+fn variables(alloc: Global, count: usize) -> Result<String, AllocError> {
     let mut text = String::new(alloc);
     text.push_str("MODULE main VAR\n")?;
     for n in 0..count {
@@ -1034,17 +968,8 @@ fn variables(alloc: Global, count: u32) -> Result<String, AllocError> {
     Ok(text)
 }
 
-#[test]
-fn too_many_slots(rt: HostRuntime) -> Result<(), Fail> {
-    let alloc = rt.alloc();
-    let over = variables(alloc, 65_537)?;
-    let want = "-- refused 312 TooManySlots at 1:1\n";
-    assert!(rt; gives(&rt, alloc, &over, want, 3)?);
-    Ok(())
-}
-
 // As many definitions, in each of which the next one stands between these pieces; the last one names x.
-fn definitions(alloc: Global, count: u32, pieces: &[&str]) -> Result<String, AllocError> {
+fn definitions(alloc: Global, count: usize, pieces: &[&str]) -> Result<String, AllocError> {
     let mut text = String::new(alloc);
     text.push_str("MODULE main VAR x : boolean; DEFINE d0 := d1;\n")?;
     for n in 1..count {
@@ -1058,45 +983,89 @@ fn definitions(alloc: Global, count: u32, pieces: &[&str]) -> Result<String, All
     Ok(text)
 }
 
+// A source of so many parts.
+fn source_of(alloc: Global, parts: Parts, count: usize) -> Result<Vec<u8>, AllocError> {
+    let text = match parts {
+        Parts::Blanks => return vec![in alloc; b' '; count],
+        Parts::Modules => modules(alloc, count),
+        Parts::Variables => variables(alloc, count),
+        Parts::Names => definitions(alloc, count, &["", ""]),
+        Parts::Operands => definitions(alloc, count, &["", " & x"]),
+        Parts::Parentheses => definitions(alloc, count, &["(", ")"]),
+        Parts::Twice => definitions(alloc, count, &["", " & ", ""]),
+    };
+    Ok(text?.into_bytes())
+}
+
+// What a source is made of, of how many, what is printed, and the status.
+type Size = (Parts, usize, &'static str, u8);
+
 const OFF: &str = "-- spec 1 INVARSPEC is false\n--@ spec 1\n--@ state 0: x = FALSE\n";
 
-fn chain_gives<R: Threads + Wait + Sync>(
+const SIZES: [Size; 11] = [
+    (
+        Parts::Blanks,
+        16_777_217,
+        "-- refused 105 SourceTooLarge at 1:1\n",
+        3,
+    ),
+    (
+        Parts::Blanks,
+        16_777_216,
+        "-- refused 301 NoMain at 1:1\n",
+        3,
+    ),
+    (Parts::Modules, 15, "", 0),
+    (
+        Parts::Modules,
+        16,
+        "-- refused 311 TooManyInstances at 1:8\n",
+        3,
+    ),
+    (
+        Parts::Variables,
+        65_537,
+        "-- refused 312 TooManySlots at 1:1\n",
+        3,
+    ),
+    // Each name that is followed opens a level.
+    (Parts::Names, 1999, OFF, 1),
+    (
+        Parts::Names,
+        2000,
+        "-- refused 310 UnfoldedDepth at 2002:1\n",
+        3,
+    ),
+    // Operands open none, and each parenthesis opens one.
+    (Parts::Operands, 1100, OFF, 1),
+    (Parts::Parentheses, 1000, OFF, 1),
+    (
+        Parts::Parentheses,
+        1001,
+        "-- refused 310 UnfoldedDepth at 1003:1\n",
+        3,
+    ),
+    // What stands for 2^40 names is judged in no time.
+    (Parts::Twice, 41, OFF, 1),
+];
+
+// The number of the first source that is answered otherwise.
+fn first_wrong_size<R: Threads + Wait + Sync>(
     rt: &R,
     alloc: Global,
-    count: u32,
-    pieces: &[&str],
-    want: &str,
-    want_status: u8,
-) -> Result<bool, AllocError> {
-    let text = definitions(alloc, count, pieces)?;
-    gives(rt, alloc, &text, want, want_status)
+) -> Result<Option<usize>, AllocError> {
+    for (row, (parts, count, want, status)) in SIZES.iter().enumerate() {
+        let text = source_of(alloc, *parts, *count)?;
+        if !prints_whole(rt, alloc, &["check"], &text, want.as_bytes(), *status)? {
+            return Ok(Some(row));
+        }
+    }
+    Ok(None)
 }
 
-// Each name that is followed opens a level.
 #[test]
-fn followed_names(rt: HostRuntime) -> Result<(), Fail> {
-    let alloc = rt.alloc();
-    assert!(rt; chain_gives(&rt, alloc, 1999, &["", ""], OFF, 1)?);
-    let over = "-- refused 310 UnfoldedDepth at 2002:1\n";
-    assert!(rt; chain_gives(&rt, alloc, 2000, &["", ""], over, 3)?);
-    Ok(())
-}
-
-// Operands open none, and each parenthesis opens one.
-#[test]
-fn levels_of_text(rt: HostRuntime) -> Result<(), Fail> {
-    let alloc = rt.alloc();
-    assert!(rt; chain_gives(&rt, alloc, 1100, &["", " & x"], OFF, 1)?);
-    assert!(rt; chain_gives(&rt, alloc, 1000, &["(", ")"], OFF, 1)?);
-    let over = "-- refused 310 UnfoldedDepth at 1003:1\n";
-    assert!(rt; chain_gives(&rt, alloc, 1001, &["(", ")"], over, 3)?);
-    Ok(())
-}
-
-// What stands for 2^40 names is judged in no time.
-#[test]
-fn shared_names(rt: HostRuntime) -> Result<(), Fail> {
-    let alloc = rt.alloc();
-    assert!(rt; chain_gives(&rt, alloc, 41, &["", " & ", ""], OFF, 1)?);
+fn sizes(rt: HostRuntime) -> Result<(), Fail> {
+    let wrong = first_wrong_size(&rt, rt.alloc())?;
+    assert_eq!(rt; wrong, None);
     Ok(())
 }

@@ -1,15 +1,15 @@
 //! The top call: from the words and the bytes of a source to the bytes of a report and a status.
-ghost use Rattle.std.specs.Prelude.{◌≡◌, ◌<◌, ◌≤◌, map, IfOk, IsErrOf, IfSome, ◌⊎◌, ◌≢◌, Some};
-ghost use Rattle.std.specs.Io.KnownBytes.{Appends, Keeps};
+ghost use Rattle.std.specs.Prelude.{◌≡◌, ◌<◌, ◌≤◌, map, IfOk, IsErrOf, IfSome, OnOk, ◌⊎◌, ◌≢◌, Some};
+ghost use Rattle.std.specs.Io.KnownBytes.{Appends};
 ghost use Rattle.command_words.specs.Grammar.{IsCommandLine};
 ghost use Rattle.outside.specs.Causes.{Rose};
 ghost use Rattle.smv_tree.specs.Texts.{refusal_text};
 ghost use Rattle.smv_meaning.specs.Runs.{specifications_of};
 ghost use Rattle.smv_cli.specs.Listing.{listing_text};
-ghost use Rattle.smv_cli.specs.Records.{Recorded, RecordedPart};
-ghost use Rattle.smv_cli.specs.Report.{Answered, Begun, CommandDone, CommandPart, CommandStage, IsSomeModel, Stage};
+ghost use Rattle.smv_cli.specs.Report.{Answered, Begun, CommandStage, IsSomeModel, Stage};
 ghost use Rattle.smv_cli.specs.Streams.{AppendsFront};
 ghost use Rattle.smv_cli.specs.Texts.{usage_text};
+ghost use Rattle.smv_cli.specs.Written.{CommandDone, CommandPart, Recorded, RecordedPart};
 
 use crate::listing::listing;
 use crate::print::{put, put_records};
@@ -17,7 +17,7 @@ use crate::streams::{SourceStop, read_all, write_all};
 use command_words::{Command, Effort, WordsStop, read_words};
 use effort_purse::PlainPurse;
 use outside::{Gate, OpenGate, Sink, Source, Stop, SureSink, SureSource};
-use smv_front::prepare;
+use smv_front::{prepare, read_model};
 use smv_meaning::{Typed, specifications};
 use smv_tree::{Refusal, TextStop};
 use std::alloc::Global;
@@ -33,8 +33,9 @@ const USAGE: &str = "-- usage: smvcheck check | recheck | flat | self N SEED\n";
 fn refuse<K: Sink>(alloc: Global, sink: &mut K, refusal: &Refusal) -> Result<u8, Stop>
     ensures ok { IfOk result (λ status. (status ≡ 3) × Appends (K.taken sink.old) (K.taken sink.new) (refusal_text refusal.now)) }
     ensures front { AppendsFront (K.taken sink.old) (K.taken sink.new) (refusal_text refusal.now) }
-    ensures later { K.faults sink.old ≤ K.faults sink.new }
+    ensures kept { OnOk result (K.faults sink.new ≡ K.faults sink.old) }
     ensures failed { IsErrOf result Stop.Failed → Rose (K.faults sink.old) (K.faults sink.new) }
+    ensures no_memory { IsErrOf result Stop.NoMemory → K.faults sink.new ≡ K.faults sink.old }
 {
     put(alloc, sink, refusal)?;
     Ok(3)
@@ -50,8 +51,9 @@ fn report_model<K: Sink>(
     ensures ok { IfOk result (λ status. Recorded typed.now.scope.program effort.now (specifications_of typed.now.scope.program) (K.taken sink.old) (K.taken sink.new) status) }
     ensures small { IfOk result (λ status. status ≤ 2) }
     ensures part { RecordedPart typed.now.scope.program effort.now (specifications_of typed.now.scope.program) (K.taken sink.old) (K.taken sink.new) }
-    ensures later { K.faults sink.old ≤ K.faults sink.new }
+    ensures kept { OnOk result (K.faults sink.new ≡ K.faults sink.old) }
     ensures failed { IsErrOf result Stop.Failed → Rose (K.faults sink.old) (K.faults sink.new) }
+    ensures no_memory { IsErrOf result Stop.NoMemory → K.faults sink.new ≡ K.faults sink.old }
 {
     let Ok(specs) = specifications(alloc, typed) else {
         return Err(Stop::NoMemory);
@@ -63,8 +65,9 @@ fn report_model<K: Sink>(
 fn report_listing<K: Sink>(alloc: Global, sink: &mut K, typed: &Typed) -> Result<u8, Stop>
     ensures ok { IfOk result (λ status. (status ≡ 0) × Appends (K.taken sink.old) (K.taken sink.new) (listing_text typed.now.scope.program)) }
     ensures part { AppendsFront (K.taken sink.old) (K.taken sink.new) (listing_text typed.now.scope.program) }
-    ensures later { K.faults sink.old ≤ K.faults sink.new }
+    ensures kept { OnOk result (K.faults sink.new ≡ K.faults sink.old) }
     ensures failed { IsErrOf result Stop.Failed → Rose (K.faults sink.old) (K.faults sink.new) }
+    ensures no_memory { IsErrOf result Stop.NoMemory → K.faults sink.new ≡ K.faults sink.old }
 {
     let Ok(text) = listing(alloc, typed) else {
         return Err(Stop::NoMemory);
@@ -73,11 +76,36 @@ fn report_listing<K: Sink>(alloc: Global, sink: &mut K, typed: &Typed) -> Result
     Ok(0)
 }
 
-// How many tickets preparing a model may draw.
-fn preparing_budget(command: &Command) -> u64 {
-    match command {
-        Command::Check(effort) => effort.conflicts,
-        Command::Flat => 0,
+// Decides the specifications of the model that a text is.
+fn check<K: Sink>(alloc: Global, sink: &mut K, text: &[u8], effort: &Effort) -> Result<u8, Stop>
+    ensures ok { IfOk result (λ status. CommandDone (Command.Check effort.now) text.now (K.taken sink.old) (K.taken sink.new) status) }
+    ensures small { IfOk result (λ status. status ≤ 3) }
+    ensures part { CommandPart (Command.Check effort.now) text.now (K.taken sink.old) (K.taken sink.new) }
+    ensures kept { OnOk result (K.faults sink.new ≡ K.faults sink.old) }
+    ensures failed { IsErrOf result Stop.Failed → Rose (K.faults sink.old) (K.faults sink.new) }
+    ensures no_memory { IsErrOf result Stop.NoMemory → K.faults sink.new ≡ K.faults sink.old }
+{
+    let mut purse = PlainPurse::new(effort.conflicts);
+    match prepare(alloc, text, &mut purse) {
+        Ok(flat) => report_model(alloc, sink, &flat.typed, effort),
+        Err(TextStop::Refused(refusal)) => refuse(alloc, sink, &refusal),
+        Err(TextStop::NoMemory) => Err(Stop::NoMemory),
+    }
+}
+
+// Lists the slots and items of the model that a text is.
+fn list<K: Sink>(alloc: Global, sink: &mut K, text: &[u8]) -> Result<u8, Stop>
+    ensures ok { IfOk result (λ status. CommandDone Command.Flat text.now (K.taken sink.old) (K.taken sink.new) status) }
+    ensures small { IfOk result (λ status. status ≤ 3) }
+    ensures part { CommandPart Command.Flat text.now (K.taken sink.old) (K.taken sink.new) }
+    ensures kept { OnOk result (K.faults sink.new ≡ K.faults sink.old) }
+    ensures failed { IsErrOf result Stop.Failed → Rose (K.faults sink.old) (K.faults sink.new) }
+    ensures no_memory { IsErrOf result Stop.NoMemory → K.faults sink.new ≡ K.faults sink.old }
+{
+    match read_model(alloc, text) {
+        Ok(flat) => report_listing(alloc, sink, &flat.typed),
+        Err(TextStop::Refused(refusal)) => refuse(alloc, sink, &refusal),
+        Err(TextStop::NoMemory) => Err(Stop::NoMemory),
     }
 }
 
@@ -86,17 +114,13 @@ fn report<K: Sink>(alloc: Global, sink: &mut K, text: &[u8], command: &Command) 
     ensures ok { IfOk result (λ status. CommandDone command.now text.now (K.taken sink.old) (K.taken sink.new) status) }
     ensures small { IfOk result (λ status. status ≤ 3) }
     ensures part { CommandPart command.now text.now (K.taken sink.old) (K.taken sink.new) }
-    ensures later { K.faults sink.old ≤ K.faults sink.new }
+    ensures kept { OnOk result (K.faults sink.new ≡ K.faults sink.old) }
     ensures failed { IsErrOf result Stop.Failed → Rose (K.faults sink.old) (K.faults sink.new) }
+    ensures no_memory { IsErrOf result Stop.NoMemory → K.faults sink.new ≡ K.faults sink.old }
 {
-    let mut purse = PlainPurse::new(preparing_budget(command));
-    match prepare(alloc, text, &mut purse) {
-        Ok(flat) => match command {
-            Command::Check(effort) => report_model(alloc, sink, &flat.typed, effort),
-            Command::Flat => report_listing(alloc, sink, &flat.typed),
-        },
-        Err(TextStop::Refused(refusal)) => refuse(alloc, sink, &refusal),
-        Err(TextStop::NoMemory) => Err(Stop::NoMemory),
+    match command {
+        Command::Check(effort) => check(alloc, sink, text, effort),
+        Command::Flat => list(alloc, sink, text),
     }
 }
 
@@ -106,8 +130,10 @@ fn answer<S: Source, K: Sink>(alloc: Global, source: &mut S, sink: &mut K, comma
     ensures begun { 4 < result → Begun (CommandStage command.now) (S.left source.old) (K.taken sink.old) (K.taken sink.new) }
     ensures named { (result ≢ 4) × (result ≤ 7) }
     ensures read_fault { result ≡ 5 → Rose (S.faults source.old) (S.faults source.new) }
-    ensures untouched { result ≡ 5 → Keeps (K.taken sink.old) (K.taken sink.new) }
+    ensures no_read_fault { result ≢ 5 → S.faults source.new ≡ S.faults source.old }
+    ensures untouched { result ≡ 5 → sink.new ≡ sink.old }
     ensures write_fault { result ≡ 6 → Rose (K.faults sink.old) (K.faults sink.new) }
+    ensures no_write_fault { result ≢ 6 → K.faults sink.new ≡ K.faults sink.old }
 {
     let text = match read_all(alloc, source, SOURCE_LIMIT + 1) {
         Ok(text) => text,
@@ -127,6 +153,7 @@ fn refuse_words<K: Sink>(alloc: Global, sink: &mut K) -> u8
     ensures front { AppendsFront (K.taken sink.old) (K.taken sink.new) usage_text }
     ensures named { (4 ≤ result) × (result ≢ 5) × (result ≤ 7) }
     ensures write_fault { result ≡ 6 → Rose (K.faults sink.old) (K.faults sink.new) }
+    ensures no_write_fault { result ≢ 6 → K.faults sink.new ≡ K.faults sink.old }
 {
     match put(alloc, sink, &USAGE) {
         Ok(()) => 4,
@@ -151,8 +178,10 @@ fn perform<'a, S: Source, K: Sink>(
     ensures outside { (IsCommandLine (map (λ w. w.now) words.now) → ⊥) → (result ≡ 4) ⊎ (5 < result) }
     ensures unread { (IsCommandLine (map (λ w. w.now) words.now) → ⊥) → source.new ≡ source.old }
     ensures read_fault { result ≡ 5 → Rose (S.faults source.old) (S.faults source.new) }
-    ensures untouched { result ≡ 5 → Keeps (K.taken sink.old) (K.taken sink.new) }
+    ensures no_read_fault { result ≢ 5 → S.faults source.new ≡ S.faults source.old }
+    ensures untouched { result ≡ 5 → sink.new ≡ sink.old }
     ensures write_fault { result ≡ 6 → Rose (K.faults sink.old) (K.faults sink.new) }
+    ensures no_write_fault { result ≢ 6 → K.faults sink.new ≡ K.faults sink.old }
 {
     match read_words(alloc, words) {
         Ok(command) => answer(alloc, source, sink, &command),
@@ -162,13 +191,15 @@ fn perform<'a, S: Source, K: Sink>(
 }
 
 /// Does what the words of the command line say, and answers the status.
+///
+/// No worker runs yet, so the gate is entered by none: a gate that holds its workers holds no run.
 pub fn run<'a, R: Threads + Wait + Sync, S: Source, K: Sink, G: Gate + Sync>(
-    rt: &R,
+    _rt: &R,
     alloc: Global,
     words: &'a [&'a str],
     source: &mut S,
     sink: &mut K,
-    gate: &G,
+    _gate: &G,
 ) -> u8
     // What was taken is a report of what the source held, with the effort that the words say; or the line of usage.
     ensures answered { result ≤ 4 → Answered (Stage (map (λ w. w.now) words.now)) (S.left source.old)
@@ -181,15 +212,17 @@ pub fn run<'a, R: Threads + Wait + Sync, S: Source, K: Sink, G: Gate + Sync>(
     ensures usage { result ≡ 4 → IsCommandLine (map (λ w. w.now) words.now) → ⊥ }
     ensures outside { (IsCommandLine (map (λ w. w.now) words.now) → ⊥) → (result ≡ 4) ⊎ (5 < result) }
     ensures unread { (IsCommandLine (map (λ w. w.now) words.now) → ⊥) → source.new ≡ source.old }
+    // 5 comes just where a read failed, and then nothing is written; 6 comes just where a write failed.
     ensures read_fault { result ≡ 5 → Rose (S.faults source.old) (S.faults source.new) }
-    ensures untouched { result ≡ 5 → Keeps (K.taken sink.old) (K.taken sink.new) }
+    ensures no_read_fault { result ≢ 5 → S.faults source.new ≡ S.faults source.old }
+    ensures untouched { result ≡ 5 → sink.new ≡ sink.old }
     ensures write_fault { result ≡ 6 → Rose (K.faults sink.old) (K.faults sink.new) }
+    ensures no_write_fault { result ≢ 6 → K.faults sink.new ≡ K.faults sink.old }
     // A program gets its report, where nothing fails.
     ensures complete { IsCommandLine (map (λ w. w.now) words.now)
         → (Rose (S.faults source.old) (S.faults source.new) → ⊥) → (Rose (K.faults sink.old) (K.faults sink.new) → ⊥)
         → IfSome (S.left source.old) (λ bytes. IsSomeModel bytes → (result ≤ 2) ⊎ (result ≡ 7)) }
 {
-    gate.enter(rt, 0);
     perform(alloc, words, source, sink)
 }
 
@@ -202,6 +235,7 @@ pub fn run_over_bytes<'a, R: Threads + Wait + Sync>(
 ) -> (u8, Vec<u8>)
     ensures no_fault { (result.0 ≢ 5) × (result.0 ≢ 6) }
     ensures report { result.0 ≤ 4 → Stage (map (λ w. w.now) words.now) text.items result.1.items (Some result.0) }
+    ensures complete { IsCommandLine (map (λ w. w.now) words.now) → IsSomeModel text.items → (result.0 ≤ 2) ⊎ (result.0 ≡ 7) }
 {
     let mut source = SureSource::new(text);
     let mut sink = SureSink::new(alloc);

@@ -7,15 +7,15 @@ use Rattle.std.proofs.lemmas.List.Elements.{All-contains, All-filter, filter_pas
 use Rattle.std.proofs.lemmas.List.Folds.{Any-from_list_any, list_any-from_Any}
 use Rattle.std.proofs.lemmas.List.FromFn.{get_or-map-range_with_len, length-map-range_with_len}
 use Rattle.digraph.specs.Cycles.{Acyclic, Edge, Leads, Walk}
-use Rattle.smv_scope.specs.declared.node.Node.{Node}
-use Rattle.smv_scope.specs.Resolved.{part_of}
+use Rattle.smv_resolve.specs.declared.node.Node.{Node}
+use Rattle.smv_resolve.specs.Resolved.{part_of}
 use Rattle.smv_flat.specs.declared.assigned.Assigned.{Assigned}
 use Rattle.smv_flat.specs.declared.time.Time.{Time}
 use Rattle.smv_flat.specs.Assignments.{SlotAssignment, depends, gives, looks_ahead, occurs, ties}
 use Rattle.smv_flat.specs.Graph.{assigned_by, stand, whole_graph}
 use Rattle.smv_flat.proofs.Leading.{leads_join, leads_next, leads_up, root_edge}
 use Rattle.smv_flat.proofs.Listed.{kept, none_in, number_in, numbers_below}
-use Rattle.smv_flat.proofs.Parts.{part_past}
+use Rattle.smv_resolve.proofs.Parts.{part_past}
 use Rattle.smv_flat.proofs.Reading.{nothing_read}
 
 any_mapped : {A B : Type 0} (p : B → Bool) (f : A → B) (xs : List A) → list_any p (map f xs) ≡ list_any (λ x. p (f x)) xs

@@ -7,14 +7,14 @@ use Rattle.std.proofs.lemmas.List.Elements.{All-nil, All-cons, All-append, All-w
 use Rattle.std.proofs.lemmas.List.FromFn.{get_or-map-range_with_len, length-map-range_with_len}
 use Rattle.std.proofs.lemmas.Option.{slice_get_cases}
 use Rattle.digraph.specs.Cycles.{Closed, Edge, Leads, Walk, successors}
-use Rattle.smv_scope.specs.declared.node.Node.{Node}
-use Rattle.smv_scope.specs.Resolved.{part_of}
+use Rattle.smv_resolve.specs.declared.node.Node.{Node}
+use Rattle.smv_resolve.specs.Resolved.{part_of}
 use Rattle.smv_flat.specs.declared.assigned.Assigned.{Assigned}
 use Rattle.smv_flat.specs.declared.time.Time.{Time}
 use Rattle.smv_flat.specs.Assignments.{looks_ahead, occurs, speaks_of}
 use Rattle.smv_flat.specs.Graph.{operands, own_slot, part_below, root_of, roots, row, rows, slot_rows, stand, whole_graph}
 use Rattle.smv_flat.proofs.Listed.{all_joined, joined_in, first_in, none_in}
-use Rattle.smv_flat.proofs.Parts.{below, below_is, below_stuck, part_is}
+use Rattle.smv_resolve.proofs.Parts.{before, before_long, below_is, below_stuck, part_is}
 use Rattle.smv_flat.proofs.Reading.{IsRead, Passes, nothing_read, own_is_read, parts_pass, whence}
 
 pub leads_next : (g : List (List ℕ)) (a x b : ℕ) → Edge g a x → Leads g x b → Leads g a b
@@ -132,18 +132,18 @@ module _ (slots : ℕ) (nodes : List Node) (time : Time) (all : List Assigned) w
       let g = whole_graph slots nodes time all in
       let found = some_node nodes k within in
       let x = found.0 in
-      let successor : successors g (stand slots n ahead k) ≡ own_slot slots ahead x ++ flat_map (part_below slots n k) (operands ahead x) =
+      let successor : successors g (stand slots n ahead k) ≡ own_slot slots ahead x ++ flat_map (part_below slots n k) (operands ahead k x) =
       node_row ahead k within ∙ ap (row slots n ahead k) found.1 in
       let P : ℕ → List ℕ → Type 0 = λ v vs. Contains vs v in
-      elim (whence slots ahead y (below nodes k) x there (sym (ap (occurs ahead y) (part_is nodes k x found.1)) ∙ h)) [
-        | inl own ↦ ([], subst (P y) (sym successor) (Contains-append_left (own_slot slots ahead x) (flat_map (part_below slots n k) (operands ahead x)) y own))
+      elim (whence slots ahead y (before nodes k) k x (before_long nodes k (omega (arith, within))) there (sym (ap (occurs ahead y) (part_is nodes k x found.1)) ∙ h)) [
+        | inl own ↦ ([], subst (P y) (sym successor) (Contains-append_left (own_slot slots ahead x) (flat_map (part_below slots n k) (operands ahead k x)) y own))
         | inr by ↦
             let o = by.0 in
             elim (cases_lt o.1 k) [
               | inl less ↦
                   let v = stand slots n o.0 o.1 in
-                  let edge : Contains (flat_map (part_below slots n k) (operands ahead x)) v = joined_in (part_below slots n k) (operands ahead x) o v by.1 (part_edge k o less) in
-                  leads_next g (stand slots n ahead k) v y (subst (P v) (sym successor) (Contains-append_right (own_slot slots ahead x) (flat_map (part_below slots n k) (operands ahead x)) v edge))
+                  let edge : Contains (flat_map (part_below slots n k) (operands ahead k x)) v = joined_in (part_below slots n k) (operands ahead k x) o v by.1 (part_edge k o less) in
+                  leads_next g (stand slots n ahead k) v y (subst (P v) (sym successor) (Contains-append_right (own_slot slots ahead x) (flat_map (part_below slots n k) (operands ahead k x)) v edge))
                   (leads_up most o.1 (omega (arith, lt, less)) o.0 y there (omega (arith, less, within)) (sym (ap (occurs o.0 y) (below_is nodes k o.1 less (omega (arith, within)))) ∙ by.2))
               | inr ge ↦ nothing_read (sym (ap (occurs o.0 y) (below_stuck nodes k o.1 (omega (arith, within)) ge)) ∙ by.2)
             ]
@@ -163,20 +163,20 @@ module _ (slots : ℕ) (nodes : List Node) (time : Time) (all : List Assigned) w
       let x = found.0 in
       let is = part_is nodes k x found.1 in
       let own = own_slot slots ahead x in
-      let others = flat_map (part_below slots n k) (operands ahead x) in
+      let others = flat_map (part_below slots n k) (operands ahead k x) in
       let D : ℕ → Type 0 = Down ahead k in
       let P : List ℕ → Type 0 = λ vs. Contains vs z in
       let here : Contains (own ++ others) z = subst P (node_row ahead k within ∙ ap (row slots n ahead k) found.1) edge in
-      let reads : All D own = All-weaker (IsRead slots ahead (below nodes k) x) D (λ y h. inl (h.0, ap (occurs ahead y) is ∙ h.1)) own (own_is_read slots ahead (below nodes k) x) in
-      let each : All (λ o. All D (part_below slots n k o)) (operands ahead x) =
-      All-weaker (Passes ahead (below nodes k) x) (λ o. All D (part_below slots n k o))
+      let reads : All D own = All-weaker (IsRead slots ahead (before nodes k) x) D (λ y h. inl (h.0, ap (occurs ahead y) is ∙ h.1)) own (own_is_read slots ahead (before nodes k) x) in
+      let each : All (λ o. All D (part_below slots n k o)) (operands ahead k x) =
+      All-weaker (Passes ahead (before nodes k) x) (λ o. All D (part_below slots n k o))
       (λ o pass. cond_both (nat_lt o.1 k) (stand slots n o.0 o.1 ∷ []) [] (λ vs. All D vs)
       (λ t. let less : o.1 < k = ltb-true o.1 k t in
       All-cons D (stand slots n o.0 o.1) []
       (inr (o, less, refl, λ y h. ap (occurs ahead y) is ∙ pass y (ap (occurs o.0 y) (below_is nodes k o.1 less (omega (arith, within))) ∙ h))) (All-nil D))
       (λ f. All-nil D))
-      (operands ahead x) (parts_pass ahead (below nodes k) x) in
-      All-contains D (own ++ others) z (All-append D own others reads (all_joined D (part_below slots n k) (operands ahead x) each)) here
+      (operands ahead k x) (parts_pass ahead (before nodes k) k x (before_long nodes k (omega (arith, within)))) in
+      All-contains D (own ++ others) z (All-append D own others reads (all_joined D (part_below slots n k) (operands ahead k x) each)) here
 
   -- where a value stands that is assigned to a slot
   abbrev pub IsRoot : ℕ → ℕ → Type 0

@@ -1,4 +1,3 @@
-pub mod Parts
 pub mod Found
 pub mod Listed
 pub mod Marking

@@ -1,10 +1,10 @@
 -- The lists of what slots lead to after one more assignment.
-use Rattle.std.proofs.Common.{◌≡◌, inl, inr, ℕ, ◌<◌, ◌+◌, true, false, ◌==◌, ◌&&◌, List, [], ◌∷◌, ◌++◌, length, get_or, set, take, sym, ap, ◌∙◌, arith, eq-eqb, get_or-set_other, if◌then◌else◌}
-use Rattle.std.specs.List.{flat_map}
+use Rattle.std.proofs.Common.{◌≡◌, inl, inr, ℕ, ◌<◌, ◌≤◌, ◌+◌, ◌-◌, Bool, map, append_assoc, true, false, ◌==◌, ◌&&◌, List, [], ◌∷◌, ◌++◌, length, get_or, set, take, sym, ap, ◌∙◌, arith, eq-eqb, get_or-set_other, if◌then◌else◌}
+use Rattle.std.specs.List.{flat_map, range_with_len}
 use Rattle.std.proofs.lemmas.Bool.{cases_eq, ne_eqb}
-use Rattle.std.proofs.lemmas.List.{get_or-set_same, take_more, append-nil, same_lists, get_or_default}
+use Rattle.std.proofs.lemmas.List.{flat_map_more, get_or-set_same, take_more, append-nil, same_lists, get_or_default}
 use Rattle.std.proofs.lemmas.List.Concat.{flat_map-append}
-use Rattle.std.proofs.lemmas.List.FromFn.{get_or-map-range_with_len, length-map-range_with_len}
+use Rattle.std.proofs.lemmas.List.FromFn.{map-range_with_len_more, get_or-map-range_with_len, length-map-range_with_len}
 use Rattle.smv_flat.specs.declared.assigned.Assigned.{Assigned}
 use Rattle.smv_flat.specs.declared.time.Time.{Time}
 use Rattle.smv_flat.specs.Assignments.{looks_ahead, speaks_of}
@@ -58,3 +58,17 @@ lists_all slots nodes time ls all long lists =
     same_lists ls (slot_rows slots nodes time all) (long ∙ sym (length-map-range_with_len (roots slots nodes time all) 0 slots)) (λ k d lt.
     let below : k < slots = omega (arith, long, lt) in
     get_or_default ls k d [] lt ∙ lists k below ∙ sym (get_or-map-range_with_len (roots slots nodes time all) 0 slots k k d below (let zero-plus : 0 + k ≡ k = omega arith in zero-plus)))
+
+-- one part more of those that stand one after another
+pub last_more : (old mid new : List ℕ) (f : Bool × ℕ → List ℕ) (ahead : Bool) (first j : ℕ) → first ≤ j →
+    mid ≡ old ++ flat_map f (map (λ i. (ahead, i)) (range_with_len first (j - first))) → new ≡ mid ++ f (ahead, j) →
+    new ≡ old ++ flat_map f (map (λ i. (ahead, i)) (range_with_len first (j + 1 - first)))
+last_more old mid new f ahead first j le so_far more =
+    let n = j - first in
+    let g : ℕ → Bool × ℕ = λ i. (ahead, i) in
+    let here = map g (range_with_len first n) in
+    let long : j + 1 - first ≡ n + 1 = omega (arith, le) in
+    let at : first + n ≡ j = omega (arith, le) in
+    more ∙ ap (λ l. l ++ f (ahead, j)) so_far ∙ append_assoc old (flat_map f here) (f (ahead, j))
+    ∙ ap (λ l. old ++ l) (flat_map_more f [] here (ahead, j)
+    ∙ ap (flat_map f) (sym (map-range_with_len_more g first n j at) ∙ ap (λ m. map g (range_with_len first m)) (sym long)))

@@ -7,11 +7,12 @@ use Rattle.smv_tree.specs.declared.place.Place.{Place}
 use Rattle.smv_tree.specs.declared.tree.Program.{Program}
 use Rattle.smv_tree.specs.declared.tree.AssignmentKind.{AssignmentKind}
 use Rattle.smv_tree.specs.declared.tree.AssignmentKind.TheVariants as side
-use Rattle.smv_scope.specs.declared.node.Node.{Node}
-use Rattle.smv_scope.specs.declared.item.ItemKind.{ItemKind}
-use Rattle.smv_scope.specs.declared.item.ItemKind.TheVariants as item
-use Rattle.smv_scope.specs.Items.{ResolvedItem, items_of}
-use Rattle.smv_scope.specs.Resolved.{Resolved}
+use Rattle.smv_resolve.specs.declared.node.Naming.TheVariants as naming
+use Rattle.smv_resolve.specs.declared.node.Node.{Node}
+use Rattle.smv_resolve.specs.declared.item.ItemKind.{ItemKind}
+use Rattle.smv_resolve.specs.declared.item.ItemKind.TheVariants as item
+use Rattle.smv_resolve.specs.Items.{ResolvedItem, items_of}
+use Rattle.smv_resolve.specs.Resolved.{Resolved}
 use Rattle.smv_scope.specs.Slots.{slots_of}
 use Rattle.smv_flat.specs.Assignments.{SlotAssignment, assigned_slot, assigning, assignment_in, assignment_of, assignments_of, target_slot}
 use Rattle.smv_flat.specs.declared.assigned.Assigned.{Assigned}
@@ -23,13 +24,10 @@ found_within slots (Resolved.Constant place b) = tt
 found_within slots (Resolved.Slot place n) =
     cond_both (nat_lt n slots) (Some n) None (λ o. IfSome o (λ m. m < slots)) (λ t. ltb-true n slots t) (λ f. tt)
 found_within slots (Resolved.Whole place i) = tt
-found_within slots (Resolved.Given place r) = found_within slots r
-found_within slots (Resolved.Defined place r) = tt
-found_within slots (Resolved.Not place r) = tt
+found_within slots (Resolved.Named place naming.Given r) = found_within slots r
+found_within slots (Resolved.Named place naming.Defined r) = tt
 found_within slots (Resolved.Next place r) = tt
-found_within slots (Resolved.Implies place a b) = tt
-found_within slots (Resolved.Link place o a b) = tt
-found_within slots (Resolved.Conditional place c a b) = tt
+found_within slots (Resolved.Apply place o rs) = tt
 found_within slots Resolved.Stuck = tt
 
 target_within : (slots : ℕ) (target : Option Resolved) → IfSome (target_slot slots target) (λ n. n < slots)

@@ -12,12 +12,13 @@ use Rattle.smv_tree.specs.declared.tree.Program.{Program}
 use Rattle.smv_tree.specs.declared.tree.AssignmentKind.{AssignmentKind}
 use Rattle.smv_tree.specs.declared.tree.AssignmentKind.TheVariants as side
 use Rattle.smv_tree.specs.Places.{start}
-use Rattle.smv_scope.specs.declared.item.ItemKind.{ItemKind}
-use Rattle.smv_scope.specs.declared.item.ItemKind.TheVariants as item
+use Rattle.smv_resolve.specs.declared.item.ItemKind.{ItemKind}
+use Rattle.smv_resolve.specs.declared.item.ItemKind.TheVariants as item
 use Rattle.smv_scope.specs.declared.slot.Slot.{Slot}
-use Rattle.smv_scope.specs.Items.{ResolvedItem, items_of}
+use Rattle.smv_resolve.specs.Items.{ResolvedItem, items_of}
 use Rattle.smv_scope.specs.Paths.{slot_name}
-use Rattle.smv_scope.specs.Resolved.{Resolved}
+use Rattle.smv_resolve.specs.declared.node.Naming.TheVariants as naming
+use Rattle.smv_resolve.specs.Resolved.{Operands, Resolved}
 use Rattle.smv_scope.specs.Slots.{slots_of}
 use Rattle.smv_flat.specs.declared.time.Time.{Time}
 use Rattle.smv_flat.specs.declared.time.Time.TheVariants as when
@@ -34,13 +35,10 @@ abbrev pub assigned_slot : ℕ → Resolved → Option ℕ
 assigned_slot slots (Resolved.Constant place b) = None
 assigned_slot slots (Resolved.Slot place n) = if nat_lt n slots then Some n else None
 assigned_slot slots (Resolved.Whole place i) = None
-assigned_slot slots (Resolved.Given place r) = assigned_slot slots r
-assigned_slot slots (Resolved.Defined place r) = None
-assigned_slot slots (Resolved.Not place r) = None
+assigned_slot slots (Resolved.Named place naming.Given r) = assigned_slot slots r
+assigned_slot slots (Resolved.Named place naming.Defined r) = None
 assigned_slot slots (Resolved.Next place r) = None
-assigned_slot slots (Resolved.Implies place a b) = None
-assigned_slot slots (Resolved.Link place o a b) = None
-assigned_slot slots (Resolved.Conditional place c a b) = None
+assigned_slot slots (Resolved.Apply place o rs) = None
 assigned_slot slots Resolved.Stuck = None
 
 abbrev pub target_slot : ℕ → Option Resolved → Option ℕ
@@ -105,18 +103,19 @@ assigned_twice p = twice p [] (assignments_of p)
 
 -- Whether an expression reads a slot in the present state, or where it looks ahead, in the next one. What stands under
 -- `next` is read in the next state; all branches are read, and what names stand for.
-abbrev pub occurs : Bool → ℕ → Resolved → Bool
-occurs ahead y (Resolved.Constant place b) = false
-occurs ahead y (Resolved.Slot place n) = not ahead && n == y
-occurs ahead y (Resolved.Whole place i) = false
-occurs ahead y (Resolved.Given place r) = occurs ahead y r
-occurs ahead y (Resolved.Defined place r) = occurs ahead y r
-occurs ahead y (Resolved.Not place r) = occurs ahead y r
-occurs ahead y (Resolved.Next place r) = ahead && occurs false y r
-occurs ahead y (Resolved.Implies place a b) = occurs ahead y a || occurs ahead y b
-occurs ahead y (Resolved.Link place o a b) = occurs ahead y a || occurs ahead y b
-occurs ahead y (Resolved.Conditional place c a b) = occurs ahead y c || (occurs ahead y a || occurs ahead y b)
-occurs ahead y Resolved.Stuck = false
+abbrev mutual
+  pub occurs : Bool → ℕ → Resolved → Bool
+  occurs ahead y (Resolved.Constant place b) = false
+  occurs ahead y (Resolved.Slot place n) = not ahead && n == y
+  occurs ahead y (Resolved.Whole place i) = false
+  occurs ahead y (Resolved.Named place naming r) = occurs ahead y r
+  occurs ahead y (Resolved.Next place r) = ahead && occurs false y r
+  occurs ahead y (Resolved.Apply place o rs) = occurs_in_some ahead y rs
+  occurs ahead y Resolved.Stuck = false
+
+  pub occurs_in_some : Bool → ℕ → Operands → Bool
+  occurs_in_some ahead y Operands.End = false
+  occurs_in_some ahead y (Operands.With r rs) = occurs ahead y r || occurs_in_some ahead y rs
 
 -- whether an assignment gives a value of this time: of first states, or of next ones
 abbrev pub speaks_of : Time → AssignmentKind → Bool

@@ -1,10 +1,11 @@
 -- Slots and nodes as one graph: a slot leads to the nodes that it is assigned, a node to those of its parts that it reads, and
 -- one that is a slot to that slot. So a slot leads to those that its value depends on, however often a definition is used.
-use Rattle.std.specs.Prelude.{◌≡◌, ◌<◌, ℕ, ◌+◌, ◌==◌, nat_lt, Bool, true, false, not, ◌&&◌, if◌then◌else◌, List, [], ◌∷◌, ◌++◌, length, map, filter, Option, None, Some, slice_get}
+use Rattle.std.specs.Prelude.{◌≡◌, ◌<◌, ℕ, ◌+◌, ◌-◌, ◌==◌, nat_lt, Bool, true, false, not, ◌&&◌, if◌then◌else◌, List, [], ◌∷◌, ◌++◌, length, map, filter, Option, None, Some, slice_get}
 use Rattle.std.specs.List.{flat_map, range_with_len}
-use Rattle.smv_scope.specs.declared.node.Node.{Node}
-use Rattle.smv_scope.specs.declared.node.Node.TheVariants as node
-use Rattle.smv_scope.specs.Resolved.{part_of}
+use Rattle.smv_resolve.specs.declared.node.Naming.TheVariants as naming
+use Rattle.smv_resolve.specs.declared.node.Node.{Node}
+use Rattle.smv_resolve.specs.declared.node.Node.TheVariants as node
+use Rattle.smv_resolve.specs.Resolved.{part_of}
 use Rattle.smv_flat.specs.declared.assigned.Assigned.{Assigned}
 use Rattle.smv_flat.specs.declared.assigned.Found.{Found}
 use Rattle.smv_flat.specs.declared.assigned.Found.TheVariants as found
@@ -18,7 +19,8 @@ assigned_by nodes a = record { slot = a.slot; kind = a.kind; place = a.place; va
 -- what the node of number k says
 abbrev pub found_in : ℕ → ℕ → Node → Found
 found_in slots k (node.Slot place n) = if nat_lt n slots then found.Slot n else found.Nothing
-found_in slots k (node.Given place a) = if nat_lt a k then found.Below a else found.Nothing
+found_in slots k (node.Named place naming.Given a) = if nat_lt a k then found.Below a else found.Nothing
+found_in slots k (node.Operand a) = if nat_lt a k then found.Below a else found.Nothing
 found_in slots k other = found.Nothing
 
 -- what is said of a node is so of what it is: the slot that it is, that it is none, or that it is what a node below it is
@@ -32,18 +34,20 @@ abbrev pub stand : ℕ → ℕ → Bool → ℕ → ℕ
 stand slots nodes false k = slots + k
 stand slots nodes true k = (slots + nodes) + k
 
--- the parts that a node reads, and whether they look ahead
-abbrev pub operands : Bool → Node → List (Bool × ℕ)
-operands ahead (node.Constant place b) = []
-operands ahead (node.Slot place n) = []
-operands ahead (node.Whole place i) = []
-operands ahead (node.Given place a) = (ahead, a) ∷ []
-operands ahead (node.Defined place a) = (ahead, a) ∷ []
-operands ahead (node.Not place a) = (ahead, a) ∷ []
-operands ahead (node.Next place a) = if ahead then (false, a) ∷ [] else []
-operands ahead (node.Implies place a b) = (ahead, a) ∷ (ahead, b) ∷ []
-operands ahead (node.Link place o a b) = (ahead, a) ∷ (ahead, b) ∷ []
-operands ahead (node.Conditional place c a b) = (ahead, c) ∷ (ahead, a) ∷ (ahead, b) ∷ []
+-- as many of the nodes before number k as these, or all
+abbrev pub last_before : ℕ → ℕ → List ℕ
+last_before count k = range_with_len (k - count) (k - (k - count))
+
+-- the parts that the node of number k reads, and whether they look ahead
+abbrev pub operands : Bool → ℕ → Node → List (Bool × ℕ)
+operands ahead k (node.Constant place b) = []
+operands ahead k (node.Slot place n) = []
+operands ahead k (node.Whole place i) = []
+operands ahead k (node.Named place naming a) = (ahead, a) ∷ []
+operands ahead k (node.Next place a) = if ahead then (false, a) ∷ [] else []
+operands ahead k (node.Operand a) = (ahead, a) ∷ []
+operands ahead k (node.Apply place o count) = map (λ j. (ahead, j)) (last_before count k)
+operands ahead k (node.Link place o a b) = (ahead, a) ∷ (ahead, b) ∷ []
 
 -- a slot that is read in the present state, if there is such a slot
 abbrev pub slot_read : ℕ → Bool → ℕ → List ℕ
@@ -61,7 +65,7 @@ part_below slots nodes limit part = if nat_lt part.1 limit then stand slots node
 -- what the node of number k leads to
 abbrev pub row : ℕ → ℕ → Bool → ℕ → Option Node → List ℕ
 row slots nodes ahead k None = []
-row slots nodes ahead k (Some x) = own_slot slots ahead x ++ flat_map (part_below slots nodes k) (operands ahead x)
+row slots nodes ahead k (Some x) = own_slot slots ahead x ++ flat_map (part_below slots nodes k) (operands ahead k x)
 
 abbrev pub rows : ℕ → List Node → Bool → List (List ℕ)
 rows slots nodes ahead = map (λ k. row slots (length nodes) ahead k (slice_get nodes k)) (range_with_len 0 (length nodes))

@@ -1,13 +1,13 @@
 //! The assignments of a program, and the slots that they assign.
 
 ghost use Rattle.std.specs.Prelude.{◌≡◌, ◌<◌, ◌++◌, length, map, Some, None, IfOk, OnOk};
-ghost use Rattle.smv_scope.specs.Items.{item_by, target_by};
-ghost use Rattle.smv_scope.specs.Resolved.{part_of};
+ghost use Rattle.smv_resolve.specs.Items.{item_by, target_by};
+ghost use Rattle.smv_resolve.specs.Resolved.{part_of};
 ghost use Rattle.smv_flat.specs.Assignments.{assigned_slot, assignment_in, assignments_of, target_slot};
 ghost use Rattle.smv_flat.specs.Graph.{SlotFound, assigned_by, found_in};
 
 use smv_meaning::Typed;
-use smv_scope::{Item, ItemKind, Node};
+use smv_resolve::{Item, ItemKind, Naming, Node};
 use smv_tree::{AssignmentKind, Place};
 use sqlite_items::at;
 use std::alloc::{AllocError, Global};
@@ -109,7 +109,7 @@ fn found_in(slots: usize, k: usize, node: Node) -> Found
 {
     match node {
         Node::Slot(_, n) if n < slots => Found::Slot(n),
-        Node::Given(_, a) if a < k => Found::Below(a),
+        Node::Named(_, Naming::Given, a) | Node::Operand(a) if a < k => Found::Below(a),
         _ => Found::Nothing,
     }
 }

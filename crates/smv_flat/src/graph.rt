@@ -1,11 +1,12 @@
 //! Slots and nodes as one graph.
 
-ghost use Rattle.std.specs.Prelude.{◌≡◌, ◌<◌, ◌≤◌, ◌^◌, ◌++◌, [], if◌then◌else◌, false, length, replicate, slice_get, Some, IfOk, OnOk};
-ghost use Rattle.smv_flat.specs.Graph.{part_below, row, rows, slot_read, slot_rows, whole_graph};
+ghost use Rattle.std.specs.Prelude.{◌≡◌, ◌<◌, ◌≤◌, ◌^◌, ◌∷◌, ◌++◌, [], if◌then◌else◌, false, length, map, replicate, slice_get, Some, IfOk, OnOk};
+ghost use Rattle.std.specs.List.{flat_map};
+ghost use Rattle.smv_flat.specs.Graph.{last_before, part_below, row, rows, slot_read, slot_rows, whole_graph};
 
 use crate::assigned::Assigned;
 use crate::time::{Time, looks_ahead, speaks_of};
-use smv_scope::Node;
+use smv_resolve::Node;
 use sqlite_items::Items;
 use std::alloc::{AllocError, Global};
 
@@ -116,16 +117,11 @@ fn push_reads(
         Node::Constant(..) => Ok(()),
         Node::Slot(_, n) => push_slot(list, slots, ahead, n),
         Node::Whole(..) => Ok(()),
-        Node::Given(_, a) => push_part(list, slots, nodes, k, ahead, a),
-        Node::Defined(_, a) => push_part(list, slots, nodes, k, ahead, a),
-        Node::Not(_, a) => push_part(list, slots, nodes, k, ahead, a),
+        Node::Named(_, _, a) => push_part(list, slots, nodes, k, ahead, a),
         Node::Next(_, a) => push_next(list, slots, nodes, k, ahead, a),
-        Node::Implies(_, a, b) => push_both(list, slots, nodes, k, ahead, a, b),
-        Node::Link(_, _, a, b) => push_both(list, slots, nodes, k, ahead, a, b),
-        Node::Conditional(_, c, a, b) => {
-            push_part(list, slots, nodes, k, ahead, c)?;
-            push_both(list, slots, nodes, k, ahead, a, b)
-        }
+        Node::Operand(a) => push_part(list, slots, nodes, k, ahead, a),
+        Node::Apply(_, _, count) => push_last(list, slots, nodes, k, ahead, count),
+        Node::Link(_, _, a, b) => push_two(list, slots, nodes, k, ahead, a, b),
     }
 }
 
@@ -161,7 +157,29 @@ fn push_next(
     }
 }
 
-fn push_both(
+// Adds where so many parts stand right before number k.
+fn push_last(
+    list: &mut Items<usize>,
+    slots: usize,
+    nodes: usize,
+    k: usize,
+    ahead: bool,
+    count: usize,
+) -> Result<(), AllocError>
+    requires slots { slots < 2 ^ 30 }
+    requires nodes { nodes < 2 ^ 30 }
+    requires within { k ≤ nodes }
+    ensures { OnOk result (list.new ≡ list.old ++ flat_map (part_below slots nodes k) (map (λ j. (ahead, j)) (last_before count k))) }
+{
+    let first = k.saturating_sub(count);
+    for j in first..k {
+        push_part(list, slots, nodes, k, ahead, j)?;
+    }
+    Ok(())
+}
+
+// Adds where these two parts stand.
+fn push_two(
     list: &mut Items<usize>,
     slots: usize,
     nodes: usize,
@@ -173,7 +191,7 @@ fn push_both(
     requires slots { slots < 2 ^ 30 }
     requires nodes { nodes < 2 ^ 30 }
     requires within { limit ≤ nodes }
-    ensures { OnOk result (list.new ≡ (list.old ++ part_below slots nodes limit (ahead, a)) ++ part_below slots nodes limit (ahead, b)) }
+    ensures { OnOk result (list.new ≡ list.old ++ flat_map (part_below slots nodes limit) ((ahead, a) ∷ (ahead, b) ∷ [])) }
 {
     push_part(list, slots, nodes, limit, ahead, a)?;
     push_part(list, slots, nodes, limit, ahead, b)

@@ -1,8 +1,10 @@
 -- Bytes are a model of one program at most, and are not refused where they are one.
-use Rattle.std.proofs.Common.{◌≡◌, ℕ, List, [], ◌∷◌, Option, None, Some, Result, Err, sym, subst}
+use Rattle.std.proofs.Common.{◌≡◌, ◌⊎◌, inl, inr, ℕ, List, [], ◌∷◌, Option, None, Some, Result, Err, sym, subst, ap, ◌∙◌}
 use Rattle.digraph.specs.Cycles.{Acyclic, IsRound}
 use Rattle.smv_tree.specs.declared.token.Tokens.{Tokens}
 use Rattle.smv_tree.specs.declared.refusal.Refusal.{Refusal}
+use Rattle.smv_tree.specs.declared.refusal.Rule.{Rule}
+use Rattle.smv_tree.specs.declared.refusal.Rule.TheVariants.{AssignCycle}
 use Rattle.smv_tree.specs.declared.refusal.TextStop.{TextStop}
 use Rattle.smv_tree.specs.declared.refusal.TextStop.TheVariants.{Refused, NoMemory}
 use Rattle.smv_tree.specs.declared.tree.Program.{Program}
@@ -16,7 +18,7 @@ use Rattle.smv_types.proofs.Once.{judged_once}
 use Rattle.smv_flat.specs.declared.time.Time.{Time}
 use Rattle.smv_flat.specs.declared.time.Time.TheVariants as when
 use Rattle.smv_flat.specs.Assignments.{TellsCycle, dependencies, AreAssignable, IsRefusedByAssignments, twice_assigned, first_cycle, next_cycle, IsAssignmentStop}
-use Rattle.smv_front.specs.Sources.{Spells, IsModel, IsRefusedBy, in_text, in_grammar, in_types, in_assignments, IsSourceStop}
+use Rattle.smv_front.specs.Sources.{AreAlike, Spells, IsModel, IsRefusedBy, in_text, in_grammar, in_types, in_assignments, IsSourceStop}
 
 -- the stops of each part are stops of the whole
 pub text_stop : (bytes : List ℕ) (stop : TextStop) → IsTextStop bytes stop → IsSourceStop bytes stop
@@ -72,3 +74,51 @@ never_both bytes p r m (in_types tokens q s h) =
     let e : None ≡ Some r = judged_once p None (Some r) m.typed same in cc
 never_both bytes p r m (in_assignments tokens q s n h) =
     assignable_apart p r m.assignable (subst (λ (v : Program). IsRefusedByAssignments v r) (spelled_once bytes tokens m.tokens q p s m.spelled) h)
+
+-- what is refused by the grammar spells no program
+grammar_apart : (bytes : List ℕ) (t u : Tokens) (p : Program) (r : Refusal) → IsText bytes t → IsRefusedTokens t r → Spells bytes u p → ⊥
+grammar_apart bytes t u p r text_is h s = parse.never_both u p r s.spelled (subst (λ (v : Tokens). IsRefusedTokens v r) (text.one_text bytes t u text_is s.text) h)
+
+-- what is refused by names and kinds does not come to the rules of assignments
+types_apart : (bytes : List ℕ) (t u : Tokens) (p q : Program) (r : Refusal) → Spells bytes t p → types_verdict p (Some r) → Spells bytes u q → types_verdict q None → ⊥
+types_apart bytes t u p q r s v other n =
+    let same : types_verdict p None = subst (λ (w : Program). types_verdict w None) (spelled_once bytes u t q p other s) n in
+    let e : None ≡ Some r = judged_once p None (Some r) same v in cc
+
+tells_rule : (p : Program) (time : Time) (r : Refusal) → TellsCycle p time r → r.rule ≡ AssignCycle
+tells_rule p time r t = ap (λ (x : Refusal). x.rule) t.2
+
+assignments_alike : (p : Program) (a b : Refusal) → IsRefusedByAssignments p a → IsRefusedByAssignments p b → AreAlike a b
+assignments_alike p a b (twice_assigned h) (twice_assigned k) = let e : Some a ≡ Some b = sym h ∙ k in let same : a ≡ b = cc in inl same
+assignments_alike p a b (twice_assigned h) (first_cycle n t) = absurd (none_some _ a n h)
+assignments_alike p a b (twice_assigned h) (next_cycle n f t) = absurd (none_some _ a n h)
+assignments_alike p a b (first_cycle n t) (twice_assigned k) = absurd (none_some _ b n k)
+assignments_alike p a b (first_cycle n t) (first_cycle m u) = inr (tells_rule p when.First a t, tells_rule p when.First b u)
+assignments_alike p a b (first_cycle n t) (next_cycle m f u) = inr (tells_rule p when.First a t, tells_rule p when.Next b u)
+assignments_alike p a b (next_cycle n f t) (twice_assigned k) = absurd (none_some _ b n k)
+assignments_alike p a b (next_cycle n f t) (first_cycle m u) = inr (tells_rule p when.Next a t, tells_rule p when.First b u)
+assignments_alike p a b (next_cycle n f t) (next_cycle m g u) = inr (tells_rule p when.Next a t, tells_rule p when.Next b u)
+
+-- two refusals of one source are alike
+pub refusal_alike : (bytes : List ℕ) (a b : Refusal) → IsRefusedBy bytes a → IsRefusedBy bytes b → AreAlike a b
+refusal_alike bytes a b (in_text x) (in_text y) = inl (text.one_refusal bytes a b x y)
+refusal_alike bytes a b (in_text x) (in_grammar u k h) = absurd (text.never_both bytes u a k x)
+refusal_alike bytes a b (in_text x) (in_types u q k w) = absurd (text.never_both bytes u a k.text x)
+refusal_alike bytes a b (in_text x) (in_assignments u q k n w) = absurd (text.never_both bytes u a k.text x)
+refusal_alike bytes a b (in_grammar t s g) (in_text y) = absurd (text.never_both bytes t b s y)
+refusal_alike bytes a b (in_grammar t s g) (in_grammar u k h) = inl (parse.refusal_once t a b g (subst (λ (v : Tokens). IsRefusedTokens v b) (text.one_text bytes u t k s) h))
+refusal_alike bytes a b (in_grammar t s g) (in_types u q k w) = absurd (grammar_apart bytes t u q a s g k)
+refusal_alike bytes a b (in_grammar t s g) (in_assignments u q k n w) = absurd (grammar_apart bytes t u q a s g k)
+refusal_alike bytes a b (in_types t p s v) (in_text y) = absurd (text.never_both bytes t b s.text y)
+refusal_alike bytes a b (in_types t p s v) (in_grammar u k h) = absurd (grammar_apart bytes u t p b k h s)
+refusal_alike bytes a b (in_types t p s v) (in_types u q k w) =
+    let other : types_verdict p (Some b) = subst (λ (x : Program). types_verdict x (Some b)) (spelled_once bytes u t q p k s) w in
+    let e : Some a ≡ Some b = judged_once p (Some a) (Some b) v other in
+    let same : a ≡ b = cc in
+    inl same
+refusal_alike bytes a b (in_types t p s v) (in_assignments u q k n w) = absurd (types_apart bytes t u p q a s v k n)
+refusal_alike bytes a b (in_assignments t p s n v) (in_text y) = absurd (text.never_both bytes t b s.text y)
+refusal_alike bytes a b (in_assignments t p s n v) (in_grammar u k h) = absurd (grammar_apart bytes u t p b k h s)
+refusal_alike bytes a b (in_assignments t p s n v) (in_types u q k w) = absurd (types_apart bytes u t q p b k w s n)
+refusal_alike bytes a b (in_assignments t p s n v) (in_assignments u q k m w) =
+    assignments_alike p a b v (subst (λ (x : Program). IsRefusedByAssignments x b) (spelled_once bytes u t q p k s) w)

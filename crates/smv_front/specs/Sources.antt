@@ -1,7 +1,8 @@
 -- What bytes are a model, and by which rule other bytes are refused.
-use Rattle.std.specs.Prelude.{ℕ, List, None, Some}
+use Rattle.std.specs.Prelude.{◌≡◌, ◌⊎◌, ℕ, List, None, Some}
 use Rattle.smv_tree.specs.declared.token.Tokens.{Tokens}
 use Rattle.smv_tree.specs.declared.refusal.Refusal.{Refusal}
+use Rattle.smv_tree.specs.declared.refusal.Rule.TheVariants.{AssignCycle}
 use Rattle.smv_tree.specs.declared.refusal.TextStop.{TextStop}
 use Rattle.smv_tree.specs.declared.refusal.TextStop.TheVariants.{Refused, NoMemory}
 use Rattle.smv_tree.specs.declared.tree.Program.{Program}
@@ -29,6 +30,10 @@ pub data IsRefusedBy (bytes : List ℕ) (r : Refusal) : Type 0 where
   in_grammar : (tokens : Tokens) → IsText bytes tokens → IsRefusedTokens tokens r → IsRefusedBy bytes r
   in_types : (tokens : Tokens) (p : Program) → Spells bytes tokens p → types_verdict p (Some r) → IsRefusedBy bytes r
   in_assignments : (tokens : Tokens) (p : Program) → Spells bytes tokens p → types_verdict p None → IsRefusedByAssignments p r → IsRefusedBy bytes r
+
+-- two refusals that are equal, or of which each tells a circle of assignments (502): of several circles either may be told
+abbrev pub AreAlike : Refusal → Refusal → Type 0
+AreAlike a b = (a ≡ b) ⊎ ((a.rule ≡ AssignCycle) × (b.rule ≡ AssignCycle))
 
 -- the bytes are refused so; or memory was refused, which may come at any time
 abbrev pub IsSourceStop : List ℕ → TextStop → Type 0

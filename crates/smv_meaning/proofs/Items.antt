@@ -2,12 +2,12 @@
 use Rattle.std.proofs.Common.{◌≡◌, ◌∙◌, ℕ, Bool, true, false, cond, ◌&&◌, List, [], ◌∷◌, map, Option, None, Some, refl, ap}
 use Rattle.std.specs.List.{filter, list_all}
 use Rattle.smv_value.specs.declared.value.Value.{Value}
-use Rattle.smv_scope.specs.declared.item.Item.{Item}
-use Rattle.smv_scope.specs.declared.item.ItemKind.{ItemKind}
-use Rattle.smv_scope.specs.declared.node.Node.{Node}
+use Rattle.smv_resolve.specs.declared.item.Item.{Item}
+use Rattle.smv_resolve.specs.declared.item.ItemKind.{ItemKind}
+use Rattle.smv_resolve.specs.declared.node.Node.{Node}
 use Rattle.smv_scope.specs.declared.slot.Slot.{Slot}
-use Rattle.smv_scope.specs.Items.{ResolvedItem, item_by, target_by}
-use Rattle.smv_scope.specs.Resolved.{parts_of, part_of}
+use Rattle.smv_resolve.specs.Items.{ResolvedItem, item_by, target_by}
+use Rattle.smv_resolve.specs.Resolved.{parts_of, part_of}
 use Rattle.smv_meaning.specs.declared.value.Outcome.{Outcome}
 use Rattle.smv_meaning.specs.Runs.{allows_first, allows_always, allows_step, asks_first, asks_always, asks_step, is_claim, outcome_of_target}
 use Rattle.smv_meaning.specs.Tables.{always_allowed, first_allowed, outcome_at, outcomes_of, step_allowed, target_at}

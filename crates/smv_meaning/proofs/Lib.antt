@@ -1,2 +1,4 @@
 pub mod Tables
 pub mod Items
+pub mod Choosing
+pub mod Operating

@@ -3,9 +3,9 @@ use Rattle.std.specs.Prelude.{◌≡◌, ℕ, true, List, Result, Ok, Err}
 use Rattle.smv_tree.specs.declared.tree.Program.{Program}
 use Rattle.smv_tree.specs.declared.tree.Expr.{Expr}
 use Rattle.smv_value.specs.declared.value.Value.{Value}
-use Rattle.smv_scope.specs.declared.resolve.ResolveStop.{ResolveStop}
-use Rattle.smv_scope.specs.declared.resolve.ResolveStop.TheVariants as stop
-use Rattle.smv_scope.specs.Resolved.{resolved, is_stuck}
+use Rattle.smv_resolve.specs.declared.resolve.ResolveStop.{ResolveStop}
+use Rattle.smv_resolve.specs.declared.resolve.ResolveStop.TheVariants as stop
+use Rattle.smv_resolve.specs.Resolved.{resolved, is_stuck}
 use Rattle.smv_scope.specs.Slots.{slots_of}
 use Rattle.smv_meaning.specs.declared.value.Outcome.{Outcome}
 use Rattle.smv_meaning.specs.Values.{outcome}

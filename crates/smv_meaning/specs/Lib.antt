@@ -2,3 +2,4 @@ pub mod Values
 pub mod Runs
 pub mod Tables
 pub mod Answers
+pub mod Paths

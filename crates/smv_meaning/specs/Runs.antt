@@ -1,7 +1,7 @@
 -- States, first states, steps and runs of a program, and what breaks an invariant (NuSMV 2.6 User Manual, 2.3, 2.4.2).
-use Rattle.std.specs.Prelude.{◌≡◌, ℕ, ◌+◌, ◌<◌, Bool, true, false, not, ◌&&◌, ◌||◌, ◌==◌, List, [], length, filter, Option, None, Some, IsTrue, slice_index_or}
+use Rattle.std.specs.Prelude.{◌≡◌, ℕ, ◌+◌, ◌<◌, Bool, true, false, not, ◌&&◌, ◌||◌, ◌==◌, List, [], length, filter, Option, None, Some, IsTrue, slice_index_or, unwrap_or}
 use Rattle.std.specs.List.{list_all, zip}
-use mathlib.Core.Bool.{beq}
+use Rattle.std.specs.Option.{is_some}
 use Rattle.smv_tree.specs.declared.tree.Program.{Program}
 use Rattle.smv_tree.specs.declared.tree.AssignmentKind.TheVariants as side
 use Rattle.smv_tree.specs.declared.tree.ConstraintKind.TheVariants as asked
@@ -9,21 +9,23 @@ use Rattle.smv_tree.specs.declared.tree.VariableKind.{VariableKind}
 use Rattle.smv_tree.specs.declared.tree.VariableKind.TheVariants as sort
 use Rattle.smv_value.specs.declared.value.Value.{Value}
 use Rattle.smv_value.specs.declared.value.Value.TheVariants as value
-use Rattle.smv_scope.specs.declared.item.ItemKind.{ItemKind}
-use Rattle.smv_scope.specs.declared.item.ItemKind.TheVariants as item
+use Rattle.smv_value.specs.Results.{same}
+use Rattle.smv_resolve.specs.declared.item.ItemKind.{ItemKind}
+use Rattle.smv_resolve.specs.declared.item.ItemKind.TheVariants as item
 use Rattle.smv_scope.specs.declared.slot.Slot.{Slot}
 use Rattle.smv_scope.specs.declared.slot.ValueType.{ValueType}
 use Rattle.smv_scope.specs.declared.slot.ValueType.TheVariants.{Boolean}
-use Rattle.smv_scope.specs.Items.{ResolvedItem, items_of}
-use Rattle.smv_scope.specs.Resolved.{Resolved}
+use Rattle.smv_resolve.specs.Items.{ResolvedItem, items_of}
+use Rattle.smv_resolve.specs.Resolved.{Resolved}
 use Rattle.smv_scope.specs.Slots.{slots_of, is_input}
 use Rattle.smv_meaning.specs.declared.value.Outcome.{Outcome}
-use Rattle.smv_meaning.specs.declared.value.Outcome.TheVariants.{One, Nothing}
-use Rattle.smv_meaning.specs.Values.{outcome, outcome_in}
+use Rattle.smv_meaning.specs.declared.value.Outcome.TheVariants.{Values}
+use Rattle.smv_meaning.specs.Values.{nothing, one, outcome, outcome_in, truth}
 
 -- the value is one of the type's (manual 2.1, Types Overview)
 abbrev pub in_type : Value → ValueType → Bool
 in_type (value.Bool b) Boolean = true
+in_type v declared = false
 
 -- the slots of a state, and the input slots
 abbrev pub state_slots : List Slot → List Slot
@@ -36,24 +38,19 @@ input_slots slots = filter (λ (slot : Slot). is_input slot.kind) slots
 abbrev pub fits : List Slot → List Value → Bool
 fits slots s = (length slots == length s) && list_all (λ (pair : Slot × Value). in_type pair.1 pair.0.declared) (zip slots s)
 
-abbrev pub same_value : Value → Value → Bool
-same_value (value.Bool a) (value.Bool b) = beq a b
-
 -- the variable has the value of the expression; what has no value meets nothing
 abbrev pub takes : Outcome → Outcome → Bool
-takes (One v) (One w) = same_value v w
-takes (One v) Nothing = false
-takes Nothing e = false
+takes (Values (Some v)) (Values (Some w)) = same v w
+takes x e = false
 
 -- the outcome of what is assigned, in a state; nothing has none
 abbrev pub outcome_of_target : List Slot → List Value → Option Resolved → Outcome
-outcome_of_target slots s None = Nothing
+outcome_of_target slots s None = nothing
 outcome_of_target slots s (Some target) = outcome_in slots s target
 
 -- the outcome is TRUE
 abbrev pub is_true : Outcome → Bool
-is_true (One (value.Bool b)) = b
-is_true Nothing = false
+is_true o = unwrap_or (truth o) false
 
 -- What an item asks of a first state, by the outcomes of what it assigns and of its value there: `init(x) := e`, `x := e`
 -- (manual 2.3.8), INIT (2.3.5) and INVAR (2.3.6).
@@ -109,7 +106,7 @@ is_frozen other = false
 
 -- a slot that is frozen has the same value in both states (manual 2.3.1, Frozen Variables)
 abbrev pub keeps : Slot → Value → Value → Bool
-keeps slot v w = not (is_frozen slot.kind) || same_value v w
+keeps slot v w = not (is_frozen slot.kind) || same v w
 
 -- each frozen slot keeps its value
 abbrev pub keeps_frozen : List Slot → List Value → List Value → Bool
@@ -151,6 +148,30 @@ pub record IsRun (p : Program) (states inputs : List (List Value)) : Type 0 wher
   pub first : IsFirstState p (at_time states 0)
   pub steps : (i : ℕ) → i < length inputs → IsStep p (at_time states i) (at_time inputs i) (at_time states (i + 1))
 
+-- TRUE or FALSE, and no fault
+abbrev pub is_known : Outcome → Bool
+is_known o = is_some (truth o)
+
+-- what an item assigns has a value in a state, and its own value is TRUE or FALSE in the state, or the step, of which it speaks
+abbrev pub is_known_by : List Slot → List Value → List Value → List Value → Option Resolved → Resolved → ItemKind → Bool
+is_known_by slots s u t target e (item.Assignment side.Init) = is_known (outcome_of_target slots s target) && is_known (outcome_in slots s e)
+is_known_by slots s u t target e (item.Assignment side.Next) = is_known (outcome_of_target slots s target) && is_known (outcome slots s u t e)
+is_known_by slots s u t target e (item.Assignment side.Current) = is_known (outcome_of_target slots s target) && is_known (outcome_in slots s e)
+is_known_by slots s u t target e (item.Constraint asked.Init) = is_known (outcome_in slots s e)
+is_known_by slots s u t target e (item.Constraint asked.Invar) = is_known (outcome_in slots s e)
+is_known_by slots s u t target e (item.Constraint asked.Trans) = is_known (outcome slots s u t e)
+is_known_by slots s u t target e (item.Constraint asked.Justice) = is_known (outcome_in slots s e)
+is_known_by slots s u t target e (item.Specification kind) = is_known (outcome_in slots s e)
+
+abbrev pub is_known_item : List Slot → List Value → List Value → List Value → ResolvedItem → Bool
+is_known_item slots s u t x = is_known_by slots s u t x.target x.value x.kind
+
+-- So is each item of the program in all states and steps, reached or not: no item is without a value, since its kinds fit, and
+-- none faults.
+abbrev pub AllKnown : Program → Type 0
+AllKnown p = (s u t : List Value) → is_state p s ≡ true → are_inputs p u ≡ true → is_state p t ≡ true →
+    list_all (is_known_item (slots_of p) s u t) (items_of p) ≡ true
+
 abbrev pub is_claim : ItemKind → Bool
 is_claim (item.Specification kind) = true
 is_claim other = false
@@ -162,4 +183,4 @@ specifications_of p = filter (λ (x : ResolvedItem). is_claim x.kind) (items_of 
 -- the run ends in a state in which the specification is FALSE (manual 2.4.2, Invariant Specifications)
 pub record Breaks (p : Program) (spec : ResolvedItem) (states inputs : List (List Value)) : Type 0 where
   pub run : IsRun p states inputs
-  pub broken : outcome_in (slots_of p) (at_time states (length inputs)) spec.value ≡ One (value.Bool false)
+  pub broken : outcome_in (slots_of p) (at_time states (length inputs)) spec.value ≡ one (value.Bool false)

@@ -1,18 +1,17 @@
 -- The outcomes of the nodes of a list, each by those of the nodes before it, and what items over these nodes ask.
-use Rattle.std.specs.Prelude.{ℕ, Bool, List, map, Option, None, Some, slice_index_or}
+use Rattle.std.specs.Prelude.{ℕ, Bool, List, [], ◌∷◌, map, Option, None, Some, slice_index_or}
 use Rattle.std.specs.List.{list_all}
 use Rattle.smv_value.specs.declared.value.Value.{Value}
 use Rattle.smv_value.specs.declared.value.Value.TheVariants as value
-use Rattle.smv_value.specs.Operators.{negation, implication}
-use Rattle.smv_scope.specs.declared.item.Item.{Item}
-use Rattle.smv_scope.specs.declared.node.Node.{Node}
-use Rattle.smv_scope.specs.declared.node.Node.TheVariants as node
+use Rattle.smv_resolve.specs.declared.item.Item.{Item}
+use Rattle.smv_resolve.specs.declared.node.Node.{Node}
+use Rattle.smv_resolve.specs.declared.node.Node.TheVariants as node
 use Rattle.smv_scope.specs.declared.slot.Slot.{Slot}
-use Rattle.smv_scope.specs.Resolved.{parts_of}
+use Rattle.smv_resolve.specs.Resolved.{last_of, parts_of}
 use Rattle.smv_scope.specs.Slots.{item_of}
 use Rattle.smv_meaning.specs.declared.value.Outcome.{Outcome}
-use Rattle.smv_meaning.specs.declared.value.Outcome.TheVariants.{One, Nothing}
-use Rattle.smv_meaning.specs.Values.{outcome, one_or_nothing, on_one, on_both, operation, chosen}
+use Rattle.smv_meaning.specs.declared.value.Outcome.TheVariants.{Values}
+use Rattle.smv_meaning.specs.Values.{applied, nothing, one, outcome}
 use Rattle.smv_meaning.specs.Runs.{asks_first, asks_always, asks_step}
 
 -- the outcomes of nodes in the state s, with the inputs u and the next state t
@@ -21,24 +20,22 @@ outcomes_of slots s u t nodes = map (outcome slots s u t) (parts_of nodes)
 
 -- the outcome of the node of this number
 abbrev pub outcome_at : List Outcome → ℕ → Outcome
-outcome_at outcomes k = slice_index_or outcomes k Nothing
+outcome_at outcomes k = slice_index_or outcomes k nothing
 
 abbrev pub target_at : List Outcome → Option ℕ → Outcome
-target_at outcomes None = Nothing
+target_at outcomes None = nothing
 target_at outcomes (Some k) = outcome_at outcomes k
 
 -- the outcome of a node, where these are the outcomes of the nodes before it, here and in the next state
 abbrev pub outcome_by : List Slot → List Value → List Value → List Outcome → List Outcome → Node → Outcome
-outcome_by slots s u here later (node.Constant place b) = One (value.Bool b)
-outcome_by slots s u here later (node.Slot place n) = one_or_nothing (item_of slots s u n)
-outcome_by slots s u here later (node.Whole place i) = Nothing
-outcome_by slots s u here later (node.Given place a) = outcome_at here a
-outcome_by slots s u here later (node.Defined place a) = outcome_at here a
-outcome_by slots s u here later (node.Not place a) = on_one negation (outcome_at here a)
+outcome_by slots s u here later (node.Constant place b) = one (value.Bool b)
+outcome_by slots s u here later (node.Slot place n) = Values (item_of slots s u n)
+outcome_by slots s u here later (node.Whole place i) = nothing
+outcome_by slots s u here later (node.Named place naming a) = outcome_at here a
 outcome_by slots s u here later (node.Next place a) = outcome_at later a
-outcome_by slots s u here later (node.Implies place a b) = on_both implication (outcome_at here a) (outcome_at here b)
-outcome_by slots s u here later (node.Link place o a b) = on_both (operation o) (outcome_at here a) (outcome_at here b)
-outcome_by slots s u here later (node.Conditional place c a b) = chosen (outcome_at here c) (outcome_at here a) (outcome_at here b)
+outcome_by slots s u here later (node.Operand a) = outcome_at here a
+outcome_by slots s u here later (node.Apply place o count) = applied o place (last_of count here)
+outcome_by slots s u here later (node.Link place o a b) = applied o place (outcome_at here a ∷ outcome_at here b ∷ [])
 
 -- what items ask of a first state, where the nodes have these outcomes
 abbrev pub first_allowed : List Outcome → List Item → Bool

@@ -8,8 +8,8 @@ mod readers;
 mod typed;
 mod value;
 
-pub use evaluation::{eval, outcomes};
+pub use evaluation::{eval, instance_at, outcomes};
 pub use meets::{meets_init, meets_inv, meets_step};
-pub use readers::{input_slots, is_claim, specifications, state_slots};
+pub use readers::{input_slots, is_claim, slots, specifications, state_slots};
 pub use typed::Typed;
-pub use value::{Inputs, Outcome, State};
+pub use value::{Inputs, Outcome, Path, State};

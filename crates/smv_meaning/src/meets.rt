@@ -5,16 +5,17 @@ ghost use Rattle.std.specs.List.{list_all, zip};
 ghost use Rattle.smv_value.specs.declared.value.Value.{Value};
 ghost use Rattle.smv_scope.specs.declared.slot.Slot.{Slot};
 ghost use Rattle.smv_scope.specs.Slots.{slots_of};
-ghost use Rattle.smv_scope.specs.Items.{items_of};
-ghost use Rattle.smv_meaning.specs.Runs.{allows_first, allows_step, are_inputs, asks_always, asks_first, asks_step, fits, in_type, is_first_state, is_frozen, is_state, is_step, is_true, keeps, keeps_frozen, meets_invariants, same_value, takes};
+ghost use Rattle.smv_resolve.specs.Items.{items_of};
+ghost use Rattle.smv_meaning.specs.Runs.{allows_first, allows_step, are_inputs, asks_always, asks_first, asks_step, fits, in_type, is_first_state, is_frozen, is_state, is_step, is_true, keeps, keeps_frozen, meets_invariants, takes};
 ghost use Rattle.smv_meaning.specs.Tables.{always_allowed, first_allowed, outcomes_of, step_allowed, target_at};
 
-use crate::evaluation::{outcome_at, outcomes};
+use crate::evaluation::{outcome_at, outcomes, truth};
 use crate::readers::{input_slots, state_slots};
 use crate::{Inputs, Outcome, State, Typed};
-use smv_scope::{Item, ItemKind, Slot, ValueType};
+use smv_resolve::{Item, ItemKind};
+use smv_scope::{Slot, ValueType};
 use smv_tree::{AssignmentKind, ConstraintKind, VariableKind};
-use smv_value::Value;
+use smv_value::{Value, same};
 use std::alloc::{AllocError, Global};
 
 /// Whether the state is a first state of the program.
@@ -111,7 +112,7 @@ fn all_keep(slots: &[Slot], s: &[Value], next: &[Value]) -> bool
 fn keeps(slot: Slot, a: Value, b: Value) -> bool
     ensures { result ≡ keeps slot a b }
 {
-    !is_frozen(slot.kind) || same_value(a, b)
+    !is_frozen(slot.kind) || same(a, b)
 }
 
 fn is_frozen(kind: VariableKind) -> bool
@@ -188,14 +189,7 @@ fn in_type(v: Value, declared: ValueType) -> bool
 {
     match (v, declared) {
         (Value::Bool(_), ValueType::Boolean) => true,
-    }
-}
-
-fn same_value(a: Value, b: Value) -> bool
-    ensures { result ≡ same_value a b }
-{
-    match (a, b) {
-        (Value::Bool(a), Value::Bool(b)) => a == b,
+        _ => false,
     }
 }
 
@@ -228,7 +222,7 @@ fn target_at(outcomes: &[Outcome], target: Option<usize>) -> Outcome
     ensures { result ≡ target_at outcomes.now target }
 {
     match target {
-        None => Outcome::Nothing,
+        None => Outcome::Values(None),
         Some(k) => outcome_at(outcomes, k),
     }
 }
@@ -238,18 +232,17 @@ fn takes(variable: Outcome, expression: Outcome) -> bool
     ensures { result ≡ takes variable expression }
 {
     match (variable, expression) {
-        (Outcome::One(a), Outcome::One(b)) => same_value(a, b),
-        (Outcome::One(_), Outcome::Nothing) => false,
-        (Outcome::Nothing, _) => false,
+        (Outcome::Values(Some(a)), Outcome::Values(Some(b))) => same(a, b),
+        _ => false,
     }
 }
 
 fn is_true(outcome: Outcome) -> bool
     ensures { result ≡ is_true outcome }
 {
-    match outcome {
-        Outcome::One(Value::Bool(b)) => b,
-        Outcome::Nothing => false,
+    match truth(outcome) {
+        Some(b) => b,
+        None => false,
     }
 }
 

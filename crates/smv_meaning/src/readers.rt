@@ -1,16 +1,24 @@
 //! Parts of a program that callers look for.
 
-ghost use Rattle.std.specs.Prelude.{◌≡◌, map, IfOk};
+ghost use Rattle.std.specs.Prelude.{◌≡◌, true, map, All, IfOk};
 ghost use Rattle.smv_tree.specs.declared.tree.VariableKind.{VariableKind};
-ghost use Rattle.smv_scope.specs.Items.{item_by};
+ghost use Rattle.smv_resolve.specs.Items.{item_by};
 ghost use Rattle.smv_scope.specs.Slots.{is_input, slots_of};
 ghost use Rattle.smv_meaning.specs.Runs.{input_slots, is_claim, specifications_of, state_slots};
 
 use crate::Typed;
-use smv_scope::{Item, ItemKind, Scope, Slot};
+use smv_resolve::{Item, ItemKind};
+use smv_scope::{Scope, Slot};
 use smv_tree::VariableKind;
 use sqlite_items::Items;
 use std::alloc::{AllocError, Global};
+
+/// The slots of a program, in their order.
+pub fn slots(typed: &Typed) -> &[Slot]
+    ensures { result.now ≡ slots_of typed.now.scope.program }
+{
+    typed.scope.slots.as_slice()
+}
 
 /// The slots of a state, in their order.
 pub fn state_slots(alloc: Global, scope: &Scope) -> Result<Items<Slot>, AllocError>
@@ -40,7 +48,8 @@ pub fn input_slots(alloc: Global, scope: &Scope) -> Result<Items<Slot>, AllocErr
 
 /// The specifications of a program, in the order of its items.
 pub fn specifications(alloc: Global, typed: &Typed) -> Result<Items<Item>, AllocError>
-    ensures { IfOk result (λ specs. map (item_by typed.now.nodes) specs ≡ specifications_of typed.now.scope.program) }
+    ensures resolved { IfOk result (λ specs. map (item_by typed.now.nodes) specs ≡ specifications_of typed.now.scope.program) }
+    ensures claims { IfOk result (All (λ item. is_claim item.kind ≡ true)) }
 {
     let mut specifications = Vec::new(alloc);
     for item in typed.items.as_slice() {

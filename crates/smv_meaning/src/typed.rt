@@ -2,17 +2,21 @@
 
 ghost use Rattle.std.specs.Prelude.{◌≡◌, map};
 ghost use Rattle.std.proofs.Props.{props};
-ghost use Rattle.smv_scope.specs.Items.{item_by, items_of};
-ghost use Rattle.smv_scope.proofs.Sets.{Resolved-set};
+ghost use Rattle.smv_resolve.specs.Items.{item_by, items_of};
+ghost use Rattle.smv_resolve.proofs.Sets.{Resolved-set};
+ghost use Rattle.smv_meaning.specs.Runs.{AllKnown};
 
-use smv_scope::{Item, Node, Scope};
+use smv_resolve::{Item, Node};
+use smv_scope::Scope;
 use sqlite_items::Items;
 
 /// A program with its instances, its slots, and its items in the order of the source, whose expressions are nodes of one list.
+/// What its items assign, ask for and claim is TRUE or FALSE in each state and step of the declared types.
 #[derive(Debug, Drop)]
 pub struct Typed {
     pub scope: Scope,
     pub nodes: Items<Node>,
     pub items: Items<Item>,
+    pub ghost known: { AllKnown scope.program } by { Prim.hlevel (props) },
     pub ghost resolved: { map (item_by nodes) items ≡ items_of scope.program } by { Prim.hlevel (props, Resolved-set) },
 }

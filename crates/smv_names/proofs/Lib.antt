@@ -2,7 +2,6 @@ pub mod Adding
 pub mod Graphs
 pub mod Numbered
 pub mod Saying
-pub mod NamesOf
 pub mod OfEntries
 pub mod Once
 pub mod Ordered

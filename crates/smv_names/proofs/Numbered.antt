@@ -6,8 +6,8 @@ use Rattle.smv_tree.specs.declared.tree.Expr.{Expr}
 use Rattle.smv_scope.specs.declared.target.NameTarget.{NameTarget}
 use Rattle.smv_scope.specs.declared.target.NameTarget.TheVariants as found
 use Rattle.smv_scope.specs.Targets.{seen}
-use Rattle.smv_scope.specs.declared.work.Shared.{Shared}
-use Rattle.smv_scope.specs.Finding.{shared_eq}
+use Rattle.smv_scope.specs.declared.target.Shared.{Shared}
+use Rattle.smv_scope.specs.Targets.{shared_eq}
 use Rattle.smv_names.specs.Defined.{Entry, is_entry}
 use Rattle.smv_names.specs.Entries.{key_of, is_keyed}
 

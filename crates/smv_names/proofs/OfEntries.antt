@@ -8,7 +8,7 @@ use Rattle.smv_tree.specs.declared.tree.Name.{Name}
 use Rattle.smv_scope.specs.Lookup.{Target, name_target}
 use Rattle.smv_names.specs.declared.entries.Entry.{Entry as LentEntry}
 use Rattle.smv_names.specs.Entries.{read_entry, read_entries}
-use Rattle.smv_names.specs.Named.{names_in}
+use Rattle.smv_tree.specs.Occurring.{names_in}
 use Rattle.smv_names.specs.Defined.{Entry, is_entry, body_of, owner_of, entries_of, entry_of_target, entries_named, entry_graph, entry_verdict, entries_verdict}
 use Rattle.smv_names.proofs.Graphs.{some_within, all_of, closed_from}
 

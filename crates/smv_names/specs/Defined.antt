@@ -14,7 +14,7 @@ use Rattle.smv_scope.specs.Instances.{instances_of}
 use Rattle.smv_scope.specs.Lookup.{Target, arguments_by, name_target}
 use Rattle.smv_names.specs.Verdicts.{Verdict, Claim, Then, detailed}
 use Rattle.smv_names.specs.Reached.{some_only}
-use Rattle.smv_names.specs.Named.{names_in}
+use Rattle.smv_tree.specs.Occurring.{names_in}
 
 -- A word for an expression: what a parameter of an instance was given, in the instance that gives it; or a definition of an
 -- instance. Each has its number there.

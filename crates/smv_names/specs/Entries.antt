@@ -3,8 +3,8 @@ use Rattle.std.specs.Prelude.{◌≡◌, ℕ, Bool, true, false, if◌then◌els
 use Rattle.std.specs.HashMap.{HashMap, get}
 use Rattle.smv_names.specs.declared.entries.Entry.{Entry as LentEntry}
 use Rattle.smv_names.specs.declared.entries.Entry.TheVariants as lent
-use Rattle.smv_scope.specs.declared.work.Shared.{Shared}
-use Rattle.smv_scope.specs.Finding.{shared_eq}
+use Rattle.smv_scope.specs.declared.target.Shared.{Shared}
+use Rattle.smv_scope.specs.Targets.{shared_eq}
 use Rattle.smv_names.specs.Defined.{Entry, is_defined, is_given}
 
 abbrev pub read_entry : LentEntry → Entry

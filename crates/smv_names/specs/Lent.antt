@@ -13,10 +13,6 @@ knows names name = contains_by (λ k. bytes_eq name k.now) names
 abbrev pub read_names : List (Place × Bor (List ℕ)) → List Named
 read_names names = map (λ (x : Place × Bor (List ℕ)). (x.0, x.1.now)) names
 
--- what is lent, read
-abbrev pub read : {A : Type 0} → List (Bor A) → List A
-read lent = map (λ x. x.now) lent
-
 -- what is lent, if it is there, read
 abbrev pub read_some : {A : Type 0} → Option (Bor A) → Option A
 read_some None = None

@@ -1,7 +1,5 @@
 -- The rule of names: each name leads somewhere (manual 2.3.13, References to Module Components).
-use Rattle.std.specs.Prelude.{ℕ, ◌+◌, List, [], ◌∷◌, ◌++◌, Option, None, Some}
-use Rattle.std.specs.List.{flat_map}
-use Rattle.smv_tree.specs.declared.place.Place.{Place}
+use Rattle.std.specs.Prelude.{ℕ, ◌+◌, List, [], ◌∷◌, Option, None, Some}
 use Rattle.smv_tree.specs.declared.refusal.Refusal.{Refusal}
 use Rattle.smv_tree.specs.declared.refusal.Rule.TheVariants as rule
 use Rattle.smv_tree.specs.declared.tree.Program.{Program}
@@ -12,32 +10,17 @@ use Rattle.smv_tree.specs.declared.tree.Definition.{Definition}
 use Rattle.smv_tree.specs.declared.tree.Assignment.{Assignment}
 use Rattle.smv_tree.specs.declared.tree.TypeExpr.{TypeExpr}
 use Rattle.smv_tree.specs.declared.tree.TypeExpr.TheVariants as written
-use Rattle.smv_tree.specs.declared.tree.ChainOperator.{ChainOperator}
 use Rattle.smv_tree.specs.declared.tree.Identifier.{Identifier}
 use Rattle.smv_tree.specs.declared.tree.Name.{Name}
 use Rattle.smv_tree.specs.declared.tree.Start.{Start}
 use Rattle.smv_tree.specs.declared.tree.Start.TheVariants as start
-use Rattle.smv_tree.specs.declared.tree.Expr.{Expr, Expr-F, fold-Expr}
+use Rattle.smv_tree.specs.declared.tree.Expr.{Expr}
 use Rattle.smv_scope.specs.declared.instance.Instance.{Instance}
 use Rattle.smv_scope.specs.Modules.{sections_of}
+use Rattle.smv_tree.specs.Occurring.{names_in}
 use Rattle.smv_scope.specs.Instances.{instances_of}
 use Rattle.smv_scope.specs.Lookup.{Target, as_instance, depth_limit, instance_within, member_target, own_target}
 use Rattle.smv_names.specs.Verdicts.{first_of, or_else, detailed}
-
--- the names of a node, where those of its parts are known
-abbrev pub names_of_node : Expr-F (List Name) → List Name
-names_of_node (Expr-F.Bool place b) = []
-names_of_node (Expr-F.Name name) = name ∷ []
-names_of_node (Expr-F.Group place e) = e
-names_of_node (Expr-F.Not place e) = e
-names_of_node (Expr-F.Next place e) = e
-names_of_node (Expr-F.Implies place a b) = a ++ b
-names_of_node (Expr-F.Conditional place c a b) = c ++ a ++ b
-names_of_node (Expr-F.Chain first links) = first ++ flat_map (λ (link : Place × ChainOperator × List Name). link.2) links
-
--- the names of an expression, in the order of the text
-unfoldable pub names_in : Expr → List Name
-names_in e = fold-Expr (List Name) names_of_node e
 
 -- an identifier that leads nowhere
 abbrev pub unknown_last : Identifier → Target → Option Identifier

@@ -3,13 +3,12 @@
 ghost use Rattle.std.specs.Prelude.{◌≡◌, ◌++◌, IfOk, OnOk};
 ghost use Rattle.smv_names.specs.Defined.{body_of, defined_entries, entries_by, entries_named, entries_of, entry_graph, given_entries, owner_of};
 ghost use Rattle.smv_names.specs.Entries.{AreEntryNumbers, read_entries, read_entry};
-ghost use Rattle.smv_names.specs.Lent.{read};
+ghost use Rattle.smv_tree.specs.Occurring.{read};
 
 use crate::graph::push_some;
 use crate::numbers::{EntryNumbers, entry_numbered, entry_numbers};
-use crate::occurring::names_in;
 use smv_scope::{Parent, Scope, arguments_by, definitions_of, name_target, sections_of};
-use smv_tree::{Definition, Expr};
+use smv_tree::{Definition, Expr, names_in};
 use sqlite_items::Items;
 use std::alloc::{AllocError, Global};
 

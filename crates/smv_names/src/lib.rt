@@ -10,7 +10,6 @@ mod known;
 mod law;
 mod names;
 mod numbers;
-mod occurring;
 mod order;
 mod reached;
 mod refusals;

@@ -2,7 +2,7 @@
 
 ghost use Rattle.std.specs.Prelude.{◌≡◌, List, false, true, IfOk, position};
 ghost use Rattle.std.specs.HashMap.{get};
-ghost use Rattle.smv_scope.specs.Finding.{shared_eq};
+ghost use Rattle.smv_scope.specs.Targets.{shared_eq};
 ghost use Rattle.smv_scope.specs.Targets.{seen};
 ghost use Rattle.smv_names.specs.Defined.{Entry as MeantEntry, is_entry};
 ghost use Rattle.smv_names.specs.Entries.{AreEntryNumbers, key_of, read_entries, read_entry};

@@ -3,7 +3,7 @@ use Rattle.std.proofs.Common.{◌≡◌, ℕ, zero, suc, Bool, true, false, cond
 use Rattle.phrase_forms.specs.Forms.{Form, Read, head, token, many, many_at, to, named, ◌⨾◌, ◌>>=◌}
 use Rattle.smv_tree.specs.declared.place.Place.{Place}
 use Rattle.smv_tree.specs.declared.token.Token.{Token}
-use Rattle.smv_tree.specs.declared.tree.ChainOperator.{ChainOperator}
+use Rattle.smv_value.specs.declared.operator.Operator.{Operator}
 use Rattle.smv_tree.specs.declared.tree.Expr.{Expr}
 use Rattle.smv_tree.specs.declared.tree.Expr.TheVariants as expr
 use Rattle.smv_parse.specs.declared.expressions.Rank.{Rank}
@@ -12,7 +12,7 @@ use Rattle.smv_parse.specs.Expressions.{begins_operand, chain, chain_of, link_of
 use Rattle.smv_parse.specs.Ranks.{is_operator_of, goes_on_operand_of, under, operand_within, phrase_within, link_within, links_within}
 
 -- an operand and the links behind it
-abbrev pub chained : Expr → List (Place × ChainOperator × Expr) → Expr
+abbrev pub chained : Expr → List (Place × Operator × Expr) → Expr
 chained first [] = first
 chained first (link ∷ links) = expr.Chain first (link ∷ links)
 
@@ -62,7 +62,7 @@ module _ (is_operator m : Token → Bool) (a : Form Token Expr) where
   abbrev whole : Read Token (Expr × List (Token × Expr)) → Read Token Expr
   whole read = read >>= λ y. Ok (chain_of y.0, y.1)
 
-  abbrev linked : Expr → Read Token (List (Place × ChainOperator × Expr)) → Read Token Expr
+  abbrev linked : Expr → Read Token (List (Place × Operator × Expr)) → Read Token Expr
   linked x read = read >>= λ y. Ok (chained x y.0, y.1)
 
   ended : (x : Expr) (read : Read Token (List (Token × Expr))) → whole (beside x read) ≡ linked x (mapped link_of pair read)

@@ -5,6 +5,8 @@ use Rattle.phrase_forms.specs.Forms.{Form, Read, head, one, maybe, ◌⨾◌, �
 use Rattle.smv_tree.specs.declared.token.Token.{Token}
 use Rattle.smv_tree.specs.declared.token.TokenKind.TheVariants as kind
 use Rattle.smv_tree.specs.declared.tree.Expr.{Expr}
+use Rattle.smv_value.specs.declared.operator.Logic.TheVariants as logic
+use Rattle.smv_value.specs.declared.operator.Operator.TheVariants as operator
 use Rattle.smv_tree.specs.declared.tree.Expr.TheVariants as expr
 use Rattle.smv_tree.specs.Kinds.{is_kind}
 use Rattle.smv_parse.specs.declared.expressions.Rank.TheVariants as rank
@@ -66,7 +68,7 @@ parenthesised_reads room ts = simp bind_bind (opening_same (is_zero room) (is_ki
 module _ (room : ℕ) where
   -- the right side of "->", with its left side
   abbrev with_right : Expr → Token → Read Token Expr → Read Token Expr
-  with_right left arrow read = read >>= λ y. Ok (expr.Implies arrow.place left y.0, y.1)
+  with_right left arrow read = read >>= λ y. Ok (expr.Apply arrow.place (operator.Logic logic.Implies) (left ∷ []) (y.0 ∷ []), y.1)
 
   -- the left side, and where "->" stands behind it the right one
   abbrev pub implied : Expr × List Token → Read Token Expr

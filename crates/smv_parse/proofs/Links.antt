@@ -7,7 +7,7 @@ use Rattle.phrase_forms.proofs.Lawful.{Lawful}
 use Rattle.phrase_forms.proofs.Loops.{with_front, loop_on, many_fails, loop_ends}
 use Rattle.smv_tree.specs.declared.place.Place.{Place}
 use Rattle.smv_tree.specs.declared.token.Token.{Token}
-use Rattle.smv_tree.specs.declared.tree.ChainOperator.{ChainOperator}
+use Rattle.smv_value.specs.declared.operator.Operator.{Operator}
 use Rattle.smv_tree.specs.declared.tree.Expr.{Expr}
 use Rattle.smv_parse.specs.declared.expressions.Rank.{Rank}
 use Rattle.smv_parse.specs.declared.reading.Stop.{Stop}
@@ -18,7 +18,7 @@ use Rattle.smv_parse.proofs.OfRanks.{link_law, link_ends}
 
 -- an operator with its place, and its right operand
 abbrev Link : Type 0
-Link = Place × ChainOperator × Expr
+Link = Place × Operator × Expr
 
 -- a form that is not empty leaves fewer tokens
 module _ {T A : Type 0} (F : Form T A) (law : Lawful F) (full : F.nullable ≡ false) where

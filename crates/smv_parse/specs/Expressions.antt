@@ -5,8 +5,9 @@ use Rattle.smv_tree.specs.declared.place.Place.{Place}
 use Rattle.smv_tree.specs.declared.token.Token.{Token}
 use Rattle.smv_tree.specs.declared.token.TokenKind.{TokenKind}
 use Rattle.smv_tree.specs.declared.token.TokenKind.TheVariants as kind
-use Rattle.smv_tree.specs.declared.tree.ChainOperator.{ChainOperator}
-use Rattle.smv_tree.specs.declared.tree.ChainOperator.TheVariants as operator
+use Rattle.smv_value.specs.declared.operator.Operator.{Operator}
+use Rattle.smv_value.specs.declared.operator.Operator.TheVariants as operator
+use Rattle.smv_value.specs.declared.operator.Logic.TheVariants as logic
 use Rattle.smv_tree.specs.declared.tree.Expr.{Expr}
 use Rattle.smv_tree.specs.declared.tree.Expr.TheVariants as expr
 use Rattle.smv_tree.specs.Kinds.{is_kind}
@@ -64,17 +65,17 @@ goes_on_equivalence t = is_equivalence t || goes_on_conditional t
 abbrev pub goes_on_expression : Token → Bool
 goes_on_expression t = is_kind kind.Implies t || goes_on_equivalence t
 
-abbrev pub operator_of : TokenKind → ChainOperator
+abbrev pub operator_of : TokenKind → Operator
 operator_of kind.Equal = operator.Equal
 operator_of kind.NotEqual = operator.NotEqual
-operator_of kind.And = operator.And
-operator_of kind.Xor = operator.Xor
-operator_of kind.Xnor = operator.Xnor
-operator_of kind.Iff = operator.Iff
-operator_of other = operator.Or
+operator_of kind.And = operator.Logic logic.And
+operator_of kind.Xor = operator.Logic logic.Xor
+operator_of kind.Xnor = operator.Logic logic.Xnor
+operator_of kind.Iff = operator.Logic logic.Iff
+operator_of other = operator.Logic logic.Or
 
 -- an operator and its right operand
-abbrev pub link_of : Token × Expr → Place × ChainOperator × Expr
+abbrev pub link_of : Token × Expr → Place × Operator × Expr
 link_of x = (x.0.place, operator_of x.0.kind, x.1)
 
 -- one operand is itself, and more are one node
@@ -87,7 +88,7 @@ abbrev pub chain : (Token → Bool) → (Token → Bool) → Form Token Expr →
 chain is_operator m operand = to chain_of (named begins_operand m operand ⨾ many (token false is_operator ⨾ named begins_operand m operand))
 
 abbrev pub chosen_by : Expr → Token × (Expr × Expr) → Expr
-chosen_by condition x = expr.Conditional x.0.place condition x.1.0 x.1.1
+chosen_by condition x = expr.Apply x.0.place operator.Choice (condition ∷ []) (x.1.0 ∷ x.1.1 ∷ [])
 
 abbrev pub conditional_of : Expr × Option (Token × (Expr × Expr)) → Expr
 conditional_of (e, None) = e
@@ -95,7 +96,7 @@ conditional_of (e, Some x) = chosen_by e x
 
 abbrev pub implication_of : Expr × Option (Token × Expr) → Expr
 implication_of (e, None) = e
-implication_of (e, Some x) = expr.Implies x.0.place e x.1
+implication_of (e, Some x) = expr.Apply x.0.place (operator.Logic logic.Implies) (e ∷ []) (x.1 ∷ [])
 
 -- "(" expression ")", the opening token and what stands behind it
 abbrev pub parenthesised : Bool → Form Token Expr → Form Token (Token × Expr)
@@ -116,9 +117,12 @@ primary closed under =
     (or (to group_of (parenthesised closed under.expression))
     (to next_of (just kind.Next ⨾ parenthesised closed under.expression))))
 
+abbrev pub not_of : Token × Expr → Expr
+not_of x = expr.Apply x.0.place operator.Not [] (x.1 ∷ [])
+
 -- "!" operand, or a primary expression
 unfoldable pub operand : Bool → Phrases → Form Token Expr
-operand closed under = or (to (λ x. expr.Not x.0.place x.1) (opening closed kind.Not ⨾ under.operand)) (primary closed under)
+operand closed under = or (to not_of (opening closed kind.Not ⨾ under.operand)) (primary closed under)
 
 unfoldable pub equality : Bool → Phrases → Form Token Expr
 equality closed under = chain is_equality goes_on_operand (operand closed under)

@@ -3,7 +3,7 @@ use Rattle.std.specs.Prelude.{ℕ, Bool, false, List}
 use Rattle.phrase_forms.specs.Forms.{Form, token, many, to, named, ◌⨾◌}
 use Rattle.smv_tree.specs.declared.place.Place.{Place}
 use Rattle.smv_tree.specs.declared.token.Token.{Token}
-use Rattle.smv_tree.specs.declared.tree.ChainOperator.{ChainOperator}
+use Rattle.smv_value.specs.declared.operator.Operator.{Operator}
 use Rattle.smv_tree.specs.declared.tree.Expr.{Expr}
 use Rattle.smv_parse.specs.declared.expressions.Rank.{Rank}
 use Rattle.smv_parse.specs.declared.expressions.Rank.TheVariants as rank
@@ -42,9 +42,9 @@ phrase_within rank.Disjunction room = disjunction (is_zero room) (under room)
 phrase_within rank.Equivalence room = equivalence (is_zero room) (under room)
 
 -- an operator of a rank and its right operand
-unfoldable pub link_within : Rank → ℕ → Form Token (Place × ChainOperator × Expr)
+unfoldable pub link_within : Rank → ℕ → Form Token (Place × Operator × Expr)
 link_within r room = to link_of (token false (is_operator_of r) ⨾ named begins_operand (goes_on_operand_of r) (operand_within r room))
 
 -- any number of those
-unfoldable pub links_within : Rank → ℕ → Form Token (List (Place × ChainOperator × Expr))
+unfoldable pub links_within : Rank → ℕ → Form Token (List (Place × Operator × Expr))
 links_within r room = many (link_within r room)

@@ -1,6 +1,6 @@
 //! Expressions, read from the front of tokens (NuSMV 2.6 User Manual, 2.2).
 
-ghost use Rattle.std.specs.Prelude.{◌≡◌, false};
+ghost use Rattle.std.specs.Prelude.{◌≡◌, [], ◌∷◌, IfOk, false};
 ghost use Rattle.phrase_forms.specs.Forms.{token, to, head};
 ghost use Rattle.smv_tree.specs.declared.tree.Expr.TheVariants as expr;
 ghost use Rattle.smv_parse.specs.Names.{name};
@@ -11,9 +11,10 @@ ghost use Rattle.smv_parse.specs.Reading.{Gives};
 use crate::names::{begins_name, name};
 use crate::reading::{Stop, begins, is_kind, just, opening};
 use phrase_forms::Fault;
-use smv_tree::{ChainOperator, Expr, Place, Token, TokenKind};
+use smv_tree::{Expr, Place, Token, TokenKind};
+use smv_value::{Logic, Operator};
 use sqlite_items::{Boxed, Items};
-use std::alloc::Global;
+use std::alloc::{AllocError, Global};
 
 /// A level of precedence whose operators stand between any number of operands, from the tightest on.
 #[derive(Clone, Copy, Debug, PartialEq, Eq)]
@@ -65,17 +66,17 @@ impl Rank {
 }
 
 /// The operator that a token of this kind is.
-fn operator_of(kind: TokenKind) -> ChainOperator
+fn operator_of(kind: TokenKind) -> Operator
     ensures { result ≡ operator_of kind }
 {
     match kind {
-        TokenKind::Equal => ChainOperator::Equal,
-        TokenKind::NotEqual => ChainOperator::NotEqual,
-        TokenKind::And => ChainOperator::And,
-        TokenKind::Xor => ChainOperator::Xor,
-        TokenKind::Xnor => ChainOperator::Xnor,
-        TokenKind::Iff => ChainOperator::Iff,
-        _ => ChainOperator::Or,
+        TokenKind::Equal => Operator::Equal,
+        TokenKind::NotEqual => Operator::NotEqual,
+        TokenKind::And => Operator::Logic(Logic::And),
+        TokenKind::Xor => Operator::Logic(Logic::Xor),
+        TokenKind::Xnor => Operator::Logic(Logic::Xnor),
+        TokenKind::Iff => Operator::Logic(Logic::Iff),
+        _ => Operator::Logic(Logic::Or),
     }
 }
 
@@ -187,8 +188,9 @@ fn operand<'a>(
     }
     let (not, tokens) = opening(is_closed(room), TokenKind::Not, tokens)?;
     let (denied, tokens) = operand(alloc, room - 1, tokens)?;
-    let denied = Boxed::new(alloc, denied)?;
-    Ok((Expr::Not(not.place, denied), tokens))
+    let below = one(alloc, denied)?;
+    let none = Items::new(alloc);
+    Ok((Expr::Apply(not.place, Operator::Not, none, below), tokens))
 }
 
 /// An operand of the rank: a phrase of the rank below, where a conditional stands below an equivalence.
@@ -218,7 +220,7 @@ fn link<'a>(
     rank: Rank,
     room: usize,
     tokens: &'a [Token],
-) -> Result<((Place, ChainOperator, Expr), &'a [Token]), Stop<'a>>
+) -> Result<((Place, Operator, Expr), &'a [Token]), Stop<'a>>
     ensures { Gives (λ x. (x.0, x.1.now)) result ((link_within rank room).parse tokens.now) }
 {
     let (operator, tokens) = rank.operator(tokens)?;
@@ -234,7 +236,7 @@ fn links<'a>(
     rank: Rank,
     room: usize,
     tokens: &'a [Token],
-) -> Result<(Items<(Place, ChainOperator, Expr)>, &'a [Token]), Stop<'a>>
+) -> Result<(Items<(Place, Operator, Expr)>, &'a [Token]), Stop<'a>>
     ensures { Gives (λ x. (x.0, x.1.now)) result ((links_within rank room).parse tokens.now) }
 {
     let mut links = Items::new(alloc);
@@ -296,10 +298,9 @@ fn chosen<'a>(
     ensures { Gives (λ x. (x.0, x.1.now)) result ((to (chosen_by condition) (branches (is_zero room) (under room))).parse tokens.now) }
 {
     let ((question, first, second), tokens) = branches(alloc, room, tokens)?;
-    let condition = Boxed::new(alloc, condition)?;
-    let first = Boxed::new(alloc, first)?;
-    let second = Boxed::new(alloc, second)?;
-    let chosen = Expr::Conditional(question.place, condition, first, second);
+    let beside = one(alloc, condition)?;
+    let below = two(alloc, first, second)?;
+    let chosen = Expr::Apply(question.place, Operator::Choice, beside, below);
     Ok((chosen, tokens))
 }
 
@@ -342,7 +343,27 @@ pub fn expression<'a>(
     }
     let (arrow, tokens) = opening(is_closed(room), TokenKind::Implies, tokens)?;
     let (right, tokens) = expression(alloc, room - 1, tokens)?;
-    let left = Boxed::new(alloc, left)?;
-    let right = Boxed::new(alloc, right)?;
-    Ok((Expr::Implies(arrow.place, left, right), tokens))
+    let beside = one(alloc, left)?;
+    let below = one(alloc, right)?;
+    Ok((
+        Expr::Apply(arrow.place, Operator::Logic(Logic::Implies), beside, below),
+        tokens,
+    ))
+}
+
+fn one(alloc: Global, e: Expr) -> Result<Items<Expr>, AllocError>
+    ensures { IfOk result (λ es. es ≡ e ∷ []) }
+{
+    let mut operands = Items::new(alloc);
+    operands.push(e)?;
+    Ok(operands)
+}
+
+fn two(alloc: Global, a: Expr, b: Expr) -> Result<Items<Expr>, AllocError>
+    ensures { IfOk result (λ es. es ≡ a ∷ b ∷ []) }
+{
+    let mut operands = Items::new(alloc);
+    operands.push(a)?;
+    operands.push(b)?;
+    Ok(operands)
 }

@@ -12,6 +12,3 @@ mod unsupported;
 
 pub use laws::is_parsed_once;
 pub use parsing::parse;
-
-#[cfg(test)]
-mod tests;

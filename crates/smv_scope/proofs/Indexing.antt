@@ -1,7 +1,7 @@
 -- The elements of lists one after another, by their numbers.
 use Rattle.std.proofs.Common.{◌≡◌, ℕ, zero, suc, ◌+◌, ◌<◌, Bool, true, false, cond, List, [], ◌∷◌, ◌++◌, length, get_or, drop, map, Some, None, position, slice_get, refl, sym, ap, ◌∙◌, arith, drop-cons, add-one, add-zero, take, append-nil}
 use Rattle.std.specs.List.{flat_map, position_from}
-use Rattle.std.proofs.lemmas.List.{take_more}
+use Rattle.std.proofs.lemmas.List.{drop_more, take_more}
 use Rattle.std.proofs.lemmas.List.Concat.{flat_map-append}
 use Rattle.std.proofs.lemmas.Iterator.Adapters.{position_from-zero}
 
@@ -49,3 +49,7 @@ pub flat_map-take : {X A : Type 0} (f : X → List A) (xs : List X) (k : ℕ) (x
 flat_map-take f xs k x h e =
     ap (flat_map f) (take_more xs k x h ∙ ap (λ y. take k xs ++ y ∷ []) (sym e))
     ∙ flat_map-append f (take k xs) (x ∷ []) ∙ ap (λ ys. flat_map f (take k xs) ++ ys) (append-nil (f x))
+
+-- what is left of a list, from this element on
+pub drop_next : {X : Type 0} (xs : List X) (i : ℕ) (x : X) → i < length xs → x ≡ get_or xs i x → drop i xs ≡ x ∷ drop (i + 1) xs
+drop_next xs i x within here = drop_more xs i x within ∙ ap (λ y. y ∷ drop (i + 1) xs) (sym here)

@@ -1,4 +1,3 @@
-pub mod Sets
 pub mod Indexing
 pub mod Firsts
 pub mod Spots
@@ -8,10 +7,3 @@ pub mod Following
 pub mod Preorder
 pub mod Variables
 pub mod Pathways
-pub mod Adding
-pub mod Growing
-pub mod Knowing
-pub mod Levels
-pub mod NodesOf
-pub mod Sharing
-pub mod Whole

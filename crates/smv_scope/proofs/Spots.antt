@@ -6,7 +6,7 @@ use Rattle.std.proofs.lemmas.List.{map-append}
 use Rattle.smv_tree.specs.declared.tree.Section.{Section}
 use Rattle.smv_scope.specs.declared.symbols.Spot.{Spot}
 use Rattle.smv_scope.specs.Symbols.{spots_in, spots_of, declared_in, declared_at}
-use Rattle.smv_scope.proofs.Adding.{drop_next}
+use Rattle.smv_scope.proofs.Indexing.{drop_next}
 
 -- one section more
 pub spots_next : {A : Type 0} (declares : Section → List A) (sections : List Section) (k : ℕ) (x : Section) (old new : List Spot) (n : ℕ) → k < length sections → x ≡ get_or sections k x → n ≡ length (declares x)

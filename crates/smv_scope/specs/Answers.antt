@@ -1,32 +1,13 @@
--- What the calls of this crate answer.
-use Rattle.std.specs.Prelude.{◌≡◌, ℕ, ◌<◌, ◌≤◌, true, length, map, None, Some, Result, Ok, Err}
+-- What laying out answers.
+use Rattle.std.specs.Prelude.{◌≡◌, ◌<◌, ◌≤◌, length, Result, Ok, Err}
 use Rattle.smv_tree.specs.declared.tree.Program.{Program}
-use Rattle.smv_tree.specs.declared.tree.Expr.{Expr}
 use Rattle.smv_scope.specs.declared.scope.Scope.{Scope}
 use Rattle.smv_scope.specs.declared.layout.LayoutStop.{LayoutStop}
 use Rattle.smv_scope.specs.declared.layout.LayoutStop.TheVariants as layout
-use Rattle.smv_scope.specs.declared.resolve.ResolveStop.{ResolveStop}
-use Rattle.smv_scope.specs.declared.resolve.ResolveStop.TheVariants as stop
-use Rattle.smv_scope.specs.declared.resolve.Resolution.{Resolution}
-use Rattle.smv_scope.specs.declared.resolve.Single.{Single}
 use Rattle.smv_scope.specs.Instances.{instances_of, most_instances}
-use Rattle.smv_scope.specs.Items.{items_of, item_by, first_stuck}
-use Rattle.smv_scope.specs.Resolved.{resolved, part_of, is_stuck}
 
 -- the program with its instances and slots, if it has not too many
 abbrev pub LaysOut : Program → Result Scope LayoutStop → Type 0
 LaysOut p (Ok scope) = (scope.program ≡ p) × (length (instances_of p) ≤ most_instances)
 LaysOut p (Err layout.TooManyInstances) = most_instances < length (instances_of p)
 LaysOut p (Err layout.NoMemory) = Unit {0}
-
--- the items of the program, none of which is stuck; or the place of the first that is
-abbrev pub ResolvesItems : Program → Result Resolution ResolveStop → Type 0
-ResolvesItems p (Ok r) = (map (item_by r.nodes) r.items ≡ items_of p) × (first_stuck (items_of p) ≡ None)
-ResolvesItems p (Err (stop.Stuck place)) = first_stuck (items_of p) ≡ Some place
-ResolvesItems p (Err stop.NoMemory) = Unit {0}
-
--- the expression in the instance of this number as the last of some nodes; or that it is stuck
-abbrev pub ResolvesOne : Program → ℕ → Expr → Result Single ResolveStop → Type 0
-ResolvesOne p at e (Ok r) = part_of r.nodes r.root ≡ resolved p at e
-ResolvesOne p at e (Err (stop.Stuck place)) = is_stuck (resolved p at e) ≡ true
-ResolvesOne p at e (Err stop.NoMemory) = Unit {0}

@@ -5,8 +5,4 @@ pub mod Slots
 pub mod Lookup
 pub mod Targets
 pub mod Paths
-pub mod Resolved
-pub mod Finding
-pub mod Items
-pub mod Listing
 pub mod Answers

@@ -17,7 +17,7 @@ use std::alloc::{AllocError, Global};
 const MOST_INSTANCES: usize = 100000;
 
 /// An instance that is to come with those below it, to this depth.
-#[derive(Clone, Copy, Debug, PartialEq, Eq)]
+#[derive(Clone, Copy)]
 pub struct Root {
     pub instance: Instance,
     pub depth: usize,

@@ -19,7 +19,7 @@ use smv_tree::{Definition, Expr, Identifier, Name, Start, TypeExpr};
 use sqlite_items::at;
 
 /// Names are followed to this depth.
-const DEPTH_LIMIT: usize = 2000;
+pub const DEPTH_LIMIT: usize = 2000;
 
 /// Where a name leads that stands in the instance of this number.
 #[tactic(auto, unfolding(crate::specs::Lookup::name_target))]
@@ -149,7 +149,8 @@ fn members_target<'a>(scope: &'a Scope, instance: usize, members: &[Identifier])
     NameTarget::Whole(here)
 }
 
-fn start_target<'a>(scope: &'a Scope, instance: usize, start: &Start) -> NameTarget<'a>
+/// Where the start of a name leads.
+pub fn start_target<'a>(scope: &'a Scope, instance: usize, start: &Start) -> NameTarget<'a>
     ensures { seen result ≡ start_target scope.now.program instance start.now }
 {
     match start {

@@ -27,7 +27,7 @@ use std::hash::Hash;
 pub type ModuleNumbers = IndexMap<String, usize>;
 
 /// Where a declaration stands: the number of its section, and its own number there.
-#[derive(Clone, Copy, Debug, PartialEq, Eq)]
+#[derive(Clone, Copy, Debug)]
 pub struct Spot {
     pub section: usize,
     pub index: usize,

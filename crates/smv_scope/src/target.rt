@@ -27,3 +27,13 @@ pub enum NameTarget<'a> {
     /// It leads by more parameters than are followed.
     TooFar,
 }
+
+/// What several names may stand for: what a parameter of an instance was given, or the body of a definition of it.
+#[derive(Clone, Copy, Debug, Drop, PartialEq, Eq, Hash)]
+pub struct Shared {
+    pub is_definition: bool,
+    /// The number of the instance.
+    pub at: usize,
+    /// The number of the parameter, or of the definition.
+    pub number: usize,
+}

@@ -13,6 +13,3 @@ mod words;
 pub use laws::are_tokens_once;
 pub use lexeme::Lexeme;
 pub use texts::tokens;
-
-#[cfg(test)]
-mod tests;

@@ -6,6 +6,7 @@ ghost use Rattle.smv_tree.specs.Texts.{kind_text};
 
 use crate::Place;
 use plain_text::Text;
+use smv_value::Operator;
 use sqlite_items::{Boxed, Items};
 use std::fmt;
 
@@ -145,18 +146,6 @@ pub struct Specification {
     pub formula: Expr,
 }
 
-/// An operator between operands of one precedence level.
-#[derive(Clone, Copy, Debug, PartialEq, Eq)]
-pub enum ChainOperator {
-    Iff,
-    Or,
-    Xor,
-    Xnor,
-    And,
-    Equal,
-    NotEqual,
-}
-
 /// An identifier at its place.
 #[derive(Debug, Drop)]
 pub struct Identifier {
@@ -187,12 +176,10 @@ pub enum Expr {
     Name(Name),
     /// An expression in parentheses, at its `(`.
     Group(Place, Boxed<Expr>),
-    Not(Place, Boxed<Expr>),
     /// The value in the next state.
     Next(Place, Boxed<Expr>),
-    Implies(Place, Boxed<Expr>, Boxed<Expr>),
-    /// `condition ? a : b`, at the `?`.
-    Conditional(Place, Boxed<Expr>, Boxed<Expr>, Boxed<Expr>),
     /// A first operand and then, from left to right, operators of one precedence level and their operands.
-    Chain(Boxed<Expr>, Items<(Place, ChainOperator, Expr)>),
+    Chain(Boxed<Expr>, Items<(Place, Operator, Expr)>),
+    /// An operator with its operands: those that stand beside it, on its own level, and then those that stand a level below.
+    Apply(Place, Operator, Items<Expr>, Items<Expr>),
 }

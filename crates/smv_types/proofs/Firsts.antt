@@ -11,7 +11,7 @@ or_else_both : (a b c : Option Refusal) → or_else a (or_else b c) ≡ or_else 
 or_else_both None b c = refl
 or_else_both (Some r) b c = refl
 
-first_of_both : {A : Type 0} (rule : A → Option Refusal) (xs ys : List A) → first_of rule (xs ++ ys) ≡ or_else (first_of rule xs) (first_of rule ys)
+pub first_of_both : {A : Type 0} (rule : A → Option Refusal) (xs ys : List A) → first_of rule (xs ++ ys) ≡ or_else (first_of rule xs) (first_of rule ys)
 first_of_both rule [] ys = refl
 first_of_both rule (x ∷ xs) ys = ap (or_else (rule x)) (first_of_both rule xs ys) ∙ or_else_both (rule x) (first_of rule xs) (first_of rule ys)
 

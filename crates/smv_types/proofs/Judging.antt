@@ -1,21 +1,23 @@
 -- What is noted of nodes, with one node more.
-use Rattle.std.proofs.Common.{◌≡◌, ℕ, zero, suc, ◌+◌, ◌<◌, List, [], ◌∷◌, ◌++◌, length, take, slice_index_or, slice_get, Option, None, Some, refl, sym, ap, ◌∙◌, arith, length-append}
+use Rattle.std.proofs.Common.{◌≡◌, ℕ, zero, suc, ◌+◌, ◌-◌, ◌<◌, false, List, map, [], ◌∷◌, ◌++◌, length, get_or, take, drop, slice_index_or, slice_get, Option, None, Some, refl, sym, ap, subst, ◌∙◌, arith, length-append}
+use Rattle.smv_tree.specs.declared.place.Place.{Place}
+use Rattle.smv_tree.specs.declared.refusal.Refusal.{Refusal}
+use Rattle.smv_value.specs.declared.operator.Operator.{Operator}
+use Rattle.smv_resolve.specs.declared.node.Naming.TheVariants as naming
+use Rattle.smv_names.specs.Verdicts.{first_of, or_else}
 use Rattle.std.proofs.lemmas.List.{take_more}
-use Rattle.std.proofs.lemmas.List.Sums.{fold-append}
-use Rattle.smv_scope.specs.declared.node.Node.{Node}
+use Rattle.smv_resolve.specs.declared.node.Node.{Node}
 use Rattle.smv_scope.specs.declared.slot.Slot.{Slot}
-use Rattle.smv_scope.specs.Resolved.{Resolved, part_at, parts_of, resolved_by, with_node}
+use Rattle.smv_resolve.specs.Resolved.{Resolved, last_of, operands_of, part_at, parts_of, resolved_by, with_node}
+use Rattle.smv_resolve.proofs.Parts.{parts_of-next}
 use Rattle.smv_types.specs.declared.judged.Judged.{Judged}
 use Rattle.smv_tree.specs.declared.tree.AssignmentKind.TheVariants as side
 use Rattle.smv_tree.specs.declared.tree.VariableKind.{VariableKind}
 use Rattle.smv_tree.specs.declared.tree.VariableKind.TheVariants as sort
-use Rattle.smv_types.specs.Kinds.{is_assignable, slot_takes, takes_assignment}
-use Rattle.smv_types.specs.Judged.{IsJudged, Tells, judged_at, nothing}
-
--- the parts with one node more
-pub parts_more : (nodes : List Node) (n : Node) → parts_of (nodes ++ n ∷ []) ≡ with_node (parts_of nodes) n
-unfolding parts_of
-parts_more nodes n = fold-append with_node [] nodes (n ∷ [])
+use Rattle.smv_types.specs.Kinds.{Context, is_assignable, kind_of, kind_refusal, kinds_of, mismatch, of_state, of_step, operands_refusal, slot_takes, takes_assignment, typed}
+use Rattle.smv_types.specs.declared.judged.Kind.{Kind}
+use Rattle.smv_types.proofs.Firsts.{first_of_both}
+use Rattle.smv_types.specs.Judged.{IsJudged, IsNoted, Tells, as_refusal, judged_at, nothing, of_name}
 
 -- what holds at each number holds with one element more
 each_more : {A B : Type 0} (R : A → B → Type 0) (xs : List A) (ys : List B) (d : A) (e : B) (x : A) (y : B) → length ys ≡ length xs
@@ -29,25 +31,25 @@ each_more R (a ∷ xs) (b ∷ ys) d e x y same none each last zero = each zero
 each_more R (a ∷ xs) (b ∷ ys) d e x y same none each last (suc k) = each_more R xs ys d e x y (omega (arith, same)) none (λ i. each (suc i)) last k
 
 of_nothing : (slots : List Slot) → IsJudged slots Resolved.Stuck nothing
-of_nothing slots = record { whole = refl; place = refl; step = refl; name = refl; state = refl; init = refl; later = refl }
+of_nothing slots = record { kind = refl; place = refl; step = refl; name = refl; state = refl; given = refl; init = refl; later = refl }
 
 pub told_none : (slots : List Slot) → Tells slots (parts_of []) []
 unfolding parts_of
 told_none slots = record { long = refl; each = λ k. of_nothing slots }
 
 pub told_more : (slots : List Slot) (nodes : List Node) (i : ℕ) (d : Node) (table : List Judged) (j : Judged) → i < length nodes → Tells slots (parts_of (take i nodes)) table
-    → ((parts : List Resolved) → Tells slots parts table → IsJudged slots (resolved_by (part_at parts) (slice_index_or nodes i d)) j)
+    → ((parts : List Resolved) → Tells slots parts table → IsJudged slots (resolved_by parts (slice_index_or nodes i d)) j)
     → Tells slots (parts_of (take (i + 1) nodes)) (table ++ j ∷ [])
 told_more slots nodes i d table j within told more =
     let n = slice_index_or nodes i d in
     let parts = parts_of (take i nodes) in
-    let next : parts_of (take (i + 1) nodes) ≡ parts ++ resolved_by (part_at parts) n ∷ [] =
-    ap parts_of (take_more nodes i d within) ∙ parts_more (take i nodes) n in
-    let long : length (table ++ j ∷ []) ≡ length (parts ++ resolved_by (part_at parts) n ∷ []) =
-    length-append table (j ∷ []) ∙ ap (λ a. a + 1) told.long ∙ sym (length-append parts (resolved_by (part_at parts) n ∷ [])) in
+    let next : parts_of (take (i + 1) nodes) ≡ parts ++ resolved_by parts n ∷ [] =
+    parts_of-next nodes i d within in
+    let long : length (table ++ j ∷ []) ≡ length (parts ++ resolved_by parts n ∷ []) =
+    length-append table (j ∷ []) ∙ ap (λ a. a + 1) told.long ∙ sym (length-append parts (resolved_by parts n ∷ [])) in
     rw next (record {
       long = long;
-      each = each_more (IsJudged slots) parts table Resolved.Stuck nothing (resolved_by (part_at parts) n) j told.long (of_nothing slots) told.each (more parts told);
+      each = each_more (IsJudged slots) parts table Resolved.Stuck nothing (resolved_by parts n) j told.long (of_nothing slots) told.each (more parts told);
     })
 
 -- what is read at a number is told of the part of this number
@@ -68,11 +70,99 @@ pub later_same : (slots : List Slot) (r : Resolved) → is_assignable slots side
 later_same slots (Resolved.Constant place b) = refl
 later_same slots (Resolved.Slot place n) = slot_same (slice_get slots n)
 later_same slots (Resolved.Whole place i) = refl
-later_same slots (Resolved.Given place r) = later_same slots r
-later_same slots (Resolved.Defined place r) = refl
-later_same slots (Resolved.Not place r) = refl
+later_same slots (Resolved.Named place naming.Given r) = later_same slots r
+later_same slots (Resolved.Named place naming.Defined r) = refl
 later_same slots (Resolved.Next place r) = refl
-later_same slots (Resolved.Implies place a b) = refl
-later_same slots (Resolved.Link place o a b) = refl
-later_same slots (Resolved.Conditional place c a b) = refl
+later_same slots (Resolved.Apply place o rs) = refl
 later_same slots Resolved.Stuck = refl
+
+-- operands
+
+-- two of them
+pub told_two : (slots : List Slot) (r s : Resolved) (i j : Judged) → IsJudged slots r i → IsJudged slots s j → Tells slots (r ∷ s ∷ []) (i ∷ j ∷ [])
+told_two slots r s i j a b = record { long = refl; each = each }
+  where
+    each : (k : ℕ) → IsJudged slots (slice_index_or (r ∷ s ∷ []) k Resolved.Stuck) (slice_index_or (i ∷ j ∷ []) k nothing)
+    each zero = a
+    each (suc zero) = b
+    each (suc (suc k)) = of_nothing slots
+
+told_tail : (slots : List Slot) (r : Resolved) (rs : List Resolved) (j : Judged) (js : List Judged) → Tells slots (r ∷ rs) (j ∷ js) → Tells slots rs js
+told_tail slots r rs j js t = record { long = omega (arith, t.long); each = λ k. t.each (suc k) }
+
+told_drop : (slots : List Slot) (k : ℕ) (rs : List Resolved) (js : List Judged) → Tells slots rs js → Tells slots (drop k rs) (drop k js)
+told_drop slots zero rs js t = t
+told_drop slots (suc k) [] [] t = t
+told_drop slots (suc k) [] (j ∷ js) t = absurd (omega (arith, t.long))
+told_drop slots (suc k) (r ∷ rs) [] t = absurd (omega (arith, t.long))
+told_drop slots (suc k) (r ∷ rs) (j ∷ js) t = told_drop slots k rs js (told_tail slots r rs j js t)
+
+-- what is told of all is told of the last
+pub told_last : (slots : List Slot) (count : ℕ) (rs : List Resolved) (js : List Judged) → Tells slots rs js → Tells slots (last_of count rs) (last_of count js)
+told_last slots count rs js t =
+    let P : ℕ → Type 0 = λ n. Tells slots (last_of count rs) (drop (n - count) js) in
+    subst P (sym t.long) (told_drop slots (length rs - count) rs js t)
+
+first_told : (slots : List Slot) (c : Context) (f : Judged → Option Refusal) → ((r : Resolved) (j : Judged) → IsJudged slots r j → f j ≡ kind_refusal slots c r) →
+    (rs : List Resolved) (js : List Judged) → Tells slots rs js → first_of f js ≡ operands_refusal slots c (operands_of rs)
+first_told slots c f says [] [] t = refl
+first_told slots c f says [] (j ∷ js) t = absurd (omega (arith, t.long))
+first_told slots c f says (r ∷ rs) [] t = absurd (omega (arith, t.long))
+first_told slots c f says (r ∷ rs) (j ∷ js) t =
+    ap (λ o. or_else o (first_of f js)) (says r j (t.each 0)) ∙ ap (or_else (kind_refusal slots c r)) (first_told slots c f says rs js (told_tail slots r rs j js t))
+
+-- the kinds that are noted are those of the operands
+kinds_told : (slots : List Slot) (rs : List Resolved) (js : List Judged) → Tells slots rs js → map (λ (j : Judged). j.kind) js ≡ kinds_of slots (operands_of rs)
+kinds_told slots [] [] t = refl
+kinds_told slots [] (j ∷ js) t = absurd (omega (arith, t.long))
+kinds_told slots (r ∷ rs) [] t = absurd (omega (arith, t.long))
+kinds_told slots (r ∷ rs) (j ∷ js) t =
+    let head = t.each 0 in
+    ap (λ (k : Option Kind). k ∷ map (λ (x : Judged). x.kind) js) head.kind ∙ ap (λ (ks : List (Option Kind)). kind_of slots r ∷ ks) (kinds_told slots rs js (told_tail slots r rs j js t))
+
+-- an operator breaks what its operands break, or else their kinds do not fit
+pub apply_judged : (slots : List Slot) (place : Place) (o : Operator) (rs : List Resolved) (js : List Judged) (all j : Judged) (k : Option Kind) → Tells slots rs js → IsNoted js all →
+    k ≡ typed o (map (λ (x : Judged). x.kind) js) → j.kind ≡ k → j.place ≡ place → j.given ≡ None → j.takes_init ≡ false → j.takes_later ≡ false →
+    as_refusal j.of_step ≡ or_else (as_refusal all.of_step) (mismatch place k) →
+    as_refusal j.of_name ≡ or_else (as_refusal all.of_name) (mismatch place k) →
+    as_refusal j.of_state ≡ or_else (as_refusal all.of_state) (mismatch place k) →
+    IsJudged slots (Resolved.Apply place o (operands_of rs)) j
+apply_judged slots place o rs js all j k t n fits kind at given init later step name state =
+    let same : k ≡ typed o (kinds_of slots (operands_of rs)) = fits ∙ ap (typed o) (kinds_told slots rs js t) in
+    record {
+      kind = kind ∙ same;
+      place = at;
+      step = step ∙ both (as_refusal all.of_step) of_step (n.step ∙ first_told slots of_step (λ x. as_refusal x.of_step) (λ r x i. i.step) rs js t) same;
+      name = name ∙ both (as_refusal all.of_name) of_name (n.name ∙ first_told slots of_name (λ x. as_refusal x.of_name) (λ r x i. i.name) rs js t) same;
+      state = state ∙ both (as_refusal all.of_state) of_state (n.state ∙ first_told slots of_state (λ x. as_refusal x.of_state) (λ r x i. i.state) rs js t) same;
+      given = ap as_refusal given;
+      init = init;
+      later = later;
+    }
+  where
+    both : (first : Option Refusal) (c : Context) → first ≡ operands_refusal slots c (operands_of rs) → k ≡ typed o (kinds_of slots (operands_of rs)) →
+        or_else first (mismatch place k) ≡ or_else (operands_refusal slots c (operands_of rs)) (mismatch place (typed o (kinds_of slots (operands_of rs))))
+    both first c e f = ap (λ o. or_else o (mismatch place k)) e ∙ ap (λ (x : Option Kind). or_else (operands_refusal slots c (operands_of rs)) (mismatch place x)) f
+
+first_of_more : {A : Type 0} (f : A → Option Refusal) (xs : List A) (i : ℕ) (d : A) → i < length xs → first_of f (take (i + 1) xs) ≡ or_else (first_of f (take i xs)) (f (get_or xs i d))
+first_of_more f xs i d l =
+    ap (first_of f) (take_more xs i d l) ∙ first_of_both f (take i xs) (get_or xs i d ∷ []) ∙ ap (or_else (first_of f (take i xs))) (last_one (f (get_or xs i d)))
+  where
+    last_one : (o : Option Refusal) → or_else o None ≡ o
+    last_one None = refl
+    last_one (Some r) = refl
+
+pub noted_none : (all : Judged) → all.of_step ≡ None → all.of_name ≡ None → all.of_state ≡ None → IsNoted [] all
+noted_none all s n t = record { step = ap as_refusal s; name = ap as_refusal n; state = ap as_refusal t }
+
+-- one operand more
+pub noted_more : (js : List Judged) (i : ℕ) (d all new : Judged) → i < length js → IsNoted (take i js) all →
+    (let j = get_or js i d in
+    (as_refusal new.of_step ≡ or_else (as_refusal all.of_step) (as_refusal j.of_step))
+    × (as_refusal new.of_name ≡ or_else (as_refusal all.of_name) (as_refusal j.of_name)) × (as_refusal new.of_state ≡ or_else (as_refusal all.of_state) (as_refusal j.of_state))) →
+    IsNoted (take (i + 1) js) new
+noted_more js i d all new l n h = record {
+  step = h.0 ∙ ap (λ o. or_else o (as_refusal (get_or js i d).of_step)) n.step ∙ sym (first_of_more (λ (x : Judged). as_refusal x.of_step) js i d l);
+  name = h.1 ∙ ap (λ o. or_else o (as_refusal (get_or js i d).of_name)) n.name ∙ sym (first_of_more (λ (x : Judged). as_refusal x.of_name) js i d l);
+  state = h.2 ∙ ap (λ o. or_else o (as_refusal (get_or js i d).of_state)) n.state ∙ sym (first_of_more (λ (x : Judged). as_refusal x.of_state) js i d l);
+}

@@ -1,5 +1,5 @@
 -- The rules one after another.
-use Rattle.std.proofs.Common.{inl, inr, None, Result, Ok, Err, sym}
+use Rattle.std.proofs.Common.{inr, None, Result, Ok, Err, sym}
 use Rattle.smv_tree.specs.declared.refusal.TextStop.{TextStop}
 use Rattle.smv_tree.specs.declared.refusal.TextStop.TheVariants.{Refused, NoMemory}
 use Rattle.smv_tree.specs.declared.tree.Program.{Program}

@@ -1,5 +1,8 @@
 -- The rules of depth, kinds and contexts: an own choice of this project (the kinds are those of manual 2.1 and 2.2).
-use Rattle.std.specs.Prelude.{ℕ, nat_lt, Bool, true, false, not, ◌&&◌, ◌||◌, if◌then◌else◌, List, length, Option, None, Some, slice_get}
+use Rattle.std.specs.Prelude.{ℕ, nat_lt, ◌==◌, Bool, true, false, not, ◌&&◌, if◌then◌else◌, List, [], ◌∷◌, length, Option, None, Some, slice_get}
+use Rattle.std.specs.List.{list_all}
+use Rattle.smv_value.specs.declared.operator.Operator.{Operator}
+use Rattle.smv_value.specs.declared.operator.Operator.TheVariants as operator
 use Rattle.smv_tree.specs.declared.place.Place.{Place}
 use Rattle.smv_tree.specs.declared.refusal.Refusal.{Refusal}
 use Rattle.smv_tree.specs.declared.refusal.Rule.TheVariants as rule
@@ -15,15 +18,20 @@ use Rattle.smv_tree.specs.declared.tree.ConstraintKind.{ConstraintKind}
 use Rattle.smv_tree.specs.declared.tree.ConstraintKind.TheVariants as asked
 use Rattle.smv_tree.specs.Places.{start}
 use Rattle.smv_scope.specs.declared.instance.Instance.{Instance}
-use Rattle.smv_scope.specs.declared.item.ItemKind.{ItemKind}
-use Rattle.smv_scope.specs.declared.item.ItemKind.TheVariants as item
+use Rattle.smv_resolve.specs.declared.item.ItemKind.{ItemKind}
+use Rattle.smv_resolve.specs.declared.item.ItemKind.TheVariants as item
 use Rattle.smv_scope.specs.declared.slot.Slot.{Slot}
+use Rattle.smv_scope.specs.declared.slot.ValueType.{ValueType}
+use Rattle.smv_scope.specs.declared.slot.ValueType.TheVariants as type
 use Rattle.smv_scope.specs.Modules.{variables_of}
 use Rattle.smv_scope.specs.Instances.{instances_of}
 use Rattle.smv_scope.specs.Slots.{slots_of, is_input}
-use Rattle.smv_scope.specs.Resolved.{Resolved}
-use Rattle.smv_scope.specs.Items.{ResolvedItem, items_of, first_stuck}
+use Rattle.smv_resolve.specs.declared.node.Naming.TheVariants as naming
+use Rattle.smv_resolve.specs.Resolved.{Operands, Resolved}
+use Rattle.smv_resolve.specs.Items.{ResolvedItem, items_of, first_stuck}
 use Rattle.smv_names.specs.Verdicts.{or_else, first_of, plain}
+use Rattle.smv_types.specs.declared.judged.Kind.{Kind}
+use Rattle.smv_types.specs.declared.judged.Kind.TheVariants as kinds
 
 abbrev pub deep_at : Option Place → Option Refusal
 deep_at None = None
@@ -69,16 +77,50 @@ of_state = record { next = false; input = false }
 abbrev pub under_name : Context → Context
 under_name c = record c { next = false }
 
--- an instance is no value
-abbrev pub is_whole : Resolved → Bool
-is_whole (Resolved.Whole place i) = true
-is_whole (Resolved.Given place r) = is_whole r
-is_whole (Resolved.Defined place r) = is_whole r
-is_whole other = false
+-- Kinds: each operator is a line of the table.
+
+abbrev pub is_boolean : Option Kind → Bool
+is_boolean (Some kinds.Boolean) = true
+is_boolean other = false
+
+-- what has so many operands, all booleans, is a boolean
+abbrev pub booleans : ℕ → List (Option Kind) → Option Kind
+booleans count ks = if (length ks == count) && list_all is_boolean ks then Some kinds.Boolean else None
+
+-- The table: the kind of an operator over operands of these kinds; none where it takes no such operands.
+abbrev pub typed : Operator → List (Option Kind) → Option Kind
+typed operator.Not = booleans 1
+typed (operator.Logic o) = booleans 2
+typed operator.Equal = booleans 2
+typed operator.NotEqual = booleans 2
+typed operator.Choice = booleans 3
+typed other = λ ks. None
+
+abbrev pub kind_of_type : ValueType → Kind
+kind_of_type type.Boolean = kinds.Boolean
+
+abbrev pub kind_of_slot : Option Slot → Option Kind
+kind_of_slot None = None
+kind_of_slot (Some slot) = Some (kind_of_type slot.declared)
+
+-- the kind of an expression
+abbrev mutual
+  pub kind_of : List Slot → Resolved → Option Kind
+  kind_of slots (Resolved.Constant place b) = Some kinds.Boolean
+  kind_of slots (Resolved.Slot place n) = kind_of_slot (slice_get slots n)
+  kind_of slots (Resolved.Whole place i) = Some kinds.Instance
+  kind_of slots (Resolved.Named place naming r) = kind_of slots r
+  kind_of slots (Resolved.Next place r) = kind_of slots r
+  kind_of slots (Resolved.Apply place o rs) = typed o (kinds_of slots rs)
+  kind_of slots Resolved.Stuck = None
+
+  pub kinds_of : List Slot → Operands → List (Option Kind)
+  kinds_of slots Operands.End = []
+  kinds_of slots (Operands.With r rs) = kind_of slots r ∷ kinds_of slots rs
 
 -- a place where a value is wanted, and there is none
-abbrev pub mismatch : Place → Bool → Option Refusal
-mismatch place whole = if whole then Some (plain rule.TypeMismatch place) else None
+abbrev pub mismatch : Place → Option Kind → Option Refusal
+mismatch place k = if is_boolean k then None else Some (plain rule.TypeMismatch place)
 
 abbrev pub is_input_slot : Option Slot → Bool
 is_input_slot None = false
@@ -97,30 +139,27 @@ abbrev pub place_of : Resolved → Place
 place_of (Resolved.Constant place b) = place
 place_of (Resolved.Slot place n) = place
 place_of (Resolved.Whole place i) = place
-place_of (Resolved.Given place r) = place
-place_of (Resolved.Defined place r) = place
-place_of (Resolved.Not place r) = place
+place_of (Resolved.Named place naming r) = place
 place_of (Resolved.Next place r) = place
-place_of (Resolved.Implies place a b) = place
-place_of (Resolved.Link place o a b) = place
-place_of (Resolved.Conditional place c a b) = place
+place_of (Resolved.Apply place o rs) = place
 place_of Resolved.Stuck = start
 
 -- The first refusal in an expression: operands before their operator, from left to right; at an operator contexts before kinds.
 -- What a definition stands for has to be a value, and is refused at its own place where it is an instance.
-abbrev pub kind_refusal : List Slot → Context → Resolved → Option Refusal
-kind_refusal slots c (Resolved.Constant place b) = None
-kind_refusal slots c (Resolved.Slot place n) = input_here c place (is_input_slot (slice_get slots n))
-kind_refusal slots c (Resolved.Whole place i) = None
-kind_refusal slots c (Resolved.Given place r) = kind_refusal slots (under_name c) r
-kind_refusal slots c (Resolved.Defined place r) = or_else (kind_refusal slots (under_name c) r) (mismatch (place_of r) (is_whole r))
-kind_refusal slots c (Resolved.Not place r) = or_else (kind_refusal slots c r) (mismatch place (is_whole r))
-kind_refusal slots c (Resolved.Next place r) = or_else (kind_refusal slots of_state r) (or_else (next_here c place) (mismatch place (is_whole r)))
-kind_refusal slots c (Resolved.Implies place a b) = or_else (kind_refusal slots c a) (or_else (kind_refusal slots c b) (mismatch place (is_whole a || is_whole b)))
-kind_refusal slots c (Resolved.Link place o a b) = or_else (kind_refusal slots c a) (or_else (kind_refusal slots c b) (mismatch place (is_whole a || is_whole b)))
-kind_refusal slots c (Resolved.Conditional place d a b) =
-    or_else (kind_refusal slots c d) (or_else (kind_refusal slots c a) (or_else (kind_refusal slots c b) (mismatch place (is_whole d || is_whole a || is_whole b))))
-kind_refusal slots c Resolved.Stuck = None
+abbrev mutual
+  pub kind_refusal : List Slot → Context → Resolved → Option Refusal
+  kind_refusal slots c (Resolved.Constant place b) = None
+  kind_refusal slots c (Resolved.Slot place n) = input_here c place (is_input_slot (slice_get slots n))
+  kind_refusal slots c (Resolved.Whole place i) = None
+  kind_refusal slots c (Resolved.Named place naming.Given r) = kind_refusal slots (under_name c) r
+  kind_refusal slots c (Resolved.Named place naming.Defined r) = or_else (kind_refusal slots (under_name c) r) (mismatch (place_of r) (kind_of slots r))
+  kind_refusal slots c (Resolved.Next place r) = or_else (kind_refusal slots of_state r) (or_else (next_here c place) (mismatch place (kind_of slots r)))
+  kind_refusal slots c (Resolved.Apply place o rs) = or_else (operands_refusal slots c rs) (mismatch place (typed o (kinds_of slots rs)))
+  kind_refusal slots c Resolved.Stuck = None
+
+  pub operands_refusal : List Slot → Context → Operands → Option Refusal
+  operands_refusal slots c Operands.End = None
+  operands_refusal slots c (Operands.With r rs) = or_else (kind_refusal slots c r) (operands_refusal slots c rs)
 
 -- a variable of this kind may be assigned so: a frozen one by `init` alone (manual 2.3.8, ASSIGN Constraint)
 abbrev pub takes_assignment : AssignmentKind → VariableKind → Bool
@@ -138,8 +177,13 @@ slot_takes which (Some slot) = takes_assignment which slot.kind
 abbrev pub is_assignable : List Slot → AssignmentKind → Resolved → Bool
 is_assignable slots which (Resolved.Slot place n) = slot_takes which (slice_get slots n)
 is_assignable slots which (Resolved.Whole place i) = true
-is_assignable slots which (Resolved.Given place r) = is_assignable slots which r
+is_assignable slots which (Resolved.Named place naming.Given r) = is_assignable slots which r
 is_assignable slots which other = false
+
+-- What a parameter was given is judged on a left side, too: no `next` stands in it. A left side is in no context else.
+abbrev pub given_refusal : List Slot → Resolved → Option Refusal
+given_refusal slots (Resolved.Named place naming.Given r) = kind_refusal slots (under_name of_step) r
+given_refusal slots other = None
 
 -- told at the left side, with which the assignment begins
 abbrev pub target_refusal : List Slot → Place → AssignmentKind → Resolved → Option Refusal
@@ -156,12 +200,18 @@ context_of_constraint other = of_state
 
 -- an expression that has to be a boolean
 abbrev pub formula_refusal : List Slot → Context → Resolved → Option Refusal
-formula_refusal slots c r = or_else (kind_refusal slots c r) (mismatch (place_of r) (is_whole r))
+formula_refusal slots c r = or_else (kind_refusal slots c r) (mismatch (place_of r) (kind_of slots r))
 
+-- The left side of an assignment: what a parameter was given there, what may be assigned, and its kind.
+abbrev pub left_refusal : List Slot → Place → AssignmentKind → Resolved → Option Refusal
+left_refusal slots place which target =
+    or_else (given_refusal slots target) (or_else (target_refusal slots place which target) (mismatch place (kind_of slots target)))
+
+-- the left side before the right one
 abbrev pub assignment_refusal : List Slot → Place → AssignmentKind → Option Resolved → Resolved → Option Refusal
-assignment_refusal slots place which None e = None
+assignment_refusal slots place which None e = Some (plain rule.NotAssignable place)
 assignment_refusal slots place which (Some target) e =
-    or_else (target_refusal slots place which target) (or_else (kind_refusal slots (context_of_side which) e) (mismatch place (is_whole target || is_whole e)))
+    or_else (left_refusal slots place which target) (or_else (kind_refusal slots (context_of_side which) e) (mismatch place (kind_of slots e)))
 
 abbrev pub refusal_by_kind : List Slot → Place → Option Resolved → Resolved → ItemKind → Option Refusal
 refusal_by_kind slots place target e (item.Assignment which) = assignment_refusal slots place which target e

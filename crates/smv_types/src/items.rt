@@ -2,16 +2,17 @@
 
 ghost use Rattle.std.specs.Prelude.{◌≡◌, List, Some, map};
 ghost use Rattle.smv_scope.specs.declared.slot.Slot.{Slot};
-ghost use Rattle.smv_scope.specs.Items.{item_by};
-ghost use Rattle.smv_scope.specs.Resolved.{Resolved, parts_of};
+ghost use Rattle.smv_resolve.specs.Items.{item_by};
+ghost use Rattle.smv_resolve.specs.Resolved.{Resolved, parts_of};
 ghost use Rattle.smv_types.specs.Judged.{IsJudged, Tells, as_refusal};
-ghost use Rattle.smv_types.specs.Kinds.{assignment_refusal, context_of_constraint, context_of_side, formula_refusal, is_assignable, item_refusal, kind_refusal, of_state, target_refusal};
+ghost use Rattle.smv_types.specs.Kinds.{assignment_refusal, context_of_constraint, context_of_side, formula_refusal, is_assignable, item_refusal, kind_refusal, left_refusal, of_state, target_refusal};
 ghost use Rattle.smv_names.specs.Verdicts.{Judges, first_of};
 
 use crate::judged::{Judged, Violation};
-use crate::kinds::{first, judged_at, or_mismatch};
+use crate::kinds::{first, judged_at, mismatched, or_mismatch};
 use smv_names::refused;
-use smv_scope::{Item, ItemKind, Node, Slot};
+use smv_resolve::{Item, ItemKind, Node};
+use smv_scope::Slot;
 use smv_tree::{AssignmentKind, ConstraintKind, Place, Rule, TextStop};
 
 // The first item whose expressions are of other kinds, or stand where they may not.
@@ -44,11 +45,14 @@ fn item_violation(
     let value = judged_at(table, item.value);
     match item.kind {
         ItemKind::Assignment(which) => match item.target {
-            None => None,
+            None => Some(Violation {
+                rule: Rule::NotAssignable,
+                place: item.place,
+            }),
             Some(k) => assignment_violation(item.place, which, judged_at(table, k), value),
         },
         ItemKind::Constraint(which) => constraint_violation(which, value),
-        ItemKind::Specification(_) => or_mismatch(value.of_state, value.place, value.whole),
+        ItemKind::Specification(_) => or_mismatch(value.of_state, value.place, value.kind),
     }
 }
 
@@ -61,11 +65,20 @@ fn assignment_violation(
     ensures { (slots : List Slot) (r e : Resolved) → IsJudged slots r target → IsJudged slots e value → as_refusal result ≡ assignment_refusal slots place which (Some r) e }
 {
     first(
-        target_violation(place, which, target),
-        or_mismatch(
-            value_violation(which, value),
-            place,
-            target.whole || value.whole,
+        left_violation(place, which, target),
+        first(value_violation(which, value), mismatched(place, value.kind)),
+    )
+}
+
+// The left side, which begins at this place.
+fn left_violation(place: Place, which: AssignmentKind, target: Judged) -> Option<Violation>
+    ensures { (slots : List Slot) (r : Resolved) → IsJudged slots r target → as_refusal result ≡ left_refusal slots place which r }
+{
+    first(
+        target.given,
+        first(
+            target_violation(place, which, target),
+            mismatched(place, target.kind),
         ),
     )
 }
@@ -111,5 +124,5 @@ fn constraint_violation(which: ConstraintKind, value: Judged) -> Option<Violatio
         ConstraintKind::Trans => value.of_step,
         ConstraintKind::Init | ConstraintKind::Invar | ConstraintKind::Justice => value.of_state,
     };
-    or_mismatch(inside, value.place, value.whole)
+    or_mismatch(inside, value.place, value.kind)
 }

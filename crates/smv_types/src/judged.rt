@@ -9,11 +9,20 @@ pub struct Violation {
     pub place: Place,
 }
 
+/// What an expression gives.
+#[derive(Clone, Copy, Debug)]
+pub enum Kind {
+    /// TRUE or FALSE.
+    Boolean,
+    /// An instance, which is no value.
+    Instance,
+}
+
 /// What is noted of an expression.
 #[derive(Clone, Copy, Debug)]
 pub struct Judged {
-    /// It is an instance, and no value.
-    pub whole: bool,
+    /// Its kind; none where its operands do not fit.
+    pub kind: Option<Kind>,
     pub place: Place,
     /// The first rule that it breaks where a step is spoken of.
     pub of_step: Option<Violation>,
@@ -21,6 +30,8 @@ pub struct Judged {
     pub of_name: Option<Violation>,
     /// The first rule that it breaks where a state is spoken of.
     pub of_state: Option<Violation>,
+    /// The first rule that it breaks on the left side of an assignment, where a parameter was given it.
+    pub given: Option<Violation>,
     /// It may be assigned by `init`.
     pub takes_init: bool,
     /// It may be assigned otherwise.

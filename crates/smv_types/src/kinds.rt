@@ -1,19 +1,23 @@
 //! The rules of kinds and contexts, over nodes.
 
-ghost use Rattle.std.specs.Prelude.{◌≡◌, ℕ, Bool, List, IfOk, None, Some, false};
+ghost use Rattle.std.specs.Prelude.{◌≡◌, ℕ, Bool, List, map, IfOk, None, Some, false};
+ghost use Rattle.std.specs.List.{list_all};
 ghost use Rattle.smv_tree.specs.declared.tree.AssignmentKind.TheVariants as side;
-ghost use Rattle.smv_tree.specs.declared.tree.ChainOperator.{ChainOperator};
 ghost use Rattle.smv_scope.specs.declared.slot.Slot.{Slot};
-ghost use Rattle.smv_scope.specs.Resolved.{Resolved, Resolved as R, part_at, parts_of, resolved_by};
+ghost use Rattle.smv_resolve.specs.declared.node.Naming.TheVariants as naming;
+ghost use Rattle.smv_resolve.specs.Resolved.{Resolved, Resolved as R, operands_of, parts_of, resolved_by};
 ghost use Rattle.smv_scope.specs.Slots.{is_input};
-ghost use Rattle.smv_types.specs.Judged.{IsJudged, Tells, as_refusal, judged_at};
-ghost use Rattle.smv_types.specs.Kinds.{input_here, mismatch, of_state, takes_assignment};
+ghost use Rattle.smv_types.specs.Judged.{IsJudged, IsNoted, Tells, as_refusal, judged_at};
+ghost use Rattle.smv_types.specs.Kinds.{booleans, input_here, is_boolean, kind_of_type, mismatch, of_state, takes_assignment, typed};
+ghost use Rattle.smv_types.specs.declared.judged.Kind.TheVariants.{Boolean};
 ghost use Rattle.smv_names.specs.Verdicts.{or_else};
 
-use crate::judged::{Judged, Violation};
+use crate::judged::{Judged, Kind, Violation};
 use smv_names::START;
-use smv_scope::{Node, Slot};
+use smv_resolve::{Naming, Node, last};
+use smv_scope::{Slot, ValueType};
 use smv_tree::{Place, Rule, VariableKind};
+use smv_value::Operator;
 use std::alloc::{AllocError, Global};
 
 /// What is noted of each node.
@@ -34,23 +38,21 @@ pub(crate) fn judge_nodes(
 
 // What is noted of a node, over what is noted of those before it.
 fn judge(slots: &[Slot], node: Node, table: &[Judged]) -> Judged
-    ensures { (parts : List Resolved) → Tells slots.now parts table.now → IsJudged slots.now (resolved_by (part_at parts) node) result }
+    ensures { (parts : List Resolved) → Tells slots.now parts table.now → IsJudged slots.now (resolved_by parts node) result }
 {
     match node {
         Node::Constant(place, _) => judge_constant(place),
         Node::Slot(place, n) => judge_slot(slots, place, n),
         Node::Whole(place, _) => judge_whole(place),
-        Node::Given(place, a) => judge_given(place, judged_at(table, a)),
-        Node::Defined(place, a) => judge_defined(place, judged_at(table, a)),
-        Node::Not(place, a) => judge_not(place, judged_at(table, a)),
+        Node::Named(place, Naming::Given, a) => judge_given(place, judged_at(table, a)),
+        Node::Named(place, Naming::Defined, a) => judge_defined(place, judged_at(table, a)),
         Node::Next(place, a) => judge_next(place, judged_at(table, a)),
-        Node::Implies(place, a, b) => judge_both(place, judged_at(table, a), judged_at(table, b)),
-        Node::Link(place, _, a, b) => judge_both(place, judged_at(table, a), judged_at(table, b)),
-        Node::Conditional(place, c, a, b) => judge_three(
+        Node::Operand(a) => judged_at(table, a),
+        Node::Apply(place, operator, count) => judge_apply(place, operator, last(table, count)),
+        Node::Link(place, operator, a, b) => judge_apply(
             place,
-            judged_at(table, c),
-            judged_at(table, a),
-            judged_at(table, b),
+            operator,
+            &[judged_at(table, a), judged_at(table, b)],
         ),
     }
 }
@@ -60,11 +62,12 @@ pub(crate) fn judged_at(table: &[Judged], k: usize) -> Judged
 {
     match table.get(k) {
         None => Judged {
-            whole: false,
+            kind: None,
             place: START,
             of_step: None,
             of_name: None,
             of_state: None,
+            given: None,
             takes_init: false,
             takes_later: false,
         },
@@ -72,16 +75,17 @@ pub(crate) fn judged_at(table: &[Judged], k: usize) -> Judged
     }
 }
 
-// What is noted of an expression that breaks no rule and cannot be assigned.
+// What is noted of a boolean that breaks no rule and cannot be assigned.
 fn sound(place: Place) -> Judged
-    ensures { result ≡ record { whole = false; place = place; of_step = None; of_name = None; of_state = None; takes_init = false; takes_later = false } }
+    ensures { result ≡ record { kind = Some Boolean; place = place; of_step = None; of_name = None; of_state = None; given = None; takes_init = false; takes_later = false } }
 {
     Judged {
-        whole: false,
+        kind: Some(Kind::Boolean),
         place,
         of_step: None,
         of_name: None,
         of_state: None,
+        given: None,
         takes_init: false,
         takes_later: false,
     }
@@ -97,7 +101,7 @@ fn judge_whole(place: Place) -> Judged
     ensures { (slots : List Slot) (i : ℕ) → IsJudged slots (R.Whole place i) result }
 {
     Judged {
-        whole: true,
+        kind: Some(Kind::Instance),
         takes_init: true,
         takes_later: true,
         ..sound(place)
@@ -108,14 +112,28 @@ fn judge_slot(slots: &[Slot], place: Place, n: usize) -> Judged
     ensures { IsJudged slots.now (R.Slot place n) result }
 {
     match slots.get(n) {
-        None => sound(place),
-        Some(slot) => judge_slot_of(place, slot.kind),
+        None => Judged {
+            kind: None,
+            ..sound(place)
+        },
+        Some(slot) => Judged {
+            kind: Some(kind_of_type(slot.declared)),
+            given: None,
+            ..judge_slot_of(place, slot.kind)
+        },
     }
 }
 
-// The same of a slot of this kind.
+fn kind_of_type(declared: ValueType) -> Kind
+    ensures { result ≡ kind_of_type declared }
+{
+    match declared {
+        ValueType::Boolean => Kind::Boolean,
+    }
+}
+
+// The same of a slot of this kind, whatever its type.
 fn judge_slot_of(place: Place, kind: VariableKind) -> Judged
-    ensures whole { result.whole ≡ false }
     ensures place { result.place ≡ place }
     ensures step { as_refusal result.of_step ≡ None }
     ensures name { as_refusal result.of_name ≡ None }
@@ -146,49 +164,64 @@ fn judge_slot_of(place: Place, kind: VariableKind) -> Judged
 
 // What a name stands for may look at inputs where the name may, and never ahead.
 fn judge_given(place: Place, a: Judged) -> Judged
-    ensures { (slots : List Slot) (r : Resolved) → IsJudged slots r a → IsJudged slots (R.Given place r) result }
+    ensures { (slots : List Slot) (r : Resolved) → IsJudged slots r a → IsJudged slots (R.Named place naming.Given r) result }
 {
     Judged {
         place,
         of_step: a.of_name,
+        given: a.of_name,
         ..a
     }
 }
 
 // What a definition stands for has to be a value.
 fn judge_defined(place: Place, a: Judged) -> Judged
-    ensures { (slots : List Slot) (r : Resolved) → IsJudged slots r a → IsJudged slots (R.Defined place r) result }
+    ensures { (slots : List Slot) (r : Resolved) → IsJudged slots r a → IsJudged slots (R.Named place naming.Defined r) result }
 {
-    let of_name = or_mismatch(a.of_name, a.place, a.whole);
+    let of_name = or_mismatch(a.of_name, a.place, a.kind);
     Judged {
-        whole: a.whole,
+        kind: a.kind,
         of_step: of_name,
         of_name,
-        of_state: or_mismatch(a.of_state, a.place, a.whole),
+        of_state: or_mismatch(a.of_state, a.place, a.kind),
         ..sound(place)
     }
 }
 
-// The first violation, or where there is none, that of an operand that is no value.
-pub(crate) fn or_mismatch(first: Option<Violation>, place: Place, whole: bool) -> Option<Violation>
-    ensures { as_refusal result ≡ or_else (as_refusal first) (mismatch place whole) }
+// The first violation, or where there is none, that of what is no value.
+pub(crate) fn or_mismatch(
+    first: Option<Violation>,
+    place: Place,
+    kind: Option<Kind>,
+) -> Option<Violation>
+    ensures { as_refusal result ≡ or_else (as_refusal first) (mismatch place kind) }
 {
     match first {
         Some(violation) => Some(violation),
-        None => mismatched(place, whole),
+        None => mismatched(place, kind),
     }
 }
 
-fn mismatched(place: Place, whole: bool) -> Option<Violation>
-    ensures { as_refusal result ≡ mismatch place whole }
+pub(crate) fn mismatched(place: Place, kind: Option<Kind>) -> Option<Violation>
+    ensures { as_refusal result ≡ mismatch place kind }
 {
-    if whole {
+    if is_boolean(kind) {
+        None
+    } else {
         Some(Violation {
             rule: Rule::TypeMismatch,
             place,
         })
-    } else {
-        None
+    }
+}
+
+fn is_boolean(kind: Option<Kind>) -> bool
+    ensures { result ≡ is_boolean kind }
+{
+    match kind {
+        Some(Kind::Boolean) => true,
+        Some(Kind::Instance) => false,
+        None => false,
     }
 }
 
@@ -198,17 +231,6 @@ pub(crate) fn first(a: Option<Violation>, b: Option<Violation>) -> Option<Violat
     match a {
         Some(violation) => Some(violation),
         None => b,
-    }
-}
-
-fn judge_not(place: Place, a: Judged) -> Judged
-    ensures { (slots : List Slot) (r : Resolved) → IsJudged slots r a → IsJudged slots (R.Not place r) result }
-{
-    Judged {
-        of_step: or_mismatch(a.of_step, place, a.whole),
-        of_name: or_mismatch(a.of_name, place, a.whole),
-        of_state: or_mismatch(a.of_state, place, a.whole),
-        ..sound(place)
     }
 }
 
@@ -223,38 +245,81 @@ fn judge_next(place: Place, a: Judged) -> Judged
         }),
     );
     Judged {
-        of_step: or_mismatch(a.of_state, place, a.whole),
+        kind: a.kind,
+        of_step: or_mismatch(a.of_state, place, a.kind),
         of_name: misplaced,
         of_state: misplaced,
         ..sound(place)
     }
 }
 
-fn judge_both(place: Place, a: Judged, b: Judged) -> Judged
-    ensures implies { (slots : List Slot) (r s : Resolved) → IsJudged slots r a → IsJudged slots s b → IsJudged slots (R.Implies place r s) result }
-    ensures link { (slots : List Slot) (o : ChainOperator) (r s : Resolved) → IsJudged slots r a → IsJudged slots s b → IsJudged slots (R.Link place o r s) result }
+// An operator, over what is noted of its operands.
+fn judge_apply(place: Place, operator: Operator, operands: &[Judged]) -> Judged
+    ensures { (slots : List Slot) (rs : List Resolved) → Tells slots rs operands.now → IsJudged slots (R.Apply place operator (operands_of rs)) result }
 {
-    let whole = a.whole || b.whole;
+    let all = noted(place, operands);
+    let kind = typed(operator, operands);
     Judged {
-        of_step: or_mismatch(first(a.of_step, b.of_step), place, whole),
-        of_name: or_mismatch(first(a.of_name, b.of_name), place, whole),
-        of_state: or_mismatch(first(a.of_state, b.of_state), place, whole),
+        kind,
+        of_step: or_mismatch(all.of_step, place, kind),
+        of_name: or_mismatch(all.of_name, place, kind),
+        of_state: or_mismatch(all.of_state, place, kind),
         ..sound(place)
     }
 }
 
-fn judge_three(place: Place, c: Judged, a: Judged, b: Judged) -> Judged
-    ensures { (slots : List Slot) (q r s : Resolved) → IsJudged slots q c → IsJudged slots r a → IsJudged slots s b → IsJudged slots (R.Conditional place q r s) result }
+// The kind of an operator over these operands.
+fn typed(operator: Operator, operands: &[Judged]) -> Option<Kind>
+    ensures { result ≡ typed operator (map (λ (j : Judged). j.kind) operands.now) }
 {
-    let whole = c.whole || a.whole || b.whole;
+    match operator {
+        Operator::Not => booleans(1, operands),
+        Operator::Logic(_) => booleans(2, operands),
+        Operator::Equal => booleans(2, operands),
+        Operator::NotEqual => booleans(2, operands),
+        Operator::Choice => booleans(3, operands),
+        _ => None,
+    }
+}
+
+// So many booleans give one.
+fn booleans(count: usize, operands: &[Judged]) -> Option<Kind>
+    ensures { result ≡ booleans count (map (λ (j : Judged). j.kind) operands.now) }
+{
+    if operands.len() == count && all_booleans(operands) {
+        Some(Kind::Boolean)
+    } else {
+        None
+    }
+}
+
+fn all_booleans(operands: &[Judged]) -> bool
+    ensures { result ≡ list_all is_boolean (map (λ (j : Judged). j.kind) operands.now) }
+{
+    operands.iter().map(|j| j.kind).all(is_boolean)
+}
+
+// What is noted of all operands.
+fn noted(place: Place, operands: &[Judged]) -> Judged
+    ensures { IsNoted operands.now result }
+{
+    let mut all = sound(place);
+    for j in operands {
+        all = with_operand(all, *j);
+    }
+    all
+}
+
+// The same with one operand more.
+fn with_operand(all: Judged, j: Judged) -> Judged
+    ensures step { as_refusal result.of_step ≡ or_else (as_refusal all.of_step) (as_refusal j.of_step) }
+    ensures name { as_refusal result.of_name ≡ or_else (as_refusal all.of_name) (as_refusal j.of_name) }
+    ensures state { as_refusal result.of_state ≡ or_else (as_refusal all.of_state) (as_refusal j.of_state) }
+{
     Judged {
-        of_step: or_mismatch(first(c.of_step, first(a.of_step, b.of_step)), place, whole),
-        of_name: or_mismatch(first(c.of_name, first(a.of_name, b.of_name)), place, whole),
-        of_state: or_mismatch(
-            first(c.of_state, first(a.of_state, b.of_state)),
-            place,
-            whole,
-        ),
-        ..sound(place)
+        of_step: first(all.of_step, j.of_step),
+        of_name: first(all.of_name, j.of_name),
+        of_state: first(all.of_state, j.of_state),
+        ..all
     }
 }

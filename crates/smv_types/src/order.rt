@@ -1,7 +1,7 @@
 //! The rules in the order in which they are judged.
 
 ghost use Rattle.std.specs.Prelude.{◌≡◌, map, IfOk};
-ghost use Rattle.smv_scope.specs.Items.{item_by, items_of};
+ghost use Rattle.smv_resolve.specs.Items.{item_by, items_of};
 ghost use Rattle.smv_names.specs.Verdicts.{Gives, Judges, or_else};
 ghost use Rattle.smv_types.specs.Kinds.{misdeclared, misused, too_deep, too_many_slots};
 ghost use Rattle.smv_types.specs.Rules.{kinds_refusal, types_verdict};
@@ -12,7 +12,8 @@ use crate::kinds::judge_nodes;
 use crate::limits::too_many_slots;
 use smv_meaning::Typed;
 use smv_names::{check_names, refused};
-use smv_scope::{Resolution, ResolveStop, Scope, resolve_items};
+use smv_resolve::{Resolution, ResolveStop, resolve_items};
+use smv_scope::Scope;
 use smv_tree::{Program, Rule, TextStop};
 use std::alloc::Global;
 

@@ -1,10 +1,17 @@
-//! Values and the operators on them (NuSMV 2.6 User Manual, 2.2, Expressions). Booleans are the values today.
+//! Values and the operators on them (NuSMV 2.6 User Manual, 2.2, Expressions).
 #![tactic(auto)]
 
-mod operators;
-#[cfg(test)]
-mod tests;
+mod integers;
+mod operations;
+mod operator;
+mod shown;
 mod value;
+mod values;
+mod whole;
+mod words;
 
-pub use operators::{and, equal, iff, implies, not, not_equal, or, xnor, xor};
-pub use value::Value;
+pub use operations::apply;
+pub use operator::{Arithmetic, Division, Logic, Operator, Order, Shift, Temporal};
+pub use shown::Shown;
+pub use value::{FaultRule, Value};
+pub use values::{is_value, same};

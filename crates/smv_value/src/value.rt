@@ -1,22 +1,26 @@
-//! Values.
-
-ghost use Rattle.std.specs.Prelude.{Some};
-ghost use Rattle.smv_value.specs.Texts.{value_text};
-
-use std::fmt;
+//! Values, and the rules by which they fault.
 
 /// A value of a variable or an expression (manual 2.1, Types Overview).
 #[derive(Clone, Copy, Debug, PartialEq, Eq)]
 pub enum Value {
     Bool(bool),
+    Int(i64),
+    /// The symbol of this number.
+    Sym(u32),
+    /// A word by its bits, the lowest bit of it being the lowest bit of the number.
+    Word {
+        signed: bool,
+        width: u32,
+        bits: u128,
+    },
 }
 
-impl fmt::Display for Value {
-    ghost output = { λ v. Some (value_text v) };
-
-    fn fmt<W: fmt::Write>(&self, f: &mut fmt::Formatter<W>) -> fmt::Result {
-        match *self {
-            Value::Bool(b) => write!(f, "{}", if b { "TRUE" } else { "FALSE" }),
-        }
-    }
+/// What a fault is told as.
+#[derive(Clone, Copy, Debug, PartialEq, Eq)]
+pub enum FaultRule {
+    CaseOpen,
+    OutOfRange,
+    IndexOutside,
+    DivisorZero,
+    ShiftTooFar,
 }

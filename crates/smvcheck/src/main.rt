@@ -1,7 +1,12 @@
 //! The program: the real source, sink and words for the top call.
 #![tactic(auto)]
 
-use outside::{OpenGate, StdSink, StdSource};
+ghost use Rattle.std.specs.Prelude.{◌≡◌, ◌≢◌, ◌<◌, ◌≤◌, ◌⊎◌, map, string_bytes, IfOk, IfSome};
+ghost use Rattle.command_words.specs.Grammar.{IsCommandLine};
+ghost use Rattle.outside.specs.Causes.{Rose};
+ghost use Rattle.smv_cli.specs.Report.{Answered, Begun, IsSomeModel, Stage};
+
+use outside::{OpenGate, Sink, Source, StdSink, StdSource};
 use smv_cli::run;
 use std::alloc::{AllocError, Global};
 use std::env;
@@ -29,25 +34,53 @@ fn words<R: Env + AllocGlobal>(rt: &R) -> Result<Vec<String>, AllocError> {
     Ok(words)
 }
 
-fn start<R: Threads + Wait + Sync>(
-    rt: &R,
-    alloc: Global,
-    words: &[String],
-    source: &mut impl outside::Source,
-    sink: &mut impl outside::Sink,
-) -> Result<u8, AllocError> {
+// The texts of words.
+fn texts<'a>(alloc: Global, words: &'a [String]) -> Result<Vec<&'a str>, AllocError>
+    ensures { IfOk result (λ texts. map (λ w. w.now) texts.items ≡ map string_bytes words.now) }
+{
     let mut texts = Vec::new(alloc);
     for word in words {
         texts.push(word.as_str())?;
     }
-    Ok(run(rt, alloc, &texts, source, sink, &OpenGate))
+    Ok(texts)
+}
+
+// Does what these words say, and answers the status: all of it as `run` says, and 7 where their texts find no memory.
+fn start<R: Threads + Wait + Sync, S: Source, K: Sink>(
+    rt: &R,
+    alloc: Global,
+    words: &[String],
+    source: &mut S,
+    sink: &mut K,
+) -> u8
+    ensures answered { result ≤ 4 → Answered (Stage (map string_bytes words.now)) (S.left source.old)
+        (K.taken sink.old) (K.taken sink.new) result }
+    ensures begun { 4 < result → Begun (Stage (map string_bytes words.now)) (S.left source.old)
+        (K.taken sink.old) (K.taken sink.new) }
+    ensures named { result ≤ 7 }
+    ensures usage { result ≡ 4 → IsCommandLine (map string_bytes words.now) → ⊥ }
+    ensures outside { (IsCommandLine (map string_bytes words.now) → ⊥) → (result ≡ 4) ⊎ (5 < result) }
+    ensures unread { (IsCommandLine (map string_bytes words.now) → ⊥) → source.new ≡ source.old }
+    ensures read_fault { result ≡ 5 → Rose (S.faults source.old) (S.faults source.new) }
+    ensures no_read_fault { result ≢ 5 → S.faults source.new ≡ S.faults source.old }
+    ensures untouched { result ≡ 5 → sink.new ≡ sink.old }
+    ensures write_fault { result ≡ 6 → Rose (K.faults sink.old) (K.faults sink.new) }
+    ensures no_write_fault { result ≢ 6 → K.faults sink.new ≡ K.faults sink.old }
+    ensures complete { IsCommandLine (map string_bytes words.now)
+        → (Rose (S.faults source.old) (S.faults source.new) → ⊥) → (Rose (K.faults sink.old) (K.faults sink.new) → ⊥)
+        → IfSome (S.left source.old) (λ bytes. IsSomeModel bytes → (result ≤ 2) ⊎ (result ≡ 7)) }
+{
+    let Ok(texts) = texts(alloc, words) else {
+        return 7;
+    };
+    run(rt, alloc, &texts, source, sink, &OpenGate)
 }
 
 fn main(rt: HostRuntime) -> ExitCode {
     let mut source = StdSource::new(rt.stdin());
     let mut sink = StdSink::new(rt.stdout());
     let status = match words(&rt) {
-        Ok(words) => start(&rt, rt.alloc(), &words, &mut source, &mut sink).unwrap_or(7),
+        Ok(words) => start(&rt, rt.alloc(), &words, &mut source, &mut sink),
         Err(_) => 7,
     };
     ExitCode::from(status)

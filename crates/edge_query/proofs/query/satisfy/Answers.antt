@@ -13,7 +13,7 @@ returns-clause-found g c =
     let F : Found → Type 0 = Finds graph c.args.inputs c.args.roots.now budget over in
     subst F (sym c.found.ensures)
     (finds graph c.args.roots.now cnf.vars cnf.clauses cnf.roots.items c.in_ok-cnf.ensures.law c.args.inputs c.requires.inputs c.in_ok-solver.solver
-    c.deref.result.now c.in_ok-solver.ensures c.deref.ensures.value budget over c.in_ok-answer.answer c.in_ok-answer.ensures.answer)
+    c.deref.result.now c.in_ok-solver.ensures c.deref.ensures.value c.solve.new.self.learned budget over c.in_ok-answer.answer c.in_ok-answer.ensures.answer)
 
 pub returns-clause-tickets : goal.returns-clause-tickets
 returns-clause-tickets g c =

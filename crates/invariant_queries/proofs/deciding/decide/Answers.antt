@@ -1,5 +1,5 @@
 -- Where no first state breaks the specification and no step does, no run does.
-use Rattle.smv_scope.specs.Items.{item_by}
+use Rattle.smv_resolve.specs.Items.{item_by}
 use Rattle.invariant_queries.specs.Unrolling.{TellsInduction, Unrolls}
 use Rattle.invariant_queries.specs.declared.unrolling.Induction.TheVariants as induction
 use Rattle.invariant_queries.specs.declared.unrolling.Unrolled.TheVariants.{Nothing}
@@ -13,4 +13,4 @@ returns-in-Holds-clause-found g c =
     let never : Unrolls p spec.value 0 (g.Q.Purse.budget c.args.purse.now) (g.Q.Purse.spent c.unroll.new.purse) Nothing = rw c.in-Nothing.is at c.in_ok-states.ensures.found in
     let holds : TellsInduction p spec.value (g.Q.Purse.budget c.unroll.new.purse) (g.Q.Purse.spent c.is_inductive.new.purse) induction.Holds =
     rw c.in-Holds.is at c.in_ok-is_inductive.ensures.found in
-    unbroken p spec (within_none p spec never) holds
+    unbroken p spec c.args.typed.now.known c.requires.claim (within_none p spec never) holds

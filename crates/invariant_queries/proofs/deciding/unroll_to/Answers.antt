@@ -1,6 +1,6 @@
 -- A run that is found breaks the specification, and where none is found there is none of this length.
 use Rattle.std.proofs.Common.{◌∙◌, ◌+◌}
-use Rattle.smv_scope.specs.Items.{item_by}
+use Rattle.smv_resolve.specs.Items.{item_by}
 use Rattle.invariant_queries.specs.Unrolling.{Unrolls}
 use Rattle.invariant_queries.specs.declared.unrolling.Unrolled.TheVariants.{Run, Nothing}
 use Rattle.invariant_queries.proofs.InductionLaws.{broken, within_more}

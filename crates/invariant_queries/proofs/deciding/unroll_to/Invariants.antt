@@ -1,6 +1,6 @@
 -- No run of the lengths so far breaks the specification.
 use Rattle.std.proofs.Common.{◌≡◌}
-use Rattle.smv_scope.specs.Items.{item_by}
+use Rattle.smv_resolve.specs.Items.{item_by}
 use Rattle.invariant_queries.specs.Deciding.{IsUnbrokenWithin}
 use Rattle.invariant_queries.proofs.deciding.unroll_to.Given as goal
 

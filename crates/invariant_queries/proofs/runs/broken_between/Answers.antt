@@ -1,7 +1,7 @@
 -- The states have these edges.
 use Rattle.std.proofs.Common.{◌∙◌, List, ap}
 use Rattle.bit_graph.specs.declared.edge.Edge.{Edge}
-use Rattle.smv_scope.specs.Resolved.{part_of}
+use Rattle.smv_resolve.specs.Resolved.{part_of}
 use Rattle.invariant_queries.specs.Edges.{state_under}
 use Rattle.invariant_queries.specs.Frames.{is_broken_step}
 use Rattle.invariant_queries.proofs.runs.broken_between.Goals as goal

@@ -1,7 +1,7 @@
 -- The query is about one step.
 use Rattle.std.proofs.Common.{◌∙◌, ◌≤◌, ◌∷◌, [], length, ap, refl, arith}
 use Rattle.bit_graph.specs.Meaning.{HasInputs}
-use Rattle.smv_scope.specs.Resolved.{part_of}
+use Rattle.smv_resolve.specs.Resolved.{part_of}
 use Rattle.edge_query.specs.Findings.{Finds}
 use Rattle.edge_query.specs.declared.found.Found.TheVariants.{Values, Nothing}
 use Rattle.invariant_queries.proofs.MoreFrames.{length_frames}

@@ -9,15 +9,15 @@ pub assemble-requires-clause-valid : goal.assemble-requires-clause-valid
 assemble-requires-clause-valid c =
     let m = c.args.monitored.now.system in
     subst IsSystem
-    (sym (counted_same m c.args.bound c.in_ok-bits.bits c.in_ok-layout.layout c.in_ok-counting.counting c.in_ok-bad.bad
-    (c.in_ok-bits.ensures ∙ ap (λ (ls : List Lit). length ls + c.args.bound) c.fair-sets.ensures.value) c.in_ok-layout.ensures c.in_ok-counting.ensures c.in_ok-bad.ensures))
-    (is_system m c.args.bound c.keep.ensures)
+    (sym (counted_same m c.args.bound c.in_ok-bits.bits c.in_ok-layout.layout c.in_ok-counting.counting c.in_ok-bad.bad c.in_ok-good.good
+    (c.in_ok-bits.ensures ∙ ap (λ (ls : List Lit). length ls + c.args.bound) c.fair-sets.ensures) c.in_ok-layout.ensures c.in_ok-counting.ensures c.in_ok-bad.ensures c.in_ok-good.ensures))
+    (is_system m c.args.bound c.law.ensures)
 
 pub assemble-requires-clause-room : goal.assemble-requires-clause-room
 assemble-requires-clause-room c =
     let m = c.args.monitored.now.system in
     counted_room m c.args.bound c.in_ok-bits.bits c.in_ok-layout.layout c.in_ok-counting.counting
-    (c.in_ok-bits.ensures ∙ ap (λ (ls : List Lit). length ls + c.args.bound) c.fair-sets.ensures.value) c.in_ok-layout.ensures c.in_ok-counting.ensures (room m c.args.bound c.keep.ensures)
+    (c.in_ok-bits.ensures ∙ ap (λ (ls : List Lit). length ls + c.args.bound) c.fair-sets.ensures) c.in_ok-layout.ensures c.in_ok-counting.ensures (room m c.args.bound c.law.ensures)
 
 pub returns : goal.returns
 returns c =
@@ -25,6 +25,6 @@ returns c =
     subst (IsCounted m c.args.bound)
     (sym
     (c.in_ok-system.ensures
-    ∙ counted_same m c.args.bound c.in_ok-bits.bits c.in_ok-layout.layout c.in_ok-counting.counting c.in_ok-bad.bad
-    (c.in_ok-bits.ensures ∙ ap (λ (ls : List Lit). length ls + c.args.bound) c.fair-sets.ensures.value) c.in_ok-layout.ensures c.in_ok-counting.ensures c.in_ok-bad.ensures))
-    (is_counted m c.args.bound c.keep.ensures)
+    ∙ counted_same m c.args.bound c.in_ok-bits.bits c.in_ok-layout.layout c.in_ok-counting.counting c.in_ok-bad.bad c.in_ok-good.good
+    (c.in_ok-bits.ensures ∙ ap (λ (ls : List Lit). length ls + c.args.bound) c.fair-sets.ensures) c.in_ok-layout.ensures c.in_ok-counting.ensures c.in_ok-bad.ensures c.in_ok-good.ensures))
+    (is_counted m c.args.bound c.law.ensures)

@@ -1,7 +1,7 @@
 use Rattle.std.proofs.Common.{◌≡◌, ◌<◌, ◌∙◌, sym, subst, length, List, false, take, get_or, arith}
 use Rattle.std.proofs.lemmas.List.{take_all}
 use Rattle.clause_core.specs.declared.literal.Lit.{Lit}
-use Rattle.unit_propagation.specs.Values.{holds}
+use Rattle.clause_core.specs.Values.{holds}
 use Rattle.clause_core.specs.Propagation.{AllFalse}
 use Rattle.rup_check.proofs.Rounds.{assume_step, assume_kept}
 use Rattle.rup_check.proofs.following.assume_false.Goals as goal

@@ -1,7 +1,7 @@
 use Rattle.std.proofs.Common.{Bool, take}
 use Rattle.clause_core.specs.declared.literal.Lit.{Lit}
 use Rattle.clause_core.specs.Propagation.{AllFalse}
-use Rattle.unit_propagation.specs.Values.{holds, Includes}
+use Rattle.clause_core.specs.Values.{holds, Includes}
 use Rattle.rup_check.proofs.following.assume_false.Given as goal
 
 abbrev pub invariant-loop-x : goal.invariant-loop-x

@@ -6,8 +6,8 @@ use Rattle.clause_core.specs.declared.literal.Lit.{Lit}
 use Rattle.clause_core.specs.Literals.{Within}
 use Rattle.clause_core.specs.Propagation.{AllFalse, Settled}
 use Rattle.clause_core.proofs.Lists.{Closed-left, Closed-right}
-use Rattle.unit_propagation.specs.Values.{holds, Consequent}
-use Rattle.unit_propagation.proofs.Setting.{AllFalse-grows}
+use Rattle.clause_core.specs.Values.{holds, Consequent}
+use Rattle.clause_core.proofs.Setting.{AllFalse-grows}
 use Rattle.rup_check.proofs.Rounds.{conflict_left, conflict_right, not_follows}
 use Rattle.rup_check.proofs.following.follows.Goals as goal
 

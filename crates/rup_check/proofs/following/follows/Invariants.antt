@@ -1,7 +1,7 @@
 use Rattle.std.proofs.Common.{Bool, ◌++◌, take}
 use Rattle.clause_core.specs.declared.literal.Lit.{Lit}
 use Rattle.clause_core.specs.Propagation.{AllFalse, Closed}
-use Rattle.unit_propagation.specs.Values.{holds, Includes, unset}
+use Rattle.clause_core.specs.Values.{holds, Includes, unset}
 use Rattle.rup_check.proofs.following.follows.Given as goal
 
 abbrev pub invariant-rounds : goal.invariant-rounds

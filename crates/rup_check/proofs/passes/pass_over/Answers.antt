@@ -4,8 +4,8 @@ use Rattle.std.proofs.lemmas.List.Elements.{All-contains}
 use Rattle.clause_core.specs.declared.literal.Lit.{Lit}
 use Rattle.clause_core.specs.Literals.{negate}
 use Rattle.clause_core.specs.Propagation.{Settled, UnitIn}
-use Rattle.unit_propagation.specs.Values.{holds, code, unset}
-use Rattle.unit_propagation.proofs.Setting.{unit_forced, unset_less, Includes-set, Grows-set}
+use Rattle.clause_core.specs.Values.{holds, code, unset}
+use Rattle.clause_core.proofs.Setting.{unit_forced, unset_less, Includes-set, Grows-set}
 use Rattle.rup_check.specs.Passes.{PassSoFar}
 use Rattle.rup_check.proofs.Rounds.{pass_rest, pass_still}
 use Rattle.rup_check.proofs.passes.pass_over.Goals as goal

@@ -1,5 +1,5 @@
 use Rattle.std.proofs.Common.{◌≤◌, take}
-use Rattle.unit_propagation.specs.Values.{Consequent, unset, Grows}
+use Rattle.clause_core.specs.Values.{Consequent, unset, Grows}
 use Rattle.rup_check.specs.Passes.{PassSoFar}
 use Rattle.rup_check.proofs.passes.pass_over.Given as goal
 

@@ -3,7 +3,7 @@ use Rattle.std.proofs.Math.Seq.{take-append_seam}
 use Rattle.clause_core.specs.declared.literal.Lit.{Lit}
 use Rattle.sat_core.specs.Queries.{given_of, learned_of}
 use Rattle.sat_core.specs.Searching.{Keeps}
-use Rattle.sat_core.proofs.Origins.{given_push, learned_push}
+use Rattle.sat_core.proofs.Origins.{given_push, learned_push, count_same, count_add}
 use Rattle.sat_core.proofs.Results.{keeps_same, keeps_add, state_same}
 use Rattle.sat_core.proofs.query.add_on.Goals as goal
 
@@ -85,3 +85,42 @@ returns-clause-done g c =
     (c.in_default.ensures.vars ∙ c.restart.ensures.vars)
     (ap (λ m. given_of m cs') marked ∙ ap (given_of all) grown ∙ given_push ms cs x full ∙ ap (λ ys. ys ++ x ∷ []) same.0)
     (ap (λ m. learned_of m cs') marked ∙ ap (learned_of all) grown ∙ learned_push ms cs x full ∙ same.1)
+
+pub returns-in_err-mark_learned-clause-count : goal.returns-in_err-mark_learned-clause-count
+returns-in_err-mark_learned-clause-count g c =
+    let cs = g.P.Propagator.clauses c.args.inner.now in
+    let n : c.clause_count-n.result ≡ length cs = c.clause_count-n.ensures ∙ ap length c.restart.ensures.clauses in
+    count_same c.args.given.now c.args.marks.now.items c.mark_learned.new.marks.items cs (g.P.Propagator.clauses c.restart.new.inner) c.requires.count
+    (c.mark_learned.ensures.same cs (sym n)) c.restart.ensures.clauses
+
+pub returns-in_err-push-clause-count : goal.returns-in_err-push-clause-count
+returns-in_err-push-clause-count g c =
+    let cs = g.P.Propagator.clauses c.args.inner.now in
+    let new = g.P.Propagator.clauses c.restart.new.inner in
+    let n : c.clause_count-n.result ≡ length cs = c.clause_count-n.ensures ∙ ap length c.restart.ensures.clauses in
+    let K : List Bool → Type 0 = λ ms. c.args.given.now ≡ length (given_of ms new) in
+    subst K (sym c.in_err-push.ensures.items)
+    (count_same c.args.given.now c.args.marks.now.items c.mark_learned.new.marks.items cs new c.requires.count (c.mark_learned.ensures.same cs (sym n)) c.restart.ensures.clauses)
+
+pub returns-in-Err-clause-count : goal.returns-in-Err-clause-count
+returns-in-Err-clause-count g c =
+    let cs = g.P.Propagator.clauses c.args.inner.now in
+    let new = g.P.Propagator.clauses c.add.new.self in
+    let ms = c.mark_learned.new.marks.items in
+    let n : c.clause_count-n.result ≡ length cs = c.clause_count-n.ensures ∙ ap length c.restart.ensures.clauses in
+    let e : c.truncate.new.self.items ≡ ms =
+    c.truncate.ensures.items ∙ ap (λ xs. take c.clause_count-n.result xs) c.in_ok-push.ensures.items
+    ∙ ap (λ k. take k (ms ++ true ∷ [])) (sym c.in_ok-mark_learned.ensures.full) ∙ take-append_seam ms (true ∷ []) in
+    let K : List Bool → Type 0 = λ xs. c.args.given.now ≡ length (given_of xs new) in
+    subst K (sym e)
+    (count_same c.args.given.now c.args.marks.now.items ms cs new c.requires.count (c.mark_learned.ensures.same cs (sym n)) (c.in-Err.ensures.failed ∙ c.restart.ensures.clauses))
+
+pub returns-clause-count : goal.returns-clause-count
+returns-clause-count g c =
+    let cs = g.P.Propagator.clauses c.args.inner.now in
+    let new = g.P.Propagator.clauses c.add.new.self in
+    let ms = c.mark_learned.new.marks.items in
+    let n : c.clause_count-n.result ≡ length cs = c.clause_count-n.ensures ∙ ap length c.restart.ensures.clauses in
+    let full : length ms ≡ length cs = c.in_ok-mark_learned.ensures.full ∙ n in
+    let grown : new ≡ cs ++ c.args.c.now ∷ [] = c.in_default.ensures.done ∙ ap (λ ys. ys ++ c.args.c.now ∷ []) c.restart.ensures.clauses in
+    count_add c.args.given.now c.args.marks.now.items ms c.push.new.self.items cs new c.args.c.now c.requires.count (c.mark_learned.ensures.same cs (sym n)) full grown c.in_ok-push.ensures.items

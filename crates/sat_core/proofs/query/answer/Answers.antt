@@ -1,9 +1,6 @@
-use Rattle.std.proofs.Common.{◌≡◌, ◌++◌, List, length, map, eqb, subst, sym, ap, ◌∙◌}
-use Rattle.std.specs.List.{All, Contains}
-use Rattle.clause_core.specs.declared.literal.Lit.{Lit}
-use Rattle.clause_core.specs.Derivations.{Derives}
+use Rattle.std.proofs.Common.{◌≡◌, length, map, eqb, ap, ◌∙◌}
 use Rattle.sat_prop.specs.declared.trail.Trail.{Trail}
-use Rattle.sat_core.specs.Queries.{given_of, learned_of, units}
+use Rattle.sat_core.specs.Queries.{given_of, learned_of}
 use Rattle.sat_core.proofs.Origins.{given_in, covered}
 use Rattle.sat_core.proofs.Results.{sat_says, refutation}
 use Rattle.sat_core.proofs.query.answer.Goals as goal
@@ -19,8 +16,8 @@ returns-in_ok-model-in-Sat-clause-says g c =
     sat_says t cs (given_of c.args.marks.now cs) c.args.assumptions.now c.from_vec.result said.0 said.1 said.2 (g.met.P.Propagator.within new)
     (given_in c.args.marks.now cs) e
 
-pub returns-in_ok-log-in-Unsat-clause-says : goal.returns-in_ok-log-in-Unsat-clause-says
-returns-in_ok-log-in-Unsat-clause-says g c =
+pub returns-in-Unsat-clause-says : goal.returns-in-Unsat-clause-says
+returns-in-Unsat-clause-says g c =
     let new = c.run.new.inner in
     let vars = length (g.P.Propagator.trail new).values.items in
     let cs = g.P.Propagator.clauses new in
@@ -28,6 +25,4 @@ returns-in_ok-log-in-Unsat-clause-says g c =
     let assumptions = c.args.assumptions.now in
     let core = c.in-Unsat.core.items in
     let said = rw c.in-Unsat.is at c.in_ok-run.ensures.says in
-    let r = refutation vars (given_of ms cs) (learned_of ms cs) cs assumptions core c.in_ok-run.ensures.keeps.sound (covered ms cs) said.0 said.1 in
-    let R : List (List Lit) → Type 0 = λ log. All (Contains assumptions) core × Derives vars (given_of ms cs ++ units core) log in
-    subst R (sym c.in_ok-log-in-Unsat.ensures) r
+    refutation vars (given_of ms cs) (learned_of ms cs) cs assumptions core c.in_ok-run.ensures.keeps.sound (covered ms cs) said.0 said.1

@@ -3,6 +3,7 @@ use Rattle.std.proofs.lemmas.Result.{IfOk-weaker}
 use Rattle.sat_core.specs.Queries.{learned_of, Draws}
 use Rattle.sat_core.specs.Searching.{PaidFor}
 use Rattle.sat_core.proofs.Results.{keeps_learnt, learns_from, draws_learned}
+use Rattle.sat_core.proofs.Payments.{pays_learned}
 use Rattle.sat_core.proofs.query.run.Goals as goal
 
 pub returns-clause-keeps : goal.returns-clause-keeps
@@ -28,3 +29,9 @@ returns-clause-paid g c =
     (λ x paid. draws_learned (length (g.P.Propagator.trail c.args.inner.now).values.items) ms cs cs' c.args.assumptions.now before after
     c.requires.keeps.known c.search.ensures.learned paid)
     c.search.ensures.paid
+
+pub returns-clause-log : goal.returns-clause-log
+returns-clause-log g c =
+    pays_learned (length (g.P.Propagator.trail c.args.inner.now).values.items) (length (g.P.Propagator.trail c.search.new.inner).values.items) c.args.marks.now
+    (g.P.Propagator.clauses c.args.inner.now) (g.P.Propagator.clauses c.search.new.inner) c.args.assumptions.now
+    (g.Q.Purse.tickets c.args.purse.now) (g.Q.Purse.tickets c.search.new.purse) c.requires.keeps.known c.search.ensures.log

@@ -1,15 +1,19 @@
-use Rattle.std.proofs.Common.{◌≡◌, ◌≤◌, ◌+◌, ◌-◌, length, List, arith, subst, sym, ap, ℕ, ◌∙◌}
+use Rattle.std.proofs.Common.{◌≡◌, ◌≤◌, ◌+◌, ◌-◌, length, List, get_or, arith, refl, subst, sym, ap, ℕ, ◌∙◌}
 use Rattle.std.specs.List.{All, Contains}
 use Rattle.std.proofs.lemmas.List.Elements.{All-nil}
 use Rattle.clause_core.specs.declared.literal.Lit.{Lit}
-use Rattle.unit_propagation.specs.Values.{unset}
+use Rattle.clause_core.specs.Values.{unset}
 use Rattle.sat_prop.specs.declared.trail.Trail.{Trail}
 use Rattle.sat_prop.specs.Moves.{FalseClause}
-use Rattle.sat_core.specs.Searching.{GrowsByLearning, LearnSays, PaidFor}
-use Rattle.sat_core.specs.Ends.{OutcomeSays}
+use Rattle.clause_core.specs.Literals.{Within}
+use Rattle.sat_core.specs.Queries.{IsLearned}
+use Rattle.sat_core.specs.Searching.{GrowsByLearning, LearnSays, PaidFor, decided}
+use Rattle.sat_core.specs.Ends.{IsSeen, OutcomeSays}
 use Rattle.effort_purse.specs.Drawing.{past}
 use Rattle.effort_purse.proofs.Past.{past-snoc}
-use Rattle.sat_core.proofs.Finals.{refuted_root, levels_went, level_after, learnt_more, paid_more, assumptions_first, unset_le, measure_less}
+use Rattle.sat_core.proofs.Finals.{refuted_root, levels_went, level_after, learnt_more, paid_more, is_learned, assumptions_first, unset_le, measure_less}
+use Rattle.sat_core.proofs.Payments.{turn_none, turn_paid, turn_lost}
+use Rattle.sat_core.proofs.Seeing.{seen_went}
 use Rattle.sat_core.proofs.search.search.Goals as goal
 
 pub returns-then-len-eq0-clause-says : goal.returns-then-len-eq0-clause-says
@@ -23,18 +27,18 @@ returns-then-len-eq0-clause-says g c =
     let P : List Lit → Type 0 = All (Contains c.args.assumptions.now) in
     (subst P (sym c.new.ensures.items) (All-nil (Contains c.args.assumptions.now)), refuted_root t cs k (g.met.P.Propagator.based new) h.0 h.1 none c.new.result.items)
 
-pub learn_from-requires-clause-rest : goal.learn_from-requires-clause-rest
-learn_from-requires-clause-rest g c i li =
+pub analyze-requires-clause-rest : goal.analyze-requires-clause-rest
+analyze-requires-clause-rest g c i li =
     let old = c.search.inner in
     let new = c.propagate.new.self in
     (levels_went (g.P.Propagator.trail old) (g.P.Propagator.trail new) (g.P.Propagator.clauses old) (g.P.Propagator.clauses new) c.args.assumptions.now
     c.search.invariant.levels c.in_ok-k.ensures.extends c.in_ok-k.ensures.clauses_kept i li).0
 
-pub search-smaller-in-Continue-branch-4 : goal.search-smaller-in-Continue-branch-4
-search-smaller-in-Continue-branch-4 g c =
+pub search-smaller-in-Some : goal.search-smaller-in-Some
+search-smaller-in-Some g c =
     let v = length (g.P.Propagator.trail c.args.inner.now).values.items in
-    let w = (g.P.Propagator.trail c.learn_from.new.inner).values.items in
-    let le : unset w ≤ v = omega (arith, unset_le w, c.in_ok-learn_from-in-Some.ensures.vars, c.in_ok-k.ensures.extends.vars, c.search.invariant.vars) in
+    let w = (g.P.Propagator.trail c.follow.new.inner).values.items in
+    let le : unset w ≤ v = omega (arith, unset_le w, c.in_ok-follow-in-Some.ensures.vars, c.in_ok-k.ensures.extends.vars, c.search.invariant.vars) in
     let old = g.Q.Purse.tickets c.search.purse in
     let new = g.Q.Purse.tickets c.draw.new.self in
     let said = c.in_default.ensures.drawn in
@@ -42,12 +46,12 @@ search-smaller-in-Continue-branch-4 g c =
     measure_less (g.Q.Purse.budget c.draw.new.self - past new) (g.Q.Purse.budget c.search.purse - past old) v (unset w)
     (unset (g.P.Propagator.trail c.search.inner).values.items) (omega (arith, said.0, said.1, up, c.in_default.ensures.budget)) le
 
-pub search-preserved-in-Continue-branch-4 : goal.search-preserved-in-Continue-branch-4
-search-preserved-in-Continue-branch-4 g c =
+pub search-preserved-in-Some : goal.search-preserved-in-Some
+search-preserved-in-Some g c =
     let first = c.args.inner.now in
     let old = c.search.inner in
     let mid = c.propagate.new.self in
-    let new = c.learn_from.new.inner in
+    let new = c.follow.new.inner in
     let assumptions = c.args.assumptions.now in
     let vars = length (g.P.Propagator.trail first).values.items in
     let t = g.P.Propagator.trail mid in
@@ -59,14 +63,18 @@ search-preserved-in-Continue-branch-4 g c =
     let L : List (List Lit) → Type 0 = GrowsByLearning vars assumptions (g.P.Propagator.clauses first) in
     let learned : L cs = subst L (sym c.in_ok-k.ensures.clauses_kept) c.search.invariant.learned in
     let S : ℕ → Type 0 = λ n. LearnSays n cs t.literals.items t.starts.items cs' u.literals.items u.starts.items in
-    let said : S vars = subst S same c.in_ok-learn_from-in-Some.ensures.done in
+    let said : S vars = subst S same c.in_ok-follow-in-Some.ensures.done in
     let more = said.4 in
     let K : List (List Lit) → Type 0 = PaidFor (g.Q.Purse.tickets c.args.purse.now) (g.Q.Purse.tickets c.search.purse) (g.P.Propagator.clauses first) in
+    let I : Trail → Type 0 = λ x. IsSeen x.literals.items assumptions c.still_seen-seen.result in
     record {
       learned = learnt_more vars assumptions t.literals.items t.starts.items (g.P.Propagator.clauses first) cs cs' u.literals.items u.starts.items learned
           (assumptions_first t cs assumptions (g.met.P.Propagator.based mid) levels) said;
-      vars = c.in_ok-learn_from-in-Some.ensures.vars ∙ same;
+      vars = c.in_ok-follow-in-Some.ensures.vars ∙ same;
       levels = level_after t cs cs' assumptions u.literals.items u.starts.items more.0 more.1 more.2 more.3 more.4 levels;
+      seen = subst I c.assignment-in-Some.ensures (c.still_seen-seen.ensures t.literals.items assumptions (get_or t.starts.items more.0 0)
+          (ap (λ (x : Trail). x.literals.items) c.assignment-in-Some.ensures ∙ more.2)
+          (seen_went (g.P.Propagator.trail old).literals.items t.literals.items assumptions c.search.seen c.in_ok-k.ensures.extends.prefix c.search.invariant.seen));
       kept = g.met.Q.Purse.kept_trans c.args.purse.now c.search.purse c.draw.new.self c.search.invariant.kept c.in_default.ensures.kept;
       ready = c.in_default.ensures.ready;
       budget = c.in_default.ensures.budget ∙ c.search.invariant.budget;
@@ -94,3 +102,84 @@ returns-in-Some-2-clause-says g c =
     let same : length (g.P.Propagator.trail c.propagate.new.self).values.items ≡ length (g.P.Propagator.trail c.args.inner.now).values.items =
     c.in_ok-k.ensures.extends.vars ∙ c.search.invariant.vars in
     subst V same (h budget over)
+
+pub returns-in_err-restart-clause-log : goal.returns-in_err-restart-clause-log
+returns-in_err-restart-clause-log g c =
+    turn_none (length (g.P.Propagator.trail c.args.inner.now).values.items) c.args.assumptions.now (g.P.Propagator.clauses c.args.inner.now) (g.P.Propagator.clauses c.restart.new.inner)
+    (g.Q.Purse.tickets c.args.purse.now) (g.Q.Purse.tickets c.args.purse.now) c.restart.ensures.clauses refl
+
+pub returns-in_err-k-clause-log : goal.returns-in_err-k-clause-log
+returns-in_err-k-clause-log g c =
+    let first = c.args.inner.now in
+    let inv = c.search.invariant in
+    turn_paid (length (g.P.Propagator.trail first).values.items) c.args.assumptions.now (g.P.Propagator.clauses first) (g.P.Propagator.clauses c.search.inner) (g.P.Propagator.clauses c.propagate.new.self)
+    (g.Q.Purse.tickets c.args.purse.now) (g.Q.Purse.tickets c.search.purse) (g.Q.Purse.tickets c.search.purse) inv.learned inv.paid (c.in_err-k.ensures.clauses_kept) refl
+
+pub returns-then-len-eq0-clause-log : goal.returns-then-len-eq0-clause-log
+returns-then-len-eq0-clause-log g c =
+    let first = c.args.inner.now in
+    let inv = c.search.invariant in
+    turn_paid (length (g.P.Propagator.trail first).values.items) c.args.assumptions.now (g.P.Propagator.clauses first) (g.P.Propagator.clauses c.search.inner) (g.P.Propagator.clauses c.propagate.new.self)
+    (g.Q.Purse.tickets c.args.purse.now) (g.Q.Purse.tickets c.search.purse) (g.Q.Purse.tickets c.search.purse) inv.learned inv.paid (c.in_ok-k.ensures.clauses_kept) refl
+
+pub returns-in_err-lesson-in-Some-clause-log : goal.returns-in_err-lesson-in-Some-clause-log
+returns-in_err-lesson-in-Some-clause-log g c =
+    let first = c.args.inner.now in
+    let inv = c.search.invariant in
+    turn_paid (length (g.P.Propagator.trail first).values.items) c.args.assumptions.now (g.P.Propagator.clauses first) (g.P.Propagator.clauses c.search.inner) (g.P.Propagator.clauses c.propagate.new.self)
+    (g.Q.Purse.tickets c.args.purse.now) (g.Q.Purse.tickets c.search.purse) (g.Q.Purse.tickets c.search.purse) inv.learned inv.paid (c.in_ok-k.ensures.clauses_kept) refl
+
+pub returns-in-Spent-clause-log : goal.returns-in-Spent-clause-log
+returns-in-Spent-clause-log g c =
+    let first = c.args.inner.now in
+    let inv = c.search.invariant in
+    turn_paid (length (g.P.Propagator.trail first).values.items) c.args.assumptions.now (g.P.Propagator.clauses first) (g.P.Propagator.clauses c.search.inner) (g.P.Propagator.clauses c.propagate.new.self)
+    (g.Q.Purse.tickets c.args.purse.now) (g.Q.Purse.tickets c.search.purse) (g.Q.Purse.tickets c.draw.new.self) inv.learned inv.paid (c.in_ok-k.ensures.clauses_kept) c.in-Spent.ensures.drawn.2
+
+pub returns-in_err-e-in-None-clause-log : goal.returns-in_err-e-in-None-clause-log
+returns-in_err-e-in-None-clause-log g c =
+    let first = c.args.inner.now in
+    let inv = c.search.invariant in
+    turn_paid (length (g.P.Propagator.trail first).values.items) c.args.assumptions.now (g.P.Propagator.clauses first) (g.P.Propagator.clauses c.search.inner) (g.P.Propagator.clauses c.choose.new.inner)
+    (g.Q.Purse.tickets c.args.purse.now) (g.Q.Purse.tickets c.search.purse) (g.Q.Purse.tickets c.search.purse) inv.learned inv.paid (c.choose.ensures.clauses ∙ c.in_ok-k.ensures.clauses_kept) refl
+
+pub returns-in-Some-2-clause-log : goal.returns-in-Some-2-clause-log
+returns-in-Some-2-clause-log g c =
+    let first = c.args.inner.now in
+    let inv = c.search.invariant in
+    turn_paid (length (g.P.Propagator.trail first).values.items) c.args.assumptions.now (g.P.Propagator.clauses first) (g.P.Propagator.clauses c.search.inner) (g.P.Propagator.clauses c.choose.new.inner)
+    (g.Q.Purse.tickets c.args.purse.now) (g.Q.Purse.tickets c.search.purse) (g.Q.Purse.tickets c.search.purse) inv.learned inv.paid (c.choose.ensures.clauses ∙ c.in_ok-k.ensures.clauses_kept) refl
+
+pub returns-in_err-follow-in-Some-clause-log : goal.returns-in_err-follow-in-Some-clause-log
+returns-in_err-follow-in-Some-clause-log g c =
+    let first = c.args.inner.now in
+    let old = c.search.inner in
+    let mid = c.propagate.new.self in
+    let inv = c.search.invariant in
+    let assumptions = c.args.assumptions.now in
+    let t = g.P.Propagator.trail mid in
+    let cs = g.P.Propagator.clauses mid in
+    let vars = length (g.P.Propagator.trail first).values.items in
+    let same : length t.values.items ≡ vars = c.in_ok-k.ensures.extends.vars ∙ inv.vars in
+    let levels = levels_went (g.P.Propagator.trail old) t (g.P.Propagator.clauses old) cs assumptions inv.levels c.in_ok-k.ensures.extends c.in_ok-k.ensures.clauses_kept in
+    let x = c.in_ok-lesson-in-Some.lesson.clause.items in
+    let W : ℕ → Type 0 = λ n. Within n x in
+    let step : IsLearned vars assumptions cs x =
+    is_learned vars assumptions cs (decided t.literals.items t.starts.items) x (subst W same c.in_ok-lesson-in-Some.ensures.within)
+    (assumptions_first t cs assumptions (g.met.P.Propagator.based mid) levels) c.in_ok-lesson-in-Some.ensures.learned in
+    let L : List (List Lit) → Type 0 = λ ys. IsLearned vars assumptions ys x in
+    turn_lost vars assumptions (g.P.Propagator.clauses first) (g.P.Propagator.clauses old) (g.P.Propagator.clauses c.follow.new.inner)
+    (g.Q.Purse.tickets c.args.purse.now) (g.Q.Purse.tickets c.search.purse) (g.Q.Purse.tickets c.draw.new.self) c.in_default.field-0 x inv.learned inv.paid
+    (subst L c.in_ok-k.ensures.clauses_kept step) (c.in_err-follow-in-Some.ensures.failed ∙ c.in_ok-k.ensures.clauses_kept) c.in_default.ensures.drawn.2
+
+pub choose-requires-clause-seen : goal.choose-requires-clause-seen
+choose-requires-clause-seen g c =
+    seen_went (g.P.Propagator.trail c.search.inner).literals.items (g.P.Propagator.trail c.propagate.new.self).literals.items c.args.assumptions.now c.search.seen
+    c.in_ok-k.ensures.extends.prefix c.search.invariant.seen
+
+pub follow-requires-clause-rest : goal.follow-requires-clause-rest
+follow-requires-clause-rest g c i li =
+    let old = c.search.inner in
+    let new = c.propagate.new.self in
+    (levels_went (g.P.Propagator.trail old) (g.P.Propagator.trail new) (g.P.Propagator.clauses old) (g.P.Propagator.clauses new) c.args.assumptions.now
+    c.search.invariant.levels c.in_ok-k.ensures.extends c.in_ok-k.ensures.clauses_kept i li).0

@@ -1,6 +1,7 @@
 use Rattle.std.proofs.Common.{◌≡◌, ◌-◌, ◌+◌, ◌*◌, length}
-use Rattle.unit_propagation.specs.Values.{unset}
+use Rattle.clause_core.specs.Values.{unset}
 use Rattle.sat_core.specs.Searching.{PerLevel, Level, GrowsByLearning, PaidFor}
+use Rattle.sat_core.specs.Ends.{IsSeen}
 use Rattle.effort_purse.specs.Drawing.{past}
 use Rattle.sat_core.proofs.search.search.Given as goal
 
@@ -10,6 +11,7 @@ invariant-search g l =
       learned : GrowsByLearning (length (g.P.Propagator.trail l.fn.inner).values.items) l.assumptions (g.P.Propagator.clauses l.fn.inner) (g.P.Propagator.clauses l.inner);
       vars : length (g.P.Propagator.trail l.inner).values.items ≡ length (g.P.Propagator.trail l.fn.inner).values.items;
       levels : PerLevel (Level (g.P.Propagator.clauses l.inner) l.assumptions) (g.P.Propagator.trail l.inner).literals.items (g.P.Propagator.trail l.inner).starts.items;
+      seen : IsSeen (g.P.Propagator.trail l.inner).literals.items l.assumptions l.seen;
       kept : g.Q.Purse.kept l.fn.purse l.purse;
       ready : g.Q.Purse.ready l.purse;
       budget : g.Q.Purse.budget l.purse ≡ g.Q.Purse.budget l.fn.purse;

@@ -4,11 +4,13 @@ use Rattle.sat_prop.specs.Packing.{pairs}
 use Rattle.sat_prop.specs.declared.watch.Watches.{Watches}
 use Rattle.sat_prop.specs.Trails.{Based}
 use Rattle.sat_prop.specs.Watches.{AllGuarded, LevelsGuarded}
+use Rattle.sat_prop.specs.Roots.{ShortSwept, root}
 use Rattle.sat_prop.proofs.Ways.{reasoned_more}
 use Rattle.sat_prop.proofs.Sweeps.{based_from, reasoned_from}
 use Rattle.sat_prop.proofs.Visits.{cell_in}
 use Rattle.sat_prop.proofs.Matching.{pairs_len, pairs_push}
 use Rattle.sat_prop.proofs.Attaching.{words_low, clause_low, levels_new, watch_new, queue_less, head_cell}
+use Rattle.sat_prop.proofs.Rooted.{swept_added, swept_same}
 use Rattle.sat_prop.proofs.acts.add_on.Goals as goal
 
 pub attach-requires-clause-a_in : goal.attach-requires-clause-a_in
@@ -86,3 +88,18 @@ attach-requires-clause-b_word c =
 
 pub attach-requires-clause-words : goal.attach-requires-clause-words
 attach-requires-clause-words c = clause_low (length c.args.trail.now.values.items) c.args.c.now c.requires.within c.requires.room
+
+pub returns-in_err-attach-clause-swept : goal.returns-in_err-attach-clause-swept
+returns-in_err-attach-clause-swept c =
+    let t = c.args.trail.now in
+    let said = c.in_err-attach.ensures in
+    swept_same c.args.clauses.now c.attach.new.clauses c.args.short.now.items c.attach.new.short.items c.args.swept (root t.literals.items t.starts.items)
+    said.failed said.short_kept c.requires.swept
+
+pub returns-clause-swept : goal.returns-clause-swept
+returns-clause-swept c =
+    let t = c.args.trail.now in
+    let said = c.in_ok-attach.ensures in
+    let u = root t.literals.items t.starts.items in
+    let P : List (List Lit) → Type 0 = λ x. ShortSwept x c.attach.new.short.items c.args.swept u in
+    subst P (sym said.done) (swept_added c.args.clauses.now (c.args.c.now ∷ []) c.args.short.now.items c.attach.new.short.items c.args.swept u said.short_kept c.requires.swept)

@@ -3,7 +3,9 @@ use Rattle.std.proofs.lemmas.List.{take_all}
 use Rattle.clause_core.specs.declared.literal.Lit.{Lit}
 use Rattle.sat_prop.specs.Packing.{pairs}
 use Rattle.sat_prop.specs.Watches.{LevelsGuarded, AllGuarded}
+use Rattle.sat_prop.specs.Roots.{ShortSwept, root}
 use Rattle.sat_prop.proofs.Attaching.{levels_decide, queue_decide}
+use Rattle.sat_prop.proofs.Rooted.{swept_decide}
 use Rattle.sat_prop.proofs.acts.decide_on.Goals as goal
 
 pub returns-in_err-decide-clause-levels : goal.returns-in_err-decide-clause-levels
@@ -37,3 +39,17 @@ returns-clause-queue c =
     let hs = (pairs c.args.rows.now) in
     let P : List Lit → Type 0 = λ x. AllGuarded cs hs (take c.args.head x) x in
     subst P (sym c.in_ok-decide.ensures.literals) (queue_decide cs hs c.args.trail.now.literals.items c.args.l c.args.head (omega (arith, c.requires.rested)) c.requires.queue)
+
+pub returns-in_err-decide-clause-swept : goal.returns-in_err-decide-clause-swept
+returns-in_err-decide-clause-swept c =
+    let said = c.in_err-decide.ensures in
+    let S : List Lit → Type 0 = ShortSwept c.args.clauses.now c.args.short.now c.args.swept in
+    let P : List Lit → Type 0 = λ x. S (root x c.decide.new.self.starts.items) in
+    let Q : List ℕ → Type 0 = λ x. S (root c.args.trail.now.literals.items x) in
+    subst P (sym said.literals_kept) (subst Q (sym said.starts_kept) c.requires.swept)
+
+pub returns-clause-swept : goal.returns-clause-swept
+returns-clause-swept c =
+    let new = c.decide.new.self in
+    swept_decide c.args.clauses.now c.args.short.now c.args.swept c.args.trail.now c.args.l new.literals.items new.starts.items
+    c.in_ok-decide.ensures.literals c.in_ok-decide.ensures.starts c.requires.swept

@@ -3,6 +3,7 @@ use Rattle.clause_core.specs.declared.literal.Lit.{Lit}
 use Rattle.sat_prop.specs.Packing.{pairs}
 use Rattle.sat_prop.specs.Watches.{LevelsGuarded}
 use Rattle.sat_prop.proofs.Attaching.{levels_back, queue_back}
+use Rattle.sat_prop.proofs.Rooted.{swept_undo}
 use Rattle.sat_prop.proofs.acts.undo_on.Goals as goal
 
 pub returns-clause-levels : goal.returns-clause-levels
@@ -20,3 +21,9 @@ returns-clause-queue c =
     let new = c.undo.new.self in
     queue_back c.args.clauses.now (pairs c.args.rows.now) c.args.trail.now c.args.level c.requires.level c.requires.levels new.literals.items c.undo.ensures.literals c.len.result
     (omega (arith, c.len.ensures, new.literals.ok.0))
+
+pub returns-clause-swept : goal.returns-clause-swept
+returns-clause-swept c =
+    let new = c.undo.new.self in
+    swept_undo c.args.clauses.now c.args.short.now c.args.swept c.args.trail.now c.args.level new.literals.items new.starts.items c.requires.level
+    c.undo.ensures.literals c.undo.ensures.starts c.requires.swept

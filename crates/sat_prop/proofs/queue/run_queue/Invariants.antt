@@ -1,5 +1,5 @@
 use Rattle.std.proofs.Common.{◌≡◌, ◌≤◌, ◌+◌, ◌-◌, length, take}
-use Rattle.unit_propagation.specs.Values.{unset}
+use Rattle.clause_core.specs.Values.{unset}
 use Rattle.sat_prop.specs.Packing.{RowsMatch, pairs}
 use Rattle.sat_prop.specs.Trails.{Based}
 use Rattle.sat_prop.specs.Moves.{Extends}

@@ -1,19 +1,21 @@
-use Rattle.std.proofs.Common.{◌≡◌, ◌<◌, ◌+◌, ℕ, ◌∷◌, length, get_or, arith, subst, sym, ◌∙◌, List, [], ap, true, false, inl, inr, length-append}
+use Rattle.std.proofs.Common.{◌≡◌, ◌<◌, ◌+◌, ℕ, ◌∷◌, length, get_or, arith, subst, sym, ◌∙◌, ◌⊎◌, List, [], ap, true, false, inl, inr, length-append}
 use Rattle.std.proofs.lemmas.Bool.{cases_eq}
 use Rattle.std.proofs.lemmas.List.Elements.{All-contains}
 use Rattle.clause_core.specs.declared.literal.Lit.{Lit}
 use Rattle.clause_core.specs.Literals.{at, negate}
-use Rattle.unit_propagation.specs.Values.{holds}
+use Rattle.clause_core.specs.Values.{holds}
 use Rattle.clause_core.specs.Propagation.{UnitIn, AllFalse, Settled}
 use Rattle.sat_prop.specs.declared.trail.Trail.{Trail}
 use Rattle.sat_prop.specs.Trails.{Based, among}
 use Rattle.sat_prop.specs.Moves.{Extends}
 use Rattle.sat_prop.specs.Watches.{ShortDone}
+use Rattle.sat_prop.specs.Roots.{ShortSwept}
 use Rattle.sat_prop.proofs.Ways.{among_here, at_end}
 use Rattle.sat_prop.proofs.Sweeps.{false_on, went_push, went_none, based_push, settled_same}
 use Rattle.sat_prop.proofs.Visits.{went_grows}
 use Rattle.sat_prop.proofs.Watching.{true_from, true_grows}
 use Rattle.sat_prop.proofs.Queues.{one_settled}
+use Rattle.sat_prop.proofs.Rooted.{swept_step}
 use Rattle.sat_prop.proofs.queue.sweep_short.Goals as goal
 use Rattle.sat_prop.proofs.queue.sweep_short.Goals.{then-k-len+in-UnitOn+in_ok-imply-in-UnitOn, then-k-len+in-Rest, else-k-len}
 
@@ -44,6 +46,11 @@ short-preserved c =
     let B : Trail → Type 0 = λ x. Based x.literals.items x.reasons.items cs in
     let W : Trail → Type 0 = λ x. Extends c.args.trail.now x in
     let D : Trail → Type 0 = λ x. (i : ℕ) → i < c.short.j + 1 → ShortDone cs x.literals.items (get_or c.args.short.now i 0) in
+    let S : Trail → Type 0 = λ x. ShortSwept cs c.args.short.now c.swept_to.result x.literals.items in
+    let low : c.short.j < length c.args.short.now = omega arith in
+    let count : (c.swept_to.result ≡ c.short.swept) ⊎ ((c.short.swept ≡ c.short.j) × (k < length cs) × (c.swept_to.result ≡ c.short.j + 1)) =
+    (let L : ℕ → Type 0 = λ n. (c.swept_to.result ≡ c.short.swept) ⊎ ((c.short.swept ≡ c.short.j) × (k < n) × (c.swept_to.result ≡ c.short.j + 1)) in
+    subst L c.len-in-short.ensures c.swept_to.ensures) in
     elim c.if-k-len.branch [
       | then-k-len+in-UnitOn+in_ok-imply-in-UnitOn w ↦
           let lk : k < length cs = omega (arith, w.if-k-len.true, c.len.ensures) in
@@ -64,7 +71,7 @@ short-preserved c =
           among_here new.literals.items (length t.literals.items) l (omega (arith, ap length done.literals, length-append t.literals.items (l ∷ []))) (ap (λ xs. at xs (length t.literals.items)) done.literals ∙ at_end t.literals.items l) in
           let now : ShortDone cs new.literals.items k = λ _ _. true_from new.literals.items (get_or cs k []) l u.0.0 on in
           let all : D new = done_on cs t new c.args.short.now c.short.j one.0 inv.done now in
-          record { based = subst B (sym w.trail-is) based'; extends = subst W (sym w.trail-is) step.0; done = subst D (sym w.trail-is) all }
+          record { based = subst B (sym w.trail-is) based'; extends = subst W (sym w.trail-is) step.0; done = subst D (sym w.trail-is) all; swept = subst S (sym w.trail-is) (swept_step cs c.args.short.now c.short.swept c.swept_to.result c.short.j t new one.0 low count all inv.swept) }
       | then-k-len+in-Rest w ↦
           let P : List Lit → Type 0 = Settled (holds w.deref.result.now) in
           let Q : List ℕ → Type 0 = λ v. Settled (holds v) (get_or cs k []) in
@@ -72,9 +79,14 @@ short-preserved c =
           let now : ShortDone cs t.literals.items k = λ _ one. one_settled t.literals.items (get_or cs k []) one
           (settled_same (holds t.values.items) (among t.literals.items) (get_or cs k []) (λ l. sym (t.values_ok l)) s) in
           let all : D t = done_on cs t t c.args.short.now c.short.j (went_none t) inv.done now in
-          record { based = subst B (sym w.trail-is) inv.based; extends = subst W (sym w.trail-is) inv.extends; done = subst D (sym w.trail-is) all }
+          record { based = subst B (sym w.trail-is) inv.based; extends = subst W (sym w.trail-is) inv.extends; done = subst D (sym w.trail-is) all; swept = subst S (sym w.trail-is) (swept_step cs c.args.short.now c.short.swept c.swept_to.result c.short.j t t (went_none t) low count all inv.swept) }
       | else-k-len w ↦
           let now : ShortDone cs t.literals.items k = λ lk. absurd (omega (arith, w.if-k-len.false, c.len.ensures, lk)) in
           let all : D t = done_on cs t t c.args.short.now c.short.j (went_none t) inv.done now in
-          record { based = subst B (sym w.trail-is) inv.based; extends = subst W (sym w.trail-is) inv.extends; done = subst D (sym w.trail-is) all }
+          record { based = subst B (sym w.trail-is) inv.based; extends = subst W (sym w.trail-is) inv.extends; done = subst D (sym w.trail-is) all; swept = subst S (sym w.trail-is) (swept_step cs c.args.short.now c.short.swept c.swept_to.result c.short.j t t (went_none t) low count all inv.swept) }
     ]
+
+pub returns-in_err-imply-in-UnitOn-clause-swept : goal.returns-in_err-imply-in-UnitOn-clause-swept
+returns-in_err-imply-in-UnitOn-clause-swept c =
+    let P : List Lit → Type 0 = ShortSwept c.args.clauses.now c.args.short.now c.short.swept in
+    subst P (sym c.in_err-imply-in-UnitOn.ensures.literals_kept) c.short.invariant.swept

@@ -3,6 +3,7 @@ use Rattle.sat_prop.specs.Packing.{pairs}
 use Rattle.sat_prop.specs.Watches.{ShortTrue}
 use Rattle.sat_prop.proofs.Queues.{small_true_heads, small_grows, queue_went, levels_went, levels_kept, queue_rest}
 use Rattle.sat_prop.proofs.Visits.{went_grows}
+use Rattle.sat_prop.proofs.Rooted.{swept_went}
 use Rattle.sat_prop.proofs.settle.settle.Goals as goal
 
 pub returns-in_err-k-clause-queue : goal.returns-in_err-k-clause-queue
@@ -54,3 +55,12 @@ returns-in-None-2-clause-says c =
     let short : ShortTrue cs (pairs c.run_queue.new.rows) t'.literals.items = small_true_heads cs (pairs c.args.rows.now) (pairs c.run_queue.new.rows) t'.literals.items said.two_kept now in
     let e : c.run_queue.new.head ≡ length t'.literals.items = rw c.in-None-2.is at said.says in
     (queue_rest cs (pairs c.run_queue.new.rows) t' c.run_queue.new.head e said.watches_in said.queue short, (e, short))
+
+pub returns-in_err-k-in-None-clause-swept : goal.returns-in_err-k-in-None-clause-swept
+returns-in_err-k-in-None-clause-swept c = swept_went c.args.clauses.now c.args.short.now c.settle_short.new.swept c.settle_short.new.trail c.run_queue.new.trail c.in_err-k-in-None.ensures.extends c.in_ok-k.ensures.swept
+
+pub returns-in-Some-2-clause-swept : goal.returns-in-Some-2-clause-swept
+returns-in-Some-2-clause-swept c = swept_went c.args.clauses.now c.args.short.now c.settle_short.new.swept c.settle_short.new.trail c.run_queue.new.trail c.in_ok-k-in-None.ensures.extends c.in_ok-k.ensures.swept
+
+pub returns-in-None-2-clause-swept : goal.returns-in-None-2-clause-swept
+returns-in-None-2-clause-swept c = swept_went c.args.clauses.now c.args.short.now c.settle_short.new.swept c.settle_short.new.trail c.run_queue.new.trail c.in_ok-k-in-None.ensures.extends c.in_ok-k.ensures.swept

@@ -2,7 +2,7 @@ use Rattle.std.proofs.Common.{◌≡◌, ◌<◌, ◌+◌, ℕ, length, get_or, 
 use Rattle.std.proofs.lemmas.List.Elements.{All-contains}
 use Rattle.clause_core.specs.declared.literal.Lit.{Lit}
 use Rattle.clause_core.specs.Literals.{negate}
-use Rattle.unit_propagation.specs.Values.{holds, unset}
+use Rattle.clause_core.specs.Values.{holds, unset}
 use Rattle.clause_core.specs.Propagation.{UnitIn, AllFalse, Settled}
 use Rattle.sat_prop.specs.declared.trail.Trail.{Trail}
 use Rattle.sat_prop.specs.Trails.{Based}

@@ -1,4 +1,4 @@
-use Rattle.unit_propagation.specs.Values.{unset}
+use Rattle.clause_core.specs.Values.{unset}
 use Rattle.sat_prop.specs.Trails.{Based}
 use Rattle.sat_prop.specs.Moves.{Extends}
 use Rattle.sat_prop.proofs.sweep.sweep_all.Given as goal

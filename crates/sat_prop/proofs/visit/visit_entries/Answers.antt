@@ -5,7 +5,7 @@ use Rattle.std.proofs.lemmas.List.{length-map}
 use Rattle.std.proofs.lemmas.List.Elements.{All-push, All-weaker}
 use Rattle.clause_core.specs.declared.literal.Lit.{Lit}
 use Rattle.clause_core.specs.Literals.{negate, at, Within}
-use Rattle.unit_propagation.specs.Values.{holds}
+use Rattle.clause_core.specs.Values.{holds}
 use Rattle.clause_core.specs.Propagation.{UnitIn, AllFalse}
 use Rattle.sat_prop.specs.Packing.{pair_of, pairs, rewatched}
 use Rattle.sat_prop.specs.Words.{literal_of}

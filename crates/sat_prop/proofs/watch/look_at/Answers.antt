@@ -4,7 +4,7 @@ use Rattle.std.proofs.lemmas.Bool.{cases_Bool, both_ways}
 use Rattle.std.proofs.lemmas.List.{take_all, length-map, get_or-map}
 use Rattle.std.proofs.lemmas.List.Elements.{All-more}
 use Rattle.clause_core.specs.declared.literal.Lit.{Lit}
-use Rattle.unit_propagation.specs.Values.{holds}
+use Rattle.clause_core.specs.Values.{holds}
 use Rattle.clause_core.specs.Literals.{negate, none_lit, at}
 use Rattle.sat_prop.specs.Trails.{is_literal}
 use Rattle.sat_prop.specs.Words.{literal_of}

@@ -1,6 +1,6 @@
 use Rattle.std.proofs.Common.{◌≡◌, map, take, true}
 use Rattle.std.specs.List.{All}
-use Rattle.unit_propagation.specs.Values.{holds}
+use Rattle.clause_core.specs.Values.{holds}
 use Rattle.clause_core.specs.Literals.{negate}
 use Rattle.sat_prop.specs.Words.{literal_of}
 use Rattle.sat_prop.proofs.watch.look_at.Given as goal

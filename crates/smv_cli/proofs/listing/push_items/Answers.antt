@@ -1,6 +1,6 @@
 -- One more line, or none.
 use Rattle.std.proofs.Common.{◌<◌, ◌∙◌, ◌++◌, ℕ, Vec, Global, None, get_or, length, ap, sym, arith, refl}
-use Rattle.smv_scope.specs.Items.{item_by}
+use Rattle.smv_resolve.specs.Items.{item_by}
 use Rattle.smv_cli.specs.Listing.{items_text}
 use Rattle.smv_cli.proofs.Listings.{items_told, none_shown}
 use Rattle.smv_cli.proofs.listing.push_items.Goals as goal

@@ -1,23 +1,48 @@
 -- One more record is written, or a part of it.
-use Rattle.std.proofs.Common.{◌+◌, ◌<◌, ℕ, List, map, length, get_or, sym, subst, arith}
+use Rattle.std.proofs.Common.{◌≡◌, ◌∙◌, ◌+◌, ◌<◌, ℕ, List, All, map, length, get_or, sym, subst, ap, true, arith}
+use Rattle.std.specs.Prelude.{Contains}
+use Rattle.std.proofs.lemmas.List.Elements.{All-get_or}
 use Rattle.std.proofs.lemmas.List.{length-map}
+use Rattle.std.proofs.lemmas.List.Elements.{Contains-get_or}
 use Rattle.std.proofs.Math.ListN.{get_or-map}
 use Rattle.command_words.specs.declared.command.Effort.{Effort}
-use Rattle.smv_scope.specs.declared.item.Item.{Item}
-use Rattle.smv_scope.specs.declared.node.Node.{Node}
-use Rattle.smv_scope.specs.Items.{ResolvedItem, item_by}
+use Rattle.smv_resolve.specs.declared.item.Item.{Item}
+use Rattle.smv_resolve.specs.declared.item.ItemKind.TheVariants as item
+use Rattle.smv_resolve.specs.declared.node.Node.{Node}
+use Rattle.smv_resolve.specs.Items.{ResolvedItem, item_by}
 use Rattle.smv_tree.specs.declared.tree.Program.{Program}
+use Rattle.smv_tree.specs.declared.tree.SpecificationKind.{SpecificationKind}
+use Rattle.smv_meaning.specs.Runs.{is_claim, specifications_of}
 use Rattle.smv_cli.specs.declared.record.Record.{Record}
-use Rattle.smv_cli.specs.Records.{IsPaid}
-use Rattle.smv_cli.proofs.Recording.{Recorded-push, RecordedPart-push, RecordedPart-whole}
+use Rattle.smv_cli.specs.Records.{IsRight}
+use Rattle.smv_cli.proofs.Recording.{IsRecordOf, claimed, Recorded-push, RecordedPart-push, RecordedPart-whole}
 use Rattle.smv_cli.proofs.print.put_records.Goals as goal
 
 abbrev listed : List Node → List Item → List ResolvedItem
 listed nodes specs = map (item_by nodes) specs
 
-listed_at : (p : Program) (effort : Effort) (nodes : List Node) (specs : List Item) (i : ℕ) (s : Item) (r : Record)
-    → IsPaid p effort (i + 1) (item_by nodes (get_or specs i s)) r → IsPaid p effort (i + 1) (get_or (listed nodes specs) i (item_by nodes s)) r
-listed_at p effort nodes specs i s r right = subst (λ (x : ResolvedItem). IsPaid p effort (i + 1) x r) (sym (get_or-map (item_by nodes) specs i s)) right
+listed_at : (p : Program) (effort : Effort) (nodes : List Node) (specs : List Item) (i : ℕ) (s : Item) (kind : SpecificationKind) (r : Record) → (get_or specs i s).kind ≡ item.Specification kind
+    → r.number ≡ i + 1 → r.kind ≡ kind → IsRight p effort (item_by nodes (get_or specs i s)) r.verdict → IsRecordOf p effort (i + 1) (get_or (listed nodes specs) i (item_by nodes s)) r
+listed_at p effort nodes specs i s kind r of_kind number same right =
+    subst (λ (x : ResolvedItem). IsRecordOf p effort (i + 1) x r) (sym (get_or-map (item_by nodes) specs i s)) (number, of_kind ∙ ap item.Specification (sym same), right)
+
+not_claimed : (specs : List Item) (i : ℕ) (d : Item) → i < length specs → All (λ (x : Item). is_claim x.kind ≡ true) specs
+    → ((k : SpecificationKind) → (get_or specs i d).kind ≡ item.Specification k → ⊥) → ⊥
+not_claimed specs i d h all never = let k = claimed (get_or specs i d).kind (All-get_or (λ (x : Item). is_claim x.kind ≡ true) specs i d h all) in never k.0 k.1
+
+pub unreachable-requires : goal.unreachable-requires
+unreachable-requires g c = not_claimed c.args.specs.now c.specs.i _ (omega (arith, c.specs-test.true)) c.requires.claims c.in_default.not-Specification
+
+listed_claim : (p : Program) (nodes : List Node) (specs : List Item) (i : ℕ) (s : Item) → i < length specs → listed nodes specs ≡ specifications_of p →
+    Contains (specifications_of p) (item_by nodes (get_or specs i s))
+listed_claim p nodes specs i s within same =
+    let here : Contains (listed nodes specs) (get_or (listed nodes specs) i (item_by nodes s)) =
+    Contains-get_or (listed nodes specs) i (item_by nodes s) (omega (arith, within, length-map specs (item_by nodes))) in
+    subst (λ (x : ResolvedItem). Contains (specifications_of p) x) (get_or-map (item_by nodes) specs i s)
+    (subst (λ (xs : List ResolvedItem). Contains xs (get_or (listed nodes specs) i (item_by nodes s))) same here)
+
+pub judge-requires : goal.judge-requires
+judge-requires g c = listed_claim c.args.typed.now.scope.program c.args.typed.now.nodes c.args.specs.now c.specs.i _ c.specs-test.true c.requires.listed
 
 pub specs-preserved : goal.specs-preserved
 specs-preserved g c =
@@ -27,11 +52,14 @@ specs-preserved g c =
     let effort = c.args.effort.now in
     let specs = c.args.specs.now in
     let i = c.specs.i in
+    let made = c.in-Ok.made in
     let within : i < length (listed nodes specs) = omega (arith, c.specs-test.true, length-map specs (item_by nodes)) in
     record {
-      so_far = Recorded-push p effort (listed nodes specs) i _ c.in-Ok.made (taken c.args.sink.now) (taken c.specs.sink) (taken c.put.new.sink) c.specs.status c.status_with-status.result within (listed_at p effort nodes specs i _ c.in-Ok.made c.in-Ok.ensures) c.specs.invariant.so_far c.in_ok-put.ensures.ok c.status_with-status.ensures.value;
+      so_far = Recorded-push p effort (listed nodes specs) i _ made (taken c.args.sink.now) (taken c.specs.sink) (taken c.put.new.sink) c.specs.status c.status_with-status.result within
+          (listed_at p effort nodes specs i _ c.in-Specification.kind made c.in-Specification.is c.in-Ok.ensures.number c.in-Ok.ensures.kind c.in-Ok.ensures.right)
+          c.specs.invariant.so_far c.in_ok-put.ensures.ok c.status_with-status.ensures.value;
       small = omega arith;
-      later = omega (arith, c.in_ok-put.ensures.later);
+      same = c.in_ok-put.ensures.kept ∙ c.specs.invariant.same;
     }
 
 pub returns-in_err-put-clause-part : goal.returns-in_err-put-clause-part
@@ -42,16 +70,14 @@ returns-in_err-put-clause-part g c =
     let effort = c.args.effort.now in
     let specs = c.args.specs.now in
     let i = c.specs.i in
+    let made = c.in-Ok.made in
     let within : i < length (listed nodes specs) = omega (arith, c.specs-test.true, length-map specs (item_by nodes)) in
-    RecordedPart-push p effort (listed nodes specs) i _ c.in-Ok.made (taken c.args.sink.now) (taken c.specs.sink) (taken c.put.new.sink) c.specs.status within (listed_at p effort nodes specs i _ c.in-Ok.made c.in-Ok.ensures) c.specs.invariant.so_far c.put.ensures.front
+    RecordedPart-push p effort (listed nodes specs) i _ made (taken c.args.sink.now) (taken c.specs.sink) (taken c.put.new.sink) c.specs.status within
+    (listed_at p effort nodes specs i _ c.in-Specification.kind made c.in-Specification.is c.in-Ok.ensures.number c.in-Ok.ensures.kind c.in-Ok.ensures.right)
+    c.specs.invariant.so_far c.put.ensures.front
 
-pub returns-in_default-clause-part : goal.returns-in_default-clause-part
-returns-in_default-clause-part g c =
-    let taken = g.K.Sink.taken in
-    RecordedPart-whole c.args.typed.now.scope.program c.args.effort.now (listed c.args.typed.now.nodes c.args.specs.now) c.specs.i (taken c.args.sink.now) (taken c.specs.sink) c.specs.status c.specs.invariant.so_far
-
-pub returns-in_default-judge_anew-clause-part : goal.returns-in_default-judge_anew-clause-part
-returns-in_default-judge_anew-clause-part g c =
+pub returns-in_default-judge-clause-part : goal.returns-in_default-judge-clause-part
+returns-in_default-judge-clause-part g c =
     let taken = g.K.Sink.taken in
     RecordedPart-whole c.args.typed.now.scope.program c.args.effort.now (listed c.args.typed.now.nodes c.args.specs.now) c.specs.i (taken c.args.sink.now) (taken c.specs.sink) c.specs.status c.specs.invariant.so_far
 

@@ -1,8 +1,9 @@
 -- One more binding is written, and then there are no more.
-use Rattle.std.proofs.Common.{◌∙◌, ◌++◌, ◌<◌, ◌≤◌, min, length, take, refl, subst, ap, arith, codes, List, ℕ, false, get_or}
+use Rattle.std.proofs.Common.{◌∙◌, ◌++◌, ◌<◌, ◌≤◌, min, length, take, refl, subst, ap, arith, codes, List, [], ℕ, false, get_or}
 use Rattle.std.specs.Fmt.{HasWritten}
 use Rattle.std.specs.List.{zip}
 use Rattle.std.proofs.lemmas.Grind.{put_two}
+use Rattle.smv_value.specs.declared.value.Value.{Value}
 use Rattle.smv_value.specs.declared.value.Value.TheVariants.{Bool}
 use Rattle.smv_value.specs.Texts.{value_text}
 use Rattle.smv_cli.specs.Texts.{more_bindings}
@@ -19,8 +20,11 @@ loop-i-preserved g c = λ plain.
     let name = c.index-names-i.result in
     let in_names : i < length names = omega (arith, c.loop-i-test.true, c.min-i-end.ensures) in
     let in_values : i < length values = omega (arith, c.loop-i-test.true, c.min-i-end.ensures) in
+    let front = more_bindings (take i (zip names values)) in
     put_two _ _ _ _ _ _ _ before wrote
-    (ap (λ (n : List ℕ). more_bindings (take i (zip names values)) ++ (codes ", " ++ (n ++ (codes " = " ++ value_text (get_or values i (Bool false)))))) c.index-names-i.is
+    (ap (λ (n : List ℕ). front ++ (codes ", " ++ (n ++ (codes " = " ++ value_text c.shown.result.names.now c.shown.result.value)))) c.index-names-i.is
+    ∙ ap (λ (ns : List (List ℕ)). front ++ (codes ", " ++ (get_or names i name ++ (codes " = " ++ value_text ns c.shown.result.value)))) c.shown.ensures.names
+    ∙ ap (λ (v : Value). front ++ (codes ", " ++ (get_or names i name ++ (codes " = " ++ value_text [] v)))) c.shown.ensures.value
     ∙ bindings_more names values i name (Bool false) in_names in_values)
 
 pub returns : goal.returns

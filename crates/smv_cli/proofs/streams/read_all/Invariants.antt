@@ -7,7 +7,7 @@ invariant-loop-buf g l = record {
   taken : Consumes (g.S.Source.left l.initial.source) (g.S.Source.left l.source) l.text.items;
   within : vec_len l.text ≤ l.limit;
   room : length l.buf ≡ 4096;
-  later : g.S.Source.faults l.initial.source ≤ g.S.Source.faults l.source;
+  same : g.S.Source.faults l.source ≡ g.S.Source.faults l.initial.source;
 }
 
 abbrev pub decreases-loop-buf : goal.decreases-loop-buf

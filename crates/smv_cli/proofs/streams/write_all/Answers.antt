@@ -8,5 +8,5 @@ loop-at-preserved g c =
     record {
       taken = Appends-more (taken c.args.sink.now) (taken c.loop-at.sink) (taken c.write.new.self) c.args.piece.now c.loop-at.at c.in-Ok.count c.loop-at.invariant.taken c.in-Ok.ensures.bytes;
       within = omega (arith, c.in-Ok.ensures.bound);
-      later = omega (arith, c.in-Ok.ensures.cause.later);
+      same = omega (arith, c.in-Ok.ensures.cause.taken);
     }

@@ -1,35 +1,25 @@
--- A report on each kind of text.
-use Rattle.smv_front.specs.Sources.{IsRefusedBy}
-use Rattle.smv_cli.proofs.Reports.{refused-part, refused-result, judged-result, judged-part, listed-result, listed-part, nothing-part}
+-- The report of the command.
+use Rattle.std.proofs.Common.{ℕ, IfOk, subst, sym}
+use Rattle.command_words.specs.declared.command.Command.{Command}
+use Rattle.smv_cli.specs.Written.{CommandDone, CommandPart}
 use Rattle.smv_cli.proofs.top.report.Goals as goal
-
-pub returns-in-Err-Refused-clause-ok : goal.returns-in-Err-Refused-clause-ok
-returns-in-Err-Refused-clause-ok g c =
-    let refusal = c.in-Err-Refused.refusal in
-    let broken : IsRefusedBy c.args.text.now refusal = rw c.in-Err-Refused.field-0-is at c.in-Err-Refused.ensures.refused in
-    refused-result c.args.command.now c.args.text.now refusal (g.K.Sink.taken c.args.sink.now) (g.K.Sink.taken c.refuse.new.sink) c.refuse.result broken c.refuse.ensures.ok
-
-pub returns-in-Err-Refused-clause-part : goal.returns-in-Err-Refused-clause-part
-returns-in-Err-Refused-clause-part g c =
-    let refusal = c.in-Err-Refused.refusal in
-    let broken : IsRefusedBy c.args.text.now refusal = rw c.in-Err-Refused.field-0-is at c.in-Err-Refused.ensures.refused in
-    refused-part c.args.command.now c.args.text.now refusal (g.K.Sink.taken c.args.sink.now) (g.K.Sink.taken c.refuse.new.sink) broken c.refuse.ensures.front
 
 pub returns-in-Check-clause-ok : goal.returns-in-Check-clause-ok
 returns-in-Check-clause-ok g c =
-    judged-result c.args.command.now c.in-Check.effort c.in-Check.is c.args.text.now c.in-Ok.flat.typed.scope.program (g.K.Sink.taken c.args.sink.now) (g.K.Sink.taken c.report_model.new.sink) c.report_model.result c.in-Ok.ensures.model c.report_model.ensures.ok
+    let taken = g.K.Sink.taken in
+    subst (λ (command : Command). IfOk c.check.result (λ (status : ℕ). CommandDone command c.args.text.now (taken c.args.sink.now) (taken c.check.new.sink) status)) (sym c.in-Check.is) c.check.ensures.ok
 
 pub returns-in-Check-clause-part : goal.returns-in-Check-clause-part
 returns-in-Check-clause-part g c =
-    judged-part c.args.command.now c.in-Check.effort c.in-Check.is c.args.text.now c.in-Ok.flat.typed.scope.program (g.K.Sink.taken c.args.sink.now) (g.K.Sink.taken c.report_model.new.sink) c.in-Ok.ensures.model c.report_model.ensures.part
+    let taken = g.K.Sink.taken in
+    subst (λ (command : Command). CommandPart command c.args.text.now (taken c.args.sink.now) (taken c.check.new.sink)) (sym c.in-Check.is) c.check.ensures.part
 
-pub returns-in-Ok-clause-ok : goal.returns-in-Ok-clause-ok
-returns-in-Ok-clause-ok g c =
-    listed-result c.args.command.now c.in-Flat.is c.args.text.now c.in-Ok.flat.typed.scope.program (g.K.Sink.taken c.args.sink.now) (g.K.Sink.taken c.report_listing.new.sink) c.report_listing.result c.in-Ok.ensures.model c.report_listing.ensures.ok
+pub returns-in-Flat-clause-ok : goal.returns-in-Flat-clause-ok
+returns-in-Flat-clause-ok g c =
+    let taken = g.K.Sink.taken in
+    subst (λ (command : Command). IfOk c.list.result (λ (status : ℕ). CommandDone command c.args.text.now (taken c.args.sink.now) (taken c.list.new.sink) status)) (sym c.in-Flat.is) c.list.ensures.ok
 
-pub returns-in-Ok-clause-part : goal.returns-in-Ok-clause-part
-returns-in-Ok-clause-part g c =
-    listed-part c.args.command.now c.in-Flat.is c.args.text.now c.in-Ok.flat.typed.scope.program (g.K.Sink.taken c.args.sink.now) (g.K.Sink.taken c.report_listing.new.sink) c.in-Ok.ensures.model c.report_listing.ensures.part
-
-pub returns-clause-part : goal.returns-clause-part
-returns-clause-part g c = nothing-part c.args.command.now c.args.text.now (g.K.Sink.taken c.args.sink.now)
+pub returns-in-Flat-clause-part : goal.returns-in-Flat-clause-part
+returns-in-Flat-clause-part g c =
+    let taken = g.K.Sink.taken in
+    subst (λ (command : Command). CommandPart command c.args.text.now (taken c.args.sink.now) (taken c.list.new.sink)) (sym c.in-Flat.is) c.list.ensures.part

@@ -1,6 +1,6 @@
 -- The node so far is the slot that the first is.
 use Rattle.std.proofs.Common.{◌≡◌}
-use Rattle.smv_scope.specs.Resolved.{part_of}
+use Rattle.smv_resolve.specs.Resolved.{part_of}
 use Rattle.smv_flat.specs.Assignments.{assigned_slot}
 use Rattle.smv_flat.proofs.assigned.assigned_slot.Given as goal
 

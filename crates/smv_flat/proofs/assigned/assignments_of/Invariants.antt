@@ -1,7 +1,7 @@
 -- The assignments of the items so far.
 use Rattle.std.proofs.Common.{◌≡◌, map, take}
 use Rattle.std.specs.List.{flat_map}
-use Rattle.smv_scope.specs.Items.{item_by}
+use Rattle.smv_resolve.specs.Items.{item_by}
 use Rattle.smv_flat.specs.Assignments.{assignment_in}
 use Rattle.smv_flat.specs.Graph.{assigned_by}
 use Rattle.smv_flat.proofs.assigned.assignments_of.Given as goal

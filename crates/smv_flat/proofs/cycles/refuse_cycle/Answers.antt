@@ -1,7 +1,7 @@
 -- The slots of a cycle of the graph are one of dependencies, and where the graph has none there is none.
 use Rattle.std.proofs.Common.{◌≡◌, ◌∙◌, ap, sym, subst, arith, ℕ, List, length, map}
 use Rattle.digraph.specs.Cycles.{Acyclic, Closed, IsLeastRound}
-use Rattle.smv_scope.specs.declared.node.Node.{Node}
+use Rattle.smv_resolve.specs.declared.node.Node.{Node}
 use Rattle.smv_scope.specs.Slots.{slots_of}
 use Rattle.smv_flat.specs.Assignments.{dependencies}
 use Rattle.smv_flat.specs.Graph.{assigned_by, slots_among, whole_graph}

@@ -15,11 +15,11 @@ loop-i-preserved c = λ t later.
     let nodes = c.args.nodes.now in
     let within : c.loop-i.i ≤ length nodes = omega arith in
     c.in_ok-push.ensures.items
-    ∙ ap (λ (l : List Outcome). l ++ c.outcome_by-outcome.result ∷ []) (sym c.as_slice.ensures.value)
-    ∙ outcomes_next slots c.args.s.now c.args.u.now t nodes c.as_slice.result.now c.first.result.now c.loop-i.i _ c.outcome_by-outcome.result c.loop-i-test.true
+    ∙ ap (λ (l : List Outcome). l ++ c.in_ok-outcome.outcome ∷ []) (sym c.as_slice.ensures.value)
+    ∙ outcomes_next slots c.args.s.now c.args.u.now t nodes c.as_slice.result.now c.first.result.now c.loop-i.i _ c.in_ok-outcome.outcome c.loop-i-test.true
     (c.as_slice.ensures.value ∙ c.loop-i.invariant t later)
     (c.first.ensures ∙ ap (take c.loop-i.i) later ∙ outcomes_of-take slots t [] [] nodes c.loop-i.i within)
-    c.outcome_by-outcome.ensures
+    c.in_ok-outcome.ensures
 
 pub returns : goal.returns
 returns c = λ t later.

@@ -1,7 +1,7 @@
 -- The specifications so far.
 use Rattle.std.proofs.Common.{◌≡◌, take}
 use Rattle.std.specs.List.{filter}
-use Rattle.smv_scope.specs.declared.item.Item.{Item}
+use Rattle.smv_resolve.specs.declared.item.Item.{Item}
 use Rattle.smv_meaning.specs.Runs.{is_claim}
 use Rattle.smv_meaning.proofs.readers.specifications.Given as goal
 

@@ -3,7 +3,7 @@ use Rattle.std.proofs.Common.{◌≡◌, take}
 use Rattle.std.specs.List.{flat_map}
 use Rattle.smv_tree.specs.declared.tree.Name.{Name}
 use Rattle.smv_scope.specs.Lookup.{name_target}
-use Rattle.smv_names.specs.Lent.{read}
+use Rattle.smv_tree.specs.Occurring.{read}
 use Rattle.smv_names.specs.Defined.{entry_of_target}
 use Rattle.smv_names.proofs.entries.entries_named.Given as goal
 

@@ -1,6 +1,6 @@
 -- What stands there and what is to come are the same as before.
 use Rattle.std.proofs.Common.{◌≡◌, ◌++◌, drop}
-use Rattle.smv_names.specs.Lent.{read}
+use Rattle.smv_tree.specs.Occurring.{read}
 use Rattle.smv_names.specs.Defined.{defined_entries}
 use Rattle.smv_names.specs.Entries.{read_entries}
 use Rattle.smv_names.proofs.entries.push_defined.Given as goal

@@ -2,8 +2,8 @@ use Rattle.std.proofs.Common.{Bool, ap, sym, ◌∙◌, take_all}
 use Rattle.smv_scope.proofs.Firsts.{first_next, first_all}
 use Rattle.smv_scope.proofs.Indexing.{position-map}
 use Rattle.smv_names.specs.declared.entries.Entry.{Entry as LentEntry}
-use Rattle.smv_scope.specs.declared.work.Shared.{Shared}
-use Rattle.smv_scope.specs.Finding.{shared_eq}
+use Rattle.smv_scope.specs.declared.target.Shared.{Shared}
+use Rattle.smv_scope.specs.Targets.{shared_eq}
 use Rattle.smv_names.specs.Entries.{is_keyed, read_entry}
 use Rattle.smv_names.proofs.Numbered.{keyed}
 use Rattle.smv_names.proofs.numbers.entry_numbers.Goals as goal

@@ -2,8 +2,8 @@
 use Rattle.std.proofs.Common.{◌≡◌, take, position}
 use Rattle.std.specs.HashMap.{get}
 use Rattle.smv_names.specs.declared.entries.Entry.{Entry as LentEntry}
-use Rattle.smv_scope.specs.declared.work.Shared.{Shared}
-use Rattle.smv_scope.specs.Finding.{shared_eq}
+use Rattle.smv_scope.specs.declared.target.Shared.{Shared}
+use Rattle.smv_scope.specs.Targets.{shared_eq}
 use Rattle.smv_names.specs.Entries.{is_keyed, read_entry}
 use Rattle.smv_names.proofs.numbers.entry_numbers.Given as goal
 

@@ -1,6 +1,6 @@
 -- What is left of the items gives the refusal of all.
 use Rattle.std.proofs.Common.{◌≡◌, drop, map}
-use Rattle.smv_scope.specs.Items.{item_by}
+use Rattle.smv_resolve.specs.Items.{item_by}
 use Rattle.smv_types.specs.Kinds.{item_refusal}
 use Rattle.smv_names.specs.Verdicts.{first_of}
 use Rattle.smv_types.proofs.items.misused.Given as goal

@@ -1,6 +1,6 @@
 -- The nodes so far are told.
 use Rattle.std.proofs.Common.{take}
-use Rattle.smv_scope.specs.Resolved.{parts_of}
+use Rattle.smv_resolve.specs.Resolved.{parts_of}
 use Rattle.smv_types.specs.Judged.{Tells}
 use Rattle.smv_types.proofs.kinds.judge_nodes.Given as goal
 

@@ -1,9 +1,6 @@
-use Rattle.std.proofs.Common.{◌≡◌, ◌+◌, length}
+use Rattle.std.proofs.Common.{◌≡◌, length}
 use Rattle.bit_graph.proofs.Grown.{Starts}
 use Rattle.bit_graph.proofs.graph.Graph.new.Given as goal
 
 abbrev pub invariant-inputs : goal.invariant-inputs
 invariant-inputs l = record { count : length l.nodes.items ≡ l.counter; starts : Starts l.counter l.nodes.items }
-
-abbrev pub invariant-gap : goal.invariant-gap
-invariant-gap l = record { count : length l.nodes.items ≡ l.fn.inputs + l.counter; starts : Starts l.fn.inputs l.nodes.items }

@@ -5,10 +5,10 @@ use Rattle.clause_core.proofs.clause.Clauses.push.Goals as goal
 pub returns-clause-done : goal.returns-clause-done
 returns-clause-done c =
     rw (← c.self.view_is, c.in_ok-extend_from_slice.ensures.items, c.in_ok-push.ensures.items, c.as_slice-from.ensures.value)
-    (pieces_push c.self.inside.lits.items c.args.c.now c.self.inside.spans.items c.self.invariant)
+    (pieces_push c.self.inside.lits.items c.args.c.now c.self.inside.spans.items c.self.invariant.within)
 
 pub returns-in_err-push-clause-failed : goal.returns-in_err-push-clause-failed
 returns-in_err-push-clause-failed c =
     let p = err_from_is_err_and c.from_residual-in_err-push.result c.from_residual-in_err-push.ensures.1 in
     rw (p.1, ← c.self.view_is, c.in_ok-extend_from_slice.ensures.items, c.in_err-push.ensures.items)
-    (pieces_kept c.self.inside.lits.items c.args.c.now c.self.inside.spans.items c.self.invariant)
+    (pieces_kept c.self.inside.lits.items c.args.c.now c.self.inside.spans.items c.self.invariant.within)

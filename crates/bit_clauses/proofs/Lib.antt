@@ -1,0 +1,9 @@
+pub mod Asserting
+pub mod Pushing
+pub mod Meanings
+pub mod Gating
+pub mod Moves
+pub mod Joining
+pub mod Deciders
+pub mod Defining
+pub mod Results

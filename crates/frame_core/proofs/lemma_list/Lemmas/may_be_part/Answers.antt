@@ -1,0 +1,23 @@
+use Rattle.std.proofs.Common.{◌≡◌, ◌<◌, ℕ, List, length, get_or, bit_and, ◌∙◌, ap, subst, sym, arith, eq-eqb}
+use Rattle.std.proofs.lemmas.List.{get_or_read}
+use Rattle.frame_core.specs.declared.parts.Lemma.{Lemma}
+use Rattle.frame_core.specs.Facts.{IsPart}
+use Rattle.frame_core.specs.Law.{lemma_at}
+use Rattle.frame_core.proofs.Signed.{part_has_bits}
+use Rattle.frame_core.proofs.lemma_list.Lemmas.may_be_part.Goals as goal
+
+pub returns : goal.returns
+returns c = λ clause is part.
+    let n = c.args.n in
+    let ls : List Lemma = c.self.inside.items.items in
+    let words : List ℕ = c.self.inside.signatures.items in
+    let word : ℕ = get_or words n 0 in
+    let lt : n < length ls = subst (λ (z : List Lemma). n < length z) (sym c.self.view_is) c.requires in
+    let many = c.self.invariant.as_many in
+    let low : n < length words = omega arith in
+    let here : IsPart (lemma_at ls n).clause clause = subst (λ (z : List Lemma). IsPart (lemma_at z n).clause clause) (sym c.self.view_is) part in
+    let same : bit_and word c.args.signature ≡ word =
+    part_has_bits (lemma_at ls n).clause clause word c.args.signature (c.self.invariant.each n lt) is here in
+    let a : c.index.result.now ≡ word = get_or_read words n c.index.result.now low c.index.ensures 0 in
+    let b : c.index-2.result.now ≡ word = get_or_read words n c.index-2.result.now low c.index-2.ensures 0 in
+    eq-eqb _ _ (ap (λ (z : ℕ). bit_and z c.args.signature) a ∙ same ∙ sym b)

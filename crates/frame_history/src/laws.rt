@@ -1,0 +1,21 @@
+//! What every lawful history keeps, as contracts of functions that do nothing.
+
+ghost use Rattle.std.specs.Prelude.{◌≡◌, ◌<◌, ◌≤◌, ℕ, Bool, List, length, take};
+ghost use Rattle.clause_core.specs.Assignments.{ClauseTrue};
+ghost use Rattle.clause_core.specs.Systems.{TransitionSystem, ReachedWithin};
+ghost use Rattle.frame_core.specs.declared.parts.Lemma.{Lemma as ALemma};
+ghost use Rattle.frame_core.specs.Law.{FramesHold, system_at, lemma_at};
+ghost use Rattle.frame_history.specs.declared.entries.Limits.{Limits as ALimits};
+ghost use Rattle.frame_history.specs.declared.entries.Entry.{Entry as AnEntry};
+ghost use Rattle.frame_history.specs.History.{start, replay, IsLawful, AreCarried};
+
+/// After each entry of a lawful history the law of the frames holds, whatever lemmas were carried that hold in each of
+/// the systems.
+pub fn a_lawful_history_keeps_the_law_of_the_frames()
+    ensures { (limits : ALimits) (systems : List TransitionSystem) (carried : List ALemma) (history : List AnEntry) → AreCarried systems carried → IsLawful limits (start systems carried) history → (n : ℕ) → FramesHold (replay (start systems carried) (take n history)).frames }
+{}
+
+/// So after each entry each lemma of level i holds in each state that is reached in at most i steps.
+pub fn lemmas_hold_in_reached_states()
+    ensures { (limits : ALimits) (systems : List TransitionSystem) (carried : List ALemma) (history : List AnEntry) → AreCarried systems carried → IsLawful limits (start systems carried) history → (n j : ℕ) → j < length systems → (i : ℕ) (x : ℕ → Bool) → ReachedWithin (system_at systems j) i x → (l : ℕ) → l < length (replay (start systems carried) (take n history)).frames.lemmas → i ≤ (lemma_at (replay (start systems carried) (take n history)).frames.lemmas l).level → ClauseTrue x (lemma_at (replay (start systems carried) (take n history)).frames.lemmas l).clause }
+{}

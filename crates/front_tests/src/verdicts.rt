@@ -1,0 +1,229 @@
+//! What sources are read, and how others are refused; and how many levels may be opened.
+
+use crate::program_of;
+use smv_tree::TextStop;
+use std::alloc::{AllocError, Global};
+use std::test::Fail;
+
+/// A source, and the line by which it is refused; or nothing, where it is read.
+const VERDICTS: [(&str, &str); 33] = [
+    ("", ""),
+    ("MODULE main", ""),
+    (
+        "MODULE main VAR x : boolean; y : boolean; ASSIGN init(x) := FALSE; next(x) := !y; y := x & y -> x;",
+        "",
+    ),
+    (
+        "MODULE main INIT x TRANS next(x) = y; INVARSPEC NAME p := x <-> y; INVARSPEC x xor y xnor TRUE",
+        "",
+    ),
+    (
+        "MODULE main(a) VAR m : other(x | y); n : other(); abs : other; INIT abs != x",
+        "",
+    ),
+    ("MODULE m(a, b) MODULE main VAR s : m(x, self.y);", ""),
+    (
+        "MODULE main IVAR i : boolean; FROZENVAR f : boolean; DEFINE d := i ? m.x : f; INVAR d JUSTICE d; FAIRNESS d",
+        "",
+    ),
+    ("MODULE main ASSIGN init(m.x) := self.y; m.y := TRUE;", ""),
+    ("x", "-- refused 201 Unexpected at 1:1: x\n"),
+    ("MODULE", "-- refused 201 Unexpected at 1:7: end\n"),
+    (
+        "MODULE main\nVAR x : boolean",
+        "-- refused 201 Unexpected at 2:16: end\n",
+    ),
+    (
+        "MODULE main\nVAR x : boolean ASSIGN",
+        "-- refused 201 Unexpected at 2:17: ASSIGN\n",
+    ),
+    (
+        "MODULE main\nINIT x y",
+        "-- refused 201 Unexpected at 2:8: y\n",
+    ),
+    (
+        "MODULE main\nINIT x; ;",
+        "-- refused 201 Unexpected at 2:9: ;\n",
+    ),
+    (
+        "MODULE main\nINIT (x",
+        "-- refused 201 Unexpected at 2:8: end\n",
+    ),
+    (
+        "MODULE main\nINIT (x;",
+        "-- refused 201 Unexpected at 2:8: ;\n",
+    ),
+    (
+        "MODULE main\nINIT",
+        "-- refused 201 Unexpected at 2:5: end\n",
+    ),
+    (
+        "MODULE main\nINIT x & & y",
+        "-- refused 201 Unexpected at 2:10: &\n",
+    ),
+    (
+        "MODULE main\nINIT !)",
+        "-- refused 201 Unexpected at 2:7: )\n",
+    ),
+    (
+        "MODULE main\nINIT x -> ; y",
+        "-- refused 201 Unexpected at 2:11: ;\n",
+    ),
+    (
+        "MODULE main\nTRANS next x",
+        "-- refused 201 Unexpected at 2:12: x\n",
+    ),
+    (
+        "MODULE main\nINIT x ? y",
+        "-- refused 201 Unexpected at 2:11: end\n",
+    ),
+    (
+        "MODULE main\nINIT x ? y; z",
+        "-- refused 201 Unexpected at 2:11: ;\n",
+    ),
+    (
+        "MODULE main\nINIT x.self",
+        "-- refused 201 Unexpected at 2:8: self\n",
+    ),
+    (
+        "MODULE main\nINVARSPEC NAME x = y",
+        "-- refused 201 Unexpected at 2:18: =\n",
+    ),
+    (
+        "MODULE main\nASSIGN init x := y",
+        "-- refused 201 Unexpected at 2:13: x\n",
+    ),
+    (
+        "MODULE main\nASSIGN x := y INIT x",
+        "-- refused 201 Unexpected at 2:15: INIT\n",
+    ),
+    ("MODULE main(a,)", "-- refused 201 Unexpected at 1:15: )\n"),
+    (
+        "MODULE main\nVAR m : n(x, y;",
+        "-- refused 201 Unexpected at 2:15: ;\n",
+    ),
+    (
+        "VAR x : integer;",
+        "-- refused 203 Unsupported at 1:9: integer\n",
+    ),
+    (
+        "MODULE main\nINIT abs(x)",
+        "-- refused 203 Unsupported at 2:6: abs\n",
+    ),
+    (
+        "MODULE main\nINIT x + y IVAR",
+        "-- refused 203 Unsupported at 2:8: +\n",
+    ),
+    (
+        "MODULE main\nVAR x",
+        "-- refused 201 Unexpected at 2:6: end\n",
+    ),
+];
+
+/// The head of a source, what opens and closes a level before and behind `x`, how often, and the line by which it is refused.
+const LEVELS: [(&str, &str, &str, usize, &str); 6] = [
+    ("MODULE main\nINIT ", "(", ")", 256, ""),
+    (
+        "MODULE main\nINIT ",
+        "(",
+        ")",
+        257,
+        "-- refused 202 TooDeep at 2:262\n",
+    ),
+    ("MODULE main\nINIT ", "!", "", 256, ""),
+    (
+        "MODULE main\nINIT ",
+        "x -> ",
+        "",
+        257,
+        "-- refused 202 TooDeep at 2:1288\n",
+    ),
+    (
+        "MODULE main\nVAR m : n(",
+        "(",
+        ")",
+        255,
+        "-- refused 201 Unexpected at 2:522: end\n",
+    ),
+    (
+        "MODULE main\nVAR m : n(",
+        "(",
+        ")",
+        256,
+        "-- refused 202 TooDeep at 2:266\n",
+    ),
+];
+
+fn is_refused_by(alloc: Global, stop: &TextStop, wanted: &str) -> bool {
+    match stop {
+        TextStop::Refused(refusal) => match refusal.to_string(alloc) {
+            Ok(line) => line.as_str() == wanted,
+            Err(_) => false,
+        },
+        TextStop::NoMemory => false,
+    }
+}
+
+fn holds(alloc: Global, source: &str, wanted: &str) -> bool {
+    match program_of(alloc, source.as_bytes()) {
+        Ok(_) => wanted.is_empty(),
+        Err(stop) => is_refused_by(alloc, &stop, wanted),
+    }
+}
+
+fn first_wrong(alloc: Global) -> Option<&'static str> {
+    for (source, wanted) in &VERDICTS {
+        if !holds(alloc, *source, *wanted) {
+            return Some(*source);
+        }
+    }
+    None
+}
+
+fn push_times(text: &mut String, part: &str, count: usize) -> Result<(), AllocError> {
+    for _ in 0..count {
+        text.push_str(part)?;
+    }
+    Ok(())
+}
+
+fn nested(
+    alloc: Global,
+    head: &str,
+    open: &str,
+    close: &str,
+    count: usize,
+) -> Result<String, AllocError> {
+    let mut text = String::from_str(alloc, head)?;
+    push_times(&mut text, open, count)?;
+    text.push_str("x")?;
+    push_times(&mut text, close, count)?;
+    Ok(text)
+}
+
+fn first_wrong_level(alloc: Global) -> Option<usize> {
+    for (n, (head, open, close, count, wanted)) in LEVELS.iter().enumerate() {
+        let right = match nested(alloc, *head, *open, *close, *count) {
+            Ok(source) => holds(alloc, source.as_str(), *wanted),
+            Err(_) => false,
+        };
+        if !right {
+            return Some(n);
+        }
+    }
+    None
+}
+
+#[test]
+fn sources_are_judged(rt: HostRuntime) -> Result<(), Fail> {
+    let wrong = first_wrong(rt.alloc());
+    assert_eq!(rt; wrong, None);
+    Ok(())
+}
+
+#[test]
+fn levels_are_counted(rt: HostRuntime) -> Result<(), Fail> {
+    let wrong = first_wrong_level(rt.alloc());
+    assert_eq!(rt; wrong, None);
+    Ok(())
+}

@@ -1,0 +1,16 @@
+use Rattle.std.proofs.Common.{ℕ, List, subst, sym}
+use Rattle.std.specs.List.{All}
+use Rattle.clause_core.specs.Literals.{Within}
+use Rattle.sat_prop.specs.Roots.{ShortSwept, root}
+use Rattle.sat_prop.proofs.watched.WatchedPropagator.undo.Goals as goal
+
+pub invariant_of-self-clause-swept_in : goal.invariant_of-self-clause-swept_in
+invariant_of-self-clause-swept_in c =
+    let t = c.undo_on.new.trail in
+    let P : List ℕ → Type 0 = λ xs. ShortSwept c.args.self.now.clauses xs c.args.self.now.swept (root t.literals.items t.starts.items) in
+    subst P c.deref.ensures.value c.undo_on.ensures.swept
+
+pub invariant_of-self-clause-within_in : goal.invariant_of-self-clause-within_in
+invariant_of-self-clause-within_in c =
+    let P : ℕ → Type 0 = λ n. All (Within n) c.args.self.now.clauses in
+    subst P (sym c.undo_on.ensures.vars) c.args.self.now.within_in

@@ -1,0 +1,43 @@
+-- Conditions and branches, from a place of their list on.
+use Rattle.std.proofs.Common.{Bool, true, false, Option, None, Some, ◌≡◌, ◌∙◌, ℕ, zero, suc, ◌+◌, ◌<◌, ◌≤◌, List, [], ◌∷◌, length, get_or, drop, refl, ap, arith}
+use Rattle.std.proofs.lemmas.List.{drop_more, get_or_default}
+use Rattle.smv_tree.specs.declared.place.Place.{Place}
+use Rattle.smv_value.specs.declared.value.FaultRule.TheVariants as fault
+use Rattle.smv_meaning.specs.declared.value.Outcome.{Outcome}
+use Rattle.smv_meaning.specs.declared.value.Outcome.TheVariants.{Fault}
+use Rattle.smv_meaning.specs.Values.{choice, failed, taken, truth}
+
+two_more : (xs : List Outcome) (i : ℕ) (d : Outcome) → i + 1 < length xs → drop i xs ≡ get_or xs i d ∷ get_or xs (i + 1) d ∷ drop (i + 2) xs
+two_more xs i d l =
+    let two : i + 1 + 1 ≡ i + 2 = omega arith in
+    drop_more xs i d (omega (arith, l)) ∙ ap (λ (ys : List Outcome). get_or xs i d ∷ ys) (drop_more xs (i + 1) d l ∙ ap (λ (n : ℕ). get_or xs (i + 1) d ∷ drop n xs) two)
+
+-- a condition and its branch
+choice_at : (p : Place) (xs : List Outcome) (i : ℕ) (d : Outcome) → i + 1 < length xs →
+    choice p (drop i xs) ≡ taken (truth (get_or xs i d)) (get_or xs i d) (get_or xs (i + 1) d) (choice p (drop (i + 2) xs))
+choice_at p xs i d l = ap (choice p) (two_more xs i d l)
+
+-- no condition with a branch is left
+pub choice_end : (p : Place) (xs : List Outcome) (i : ℕ) → length xs ≤ i + 1 → choice p (drop i xs) ≡ get_or xs i (Fault fault.CaseOpen p)
+choice_end p [] zero l = refl
+choice_end p [] (suc i) l = refl
+choice_end p (x ∷ []) zero l = refl
+choice_end p (x ∷ y ∷ xs) zero l = absurd (omega (arith, l))
+choice_end p (x ∷ xs) (suc i) l = choice_end p xs i (omega (arith, l))
+
+by_truth : (p : Place) (xs : List Outcome) (i : ℕ) (d : Outcome) (b : Option Bool) → i + 1 < length xs → truth (get_or xs i d) ≡ b →
+    choice p (drop i xs) ≡ taken b (get_or xs i d) (get_or xs (i + 1) d) (choice p (drop (i + 2) xs))
+by_truth p xs i d b l is =
+    choice_at p xs i d l ∙ ap (λ (b : Option Bool). taken b (get_or xs i d) (get_or xs (i + 1) d) (choice p (drop (i + 2) xs))) is
+
+-- a condition that is FALSE is passed over
+pub choice_false : (p : Place) (xs : List Outcome) (i : ℕ) (d : Outcome) → i + 1 < length xs → truth (get_or xs i d) ≡ Some false → choice p (drop i xs) ≡ choice p (drop (i + 2) xs)
+choice_false p xs i d l is = by_truth p xs i d (Some false) l is
+
+-- one without a truth ends the search
+pub choice_failed : (p : Place) (xs : List Outcome) (i : ℕ) (d : Outcome) → i + 1 < length xs → truth (get_or xs i d) ≡ None → choice p (drop i xs) ≡ failed (get_or xs i d)
+choice_failed p xs i d l is = by_truth p xs i d None l is
+
+-- one that is TRUE takes its branch
+pub choice_true : (p : Place) (xs : List Outcome) (i : ℕ) (d e : Outcome) → i + 1 < length xs → truth (get_or xs i d) ≡ Some true → choice p (drop i xs) ≡ get_or xs (i + 1) e
+choice_true p xs i d e l is = by_truth p xs i d (Some true) l is ∙ get_or_default xs (i + 1) d e l

@@ -1,0 +1,11 @@
+pub mod Sets
+pub mod Parts
+pub mod Adding
+pub mod Growing
+pub mod Knowing
+pub mod Levels
+pub mod NodesOf
+pub mod Sharing
+pub mod Whole
+pub mod Opening
+pub mod Pushing

@@ -1,0 +1,11 @@
+-- What is known is right, and what is pending is what names share.
+use Rattle.smv_resolve.specs.Finding.{Grows, AllKnown}
+use Rattle.smv_resolve.specs.Pending.{AllLead}
+use Rattle.smv_resolve.proofs.pending.find_named.Given as goal
+
+abbrev pub invariant-pending : goal.invariant-pending
+invariant-pending l = record {
+  known : AllKnown l.scope.program l.work;
+  grows : Grows l.initial.work.nodes l.work.nodes;
+  lead : AllLead l.scope.program l.pending;
+}

@@ -1,0 +1,7 @@
+pub mod Levels
+pub mod Resolved
+pub mod Finding
+pub mod Pending
+pub mod Items
+pub mod Listing
+pub mod Answers

@@ -1,0 +1,357 @@
+//! The nodes of an expression.
+
+ghost use Rattle.std.specs.Prelude.{◌≡◌, ℕ, OnOk};
+ghost use Rattle.smv_tree.specs.declared.tree.Expr.{Expr};
+ghost use Rattle.smv_resolve.specs.Resolved.{Resolved, operands_of, opened, lowered, levelled, followed, resolved_name, resolved_links, resolved_operands, place_of_start};
+ghost use Rattle.smv_resolve.specs.Levels.{levels_before};
+ghost use Rattle.smv_resolve.specs.Finding.{Grows, AllKnown, Finds, IsKept, IsShared};
+
+use crate::dots::levels_before;
+use crate::work::{Found, Halt, Work, keep, push, push_apply, recall};
+use crate::{Naming, Node};
+use smv_scope::{NameTarget, Scope, Shared, name_target};
+use smv_tree::{Expr, Name, Place, Start};
+use smv_value::Operator;
+
+/// The node of an expression that stands in the instance of this number, where `depth` levels may be opened. Memory is refused
+/// where more than `room` nodes stand one in another, as the stack would not hold the way to them.
+#[cycle(expressions)]
+pub fn find(
+    scope: &Scope,
+    work: &mut Work,
+    room: usize,
+    depth: usize,
+    at: usize,
+    e: &Expr,
+) -> Result<Found, Halt>
+    requires { AllKnown scope.now.program work.old }
+    ensures known { OnOk result (AllKnown scope.now.program work.new) }
+    ensures grows { OnOk result (Grows work.old.nodes work.new.nodes) }
+    ensures finds { Finds work.new.nodes depth (λ n. levelled scope.now.program n at e.now) result }
+{
+    if room == 0 {
+        return Err(Halt::NoMemory);
+    }
+    let room = room - 1;
+    match e {
+        Expr::Bool(place, value) => find_constant(scope, work, depth, *place, *value),
+        Expr::Name(name) => find_name(scope, work, room, depth, at, name),
+        Expr::Group(_, inner) => find_below(scope, work, room, depth, at, inner.get()),
+        Expr::Next(place, a) => find_next(scope, work, room, depth, at, *place, a.get()),
+        Expr::Apply(place, operator, beside, below) => find_apply(
+            scope,
+            work,
+            room,
+            depth,
+            at,
+            *place,
+            *operator,
+            beside.as_slice(),
+            below.as_slice(),
+        ),
+        Expr::Chain(first, links) => {
+            find_chain(scope, work, room, depth, at, first.get(), links.as_slice())
+        }
+    }
+}
+
+// One level down: an expression there is found in itself, and as what a name stands for.
+#[cycle(expressions)]
+fn find_below(
+    scope: &Scope,
+    work: &mut Work,
+    room: usize,
+    depth: usize,
+    at: usize,
+    e: &Expr,
+) -> Result<Found, Halt>
+    requires { AllKnown scope.now.program work.old }
+    ensures known { OnOk result (AllKnown scope.now.program work.new) }
+    ensures grows { OnOk result (Grows work.old.nodes work.new.nodes) }
+    ensures finds { Finds work.new.nodes depth (λ n. opened (levelled scope.now.program n at e.now)) result }
+    ensures follows { Finds work.new.nodes depth (λ n. opened (followed scope.now.program n at e.now)) result }
+{
+    if depth == 0 {
+        return Err(Halt::Stuck);
+    }
+    let below = find(scope, work, room, depth - 1, at, e)?;
+    Ok(Found {
+        node: below.node,
+        height: below.height + 1,
+    })
+}
+
+fn find_constant(
+    _scope: &Scope,
+    work: &mut Work,
+    _depth: usize,
+    place: Place,
+    value: bool,
+) -> Result<Found, Halt>
+    requires { AllKnown _scope.now.program work.old }
+    ensures known { OnOk result (AllKnown _scope.now.program work.new) }
+    ensures grows { OnOk result (Grows work.old.nodes work.new.nodes) }
+    ensures finds { Finds work.new.nodes _depth (λ n d. Resolved.Constant place value) result }
+{
+    let node = push(work, Node::Constant(place, value))?;
+    Ok(Found { node, height: 0 })
+}
+
+fn find_slot(
+    _scope: &Scope,
+    work: &mut Work,
+    _depth: usize,
+    place: Place,
+    n: usize,
+) -> Result<Found, Halt>
+    requires { AllKnown _scope.now.program work.old }
+    ensures known { OnOk result (AllKnown _scope.now.program work.new) }
+    ensures grows { OnOk result (Grows work.old.nodes work.new.nodes) }
+    ensures finds { Finds work.new.nodes _depth (λ names d. Resolved.Slot place n) result }
+{
+    let node = push(work, Node::Slot(place, n))?;
+    Ok(Found { node, height: 0 })
+}
+
+fn find_whole(
+    _scope: &Scope,
+    work: &mut Work,
+    _depth: usize,
+    place: Place,
+    i: usize,
+) -> Result<Found, Halt>
+    requires { AllKnown _scope.now.program work.old }
+    ensures known { OnOk result (AllKnown _scope.now.program work.new) }
+    ensures grows { OnOk result (Grows work.old.nodes work.new.nodes) }
+    ensures finds { Finds work.new.nodes _depth (λ n d. Resolved.Whole place i) result }
+{
+    let node = push(work, Node::Whole(place, i))?;
+    Ok(Found { node, height: 0 })
+}
+
+#[cycle(expressions)]
+fn find_next(
+    scope: &Scope,
+    work: &mut Work,
+    room: usize,
+    depth: usize,
+    at: usize,
+    place: Place,
+    a: &Expr,
+) -> Result<Found, Halt>
+    requires { AllKnown scope.now.program work.old }
+    ensures known { OnOk result (AllKnown scope.now.program work.new) }
+    ensures grows { OnOk result (Grows work.old.nodes work.new.nodes) }
+    ensures finds { Finds work.new.nodes depth (λ n d. Resolved.Next place (opened (levelled scope.now.program n at a.now) d)) result }
+{
+    let operand = find_below(scope, work, room, depth, at, a)?;
+    let node = push(work, Node::Next(place, operand.node))?;
+    Ok(Found {
+        node,
+        height: operand.height,
+    })
+}
+
+// An operator over operands that stand beside it, and then over others a level below it.
+#[cycle(expressions)]
+fn find_apply(
+    scope: &Scope,
+    work: &mut Work,
+    room: usize,
+    depth: usize,
+    at: usize,
+    place: Place,
+    operator: Operator,
+    beside: &[Expr],
+    below: &[Expr],
+) -> Result<Found, Halt>
+    requires { AllKnown scope.now.program work.old }
+    ensures known { OnOk result (AllKnown scope.now.program work.new) }
+    ensures grows { OnOk result (Grows work.old.nodes work.new.nodes) }
+    ensures finds { Finds work.new.nodes depth (λ n d. Resolved.Apply place operator (operands_of (resolved_operands (levelled scope.now.program n at) beside.now below.now d))) result }
+{
+    let mut operands = Vec::new(work.alloc);
+    let mut height = 0;
+    for e in beside {
+        let same = find(scope, work, room, depth, at, e)?;
+        operands.push(same.node)?;
+        height = same.height.max(height);
+    }
+    for lower in below {
+        let next = find_below(scope, work, room, depth, at, lower)?;
+        operands.push(next.node)?;
+        height = next.height.max(height);
+    }
+    let node = push_apply(work, place, operator, operands.as_slice())?;
+    Ok(Found { node, height })
+}
+
+// A chain, whose operators are taken from left to right. All its operands stand on its own level.
+#[cycle(expressions)]
+fn find_chain(
+    scope: &Scope,
+    work: &mut Work,
+    room: usize,
+    depth: usize,
+    at: usize,
+    first: &Expr,
+    links: &[(Place, Operator, Expr)],
+) -> Result<Found, Halt>
+    requires { AllKnown scope.now.program work.old }
+    ensures known { OnOk result (AllKnown scope.now.program work.new) }
+    ensures grows { OnOk result (Grows work.old.nodes work.new.nodes) }
+    ensures finds { Finds work.new.nodes depth (λ n d. resolved_links (λ (e : Expr). levelled scope.now.program n at e d) (levelled scope.now.program n at first.now d) links.now) result }
+{
+    let start = find(scope, work, room, depth, at, first)?;
+    let mut left = start;
+    for link in links {
+        let right = find(scope, work, room, depth, at, &link.2)?;
+        let node = push(work, Node::Link(link.0, link.1, left.node, right.node))?;
+        let height = left.height.max(right.height);
+        left = Found { node, height };
+    }
+    Ok(left)
+}
+
+// A name opens the levels that are followed before its dots.
+#[cycle(expressions)]
+fn find_name(
+    scope: &Scope,
+    work: &mut Work,
+    room: usize,
+    depth: usize,
+    at: usize,
+    name: &Name,
+) -> Result<Found, Halt>
+    requires { AllKnown scope.now.program work.old }
+    ensures known { OnOk result (AllKnown scope.now.program work.new) }
+    ensures grows { OnOk result (Grows work.old.nodes work.new.nodes) }
+    ensures finds { Finds work.new.nodes depth (λ n. lowered (levels_before scope.now.program at name.now) (resolved_name scope.now.program (followed scope.now.program n) at name.now)) result }
+{
+    let levels = levels_before(scope, at, name);
+    if depth < levels {
+        return Err(Halt::Stuck);
+    }
+    let found = find_target(scope, work, room, depth - levels, at, name)?;
+    Ok(Found {
+        node: found.node,
+        height: found.height + levels,
+    })
+}
+
+// What the name leads to.
+#[cycle(expressions)]
+fn find_target(
+    scope: &Scope,
+    work: &mut Work,
+    room: usize,
+    depth: usize,
+    at: usize,
+    name: &Name,
+) -> Result<Found, Halt>
+    requires { AllKnown scope.now.program work.old }
+    ensures known { OnOk result (AllKnown scope.now.program work.new) }
+    ensures grows { OnOk result (Grows work.old.nodes work.new.nodes) }
+    ensures finds { Finds work.new.nodes depth (λ n. resolved_name scope.now.program (followed scope.now.program n) at name.now) result }
+{
+    let place = place_of_start(&name.start);
+    match name_target(scope, at, name) {
+        NameTarget::Slot(n) => find_slot(scope, work, depth, place, n),
+        NameTarget::Whole(i) => find_whole(scope, work, depth, place, i),
+        NameTarget::Given {
+            at: of,
+            parameter,
+            owner,
+            argument,
+        } => {
+            let shared = Shared {
+                is_definition: false,
+                at: of,
+                number: parameter,
+            };
+            let naming = Naming::Given;
+            find_named(
+                scope, work, room, depth, place, naming, shared, owner, argument,
+            )
+        }
+        NameTarget::Defined {
+            at: of,
+            definition,
+            body,
+        } => {
+            let shared = Shared {
+                is_definition: true,
+                at: of,
+                number: definition,
+            };
+            let naming = Naming::Defined;
+            find_named(scope, work, room, depth, place, naming, shared, of, body)
+        }
+        NameTarget::Unknown | NameTarget::TooFar => Err(Halt::Stuck),
+    }
+}
+
+/// The place of a name.
+pub fn place_of_start(start: &Start) -> Place
+    ensures { result ≡ place_of_start start.now }
+{
+    match start {
+        Start::Own(x) => x.place,
+        Start::Itself(place) => *place,
+    }
+}
+
+#[cycle(expressions)]
+fn find_named(
+    scope: &Scope,
+    work: &mut Work,
+    room: usize,
+    depth: usize,
+    place: Place,
+    naming: Naming,
+    shared: Shared,
+    at: usize,
+    e: &Expr,
+) -> Result<Found, Halt>
+    requires known { AllKnown scope.now.program work.old }
+    requires leads { IsShared scope.now.program shared at e.now }
+    ensures known { OnOk result (AllKnown scope.now.program work.new) }
+    ensures grows { OnOk result (Grows work.old.nodes work.new.nodes) }
+    ensures finds { Finds work.new.nodes depth (λ n d. Resolved.Named place naming (opened (followed scope.now.program n at e.now) d)) result }
+{
+    let named = find_shared(scope, work, room, depth, shared, at, e)?;
+    let node = push(work, Node::Named(place, naming, named.node))?;
+    Ok(Found {
+        node,
+        height: named.height,
+    })
+}
+
+/// What names share is found once.
+#[cycle(expressions)]
+pub fn find_shared(
+    scope: &Scope,
+    work: &mut Work,
+    room: usize,
+    depth: usize,
+    shared: Shared,
+    at: usize,
+    e: &Expr,
+) -> Result<Found, Halt>
+    requires known { AllKnown scope.now.program work.old }
+    requires leads { IsShared scope.now.program shared at e.now }
+    ensures known { OnOk result (AllKnown scope.now.program work.new) }
+    ensures grows { OnOk result (Grows work.old.nodes work.new.nodes) }
+    ensures finds { Finds work.new.nodes depth (λ n. opened (followed scope.now.program n at e.now)) result }
+    ensures kept { OnOk result (IsKept work.new shared) }
+{
+    if let Some(found) = recall(work, shared) {
+        if found.height <= depth {
+            return Ok(found);
+        }
+        return Err(Halt::Stuck);
+    }
+    let found = find_below(scope, work, room, depth, at, e)?;
+    keep(work, shared, found)?;
+    Ok(found)
+}

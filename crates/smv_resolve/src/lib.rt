@@ -1,0 +1,18 @@
+//! Expressions without names: in the place of each name stands what it leads to, and all expressions of a program are nodes of
+//! one list (NuSMV 2.6 User Manual, 2.3). The definitions are in `specs/`.
+#![tactic(auto)]
+
+mod dots;
+mod expressions;
+mod item;
+mod listing;
+mod node;
+mod pending;
+mod resolve;
+mod tables;
+mod work;
+
+pub use item::{Item, ItemKind};
+pub use node::{Naming, Node};
+pub use resolve::{Resolution, ResolveStop, Single, resolve_expression, resolve_items};
+pub use tables::{first, last};

@@ -1,0 +1,219 @@
+//! The items of a program.
+
+ghost use Rattle.std.specs.Prelude.{◌≡◌, [], ◌∷◌, map, OnOk};
+ghost use Rattle.std.specs.List.{flat_map};
+ghost use Rattle.smv_resolve.specs.Finding.{Grows, AllKnown};
+ghost use Rattle.smv_scope.specs.Modules.{sections_of};
+ghost use Rattle.smv_resolve.specs.Items.{resolved_assignment, resolved_constraint, resolved_specification, items_in, items_below};
+ghost use Rattle.smv_resolve.specs.Listing.{FindsRoot, AllStand, Adds};
+
+use crate::expressions::find;
+use crate::pending::find_named;
+use crate::work::{Halt, Work};
+use crate::{Item, ItemKind, ResolveStop};
+use smv_scope::{Instance, Scope};
+use smv_tree::{Assignment, Constraint, Expr, Place, Section, Specification};
+use sqlite_items::Items;
+
+// So many levels may be open at one place of an expression, those of what names stand for among them.
+const LEVELS: usize = 2000;
+
+// More nodes than stand one in another in an expression that is parsed, where what it names was found before. It is four nodes for
+// each level, so that what leads to itself is told as too deep, unless its expressions are larger.
+const ROOM: usize = 4 * (LEVELS + 1);
+
+/// The node of an expression. One that is stuck is told at this place.
+pub fn find_root(
+    scope: &Scope,
+    work: &mut Work,
+    at: usize,
+    e: &Expr,
+    place: Place,
+) -> Result<usize, ResolveStop>
+    requires { AllKnown scope.now.program work.old }
+    ensures known { OnOk result (AllKnown scope.now.program work.new) }
+    ensures grows { OnOk result (Grows work.old.nodes work.new.nodes) }
+    ensures finds { FindsRoot scope.now.program work.new.nodes at e.now place result }
+{
+    find_named(scope, work, at, e)?;
+    match find(scope, work, ROOM, LEVELS, at, e) {
+        Ok(found) => Ok(found.node),
+        Err(Halt::Stuck) => Err(ResolveStop::Stuck(place)),
+        Err(Halt::NoMemory) => Err(ResolveStop::NoMemory),
+    }
+}
+
+/// The items of instances, the first of which has number 0.
+pub fn add_instances(
+    scope: &Scope,
+    work: &mut Work,
+    items: &mut Items<Item>,
+    tree: &[Instance],
+) -> Result<(), ResolveStop>
+    requires known { AllKnown scope.now.program work.old }
+    requires stand { AllStand work.old.nodes items.old }
+    ensures known { OnOk result (AllKnown scope.now.program work.new) }
+    ensures stand { OnOk result (AllStand work.new.nodes items.new) }
+    ensures adds { Adds work.old.nodes work.new.nodes items.old items.new (items_below scope.now.program 0 tree.now) result }
+{
+    for (at, instance) in tree.iter().enumerate() {
+        add_instance(scope, work, items, at, instance)?;
+    }
+    Ok(())
+}
+
+fn add_instance(
+    scope: &Scope,
+    work: &mut Work,
+    items: &mut Items<Item>,
+    at: usize,
+    instance: &Instance,
+) -> Result<(), ResolveStop>
+    requires known { AllKnown scope.now.program work.old }
+    requires stand { AllStand work.old.nodes items.old }
+    ensures known { OnOk result (AllKnown scope.now.program work.new) }
+    ensures stand { OnOk result (AllStand work.new.nodes items.new) }
+    ensures adds { Adds work.old.nodes work.new.nodes items.old items.new (flat_map (items_in scope.now.program at) (sections_of scope.now.program instance.now.of_module)) result }
+{
+    match scope.program.modules.get(instance.of_module) {
+        None => add_sections(scope, work, items, at, &[]),
+        Some(module) => add_sections(scope, work, items, at, module.sections.as_slice()),
+    }
+}
+
+fn add_sections(
+    scope: &Scope,
+    work: &mut Work,
+    items: &mut Items<Item>,
+    at: usize,
+    sections: &[Section],
+) -> Result<(), ResolveStop>
+    requires known { AllKnown scope.now.program work.old }
+    requires stand { AllStand work.old.nodes items.old }
+    ensures known { OnOk result (AllKnown scope.now.program work.new) }
+    ensures stand { OnOk result (AllStand work.new.nodes items.new) }
+    ensures adds { Adds work.old.nodes work.new.nodes items.old items.new (flat_map (items_in scope.now.program at) sections.now) result }
+{
+    for section in sections {
+        add_section(scope, work, items, at, section)?;
+    }
+    Ok(())
+}
+
+fn add_section(
+    scope: &Scope,
+    work: &mut Work,
+    items: &mut Items<Item>,
+    at: usize,
+    section: &Section,
+) -> Result<(), ResolveStop>
+    requires known { AllKnown scope.now.program work.old }
+    requires stand { AllStand work.old.nodes items.old }
+    ensures known { OnOk result (AllKnown scope.now.program work.new) }
+    ensures stand { OnOk result (AllStand work.new.nodes items.new) }
+    ensures adds { Adds work.old.nodes work.new.nodes items.old items.new (items_in scope.now.program at section.now) result }
+{
+    match section {
+        Section::Variables(..) | Section::Definitions(_) => {
+            add_assignments(scope, work, items, at, &[])
+        }
+        Section::Assignments(list) => add_assignments(scope, work, items, at, list.as_slice()),
+        Section::Constraint(c) => add_constraint(scope, work, items, at, c),
+        Section::Specification(s) => add_specification(scope, work, items, at, s),
+    }
+}
+
+fn add_assignments(
+    scope: &Scope,
+    work: &mut Work,
+    items: &mut Items<Item>,
+    at: usize,
+    assignments: &[Assignment],
+) -> Result<(), ResolveStop>
+    requires known { AllKnown scope.now.program work.old }
+    requires stand { AllStand work.old.nodes items.old }
+    ensures known { OnOk result (AllKnown scope.now.program work.new) }
+    ensures stand { OnOk result (AllStand work.new.nodes items.new) }
+    ensures adds { Adds work.old.nodes work.new.nodes items.old items.new (map (resolved_assignment scope.now.program at) assignments.now) result }
+{
+    for assignment in assignments {
+        add_assignment(scope, work, items, at, assignment)?;
+    }
+    Ok(())
+}
+
+fn add_assignment(
+    scope: &Scope,
+    work: &mut Work,
+    items: &mut Items<Item>,
+    at: usize,
+    a: &Assignment,
+) -> Result<(), ResolveStop>
+    requires known { AllKnown scope.now.program work.old }
+    requires stand { AllStand work.old.nodes items.old }
+    ensures known { OnOk result (AllKnown scope.now.program work.new) }
+    ensures stand { OnOk result (AllStand work.new.nodes items.new) }
+    ensures adds { Adds work.old.nodes work.new.nodes items.old items.new (resolved_assignment scope.now.program at a.now ∷ []) result }
+{
+    let target = find_root(scope, work, at, &a.target, a.place)?;
+    let value = find_root(scope, work, at, &a.value, a.place)?;
+    let item = Item {
+        at,
+        kind: ItemKind::Assignment(a.kind),
+        place: a.place,
+        target: Some(target),
+        value,
+    };
+    items.push(item)?;
+    Ok(())
+}
+
+fn add_constraint(
+    scope: &Scope,
+    work: &mut Work,
+    items: &mut Items<Item>,
+    at: usize,
+    c: &Constraint,
+) -> Result<(), ResolveStop>
+    requires known { AllKnown scope.now.program work.old }
+    requires stand { AllStand work.old.nodes items.old }
+    ensures known { OnOk result (AllKnown scope.now.program work.new) }
+    ensures stand { OnOk result (AllStand work.new.nodes items.new) }
+    ensures adds { Adds work.old.nodes work.new.nodes items.old items.new (resolved_constraint scope.now.program at c.now ∷ []) result }
+{
+    let value = find_root(scope, work, at, &c.formula, c.place)?;
+    let item = Item {
+        at,
+        kind: ItemKind::Constraint(c.kind),
+        place: c.place,
+        target: None,
+        value,
+    };
+    items.push(item)?;
+    Ok(())
+}
+
+fn add_specification(
+    scope: &Scope,
+    work: &mut Work,
+    items: &mut Items<Item>,
+    at: usize,
+    s: &Specification,
+) -> Result<(), ResolveStop>
+    requires known { AllKnown scope.now.program work.old }
+    requires stand { AllStand work.old.nodes items.old }
+    ensures known { OnOk result (AllKnown scope.now.program work.new) }
+    ensures stand { OnOk result (AllStand work.new.nodes items.new) }
+    ensures adds { Adds work.old.nodes work.new.nodes items.old items.new (resolved_specification scope.now.program at s.now ∷ []) result }
+{
+    let value = find_root(scope, work, at, &s.formula, s.place)?;
+    let item = Item {
+        at,
+        kind: ItemKind::Specification(s.kind),
+        place: s.place,
+        target: None,
+        value,
+    };
+    items.push(item)?;
+    Ok(())
+}

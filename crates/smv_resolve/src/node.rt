@@ -1,0 +1,33 @@
+//! Expressions without names, as lists of nodes.
+
+use smv_tree::Place;
+use smv_value::Operator;
+
+/// How a name stands for an expression.
+#[derive(Clone, Copy, Debug, PartialEq, Eq)]
+pub enum Naming {
+    /// A parameter, for what it was given.
+    Given,
+    /// A definition, for its body.
+    Defined,
+}
+
+/// A node of an expression without names. Its parts are nodes before it in the same list, by their numbers, so that what
+/// several expressions name stands there once.
+#[derive(Clone, Copy, Debug)]
+pub enum Node {
+    Constant(Place, bool),
+    /// The slot of this number.
+    Slot(Place, usize),
+    /// The instance of this number.
+    Whole(Place, usize),
+    /// What a name stands for.
+    Named(Place, Naming, usize),
+    Next(Place, usize),
+    /// The same as that node: an operand of the operator that follows.
+    Operand(usize),
+    /// An operator over as many nodes as stand right before it.
+    Apply(Place, Operator, usize),
+    /// An operator over the nodes of these two numbers: a link of a chain.
+    Link(Place, Operator, usize, usize),
+}

@@ -1,0 +1,89 @@
+//! Expressions without names.
+
+ghost use Rattle.std.specs.Prelude.{◌≡◌};
+ghost use Rattle.smv_resolve.specs.Answers.{ResolvesItems, ResolvesOne};
+ghost use Rattle.smv_resolve.specs.declared.resolve.ResolveStop.TheVariants.{NoMemory};
+
+use crate::expressions::place_of_start;
+use crate::listing::{add_instances, find_root};
+use crate::work::no_work;
+use crate::{Item, Node};
+use smv_scope::Scope;
+use smv_tree::{Expr, Place};
+use sqlite_items::Items;
+use std::alloc::{AllocError, Global};
+
+/// The items of a program over one list of nodes.
+#[derive(Debug, Drop)]
+pub struct Resolution {
+    pub nodes: Items<Node>,
+    pub items: Items<Item>,
+}
+
+/// An expression as a node of a list.
+#[derive(Debug, Drop)]
+pub struct Single {
+    pub nodes: Items<Node>,
+    pub root: usize,
+}
+
+/// Why expressions are not resolved.
+#[derive(Debug, Drop)]
+pub enum ResolveStop {
+    /// At this place something leads nowhere, or lies too deep.
+    Stuck(Place),
+    /// Memory was refused, which may come at any time.
+    NoMemory,
+}
+
+impl From<AllocError> for ResolveStop {
+    ghost from_gives = { λ _ e. e ≡ NoMemory };
+
+    fn from(_error: AllocError) -> ResolveStop {
+        ResolveStop::NoMemory
+    }
+}
+
+/// The items of a program, in the order of the source. The body of each definition of each instance, and what each
+/// parameter was given, stands there once. Stuck names the place of the first item with a name that leads nowhere, or
+/// that nests too deep where names are followed.
+pub fn resolve_items(alloc: Global, scope: &Scope) -> Result<Resolution, ResolveStop>
+    ensures { ResolvesItems scope.now.program result }
+{
+    let mut work = no_work(alloc);
+    let mut items = Items::new(alloc);
+    add_instances(scope, &mut work, &mut items, scope.tree.as_slice())?;
+    Ok(Resolution {
+        nodes: work.nodes,
+        items,
+    })
+}
+
+/// An expression that stands in the instance of this number. Stuck names its own place.
+pub fn resolve_expression(
+    alloc: Global,
+    scope: &Scope,
+    at: usize,
+    e: &Expr,
+) -> Result<Single, ResolveStop>
+    ensures { ResolvesOne scope.now.program at e.now result }
+{
+    let mut work = no_work(alloc);
+    let root = find_root(scope, &mut work, at, e, place_of(e))?;
+    Ok(Single {
+        nodes: work.nodes,
+        root,
+    })
+}
+
+// The place of an expression; that of a chain is where its first operand stands.
+fn place_of(e: &Expr) -> Place {
+    match e {
+        Expr::Bool(place, _)
+        | Expr::Group(place, _)
+        | Expr::Next(place, _)
+        | Expr::Apply(place, _, _, _) => *place,
+        Expr::Name(name) => place_of_start(&name.start),
+        Expr::Chain(first, _) => place_of(first.get()),
+    }
+}

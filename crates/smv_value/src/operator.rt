@@ -1,0 +1,107 @@
+//! Operators, in the groups that ask the same of their operands.
+
+/// `& | xor xnor -> <->`
+#[derive(Clone, Copy, Debug)]
+pub enum Logic {
+    And,
+    Or,
+    Xor,
+    Xnor,
+    Implies,
+    Iff,
+}
+
+/// `< <= > >=`
+#[derive(Clone, Copy, Debug)]
+pub enum Order {
+    Less,
+    AtMost,
+    Greater,
+    AtLeast,
+}
+
+/// `+ - *`
+#[derive(Clone, Copy, Debug)]
+pub enum Arithmetic {
+    Add,
+    Subtract,
+    Multiply,
+}
+
+/// `/ mod`
+#[derive(Clone, Copy, Debug)]
+pub enum Division {
+    Quotient,
+    Remainder,
+}
+
+/// `<< >>`
+#[derive(Clone, Copy, Debug)]
+pub enum Shift {
+    Left,
+    Right,
+}
+
+/// `X F G Y Z O H`, which have one operand, and `U V S T`, which have two.
+#[derive(Clone, Copy, Debug)]
+pub enum Temporal {
+    Next,
+    Finally,
+    Globally,
+    Previously,
+    WeaklyPreviously,
+    Once,
+    Historically,
+    Until,
+    Releases,
+    Since,
+    Triggered,
+}
+
+/// What is done to operands.
+#[derive(Clone, Copy, Debug)]
+pub enum Operator {
+    /// `!`
+    Not,
+    Logic(Logic),
+    Equal,
+    NotEqual,
+    Order(Order),
+    /// The unary `-`.
+    Negate,
+    Arithmetic(Arithmetic),
+    Division(Division),
+    Absolute,
+    Maximum,
+    Minimum,
+    Count,
+    Shift(Shift),
+    /// `a :: b`
+    Join,
+    /// `w[h:l]`
+    Select,
+    /// `a[i]`
+    Index,
+    /// `{a, b}`
+    Members,
+    Union,
+    /// `a..b`
+    Range,
+    In,
+    /// `case` and `? :`: conditions and branches by turns, and perhaps a last branch without a condition.
+    Choice,
+    /// `word1`
+    ToWord,
+    /// `bool`
+    ToBoolean,
+    Signed,
+    Unsigned,
+    Extend,
+    Resize,
+    Size,
+    /// `uwconst`
+    UnsignedConstant,
+    /// `swconst`
+    SignedConstant,
+    Temporal(Temporal),
+}
