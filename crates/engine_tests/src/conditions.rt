@@ -208,7 +208,8 @@ fn is_right(alloc: Global, row: Row) -> Result<bool, AllocError> {
     let mut asked = Vec::new(alloc);
     ask_for(&graph, &mut asked, e, row.is_next)?;
     let made = decide(alloc, &graph, 5, &asked, 2)?;
-    Ok(made.clauses.len() == row.clauses && made.vars == row.gates + 7)
+    let gates = made.vars.checked_sub(7);
+    Ok(made.clauses.len() == row.clauses && gates == Some(row.gates))
 }
 
 fn first_wrong(alloc: Global) -> Result<Option<Shape>, AllocError> {

@@ -1,4 +1,4 @@
-ghost use Rattle.std.specs.Prelude.{◌<◌, length};
+ghost use Rattle.std.specs.Prelude.{◌<◌, ◌≤◌, length};
 
 use bit_graph::{Edge, Graph, evaluate};
 use std::alloc::{AllocError, Global};
@@ -53,6 +53,7 @@ fn made(graph: &mut Graph, gate: Gate, a: Edge, b: Edge, c: Edge) -> Result<Edge
     requires a { a.node < length graph.old }
     requires b { b.node < length graph.old }
     requires c { c.node < length graph.old }
+    ensures { length graph.old ≤ length graph.new }
 {
     match gate {
         Gate::And => graph.and(a, b),

@@ -113,7 +113,7 @@ fn first_wrong<R: Threads + Wait + Sync>(
 const TWO: &str =
     "MODULE main\nVAR a : boolean; b : boolean;\nASSIGN init(a) := FALSE; init(b) := FALSE; next(a) := b; next(b) := FALSE;\nINVARSPEC !a\n";
 
-const CASES: [Case; 141] = [
+const CASES: [Case; 47] = [
     // Command lines.
     ("check", STANDING, TRUE, 0),
     ("check", TOGGLING, BROKEN, 1),
@@ -208,6 +208,9 @@ const CASES: [Case; 141] = [
     // A model without a specification.
     ("check", "MODULE main VAR x : boolean;", "", 0),
     ("check", "MODULE main", "", 0),
+];
+
+const REFUSALS: [Case; 16] = [
     // Refusals.
     (
         "check",
@@ -295,6 +298,9 @@ const CASES: [Case; 141] = [
         "-- refused 201 Unexpected at 1:28: end\n",
         3,
     ),
+];
+
+const RULES_OF_MODULES: [Case; 28] = [
     // One row for each rule of modules, names, kinds and assignments; places and details were worked out by hand.
     (
         "check",
@@ -458,6 +464,9 @@ const CASES: [Case; 141] = [
         "-- refused 401 TypeMismatch at 3:28\n",
         3,
     ),
+];
+
+const RULES_OF_ITEMS: [Case; 31] = [
     (
         "check",
         "MODULE m\nMODULE main\nVAR g : m; x : boolean;\nINIT x & g\n",
@@ -645,6 +654,9 @@ const CASES: [Case; 141] = [
         "-- refused 203 Unsupported at 3:1: LTLSPEC\n",
         3,
     ),
+];
+
+const MODELS: [Case; 19] = [
     // Models of more modules, inputs and frozen variables, and listings.
     // An inverter.
     (
@@ -774,6 +786,34 @@ const CASES: [Case; 141] = [
 #[test]
 fn cases(rt: HostRuntime) -> Result<(), Fail> {
     let wrong = first_wrong(&rt, rt.alloc(), &CASES)?;
+    assert_eq!(rt; wrong, None);
+    Ok(())
+}
+
+#[test]
+fn refusals(rt: HostRuntime) -> Result<(), Fail> {
+    let wrong = first_wrong(&rt, rt.alloc(), &REFUSALS)?;
+    assert_eq!(rt; wrong, None);
+    Ok(())
+}
+
+#[test]
+fn rules_of_modules(rt: HostRuntime) -> Result<(), Fail> {
+    let wrong = first_wrong(&rt, rt.alloc(), &RULES_OF_MODULES)?;
+    assert_eq!(rt; wrong, None);
+    Ok(())
+}
+
+#[test]
+fn rules_of_items(rt: HostRuntime) -> Result<(), Fail> {
+    let wrong = first_wrong(&rt, rt.alloc(), &RULES_OF_ITEMS)?;
+    assert_eq!(rt; wrong, None);
+    Ok(())
+}
+
+#[test]
+fn models(rt: HostRuntime) -> Result<(), Fail> {
+    let wrong = first_wrong(&rt, rt.alloc(), &MODELS)?;
     assert_eq!(rt; wrong, None);
     Ok(())
 }
