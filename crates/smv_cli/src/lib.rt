@@ -6,11 +6,7 @@ mod listing;
 mod print;
 mod record;
 mod streams;
-#[cfg(test)]
-mod tests;
 mod top;
-#[cfg(test)]
-mod value_tests;
 
 pub use record::{Record, Trace, Verdict};
 pub use top::{SOURCE_LIMIT, run, run_over_bytes};

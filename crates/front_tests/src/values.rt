@@ -1,4 +1,4 @@
-// What operators give of values that were worked by hand, of words with a sign most of all, and how values are printed.
+//! What operators give of values that were worked by hand, of words with a sign most of all, and how values are printed.
 use plain_text::Text;
 use smv_value::{Arithmetic, Division, FaultRule, Operator, Shift, Shown, Value, apply, same};
 use std::alloc::{AllocError, Global};

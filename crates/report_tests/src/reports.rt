@@ -1,6 +1,6 @@
-// The top call over sources and sinks in memory, and over std's readers and writers.
-use crate::{run, run_over_bytes};
+//! The top call over sources and sinks in memory, and over std's readers and writers.
 use outside::{MemSink, MemSource, OpenGate, StdSink, StdSource};
+use smv_cli::{run, run_over_bytes};
 use std::alloc::{AllocError, Global};
 use std::io;
 use std::io::{Read, Write};

@@ -1,0 +1,6 @@
+//! Tests of the whole command, through its top call alone: from the words and the bytes of a source to the bytes of the
+//! report and the status, over sources and sinks in memory, with calls that fail, and over std's readers and writers.
+#![tactic(auto)]
+
+#[cfg(test)]
+mod reports;
