@@ -7,7 +7,7 @@ use Rattle.bit_graph.specs.Meaning.{Denotes, HasInputs}
 use Rattle.bit_graph.specs.Values.{OneWay, assigned, values, value_under}
 use Rattle.edge_query.specs.Findings.{AreTrue}
 use Rattle.smv_value.specs.declared.value.Value.{Value}
-use Rattle.invariant_queries.specs.Edges.{state_under}
+use Rattle.bit_expr.specs.Edges.{state_under}
 use Rattle.invariant_queries.specs.Frames.{frames_from, values_of}
 use Rattle.invariant_queries.proofs.Encoding.{Each, frames_value, flat_of, flat_back, length_flat}
 

@@ -15,7 +15,7 @@ use Rattle.smv_meaning.specs.declared.value.Outcome.{Outcome}
 use Rattle.smv_meaning.specs.declared.value.Outcome.TheVariants.{Fault, Values}
 use Rattle.smv_meaning.specs.Runs.{Breaks, IsStep, at_time, fits, in_type, input_slots, is_first_state, is_step, state_slots}
 use Rattle.smv_meaning.specs.Values.{one, outcome_in}
-use Rattle.invariant_queries.specs.Edges.{input_width, is_one, state_width}
+use Rattle.bit_expr.specs.Edges.{input_width, is_one, state_width}
 use Rattle.invariant_queries.specs.Frames.{is_broken_run, is_broken_step, steps_hold}
 use Rattle.invariant_queries.proofs.Encoding.{Each, Has, is_boolean}
 

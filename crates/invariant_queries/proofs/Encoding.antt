@@ -8,7 +8,7 @@ use Rattle.bit_graph.specs.Meaning.{HasInputs}
 use Rattle.bit_graph.specs.Values.{OneWay, assigned, values}
 use Rattle.smv_value.specs.declared.value.Value.{Value}
 use Rattle.smv_value.specs.declared.value.Value.TheVariants as value
-use Rattle.invariant_queries.specs.Edges.{state_under}
+use Rattle.bit_expr.specs.Edges.{state_under}
 use Rattle.invariant_queries.specs.Frames.{frame_from, frames_from, values_of}
 
 abbrev pub is_boolean : Value → Bool

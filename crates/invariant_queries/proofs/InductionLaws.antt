@@ -16,7 +16,7 @@ use Rattle.smv_meaning.specs.declared.value.Outcome.TheVariants.{Fault, Values}
 use Rattle.smv_meaning.specs.Runs.{AllKnown, Breaks, IsStep, at_time, is_claim, is_known, is_known_by, is_known_item, is_step, specifications_of}
 use Rattle.smv_meaning.specs.Values.{outcome_in}
 use Rattle.invariant_queries.specs.Deciding.{IsUnbroken, IsUnbrokenWithin}
-use Rattle.invariant_queries.specs.Edges.{is_one}
+use Rattle.bit_expr.specs.Edges.{is_one}
 use Rattle.invariant_queries.specs.Frames.{is_broken_step}
 use Rattle.invariant_queries.specs.Unrolling.{IsBrokenRun}
 use Rattle.invariant_queries.proofs.BrokenRuns.{both, breaks, broken_from, false_is, is_false, left, right}

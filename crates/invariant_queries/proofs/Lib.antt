@@ -1,7 +1,4 @@
-pub mod MoreNodes
-pub mod MoreKept
 pub mod MoreFrames
-pub mod Fitting
 pub mod OfStates
 pub mod OfRuns
 pub mod Encoding
@@ -10,4 +7,3 @@ pub mod Decoding
 pub mod BrokenRuns
 pub mod Queries
 pub mod InductionLaws
-mod Telling

@@ -7,7 +7,7 @@ use Rattle.bit_graph.specs.declared.edge.Node.{Node}
 use Rattle.bit_graph.specs.Meaning.{Stands}
 use Rattle.smv_tree.specs.declared.tree.Program.{Program}
 use Rattle.invariant_queries.specs.declared.frames.Layout.{Layout}
-use Rattle.invariant_queries.specs.Edges.{AllStand, input_width, state_width}
+use Rattle.bit_expr.specs.Edges.{AllStand, input_width, state_width}
 use Rattle.invariant_queries.specs.Frames.{FramesStand, IsLaidOut, input, frame_from, frames_from}
 
 pub frames_from-more : (k s n : ℕ) → frames_from k s (suc n) ≡ frames_from k s n ++ frame_from k (s + n * k) ∷ []

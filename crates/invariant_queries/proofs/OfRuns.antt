@@ -9,9 +9,9 @@ use Rattle.bit_graph.specs.Meaning.{edge_value}
 use Rattle.smv_tree.specs.declared.tree.Program.{Program}
 use Rattle.smv_meaning.specs.declared.typed.Typed.{Typed}
 use Rattle.smv_meaning.specs.Runs.{at_time, is_first_state, is_step}
-use Rattle.invariant_queries.specs.Edges.{state_under}
+use Rattle.bit_expr.specs.Edges.{state_under}
 use Rattle.invariant_queries.specs.Frames.{FramesStand, steps_hold}
-use Rattle.invariant_queries.proofs.OfStates.{all_stand_kept}
+use Rattle.bit_expr.proofs.MoreNodes.{all_stand_kept}
 
 -- frames stand as a graph grows
 pub frames_kept : (g h : List Node) → Extends g h → (p : Program) (states inputs : List (List Edge)) → FramesStand g p states inputs → FramesStand h p states inputs

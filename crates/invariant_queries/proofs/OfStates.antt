@@ -15,32 +15,27 @@ use Rattle.smv_meaning.specs.declared.value.Outcome.{Outcome}
 use Rattle.smv_meaning.specs.Runs.{allows_always, allows_first, allows_step, are_inputs, input_slots, is_first_state, is_state, is_step, keeps_frozen, meets_invariants, state_slots}
 use Rattle.smv_meaning.specs.Tables.{always_allowed, first_allowed, outcomes_of, step_allowed}
 use Rattle.smv_meaning.proofs.Items.{always_asked, first_asked, step_asked}
-use Rattle.invariant_queries.specs.declared.asking.When.{When}
-use Rattle.invariant_queries.specs.declared.asking.When.TheVariants.{First, Always, Step}
+use Rattle.bit_expr.specs.declared.when.When.{When}
+use Rattle.bit_expr.specs.declared.when.When.TheVariants.{First, Always, Step}
 use Rattle.invariant_queries.specs.declared.states.Shared.{Shared}
 use Rattle.invariant_queries.specs.declared.states.StateEdges.{StateEdges}
-use Rattle.invariant_queries.specs.declared.truths.Truth.{Truth}
-use Rattle.invariant_queries.specs.Edges.{AllStand, Supports, TellsEach, TellsState, all_asked, all_kept, all_told, input_width, state_under}
-use Rattle.invariant_queries.proofs.Fitting.{bits_fit}
-use Rattle.invariant_queries.proofs.MoreNodes.{truths_kept}
+use Rattle.bit_expr.specs.declared.truths.Truth.{Truth}
+use Rattle.bit_expr.specs.Edges.{TellsEach, all_asked, all_kept, all_told, input_width, state_under}
+use Rattle.invariant_queries.specs.Edges.{Supports, TellsState}
+use Rattle.bit_expr.proofs.Fitting.{bits_fit}
+use Rattle.bit_expr.proofs.MoreNodes.{all_stand_kept, tells_each_kept}
 
 -- what is told in a graph is told as it grows
 module _ (g h : List Node) (extends : Extends g h) where
-  pub tells_each_kept : (truths : List Truth) (outcomes : (ℕ → Bool) → List Outcome) → TellsEach g truths outcomes → TellsEach h truths outcomes
-  tells_each_kept truths outcomes tells = record { stand = truths_kept g h extends truths tells.stand; told = λ v c. tells.told v (extends.kept v c) }
-
-  pub all_stand_kept : (edges : List Edge) → AllStand g edges → AllStand h edges
-  all_stand_kept edges stand = λ i d lt. omega (arith, stand i d lt, extends.longer)
-
   module _ (typed : Typed) where
     pub supports_kept : (shared : Shared) → Supports g typed shared → Supports h typed shared
-    supports_kept shared supports = record { slots = supports.slots; nowhere = tells_each_kept shared.nowhere _ supports.nowhere }
+    supports_kept shared supports = record { slots = supports.slots; nowhere = tells_each_kept g h extends shared.nowhere _ supports.nowhere }
 
     pub tells_state_kept : (state : StateEdges) → TellsState g typed state → TellsState h typed state
     tells_state_kept state tells = record {
-      bits = all_stand_kept state.bits tells.bits;
+      bits = all_stand_kept g h extends state.bits tells.bits;
       width = tells.width;
-      truths = tells_each_kept state.truths _ tells.truths;
+      truths = tells_each_kept g h extends state.truths _ tells.truths;
       stands = omega (arith, tells.stands, extends.longer);
       invariants = λ v c. tells.invariants v (extends.kept v c);
     }

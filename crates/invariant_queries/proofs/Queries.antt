@@ -12,7 +12,7 @@ use Rattle.smv_value.specs.declared.value.Value.{Value}
 use Rattle.smv_resolve.specs.Resolved.{Resolved}
 use Rattle.smv_meaning.specs.Runs.{at_time}
 use Rattle.invariant_queries.specs.declared.frames.Layout.{Layout}
-use Rattle.invariant_queries.specs.Edges.{input_width, state_under, state_width}
+use Rattle.bit_expr.specs.Edges.{input_width, state_under, state_width}
 use Rattle.invariant_queries.specs.Frames.{FramesStand, IsLaidOut, breaks_in_two, frames_from, is_broken_run, is_broken_step, values_of}
 use Rattle.invariant_queries.specs.Unrolling.{IsBrokenRun}
 use Rattle.invariant_queries.proofs.Answering.{length_values, no_values, values_found}

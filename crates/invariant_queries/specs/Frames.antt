@@ -15,7 +15,8 @@ use Rattle.smv_meaning.specs.Runs.{at_time, is_first_state, is_step}
 use Rattle.smv_meaning.specs.Values.{outcome_in}
 use Rattle.invariant_queries.specs.declared.frames.Layout.{Layout}
 use Rattle.invariant_queries.specs.declared.runs.RunEdges.{RunEdges}
-use Rattle.invariant_queries.specs.Edges.{AllStand, TellsState, input_width, is_one, state_under, state_width}
+use Rattle.bit_expr.specs.Edges.{AllStand, input_width, is_one, state_under, state_width}
+use Rattle.invariant_queries.specs.Edges.{TellsState}
 
 -- the edge to an input of the graph
 abbrev pub input : ℕ → Edge

@@ -6,22 +6,14 @@ ghost use Rattle.bit_graph.specs.Meaning.{Denotes, Stands, edge_value};
 ghost use Rattle.smv_value.specs.declared.value.Value.TheVariants.{Bool};
 ghost use Rattle.smv_meaning.specs.Runs.{asks_always, asks_first, asks_step, is_true, keeps, takes};
 ghost use Rattle.smv_meaning.specs.Tables.{outcome_at, target_at};
-ghost use Rattle.invariant_queries.specs.Edges.{AllStand, TruthStands, TruthsStand, all_asked, all_kept, all_told, asks, state_under, told};
+ghost use Rattle.bit_expr.specs.Edges.{AllStand, TruthStands, TruthsStand, all_asked, all_kept, all_told, asks, state_under, told};
 
-use crate::truths::{Truth, same, target_at, truth_at};
+use bit_expr::{Truth, When, same, target_at, truth_at};
 use bit_graph::{Edge, Graph};
 use smv_resolve::{Item, ItemKind};
 use smv_scope::Slot;
 use smv_tree::{AssignmentKind, ConstraintKind, VariableKind};
 use std::alloc::AllocError;
-
-/// Of what items ask something: of a first state, of both states of a step, or of the step.
-#[derive(Clone, Copy, Debug, Drop)]
-pub enum When {
-    First,
-    Always,
-    Step,
-}
 
 // The edge that is true where the variable has the value of the expression.
 fn takes(graph: &mut Graph, x: Truth, e: Truth) -> Result<Edge, AllocError>

@@ -8,13 +8,9 @@ mod deciding;
 mod frames;
 mod runs;
 mod states;
-mod tables;
-#[cfg(test)]
-mod tests;
-mod truths;
 mod unrolling;
 
-pub use asking::{When, all_asked, all_kept};
+pub use asking::{all_asked, all_kept};
 pub use cause::Cause;
 pub use deciding::{Decision, decide};
 pub use frames::{Layout, layout_of};
@@ -22,6 +18,4 @@ pub use runs::{RunEdges, broken_run_edge, broken_step_edge};
 pub use states::{
     Shared, StateEdges, first_edge, shared_edges, state_edges, step_edge, truth_edge,
 };
-pub use tables::{nowhere, table};
-pub use truths::Truth;
 pub use unrolling::{Induction, Unrolled, is_inductive, unroll};

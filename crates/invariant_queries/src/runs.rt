@@ -5,7 +5,8 @@ ghost use Rattle.bit_graph.specs.Growth.{Extends};
 ghost use Rattle.bit_graph.specs.Meaning.{Denotes, Stands, edge_value};
 ghost use Rattle.smv_resolve.specs.Resolved.{part_of};
 ghost use Rattle.smv_meaning.specs.Runs.{is_first_state, is_step};
-ghost use Rattle.invariant_queries.specs.Edges.{AllStand, Supports, TellsState, input_width, state_under, state_width};
+ghost use Rattle.bit_expr.specs.Edges.{AllStand, input_width, state_under, state_width};
+ghost use Rattle.invariant_queries.specs.Edges.{Supports, TellsState};
 ghost use Rattle.invariant_queries.specs.Frames.{FramesStand, TellsRun, breaks_in_two, is_broken_run, is_broken_step};
 
 use crate::states::{

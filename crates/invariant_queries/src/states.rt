@@ -9,11 +9,11 @@ ghost use Rattle.smv_resolve.specs.Resolved.{part_of};
 ghost use Rattle.smv_scope.specs.Slots.{slots_of};
 ghost use Rattle.smv_meaning.specs.Runs.{allows_step, is_first_state, is_step};
 ghost use Rattle.smv_meaning.specs.Values.{outcome_in};
-ghost use Rattle.invariant_queries.specs.Edges.{AllStand, Supports, TellsState, input_width, is_one, state_under, state_width};
+ghost use Rattle.bit_expr.specs.Edges.{AllStand, input_width, is_one, state_under, state_width};
+ghost use Rattle.invariant_queries.specs.Edges.{Supports, TellsState};
 
-use crate::asking::{When, all_asked, all_kept};
-use crate::tables::{nowhere, table};
-use crate::truths::{Truth, truth_at};
+use crate::asking::{all_asked, all_kept};
+use bit_expr::{Truth, When, nowhere, table, truth_at};
 use bit_graph::{Edge, Graph};
 use smv_meaning::{Typed, state_slots};
 use smv_scope::Slot;

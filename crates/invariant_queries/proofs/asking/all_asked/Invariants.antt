@@ -2,7 +2,7 @@
 use Rattle.std.proofs.Common.{take}
 use Rattle.bit_graph.specs.Growth.{Extends}
 use Rattle.bit_graph.specs.Meaning.{Denotes, Stands}
-use Rattle.invariant_queries.specs.Edges.{TruthsStand, all_asked, all_told}
+use Rattle.bit_expr.specs.Edges.{TruthsStand, all_asked, all_told}
 use Rattle.invariant_queries.proofs.asking.all_asked.Given as goal
 
 abbrev pub invariant-loop-item : goal.invariant-loop-item

@@ -1,8 +1,8 @@
 -- One slot more.
 use Rattle.std.proofs.Common.{◌∙◌, ◌≤◌, length, arith}
 use Rattle.bit_graph.specs.Meaning.{edge_value}
-use Rattle.invariant_queries.proofs.MoreNodes.{Extends-trans}
-use Rattle.invariant_queries.proofs.MoreKept.{kept_all, kept_more}
+use Rattle.bit_expr.proofs.MoreNodes.{Extends-trans}
+use Rattle.bit_expr.proofs.MoreKept.{kept_all, kept_more}
 use Rattle.invariant_queries.proofs.asking.all_kept.Goals as goal
 
 pub loop-i-preserved : goal.loop-i-preserved

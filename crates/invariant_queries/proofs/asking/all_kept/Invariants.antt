@@ -6,7 +6,7 @@ use Rattle.bit_graph.specs.Meaning.{Denotes, Stands}
 use Rattle.smv_value.specs.declared.value.Value.{Value}
 use Rattle.smv_scope.specs.declared.slot.Slot.{Slot}
 use Rattle.smv_meaning.specs.Runs.{keeps}
-use Rattle.invariant_queries.specs.Edges.{AllStand, state_under}
+use Rattle.bit_expr.specs.Edges.{AllStand, state_under}
 use Rattle.invariant_queries.proofs.asking.all_kept.Given as goal
 
 abbrev pub invariant-loop-i : goal.invariant-loop-i

@@ -2,7 +2,7 @@
 use Rattle.std.proofs.Common.{◌∙◌, List, ap}
 use Rattle.bit_graph.specs.declared.edge.Edge.{Edge}
 use Rattle.smv_resolve.specs.Resolved.{part_of}
-use Rattle.invariant_queries.specs.Edges.{state_under}
+use Rattle.bit_expr.specs.Edges.{state_under}
 use Rattle.invariant_queries.specs.Frames.{is_broken_step}
 use Rattle.invariant_queries.proofs.runs.broken_between.Goals as goal
 

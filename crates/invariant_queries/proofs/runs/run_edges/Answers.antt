@@ -3,8 +3,8 @@ use Rattle.std.proofs.Common.{◌∙◌, ◌+◌, ◌<◌, [], length, arith, re
 use Rattle.std.proofs.lemmas.List.{get_or_read}
 use Rattle.bit_graph.specs.Meaning.{edge_value}
 use Rattle.smv_meaning.specs.Runs.{is_step}
-use Rattle.invariant_queries.specs.Edges.{state_under}
-use Rattle.invariant_queries.proofs.MoreNodes.{Extends-trans}
+use Rattle.bit_expr.specs.Edges.{state_under}
+use Rattle.bit_expr.proofs.MoreNodes.{Extends-trans}
 use Rattle.invariant_queries.proofs.OfStates.{supports_kept}
 use Rattle.invariant_queries.proofs.OfRuns.{frames_kept, step_more}
 use Rattle.invariant_queries.proofs.runs.run_edges.Goals as goal

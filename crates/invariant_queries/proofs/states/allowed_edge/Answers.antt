@@ -3,8 +3,8 @@ use Rattle.std.proofs.Common.{◌≡◌, ◌∙◌, ℕ, Bool, []}
 use Rattle.bit_graph.specs.Meaning.{Consistent}
 use Rattle.smv_scope.specs.Slots.{slots_of}
 use Rattle.smv_meaning.specs.Tables.{outcomes_of}
-use Rattle.invariant_queries.specs.declared.asking.When.TheVariants.{Step}
-use Rattle.invariant_queries.specs.Edges.{all_told, state_under}
+use Rattle.bit_expr.specs.declared.when.When.TheVariants.{Step}
+use Rattle.bit_expr.specs.Edges.{all_told, state_under}
 use Rattle.invariant_queries.proofs.OfStates.{allowed_told, asked_as}
 use Rattle.invariant_queries.proofs.states.allowed_edge.Goals as goal
 

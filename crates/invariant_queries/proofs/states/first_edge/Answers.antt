@@ -1,5 +1,5 @@
 -- What the items ask of a first state.
-use Rattle.invariant_queries.specs.declared.asking.When.TheVariants.{First}
+use Rattle.bit_expr.specs.declared.when.When.TheVariants.{First}
 use Rattle.invariant_queries.proofs.OfStates.{asked_as, first_told, tells_state_kept}
 use Rattle.invariant_queries.proofs.states.first_edge.Goals as goal
 

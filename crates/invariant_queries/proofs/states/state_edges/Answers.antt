@@ -3,10 +3,10 @@ use Rattle.std.proofs.Common.{◌≡◌, ◌∙◌, ℕ, Bool, [], length, ap, s
 use Rattle.bit_graph.specs.Meaning.{Consistent}
 use Rattle.smv_scope.specs.Slots.{slots_of}
 use Rattle.smv_meaning.specs.Tables.{outcomes_of}
-use Rattle.invariant_queries.specs.declared.asking.When.TheVariants.{Always}
-use Rattle.invariant_queries.specs.Edges.{AllStand, TellsEach, all_told, state_under}
-use Rattle.invariant_queries.proofs.MoreNodes.{Extends-trans, truths_kept}
-use Rattle.invariant_queries.proofs.OfStates.{all_stand_kept, always_told, asked_as}
+use Rattle.bit_expr.specs.declared.when.When.TheVariants.{Always}
+use Rattle.bit_expr.specs.Edges.{AllStand, TellsEach, all_told, state_under}
+use Rattle.bit_expr.proofs.MoreNodes.{Extends-trans, all_stand_kept, truths_kept}
+use Rattle.invariant_queries.proofs.OfStates.{always_told, asked_as}
 use Rattle.invariant_queries.proofs.states.state_edges.Goals as goal
 
 pub returns-clause-told : goal.returns-clause-told

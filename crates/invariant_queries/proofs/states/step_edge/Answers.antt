@@ -1,8 +1,8 @@
 -- A step is what is asked of it and of both states, and keeps what is frozen.
 use Rattle.std.proofs.Common.{◌∙◌, List, ap}
 use Rattle.bit_graph.specs.declared.edge.Edge.{Edge}
-use Rattle.invariant_queries.specs.Edges.{all_kept, state_under}
-use Rattle.invariant_queries.proofs.MoreNodes.{Extends-trans}
+use Rattle.bit_expr.specs.Edges.{all_kept, state_under}
+use Rattle.bit_expr.proofs.MoreNodes.{Extends-trans}
 use Rattle.invariant_queries.proofs.OfStates.{step_told, tells_state_kept}
 use Rattle.invariant_queries.proofs.states.step_edge.Goals as goal
 

@@ -1,0 +1,4 @@
+pub mod MoreNodes
+pub mod MoreKept
+pub mod Fitting
+pub mod Telling

@@ -1,0 +1,18 @@
+//! Laws of the coding and of systems that stand for a program.
+
+ghost use Rattle.clause_core.specs.Systems.{TransitionSystem};
+ghost use Rattle.smv_tree.specs.declared.tree.Program.{Program};
+ghost use Rattle.smv_resolve.specs.Items.{ResolvedItem};
+ghost use Rattle.bit_system.specs.Coding.{IsCoding};
+ghost use Rattle.bit_system.specs.Standing.{AgreesWith, StandsFor};
+
+/// The law of the coding: states and bit states go to one another.
+pub fn is_coding()
+    ensures { (p : Program) → IsCoding p }
+{}
+
+/// A system that stands for a program and a specification has the program's first states and steps, and as bad states those in
+/// which the specification is FALSE.
+pub fn what_stands_agrees()
+    ensures { (p : Program) (spec : ResolvedItem) (sys : TransitionSystem) → StandsFor p spec sys → AgreesWith p spec sys }
+{}
