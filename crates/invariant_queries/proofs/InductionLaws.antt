@@ -7,6 +7,7 @@ use Rattle.smv_value.specs.declared.value.Value.{Value}
 use Rattle.smv_value.specs.declared.value.Value.TheVariants as value
 use Rattle.smv_resolve.specs.declared.item.ItemKind.{ItemKind}
 use Rattle.smv_resolve.specs.declared.item.ItemKind.TheVariants as item
+use Rattle.smv_tree.specs.declared.tree.SpecificationKind.TheVariants as claim
 use Rattle.smv_scope.specs.declared.slot.Slot.{Slot}
 use Rattle.smv_resolve.specs.Items.{ResolvedItem, items_of}
 use Rattle.smv_resolve.specs.Resolved.{Resolved}
@@ -34,40 +35,40 @@ true_in (Fault rule place) known never = absurd (let no : ⊥ = cc in no)
 abbrev claims : List ResolvedItem → List ResolvedItem
 claims xs = filter (λ (x : ResolvedItem). is_claim x.kind) xs
 
-by_kind : (slots : List Slot) (s u t : List Value) (target : Option Resolved) (e : Resolved) (kind : ItemKind) → is_claim kind ≡ true →
+by_kind : (slots : List Slot) (s u t : List Value) (target : Option Resolved) (e : Resolved) (kind : ItemKind) → kind ≡ item.Specification claim.Invariant →
     is_known_by slots s u t target e kind ≡ true → is_known (outcome_in slots s e) ≡ true
-by_kind slots s u t target e (item.Specification which) is known = known
-by_kind slots s u t target e (item.Assignment which) is known = absurd (let no : ⊥ = cc in no)
-by_kind slots s u t target e (item.Constraint which) is known = absurd (let no : ⊥ = cc in no)
+by_kind slots s u t target e kind is known = subst (λ k. is_known_by slots s u t target e k ≡ true) is known
 
-claim_step : (slots : List Slot) (s u t : List Value) (x : ResolvedItem) (xs : List ResolvedItem) (spec : ResolvedItem) → list_all (is_known_item slots s u t) (x ∷ xs) ≡ true →
+claim_step : (slots : List Slot) (s u t : List Value) (x : ResolvedItem) (xs : List ResolvedItem) (spec : ResolvedItem) → spec.kind ≡ item.Specification claim.Invariant →
+    list_all (is_known_item slots s u t) (x ∷ xs) ≡ true →
     ((k : ℕ) → list_all (is_known_item slots s u t) xs ≡ true → k < length (claims xs) → slice_index_or (claims xs) k spec ≡ spec → is_known (outcome_in slots s spec.value) ≡ true) →
     (b : Bool) (k : ℕ) → is_claim x.kind ≡ b → k < length (cond b (x ∷ claims xs) (claims xs)) → slice_index_or (cond b (x ∷ claims xs) (claims xs)) k spec ≡ spec →
     is_known (outcome_in slots s spec.value) ≡ true
-claim_step slots s u t x xs spec known rest true zero is lt same =
-    subst (λ (y : ResolvedItem). is_known (outcome_in slots s y.value) ≡ true) same (by_kind slots s u t x.target x.value x.kind is (left (is_known_item slots s u t x) _ known))
-claim_step slots s u t x xs spec known rest true (suc k) is lt same = rest k (right (is_known_item slots s u t x) _ known) (omega (arith, lt)) same
-claim_step slots s u t x xs spec known rest false k is lt same = rest k (right (is_known_item slots s u t x) _ known) lt same
+claim_step slots s u t x xs spec invariant known rest true zero is lt same =
+    let kind = ap (λ (y : ResolvedItem). y.kind) same ∙ invariant in
+    subst (λ (y : ResolvedItem). is_known (outcome_in slots s y.value) ≡ true) same (by_kind slots s u t x.target x.value x.kind kind (left (is_known_item slots s u t x) _ known))
+claim_step slots s u t x xs spec invariant known rest true (suc k) is lt same = rest k (right (is_known_item slots s u t x) _ known) (omega (arith, lt)) same
+claim_step slots s u t x xs spec invariant known rest false k is lt same = rest k (right (is_known_item slots s u t x) _ known) lt same
 
--- a specification among items that are known is so
-claim_known : (slots : List Slot) (s u t : List Value) (xs : List ResolvedItem) (k : ℕ) (spec : ResolvedItem) → list_all (is_known_item slots s u t) xs ≡ true →
+-- an invariant among items that are known is so
+claim_known : (slots : List Slot) (s u t : List Value) (xs : List ResolvedItem) (k : ℕ) (spec : ResolvedItem) → spec.kind ≡ item.Specification claim.Invariant → list_all (is_known_item slots s u t) xs ≡ true →
     k < length (filter (λ (x : ResolvedItem). is_claim x.kind) xs) → slice_index_or (filter (λ (x : ResolvedItem). is_claim x.kind) xs) k spec ≡ spec →
     is_known (outcome_in slots s spec.value) ≡ true
-claim_known slots s u t [] k spec known lt is = absurd (omega (arith, lt))
-claim_known slots s u t (x ∷ xs) k spec known lt is =
-    claim_step slots s u t x xs spec known (λ i rest l e. claim_known slots s u t xs i spec rest l e) (is_claim x.kind) k refl lt is
+claim_known slots s u t [] k spec invariant known lt is = absurd (omega (arith, lt))
+claim_known slots s u t (x ∷ xs) k spec invariant known lt is =
+    claim_step slots s u t x xs spec invariant known (λ i rest l e. claim_known slots s u t xs i spec invariant rest l e) (is_claim x.kind) k refl lt is
 
 module _ (p : Program) (spec : ResolvedItem) where
   abbrev false_in : List Value → Bool
   false_in s = is_one false (outcome_in (slots_of p) s spec.value)
 
   -- no state of a run is one in which the specification is FALSE
-  module _ (all : AllKnown p) (claim : Contains (specifications_of p) spec) (within : IsUnbrokenWithin p spec 0)
+  module _ (all : AllKnown p) (member : Contains (specifications_of p) spec) (invariant : spec.kind ≡ item.Specification claim.Invariant) (within : IsUnbrokenWithin p spec 0)
       (holds : (s u t : List Value) → IsTrue (is_broken_step p spec.value s u t) → ⊥) (states inputs : List (List Value)) (b : Breaks p spec states inputs) where
     known_before : (s u t : List Value) → is_step p s u t ≡ true → is_known (outcome_in (slots_of p) s spec.value) ≡ true
     known_before s u t step =
         let values = left _ _ (left _ _ (left _ _ step)) in
-        claim_known (slots_of p) s u t (items_of p) claim.0 spec (all s u t (left _ _ (left _ _ values)) (right _ _ (left _ _ values)) (right _ _ values)) claim.1 claim.2
+        claim_known (slots_of p) s u t (items_of p) member.0 spec invariant (all s u t (left _ _ (left _ _ values)) (right _ _ (left _ _ values)) (right _ _ values)) member.1 member.2
 
     never_false : (i : ℕ) → i ≤ length inputs → false_in (at_time states i) ≡ true → ⊥
     never_false zero le f =
@@ -88,9 +89,9 @@ module _ (p : Program) (spec : ResolvedItem) where
     none = never_false (length inputs) (omega arith) (false_is (outcome_in (slots_of p) (at_time states (length inputs)) spec.value) b.broken)
 
   -- induction over one step
-  pub unbroken : AllKnown p → Contains (specifications_of p) spec → IsUnbrokenWithin p spec 0 → ((s u t : List Value) → IsTrue (is_broken_step p spec.value s u t) → ⊥) →
+  pub unbroken : AllKnown p → Contains (specifications_of p) spec → spec.kind ≡ item.Specification claim.Invariant → IsUnbrokenWithin p spec 0 → ((s u t : List Value) → IsTrue (is_broken_step p spec.value s u t) → ⊥) →
       IsUnbroken p spec
-  unbroken all claim within holds states inputs b = none all claim within holds states inputs b
+  unbroken all member invariant within holds states inputs b = none all member invariant within holds states inputs b
 
   -- a broken run of so many steps
   pub broken : (n : ℕ) (states inputs : List (List Value)) → IsBrokenRun p spec.value n states inputs → Breaks p spec states inputs

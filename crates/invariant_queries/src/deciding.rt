@@ -3,6 +3,8 @@
 ghost use Rattle.std.specs.Prelude.{◌≡◌, Contains, IfOk};
 ghost use Rattle.smv_meaning.specs.Runs.{specifications_of};
 ghost use Rattle.smv_resolve.specs.Items.{item_by};
+ghost use Rattle.smv_resolve.specs.declared.item.ItemKind.TheVariants as item;
+ghost use Rattle.smv_tree.specs.declared.tree.SpecificationKind.TheVariants as claim;
 ghost use Rattle.invariant_queries.specs.Deciding.{IsDecided, IsNotInductive, IsUnbrokenWithin};
 
 use crate::cause::Cause;
@@ -27,7 +29,7 @@ pub enum Decision {
     Unknown(Cause),
 }
 
-/// Decides a specification of the program by queries that the purse pays, in this order: is it broken in a first state; does a step lead
+/// Decides an invariant of the program by queries that the purse pays, in this order: is it broken in a first state; does a step lead
 /// from a state in which it is TRUE to one in which it is FALSE, else no run breaks it; do runs of 1, 2, .. steps
 /// break it, up to the bound.
 #[tactic(auto, using(crate::proofs::InductionLaws::broken, crate::proofs::InductionLaws::within_none))]
@@ -39,6 +41,7 @@ pub fn decide<Q: Purse>(
     purse: &mut Q,
 ) -> Result<Decision, AllocError>
     requires claim { Contains (specifications_of typed.now.scope.program) (item_by typed.now.nodes spec.now) }
+    requires invariant { spec.now.kind ≡ item.Specification claim.Invariant }
     requires ready { Q.ready purse.old }
     ensures found { IfOk result (IsDecided typed.now.scope.program (item_by typed.now.nodes spec.now) (Q.budget purse.old) bound (Q.spent purse.new)) }
     ensures ready { Q.ready purse.new }

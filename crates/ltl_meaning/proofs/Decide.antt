@@ -176,6 +176,10 @@ decide_unary p m some UnaryOperator.WeakYesterday P r d = decide_weak_yesterday 
 decide_unary p m some UnaryOperator.Once P r d = λ i. decided_like (once_since P i) (decide_since _ _ yes d i)
 decide_unary p m some UnaryOperator.Historically P r d = λ i.
     decided_like (historically_triggered P i) (decide_triggered _ _ nope d i)
+decide_unary p m some UnaryOperator.NowOrNext P r d = λ i. decided_or (d i) (d (i + 1))
+decide_unary p m some UnaryOperator.NowAndNext P r d = λ i. decided_and (d i) (d (i + 1))
+decide_unary p m some UnaryOperator.NowOrBefore P r d = λ i. decided_or (d i) (decide_yesterday P d i)
+decide_unary p m some UnaryOperator.NowAndBefore P r d = λ i. decided_and (d i) (decide_weak_yesterday P d i)
 
 pub decide_binary : (p m : ℕ) → 0 < p → (o : BinaryOperator) (P Q : Moment) → Repeats p m P → Repeats p m Q → Decided P → Decided Q →
     Decided (binary_truth o P Q)

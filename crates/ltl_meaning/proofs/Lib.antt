@@ -4,3 +4,6 @@ pub mod Unfolding
 pub mod Decide
 pub mod Walk
 pub mod Duality
+pub mod Alike
+pub mod Windows
+pub mod Unfold

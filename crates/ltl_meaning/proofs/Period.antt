@@ -190,6 +190,12 @@ module _ (p : ℕ) where
   unary_repeats some UnaryOperator.WeakYesterday P m r = from_later _ (m + p) _ (omega arith) (weak_yesterday_repeats P m r some)
   unary_repeats some UnaryOperator.Once P m r = from_later _ (m + p) _ (omega arith) (once_repeats P m r)
   unary_repeats some UnaryOperator.Historically P m r = from_later _ (m + p) _ (omega arith) (historically_repeats P m r)
+  unary_repeats some UnaryOperator.NowOrNext P m r = from_later _ m _ (omega arith) (or_repeats P _ m r (next_repeats P m r))
+  unary_repeats some UnaryOperator.NowAndNext P m r = from_later _ m _ (omega arith) (and_repeats P _ m r (next_repeats P m r))
+  unary_repeats some UnaryOperator.NowOrBefore P m r =
+      from_later _ (m + p) _ (omega arith) (or_repeats P _ (m + p) (from_later P m _ (omega arith) r) (yesterday_repeats P m r some))
+  unary_repeats some UnaryOperator.NowAndBefore P m r =
+      from_later _ (m + p) _ (omega arith) (and_repeats P _ (m + p) (from_later P m _ (omega arith) r) (weak_yesterday_repeats P m r some))
 
   pub binary_repeats : (o : BinaryOperator) (P Q : Moment) (m : ℕ) → Repeats p m P → Repeats p m Q →
       Repeats p (m + past_binary o * p) (binary_truth o P Q)

@@ -1,9 +1,13 @@
 -- When a formula is true. Times are all natural numbers, and t0, the first, is 0. Each case is a line
--- of the NuSMV 2.6 User Manual, section 2.4.3 (LTL Specifications), quoted above it.
+-- of the NuSMV 2.6 User Manual, section 2.4.3 (LTL Specifications); what stands in quotes above it is
+-- quoted from there.
 use Rattle.std.specs.Prelude.{ℕ, zero, suc, ◌+◌, ◌<◌, ◌≤◌, ◌⊎◌, ◌↔◌, IsTrue}
 use Rattle.ltl_meaning.specs.declared.node.UnaryOperator.{UnaryOperator}
 use Rattle.ltl_meaning.specs.declared.node.BinaryOperator.{BinaryOperator}
+use Rattle.ltl_meaning.specs.declared.node.BoundedOperator.{BoundedOperator}
+use Rattle.ltl_meaning.specs.declared.node.Window.{Window}
 use Rattle.ltl_meaning.specs.Ltl.{Ltl}
+use Rattle.ltl_meaning.specs.Temporal.{Temporal}
 
 -- what holds at each time
 abbrev pub Moment : Type 1
@@ -61,6 +65,36 @@ Since P Q t = (u : ℕ) × (u ≤ t) × Q u × ((v : ℕ) → u < v → v ≤ t 
 abbrev pub Triggered : Moment → Moment → Moment
 Triggered P Q t = (u : ℕ) → u ≤ t → Q u ⊎ ((v : ℕ) × (u < v) × (v ≤ t) × P v)
 
+-- p now or at the next time; p now and at the next time; p now or at the time before; p now and at the
+-- time before, if there is one
+abbrev pub NowOrNext : Moment → Moment
+NowOrNext P t = P t ⊎ Next P t
+
+abbrev pub NowAndNext : Moment → Moment
+NowAndNext P t = P t × Next P t
+
+abbrev pub NowOrBefore : Moment → Moment
+NowOrBefore P t = P t ⊎ Yesterday P t
+
+abbrev pub NowAndBefore : Moment → Moment
+NowAndBefore P t = P t × WeakYesterday P t
+
+-- F [low, high] p: p is true at some time from t + low to t + high
+abbrev pub FinallyWithin : ℕ → ℕ → Moment → Moment
+FinallyWithin low high P t = (u : ℕ) × (t + low ≤ u) × (u ≤ t + high) × P u
+
+-- G [low, high] p: p is true at each of these times
+abbrev pub GloballyWithin : ℕ → ℕ → Moment → Moment
+GloballyWithin low high P t = (u : ℕ) → t + low ≤ u → u ≤ t + high → P u
+
+-- O [low, high] p: p is true at some time from t - high, or from the first, to t - low
+abbrev pub OnceWithin : ℕ → ℕ → Moment → Moment
+OnceWithin low high P t = (u : ℕ) × (t ≤ u + high) × (u + low ≤ t) × P u
+
+-- H [low, high] p: p is true at each of these times
+abbrev pub HistoricallyWithin : ℕ → ℕ → Moment → Moment
+HistoricallyWithin low high P t = (u : ℕ) → t ≤ u + high → u + low ≤ t → P u
+
 -- an operator with one operand, over what holds of it
 abbrev pub unary_truth : UnaryOperator → Moment → Moment
 unary_truth UnaryOperator.Not P t = ¬ P t
@@ -71,6 +105,17 @@ unary_truth UnaryOperator.Yesterday P t = Yesterday P t
 unary_truth UnaryOperator.WeakYesterday P t = WeakYesterday P t
 unary_truth UnaryOperator.Once P t = Once P t
 unary_truth UnaryOperator.Historically P t = Historically P t
+unary_truth UnaryOperator.NowOrNext P t = NowOrNext P t
+unary_truth UnaryOperator.NowAndNext P t = NowAndNext P t
+unary_truth UnaryOperator.NowOrBefore P t = NowOrBefore P t
+unary_truth UnaryOperator.NowAndBefore P t = NowAndBefore P t
+
+-- an operator with bounds, over what holds of its operand
+abbrev pub bounded_truth : BoundedOperator → Window → Moment → Moment
+bounded_truth BoundedOperator.Finally w P t = FinallyWithin w.low w.high P t
+bounded_truth BoundedOperator.Globally w P t = GloballyWithin w.low w.high P t
+bounded_truth BoundedOperator.Once w P t = OnceWithin w.low w.high P t
+bounded_truth BoundedOperator.Historically w P t = HistoricallyWithin w.low w.high P t
 
 -- an operator with two operands, over what holds of each
 abbrev pub binary_truth : BinaryOperator → Moment → Moment → Moment
@@ -86,6 +131,14 @@ binary_truth BinaryOperator.Since P Q t = Since P Q t
 binary_truth BinaryOperator.Triggered P Q t = Triggered P Q t
 
 -- a formula is true at a time, where `atoms` says when each atom is
+abbrev pub IsTrueAt : (ℕ → Moment) → Temporal → Moment
+IsTrueAt atoms (Temporal.Constant b) t = IsTrue b
+IsTrueAt atoms (Temporal.Atom a) t = atoms a t
+IsTrueAt atoms (Temporal.Unary o f) t = unary_truth o (IsTrueAt atoms f) t
+IsTrueAt atoms (Temporal.Bounded o w f) t = bounded_truth o w (IsTrueAt atoms f) t
+IsTrueAt atoms (Temporal.Binary o f g) t = binary_truth o (IsTrueAt atoms f) (IsTrueAt atoms g) t
+
+-- the same of one whose operators have no bounds
 abbrev pub Satisfies : (ℕ → Moment) → Ltl → Moment
 Satisfies atoms (Ltl.Constant b) t = IsTrue b
 Satisfies atoms (Ltl.Atom a) t = atoms a t

@@ -1,7 +1,8 @@
-ghost use Rattle.std.specs.Prelude.{◌≡◌, min, ◌≤◌};
-ghost use Rattle.ltl_meaning.specs.Ltl.{formula_of, past_height, past_unary, past_binary};
+ghost use Rattle.std.specs.Prelude.{◌≡◌, ◌<◌, min};
+ghost use Rattle.ltl_meaning.specs.Ltl.{past_unary, past_binary};
+ghost use Rattle.ltl_meaning.specs.Temporal.{formula_of, past_bounded, past_depth};
 
-use crate::node::{BinaryOperator, Node, UnaryOperator};
+use crate::node::{BinaryOperator, BoundedOperator, Node, UnaryOperator, Window};
 
 // The least past height that is too large.
 pub const LIMIT: u64 = 1 << 32;
@@ -13,11 +14,25 @@ fn past_unary(operator: UnaryOperator) -> u64
         UnaryOperator::Not
         | UnaryOperator::Next
         | UnaryOperator::Finally
-        | UnaryOperator::Globally => 0,
+        | UnaryOperator::Globally
+        | UnaryOperator::NowOrNext
+        | UnaryOperator::NowAndNext => 0,
         UnaryOperator::Yesterday
         | UnaryOperator::WeakYesterday
         | UnaryOperator::Once
-        | UnaryOperator::Historically => 1,
+        | UnaryOperator::Historically
+        | UnaryOperator::NowOrBefore
+        | UnaryOperator::NowAndBefore => 1,
+    }
+}
+
+fn past_bounded(operator: BoundedOperator, window: Window) -> u64
+    ensures value { result ≡ past_bounded operator window }
+    ensures small { result < 256 }
+{
+    match operator {
+        BoundedOperator::Finally | BoundedOperator::Globally => 0,
+        BoundedOperator::Once | BoundedOperator::Historically => window.high as u64,
     }
 }
 
@@ -37,14 +52,17 @@ fn past_binary(operator: BinaryOperator) -> u64
     }
 }
 
-// The past height, or the limit where it is no less.
+// How deep past operators nest, or the limit where it is no less.
 pub fn capped_height(node: &Node) -> u64
-    ensures { result ≡ min (past_height (formula_of node.now)) LIMIT }
+    ensures { result ≡ min (past_depth (formula_of node.now)) LIMIT }
 {
     match node {
         Node::Constant(_) | Node::Atom(_) => 0,
         Node::Unary(operator, operand) => {
             LIMIT.min(past_unary(*operator) + capped_height(operand.get()))
+        }
+        Node::Bounded(operator, window, operand) => {
+            LIMIT.min(past_bounded(*operator, *window) + capped_height(operand.get()))
         }
         Node::Implies(left, right) => capped_height(left.get()).max(capped_height(right.get())),
         Node::Chain(first, links) => {

@@ -1,3 +1,5 @@
+ghost use Rattle.std.specs.Prelude.{◌≤◌};
+
 use sqlite_items::{Boxed, Items};
 use std::alloc::{AllocError, Global};
 
@@ -20,6 +22,63 @@ pub enum UnaryOperator {
     Once,
     /// `H`: at each time up to now.
     Historically,
+    /// `F [0, 1]`: now or at the next time.
+    NowOrNext,
+    /// `G [0, 1]`: now and at the next time.
+    NowAndNext,
+    /// `O [0, 1]`: now or at the time before.
+    NowOrBefore,
+    /// `H [0, 1]`: now and at the time before, if there is one.
+    NowAndBefore,
+}
+
+/// The operators with bounds.
+#[derive(Clone, Copy, PartialEq, Eq, Debug)]
+pub enum BoundedOperator {
+    /// `F [a, b]`: at some time from `a` to `b` times on.
+    Finally,
+    /// `G [a, b]`: at each time from `a` to `b` times on.
+    Globally,
+    /// `O [a, b]`: at some time from `b` to `a` times ago.
+    Once,
+    /// `H [a, b]`: at each time from `b` to `a` times ago that there is.
+    Historically,
+}
+
+impl BoundedOperator {
+    ghost use Rattle.std.specs.Prelude.{◌≡◌};
+    ghost use Rattle.ltl_meaning.specs.Unfolded.{delay, widen};
+
+    /// The operator that looks one time further, `X`, `Y` or `Z`: both bounds are one more.
+    pub fn delay(self) -> UnaryOperator
+        ensures { result ≡ delay self }
+    {
+        match self {
+            BoundedOperator::Finally | BoundedOperator::Globally => UnaryOperator::Next,
+            BoundedOperator::Once => UnaryOperator::Yesterday,
+            BoundedOperator::Historically => UnaryOperator::WeakYesterday,
+        }
+    }
+
+    /// The operator with the bounds `[0, 1]`, which looks at one time more: the upper bound is one more.
+    pub fn widen(self) -> UnaryOperator
+        ensures { result ≡ widen self }
+    {
+        match self {
+            BoundedOperator::Finally => UnaryOperator::NowOrNext,
+            BoundedOperator::Globally => UnaryOperator::NowAndNext,
+            BoundedOperator::Once => UnaryOperator::NowOrBefore,
+            BoundedOperator::Historically => UnaryOperator::NowAndBefore,
+        }
+    }
+}
+
+/// The bounds `[low, high]` of an operator.
+#[derive(Clone, Copy, Debug, Drop)]
+pub struct Window {
+    pub low: u8,
+    pub high: u8,
+    pub ghost ordered: { low ≤ high },
 }
 
 /// The operators with two operands.
@@ -66,6 +125,8 @@ pub enum Node {
     Atom(usize),
     /// An operator and its operand.
     Unary(UnaryOperator, Boxed<Node>),
+    /// An operator with bounds and its operand.
+    Bounded(BoundedOperator, Window, Boxed<Node>),
     /// `->` between its sides: the one operator that groups to the right.
     Implies(Boxed<Node>, Boxed<Node>),
     /// Operators of one precedence level and their operands, read from left to right.
@@ -74,18 +135,30 @@ pub enum Node {
 
 impl Node {
     ghost use Rattle.std.specs.Prelude.{◌≡◌, IfOk};
-    ghost use Rattle.ltl_meaning.specs.Ltl.{Ltl, formula_of, chain_of, links_of};
+    ghost use Rattle.ltl_meaning.specs.Temporal.{Temporal, formula_of, chain_of, links_of};
 
     /// An operator over its operand.
     pub fn unary(alloc: Global, operator: UnaryOperator, operand: Node) -> Result<Node, AllocError>
-        ensures { IfOk result (λ n. formula_of n ≡ Ltl.Unary operator (formula_of operand)) }
+        ensures { IfOk result (λ n. formula_of n ≡ Temporal.Unary operator (formula_of operand)) }
     {
         Ok(Node::Unary(operator, Boxed::new(alloc, operand)?))
     }
 
+    /// An operator with bounds over its operand.
+    pub fn bounded(
+        alloc: Global,
+        operator: BoundedOperator,
+        window: Window,
+        operand: Node,
+    ) -> Result<Node, AllocError>
+        ensures { IfOk result (λ n. formula_of n ≡ Temporal.Bounded operator window (formula_of operand)) }
+    {
+        Ok(Node::Bounded(operator, window, Boxed::new(alloc, operand)?))
+    }
+
     /// `left -> right`.
     pub fn implies(alloc: Global, left: Node, right: Node) -> Result<Node, AllocError>
-        ensures { IfOk result (λ n. formula_of n ≡ Ltl.Binary BinaryOperator.Implies (formula_of left) (formula_of right)) }
+        ensures { IfOk result (λ n. formula_of n ≡ Temporal.Binary BinaryOperator.Implies (formula_of left) (formula_of right)) }
     {
         let left = Boxed::new(alloc, left)?;
         Ok(Node::Implies(left, Boxed::new(alloc, right)?))

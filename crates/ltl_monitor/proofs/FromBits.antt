@@ -1,12 +1,12 @@
 -- Bits that meet the rules, with each set again and again, are the truth.
-use Rattle.std.proofs.Common.{◌≡◌, ℕ, ◌+◌, ◌⊎◌, inl, inr, Bool, true, false, not, ◌||◌, List, [], ◌∷◌, ◌++◌, refl}
+use Rattle.std.proofs.Common.{◌≡◌, ℕ, zero, suc, ◌+◌, ◌⊎◌, inl, inr, Bool, true, false, not, ◌&&◌, ◌||◌, List, [], ◌∷◌, ◌++◌, refl, sym, ap, ◌∙◌, arith}
 use Rattle.std.specs.Prelude.{◌↔◌}
 use Rattle.std.specs.Bool.{Decides}
-use Rattle.std.proofs.lemmas.Bool.Decides.{Decides-at, Decides-not, Decides-and, Decides-or}
+use Rattle.std.proofs.lemmas.Bool.Decides.{Decides-at, Decides-like, Decides-not, Decides-and, Decides-or}
 use Rattle.ltl_meaning.specs.declared.node.UnaryOperator.{UnaryOperator}
 use Rattle.ltl_meaning.specs.declared.node.BinaryOperator.{BinaryOperator}
 use Rattle.ltl_meaning.specs.Ltl.{Ltl}
-use Rattle.ltl_meaning.specs.Truth.{Moment, unary_truth, binary_truth, Satisfies}
+use Rattle.ltl_meaning.specs.Truth.{Moment, NowOrBefore, NowAndBefore, unary_truth, binary_truth, Satisfies}
 use Rattle.ltl_meaning.proofs.Unfolding.{Tells, Often, until_from, releases_from, since_from, triggered_from, finally_from, globally_from, once_from, historically_from, yesterday_from, weak_yesterday_from}
 use Rattle.ltl_monitor.specs.Monitor.{Side, same, nodes, unary_now, binary_now, truth, unary_row, binary_row, rows, unary_start, binary_start, starts, Set, unary_sets, binary_sets, sets, Each}
 
@@ -39,6 +39,20 @@ pub each_join : {X : Type 0} (P : X → Type 0) (xs ys : List X) → Each P xs �
 each_join P [] ys a b = b
 each_join P (x ∷ xs) ys a b = (a.0, each_join P xs ys a.1 b)
 
+-- an operator that looks at the time before, too
+module _ (P : Moment) (b x : ℕ → Bool) (tp : Tells x P) where
+  or_before_from : b 0 ≡ x 0 → ((i : ℕ) → b (i + 1) ≡ (x (i + 1) || x i)) → Tells b (NowOrBefore P)
+  or_before_from start row zero = Decides-at _ _ start (Decides-like (x 0) inl (λ h. elim h [ inl y ↦ y | inr y ↦ absurd y ]) (tp 0))
+  or_before_from start row (suc i) =
+      let e : suc i ≡ i + 1 = omega arith in
+      Decides-at _ _ (ap b e ∙ row i ∙ ap (λ n. x n || x i) (sym e)) (Decides-or _ _ (tp (suc i)) (tp i))
+
+  and_before_from : b 0 ≡ x 0 → ((i : ℕ) → b (i + 1) ≡ (x (i + 1) && x i)) → Tells b (NowAndBefore P)
+  and_before_from start row zero = Decides-at _ _ start (Decides-like (x 0) (λ h. (h, tt)) (λ h. h.0) (tp 0))
+  and_before_from start row (suc i) =
+      let e : suc i ≡ i + 1 = omega arith in
+      Decides-at _ _ (ap b e ∙ row i ∙ ap (λ n. x n && x i) (sym e)) (Decides-and _ _ (tp (suc i)) (tp i))
+
 module _ (s : ℕ → Side) where
   -- a set holds again and again
   abbrev pub Again : Set → Type 0
@@ -56,6 +70,10 @@ module _ (s : ℕ → Side) where
   unary_from UnaryOperator.WeakYesterday P bit p tp row st z = weak_yesterday_from P (λ i. bit (s i)) (λ i. p (s i)) tp st row
   unary_from UnaryOperator.Once P bit p tp row st z = once_from P (λ i. bit (s i)) (λ i. p (s i)) tp st row
   unary_from UnaryOperator.Historically P bit p tp row st z = historically_from P (λ i. bit (s i)) (λ i. p (s i)) tp st row
+  unary_from UnaryOperator.NowOrNext P bit p tp row st z = λ i. Decides-at _ _ (row i) (Decides-or _ _ (tp i) (tp (i + 1)))
+  unary_from UnaryOperator.NowAndNext P bit p tp row st z = λ i. Decides-at _ _ (row i) (Decides-and _ _ (tp i) (tp (i + 1)))
+  unary_from UnaryOperator.NowOrBefore P bit p tp row st z = or_before_from P (λ i. bit (s i)) (λ i. p (s i)) tp st row
+  unary_from UnaryOperator.NowAndBefore P bit p tp row st z = and_before_from P (λ i. bit (s i)) (λ i. p (s i)) tp st row
 
   binary_from : (o : BinaryOperator) (P Q : Moment) (bit p q : Set) → Tells (λ i. p (s i)) P → Tells (λ i. q (s i)) Q →
       ((i : ℕ) → binary_row o (bit (s i)) (bit (s (i + 1))) (p (s i)) (q (s i)) (p (s (i + 1))) (q (s (i + 1)))) → binary_start o (bit (s 0)) (q (s 0)) →

@@ -15,3 +15,4 @@ pub mod Signals
 pub mod CountedRuns
 pub mod SignalRuns
 mod OwnRows
+pub mod Repeated

@@ -55,6 +55,10 @@ module _ (p : Layout) where
   unary_rows_mean UnaryOperator.WeakYesterday w b f d = met_more w d.rows _ _ (is_same_means w (moved p Space.Next b) (moved p Space.Now f))
   unary_rows_mean UnaryOperator.Once w b f d = met_more w d.rows _ _ (is_or_means w (moved p Space.Next b) (moved p Space.Next f) (moved p Space.Now b))
   unary_rows_mean UnaryOperator.Historically w b f d = met_more w d.rows _ _ (is_and_means w (moved p Space.Next b) (moved p Space.Next f) (moved p Space.Now b))
+  unary_rows_mean UnaryOperator.NowOrNext w b f d = met_more w d.rows _ _ (is_or_means w (moved p Space.Now b) (moved p Space.Now f) (moved p Space.Next f))
+  unary_rows_mean UnaryOperator.NowAndNext w b f d = met_more w d.rows _ _ (is_and_means w (moved p Space.Now b) (moved p Space.Now f) (moved p Space.Next f))
+  unary_rows_mean UnaryOperator.NowOrBefore w b f d = met_more w d.rows _ _ (is_or_means w (moved p Space.Next b) (moved p Space.Next f) (moved p Space.Now f))
+  unary_rows_mean UnaryOperator.NowAndBefore w b f d = met_more w d.rows _ _ (is_and_means w (moved p Space.Next b) (moved p Space.Next f) (moved p Space.Now f))
 
   unary_starts_mean : (o : UnaryOperator) (v : ℕ → Bool) (b f : Lit) (d : Draft) →
       Met v (unary_rules o (both p b) (both p f) d).starts ↔ (Met v d.starts × unary_start o (value v b) (value v f))
@@ -76,6 +80,10 @@ module _ (p : Layout) where
   unary_starts_mean UnaryOperator.WeakYesterday v b f d = met_more v d.starts _ _ (met_one v b)
   unary_starts_mean UnaryOperator.Once v b f d = met_more v d.starts _ _ (is_same_means v b f)
   unary_starts_mean UnaryOperator.Historically v b f d = met_more v d.starts _ _ (is_same_means v b f)
+  unary_starts_mean UnaryOperator.NowOrNext v b f d = (λ h. (h, tt), λ h. h.0)
+  unary_starts_mean UnaryOperator.NowAndNext v b f d = (λ h. (h, tt), λ h. h.0)
+  unary_starts_mean UnaryOperator.NowOrBefore v b f d = met_more v d.starts _ _ (is_same_means v b f)
+  unary_starts_mean UnaryOperator.NowAndBefore v b f d = met_more v d.starts _ _ (is_same_means v b f)
 
   pub unary_back : (o : UnaryOperator) (v : ℕ → Bool) (b f : Lit) (d : Draft) → Met v (unary_rules o (both p b) (both p f) d).defs → Met v d.defs
   unary_back UnaryOperator.Not v b f d h = h
@@ -86,6 +94,10 @@ module _ (p : Layout) where
   unary_back UnaryOperator.WeakYesterday v b f d h = h
   unary_back UnaryOperator.Once v b f d h = h
   unary_back UnaryOperator.Historically v b f d h = h
+  unary_back UnaryOperator.NowOrNext v b f d h = h
+  unary_back UnaryOperator.NowAndNext v b f d h = h
+  unary_back UnaryOperator.NowOrBefore v b f d h = h
+  unary_back UnaryOperator.NowAndBefore v b f d h = h
 
   -- the value of a set's gate, put behind the sets before it
   set_value : (v : ℕ → Bool) (x y : Lit) (d : Draft) (t : Bool) → Met v (d.defs ++ is_or (plain d.gate) x y) → (value v x || value v y) ≡ t →
@@ -107,6 +119,10 @@ module _ (p : Layout) where
   unary_sets_mean UnaryOperator.WeakYesterday v b f d bit q s eb ef h = sym (append-nil _)
   unary_sets_mean UnaryOperator.Once v b f d bit q s eb ef h = sym (append-nil _)
   unary_sets_mean UnaryOperator.Historically v b f d bit q s eb ef h = sym (append-nil _)
+  unary_sets_mean UnaryOperator.NowOrNext v b f d bit q s eb ef h = sym (append-nil _)
+  unary_sets_mean UnaryOperator.NowAndNext v b f d bit q s eb ef h = sym (append-nil _)
+  unary_sets_mean UnaryOperator.NowOrBefore v b f d bit q s eb ef h = sym (append-nil _)
+  unary_sets_mean UnaryOperator.NowAndBefore v b f d bit q s eb ef h = sym (append-nil _)
 
   unary_lit_means : (o : UnaryOperator) (v : ℕ → Bool) (b f : Lit) → value v (unary_lit o b f) ≡ unary_now o (value v b) (value v f)
   unary_lit_means UnaryOperator.Not v b f = value_negate v f
@@ -117,6 +133,10 @@ module _ (p : Layout) where
   unary_lit_means UnaryOperator.WeakYesterday v b f = refl
   unary_lit_means UnaryOperator.Once v b f = refl
   unary_lit_means UnaryOperator.Historically v b f = refl
+  unary_lit_means UnaryOperator.NowOrNext v b f = refl
+  unary_lit_means UnaryOperator.NowAndNext v b f = refl
+  unary_lit_means UnaryOperator.NowOrBefore v b f = refl
+  unary_lit_means UnaryOperator.NowAndBefore v b f = refl
 
   -- one operator with two operands
   binary_rows_mean : (o : BinaryOperator) (w : ℕ → Bool) (b f g : Lit) (d : Draft) →

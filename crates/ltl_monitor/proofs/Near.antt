@@ -26,6 +26,10 @@ unary_now_like UnaryOperator.Yesterday b b' p p' eb ep = eb (omega arith)
 unary_now_like UnaryOperator.WeakYesterday b b' p p' eb ep = eb (omega arith)
 unary_now_like UnaryOperator.Once b b' p p' eb ep = eb (omega arith)
 unary_now_like UnaryOperator.Historically b b' p p' eb ep = eb (omega arith)
+unary_now_like UnaryOperator.NowOrNext b b' p p' eb ep = eb (omega arith)
+unary_now_like UnaryOperator.NowAndNext b b' p p' eb ep = eb (omega arith)
+unary_now_like UnaryOperator.NowOrBefore b b' p p' eb ep = eb (omega arith)
+unary_now_like UnaryOperator.NowAndBefore b b' p p' eb ep = eb (omega arith)
 
 unary_row_like : (o : UnaryOperator) (b c p q b' c' p' q' : Bool) → (0 < unary_bits o → b ≡ b') → (0 < unary_bits o → c ≡ c') → p ≡ p' → q ≡ q' → unary_row o b c p q → unary_row o b' c' p' q'
 unary_row_like UnaryOperator.Not b c p q b' c' p' q' eb ec ep eq h = tt
@@ -36,6 +40,10 @@ unary_row_like UnaryOperator.Yesterday b c p q b' c' p' q' eb ec ep eq h = like4
 unary_row_like UnaryOperator.WeakYesterday b c p q b' c' p' q' eb ec ep eq h = like4 (unary_row UnaryOperator.WeakYesterday) b c p q b' c' p' q' (eb (omega arith)) (ec (omega arith)) ep eq h
 unary_row_like UnaryOperator.Once b c p q b' c' p' q' eb ec ep eq h = like4 (unary_row UnaryOperator.Once) b c p q b' c' p' q' (eb (omega arith)) (ec (omega arith)) ep eq h
 unary_row_like UnaryOperator.Historically b c p q b' c' p' q' eb ec ep eq h = like4 (unary_row UnaryOperator.Historically) b c p q b' c' p' q' (eb (omega arith)) (ec (omega arith)) ep eq h
+unary_row_like UnaryOperator.NowOrNext b c p q b' c' p' q' eb ec ep eq h = like4 (unary_row UnaryOperator.NowOrNext) b c p q b' c' p' q' (eb (omega arith)) (ec (omega arith)) ep eq h
+unary_row_like UnaryOperator.NowAndNext b c p q b' c' p' q' eb ec ep eq h = like4 (unary_row UnaryOperator.NowAndNext) b c p q b' c' p' q' (eb (omega arith)) (ec (omega arith)) ep eq h
+unary_row_like UnaryOperator.NowOrBefore b c p q b' c' p' q' eb ec ep eq h = like4 (unary_row UnaryOperator.NowOrBefore) b c p q b' c' p' q' (eb (omega arith)) (ec (omega arith)) ep eq h
+unary_row_like UnaryOperator.NowAndBefore b c p q b' c' p' q' eb ec ep eq h = like4 (unary_row UnaryOperator.NowAndBefore) b c p q b' c' p' q' (eb (omega arith)) (ec (omega arith)) ep eq h
 
 unary_start_like : (o : UnaryOperator) (b p b' p' : Bool) → (0 < unary_bits o → b ≡ b') → p ≡ p' → unary_start o b p → unary_start o b' p'
 unary_start_like UnaryOperator.Not b p b' p' eb ep h = tt
@@ -46,6 +54,10 @@ unary_start_like UnaryOperator.Yesterday b p b' p' eb ep h = like4 (λ x y z u. 
 unary_start_like UnaryOperator.WeakYesterday b p b' p' eb ep h = like4 (λ x y z u. unary_start UnaryOperator.WeakYesterday x y) b p true true b' p' true true (eb (omega arith)) ep refl refl h
 unary_start_like UnaryOperator.Once b p b' p' eb ep h = like4 (λ x y z u. unary_start UnaryOperator.Once x y) b p true true b' p' true true (eb (omega arith)) ep refl refl h
 unary_start_like UnaryOperator.Historically b p b' p' eb ep h = like4 (λ x y z u. unary_start UnaryOperator.Historically x y) b p true true b' p' true true (eb (omega arith)) ep refl refl h
+unary_start_like UnaryOperator.NowOrNext b p b' p' eb ep h = like4 (λ x y z u. unary_start UnaryOperator.NowOrNext x y) b p true true b' p' true true (eb (omega arith)) ep refl refl h
+unary_start_like UnaryOperator.NowAndNext b p b' p' eb ep h = like4 (λ x y z u. unary_start UnaryOperator.NowAndNext x y) b p true true b' p' true true (eb (omega arith)) ep refl refl h
+unary_start_like UnaryOperator.NowOrBefore b p b' p' eb ep h = like4 (λ x y z u. unary_start UnaryOperator.NowOrBefore x y) b p true true b' p' true true (eb (omega arith)) ep refl refl h
+unary_start_like UnaryOperator.NowAndBefore b p b' p' eb ep h = like4 (λ x y z u. unary_start UnaryOperator.NowAndBefore x y) b p true true b' p' true true (eb (omega arith)) ep refl refl h
 
 unary_sets_like : (o : UnaryOperator) (bit q : Set) (s t : Side) → (0 < unary_bits o → bit s ≡ bit t) → q s ≡ q t → map (λ z. z s) (unary_sets o bit q) ≡ map (λ z. z t) (unary_sets o bit q)
 unary_sets_like UnaryOperator.Not bit q s t eb eq = refl
@@ -56,6 +68,10 @@ unary_sets_like UnaryOperator.Yesterday bit q s t eb eq = refl
 unary_sets_like UnaryOperator.WeakYesterday bit q s t eb eq = refl
 unary_sets_like UnaryOperator.Once bit q s t eb eq = refl
 unary_sets_like UnaryOperator.Historically bit q s t eb eq = refl
+unary_sets_like UnaryOperator.NowOrNext bit q s t eb eq = refl
+unary_sets_like UnaryOperator.NowAndNext bit q s t eb eq = refl
+unary_sets_like UnaryOperator.NowOrBefore bit q s t eb eq = refl
+unary_sets_like UnaryOperator.NowAndBefore bit q s t eb eq = refl
 
 binary_now_like : (o : BinaryOperator) (b b' p p' q q' : Bool) → (0 < binary_bits o → b ≡ b') → p ≡ p' → q ≡ q' → binary_now o b p q ≡ binary_now o b' p' q'
 binary_now_like BinaryOperator.And b b' p p' q q' eb ep eq = ap (λ x. binary_now BinaryOperator.And b x q) ep ∙ ap (λ x. binary_now BinaryOperator.And b p' x) eq

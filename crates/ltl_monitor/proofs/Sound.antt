@@ -339,6 +339,16 @@ module _ (s : Scene) where
     unary_move UnaryOperator.Historically d b f h kb kf =
         start_after d _ _ (row_or d (negate (moved p Space.Next b)) (negate (moved p Space.Next f)) (negate (moved p Space.Now b)) h (next_below d b h (kb (omega arith))) (next_below d f h kf) (now_below d b h (kb (omega arith))))
         (same_start d b f (kb (omega arith)) kf)
+    unary_move UnaryOperator.NowOrNext d b f h kb kf =
+        row_or d (moved p Space.Now b) (moved p Space.Now f) (moved p Space.Next f) h (now_below d b h (kb (omega arith))) (now_below d f h kf) (next_below d f h kf)
+    unary_move UnaryOperator.NowAndNext d b f h kb kf =
+        row_or d (negate (moved p Space.Now b)) (negate (moved p Space.Now f)) (negate (moved p Space.Next f)) h (now_below d b h (kb (omega arith))) (now_below d f h kf) (next_below d f h kf)
+    unary_move UnaryOperator.NowOrBefore d b f h kb kf =
+        start_after d _ _ (row_or d (moved p Space.Next b) (moved p Space.Next f) (moved p Space.Now f) h (next_below d b h (kb (omega arith))) (next_below d f h kf) (now_below d f h kf))
+        (same_start d b f (kb (omega arith)) kf)
+    unary_move UnaryOperator.NowAndBefore d b f h kb kf =
+        start_after d _ _ (row_or d (negate (moved p Space.Next b)) (negate (moved p Space.Next f)) (negate (moved p Space.Now f)) h (next_below d b h (kb (omega arith))) (next_below d f h kf) (now_below d f h kf))
+        (same_start d b f (kb (omega arith)) kf)
 
     unary_known : (o : UnaryOperator) (d : Draft) (b f : Lit) → (0 < unary_bits o → Known d b) → Known d f → Known d (unary_lit o b f)
     unary_known UnaryOperator.Not d b f kb kf = known_negate d f kf
@@ -349,6 +359,10 @@ module _ (s : Scene) where
     unary_known UnaryOperator.WeakYesterday d b f kb kf = kb (omega arith)
     unary_known UnaryOperator.Once d b f kb kf = kb (omega arith)
     unary_known UnaryOperator.Historically d b f kb kf = kb (omega arith)
+    unary_known UnaryOperator.NowOrNext d b f kb kf = kb (omega arith)
+    unary_known UnaryOperator.NowAndNext d b f kb kf = kb (omega arith)
+    unary_known UnaryOperator.NowOrBefore d b f kb kf = kb (omega arith)
+    unary_known UnaryOperator.NowAndBefore d b f kb kf = kb (omega arith)
 
     -- a gate's literal, or its negation
     gated_negate : (d e : Draft) (l : Lit) → Gated d e l → Gated d e (negate l)

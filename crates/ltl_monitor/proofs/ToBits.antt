@@ -115,6 +115,10 @@ module _ (P : Moment) (b x : ℕ → Bool) (tp : Tells x P) where
   unary_told UnaryOperator.WeakYesterday tb = tb (omega arith)
   unary_told UnaryOperator.Once tb = tb (omega arith)
   unary_told UnaryOperator.Historically tb = tb (omega arith)
+  unary_told UnaryOperator.NowOrNext tb = tb (omega arith)
+  unary_told UnaryOperator.NowAndNext tb = tb (omega arith)
+  unary_told UnaryOperator.NowOrBefore tb = tb (omega arith)
+  unary_told UnaryOperator.NowAndBefore tb = tb (omega arith)
 
   unary_row_holds : (o : UnaryOperator) → BitTells (unary_bits o) b (unary_truth o P) → (i : ℕ) → unary_row o (b i) (b (i + 1)) (x i) (x (i + 1))
   unary_row_holds UnaryOperator.Not tb i = tt
@@ -129,6 +133,18 @@ module _ (P : Moment) (b x : ℕ → Bool) (tp : Tells x P) where
       since_row _ P b (λ i. true) x always tp (tells_like b _ _ (backwards (once_since P)) (tb (omega arith))) i
   unary_row_holds UnaryOperator.Historically tb i =
       triggered_row _ P b (λ i. false) x never tp (tells_like b _ _ (backwards (historically_triggered P)) (tb (omega arith))) i
+  unary_row_holds UnaryOperator.NowOrNext tb i =
+      same_from_decides (b i) (x i || x (i + 1)) (tb (omega arith) i) (Decides-or _ _ (tp i) (tp (i + 1)))
+  unary_row_holds UnaryOperator.NowAndNext tb i =
+      same_from_decides (b i) (x i && x (i + 1)) (tb (omega arith) i) (Decides-and _ _ (tp i) (tp (i + 1)))
+  unary_row_holds UnaryOperator.NowOrBefore tb i =
+      let e : suc i ≡ i + 1 = omega arith in
+      let y = subst (λ n. Decides (x i) (Yesterday P n)) e (tp i) in
+      same_from_decides (b (i + 1)) (x (i + 1) || x i) (tb (omega arith) (i + 1)) (Decides-or _ _ (tp (i + 1)) y)
+  unary_row_holds UnaryOperator.NowAndBefore tb i =
+      let e : suc i ≡ i + 1 = omega arith in
+      let y = subst (λ n. Decides (x i) (WeakYesterday P n)) e (tp i) in
+      same_from_decides (b (i + 1)) (x (i + 1) && x i) (tb (omega arith) (i + 1)) (Decides-and _ _ (tp (i + 1)) y)
 
   unary_start_holds : (o : UnaryOperator) → BitTells (unary_bits o) b (unary_truth o P) → unary_start o (b 0) (x 0)
   unary_start_holds UnaryOperator.Not tb = tt
@@ -141,6 +157,12 @@ module _ (P : Moment) (b x : ℕ → Bool) (tp : Tells x P) where
       since_start _ P b (λ i. true) x always tp (tells_like b _ _ (backwards (once_since P)) (tb (omega arith)))
   unary_start_holds UnaryOperator.Historically tb =
       triggered_start _ P b (λ i. false) x never tp (tells_like b _ _ (backwards (historically_triggered P)) (tb (omega arith)))
+  unary_start_holds UnaryOperator.NowOrNext tb = tt
+  unary_start_holds UnaryOperator.NowAndNext tb = tt
+  unary_start_holds UnaryOperator.NowOrBefore tb =
+      same_from_decides (b 0) (x 0) (Decides-like (b 0) (λ h. elim h [ inl y ↦ y | inr y ↦ absurd y ]) inl (tb (omega arith) 0)) (tp 0)
+  unary_start_holds UnaryOperator.NowAndBefore tb =
+      same_from_decides (b 0) (x 0) (Decides-like (b 0) (λ h. h.0) (λ h. (h, tt)) (tb (omega arith) 0)) (tp 0)
 
 module _ (P Q : Moment) (b x y : ℕ → Bool) (tp : Tells x P) (tq : Tells y Q) where
   -- one operator with two operands
@@ -195,6 +217,10 @@ module _ (s : ℕ → Side) (p l : ℕ) (some : 0 < p) where
   unary_sets_hold UnaryOperator.WeakYesterday P bit q tq tb r = tt
   unary_sets_hold UnaryOperator.Once P bit q tq tb r = tt
   unary_sets_hold UnaryOperator.Historically P bit q tq tb r = tt
+  unary_sets_hold UnaryOperator.NowOrNext P bit q tq tb r = tt
+  unary_sets_hold UnaryOperator.NowAndNext P bit q tq tb r = tt
+  unary_sets_hold UnaryOperator.NowOrBefore P bit q tq tb r = tt
+  unary_sets_hold UnaryOperator.NowAndBefore P bit q tq tb r = tt
 
   binary_sets_hold : (o : BinaryOperator) (P Q : Moment) (bit f g : Set) → Tells (λ i. f (s i)) P → Tells (λ i. g (s i)) Q →
       BitTells (binary_bits o) (λ i. bit (s i)) (binary_truth o P Q) → Repeats p l Q → Each (InLoop s (l + p) l) (binary_sets o bit g)

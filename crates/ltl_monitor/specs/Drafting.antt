@@ -82,6 +82,11 @@ unary_rules UnaryOperator.WeakYesterday b f d = start_added ((b.here ∷ []) ∷
 unary_rules UnaryOperator.Once b f d = start_added (is_same b.here f.here) (row_added (is_or b.next f.next b.now) d)
 unary_rules UnaryOperator.Historically b f d =
     start_added (is_same b.here f.here) (row_added (is_or (negate b.next) (negate f.next) (negate b.now)) d)
+unary_rules UnaryOperator.NowOrNext b f d = row_added (is_or b.now f.now f.next) d
+unary_rules UnaryOperator.NowAndNext b f d = row_added (is_or (negate b.now) (negate f.now) (negate f.next)) d
+unary_rules UnaryOperator.NowOrBefore b f d = start_added (is_same b.here f.here) (row_added (is_or b.next f.next f.now) d)
+unary_rules UnaryOperator.NowAndBefore b f d =
+    start_added (is_same b.here f.here) (row_added (is_or (negate b.next) (negate f.next) (negate f.now)) d)
 
 -- and where f and g are its operands
 abbrev pub binary_rules : BinaryOperator → Both → Both → Both → Draft → Draft
@@ -110,6 +115,10 @@ unary_lit UnaryOperator.Yesterday b f = b
 unary_lit UnaryOperator.WeakYesterday b f = b
 unary_lit UnaryOperator.Once b f = b
 unary_lit UnaryOperator.Historically b f = b
+unary_lit UnaryOperator.NowOrNext b f = b
+unary_lit UnaryOperator.NowAndNext b f = b
+unary_lit UnaryOperator.NowOrBefore b f = b
+unary_lit UnaryOperator.NowAndBefore b f = b
 
 abbrev pub binary_lit : BinaryOperator → Lit → Lit → Lit
 binary_lit BinaryOperator.And b gate = negate gate

@@ -20,6 +20,10 @@ unary_bits UnaryOperator.Yesterday = 1
 unary_bits UnaryOperator.WeakYesterday = 1
 unary_bits UnaryOperator.Once = 1
 unary_bits UnaryOperator.Historically = 1
+unary_bits UnaryOperator.NowOrNext = 1
+unary_bits UnaryOperator.NowAndNext = 1
+unary_bits UnaryOperator.NowOrBefore = 1
+unary_bits UnaryOperator.NowAndBefore = 1
 
 abbrev pub binary_bits : BinaryOperator → ℕ
 binary_bits BinaryOperator.And = 0
@@ -50,6 +54,10 @@ unary_now UnaryOperator.Yesterday bit p = bit
 unary_now UnaryOperator.WeakYesterday bit p = bit
 unary_now UnaryOperator.Once bit p = bit
 unary_now UnaryOperator.Historically bit p = bit
+unary_now UnaryOperator.NowOrNext bit p = bit
+unary_now UnaryOperator.NowAndNext bit p = bit
+unary_now UnaryOperator.NowOrBefore bit p = bit
+unary_now UnaryOperator.NowAndBefore bit p = bit
 
 -- whether two are the same
 abbrev pub same : Bool → Bool → Bool
@@ -86,6 +94,10 @@ unary_row UnaryOperator.Yesterday bit bit' p p' = bit' ≡ p
 unary_row UnaryOperator.WeakYesterday bit bit' p p' = bit' ≡ p
 unary_row UnaryOperator.Once bit bit' p p' = bit' ≡ (p' || bit)
 unary_row UnaryOperator.Historically bit bit' p p' = bit' ≡ (p' && bit)
+unary_row UnaryOperator.NowOrNext bit bit' p p' = bit ≡ (p || p')
+unary_row UnaryOperator.NowAndNext bit bit' p p' = bit ≡ (p && p')
+unary_row UnaryOperator.NowOrBefore bit bit' p p' = bit' ≡ (p' || p)
+unary_row UnaryOperator.NowAndBefore bit bit' p p' = bit' ≡ (p' && p)
 
 abbrev pub binary_row : BinaryOperator → Bool → Bool → Bool → Bool → Bool → Bool → Type 0
 binary_row BinaryOperator.And bit bit' p q p' q' = Unit {0}
@@ -120,6 +132,10 @@ unary_start UnaryOperator.Yesterday bit p = bit ≡ false
 unary_start UnaryOperator.WeakYesterday bit p = bit ≡ true
 unary_start UnaryOperator.Once bit p = bit ≡ p
 unary_start UnaryOperator.Historically bit p = bit ≡ p
+unary_start UnaryOperator.NowOrNext bit p = Unit {0}
+unary_start UnaryOperator.NowAndNext bit p = Unit {0}
+unary_start UnaryOperator.NowOrBefore bit p = bit ≡ p
+unary_start UnaryOperator.NowAndBefore bit p = bit ≡ p
 
 abbrev pub binary_start : BinaryOperator → Bool → Bool → Type 0
 binary_start BinaryOperator.And bit q = Unit {0}
@@ -155,6 +171,10 @@ unary_sets UnaryOperator.Yesterday bit p = []
 unary_sets UnaryOperator.WeakYesterday bit p = []
 unary_sets UnaryOperator.Once bit p = []
 unary_sets UnaryOperator.Historically bit p = []
+unary_sets UnaryOperator.NowOrNext bit p = []
+unary_sets UnaryOperator.NowAndNext bit p = []
+unary_sets UnaryOperator.NowOrBefore bit p = []
+unary_sets UnaryOperator.NowAndBefore bit p = []
 
 abbrev pub binary_sets : BinaryOperator → Set → Set → List Set
 binary_sets BinaryOperator.And bit q = []

@@ -1,13 +1,15 @@
-ghost use Rattle.std.specs.Prelude.{◌≡◌, ◌+◌, ◌∷◌, ◌++◌, [], IfOk, OnOk};
+ghost use Rattle.std.specs.Prelude.{◌≡◌, ◌+◌, ◌-◌, ◌∷◌, ◌++◌, [], IfOk, OnOk};
 ghost use Rattle.clause_core.specs.Literals.{at};
-ghost use Rattle.ltl_meaning.specs.Ltl.{formula_of};
+ghost use Rattle.ltl_meaning.specs.Ltl.{Ltl};
+ghost use Rattle.ltl_meaning.specs.Temporal.{formula_of};
+ghost use Rattle.ltl_meaning.specs.Unfolded.{repeated, delay, widen, unfolded};
 ghost use Rattle.ltl_monitor.specs.Monitor.{unary_bits, binary_bits};
 ghost use Rattle.ltl_monitor.specs.Drafting.{unary_rules, binary_rules, gate_added, set_added, unary_lit, binary_lit, unary_drafted, binary_drafted, drafted, plain, is_or, is_iff};
 
 use crate::layout::{Both, Layout, sum};
 use crate::rules::{push_and, push_and_or, push_iff, push_or, push_or_and, push_same};
 use clause_core::{Clauses, Lit};
-use ltl_meaning::node::{BinaryOperator, Node, UnaryOperator};
+use ltl_meaning::node::{BinaryOperator, BoundedOperator, Node, UnaryOperator, Window};
 use sqlite_items::Items;
 use std::alloc::AllocError;
 
@@ -48,7 +50,11 @@ pub fn unary_bits(operator: UnaryOperator) -> usize
         | UnaryOperator::Yesterday
         | UnaryOperator::WeakYesterday
         | UnaryOperator::Once
-        | UnaryOperator::Historically => 1,
+        | UnaryOperator::Historically
+        | UnaryOperator::NowOrNext
+        | UnaryOperator::NowAndNext
+        | UnaryOperator::NowOrBefore
+        | UnaryOperator::NowAndBefore => 1,
     }
 }
 
@@ -80,7 +86,11 @@ fn unary_lit(operator: UnaryOperator, own: Lit, operand: Lit) -> Lit
         | UnaryOperator::Yesterday
         | UnaryOperator::WeakYesterday
         | UnaryOperator::Once
-        | UnaryOperator::Historically => own,
+        | UnaryOperator::Historically
+        | UnaryOperator::NowOrNext
+        | UnaryOperator::NowAndNext
+        | UnaryOperator::NowOrBefore
+        | UnaryOperator::NowAndBefore => own,
     }
 }
 
@@ -171,6 +181,16 @@ impl Draft {
                 push_and(&mut self.rows, b.next, f.next, b.now)?;
                 push_same(&mut self.starts, b.here, f.here)
             }
+            UnaryOperator::NowOrNext => push_or(&mut self.rows, b.now, f.now, f.next),
+            UnaryOperator::NowAndNext => push_and(&mut self.rows, b.now, f.now, f.next),
+            UnaryOperator::NowOrBefore => {
+                push_or(&mut self.rows, b.next, f.next, f.now)?;
+                push_same(&mut self.starts, b.here, f.here)
+            }
+            UnaryOperator::NowAndBefore => {
+                push_and(&mut self.rows, b.next, f.next, f.now)?;
+                push_same(&mut self.starts, b.here, f.here)
+            }
         }
     }
 
@@ -257,9 +277,41 @@ impl Draft {
         Ok(Lit::new(gate, value))
     }
 
+    // Adds an operator so many times over the formula that was added last.
+    fn repeated(
+        &mut self,
+        layout: &Layout,
+        operator: UnaryOperator,
+        times: u8,
+        operand: Lit,
+    ) -> Result<Lit, AllocError>
+        ensures { IfOk result (λ l. (s : Scene) (f : Ltl) (d : Draft) → s.layout ≡ layout.now → record { draft = self.old; lit = operand } ≡ drafted s f d → record { draft = self.new; lit = l } ≡ drafted s (repeated operator times f) d) }
+    {
+        let mut whole = operand;
+        for _ in 0..times {
+            whole = self.unary(layout, operator, whole)?;
+        }
+        Ok(whole)
+    }
+
+    // Adds an operator with bounds over the formula that was added last.
+    fn bounded(
+        &mut self,
+        layout: &Layout,
+        operator: BoundedOperator,
+        window: Window,
+        operand: Lit,
+    ) -> Result<Lit, AllocError>
+        ensures { IfOk result (λ l. (s : Scene) (f : Ltl) (d : Draft) → s.layout ≡ layout.now → record { draft = self.old; lit = operand } ≡ drafted s f d → record { draft = self.new; lit = l } ≡ drafted s (repeated (delay operator) window.low (repeated (widen operator) (window.high - window.low) f)) d) }
+    {
+        let times = window.high - window.low;
+        let wide = self.repeated(layout, operator.widen(), times, operand)?;
+        self.repeated(layout, operator.delay(), window.low, wide)
+    }
+
     // Adds a formula, operands first, and gives its literal.
     pub fn add(&mut self, scene: &Scene, node: &Node) -> Result<Lit, AllocError>
-        ensures { IfOk result (λ l. record { draft = self.new; lit = l } ≡ drafted scene.now (formula_of node.now) self.old) }
+        ensures { IfOk result (λ l. record { draft = self.new; lit = l } ≡ drafted scene.now (unfolded (formula_of node.now)) self.old) }
     {
         match node {
             Node::Constant(value) => self.constant(*value),
@@ -267,6 +319,10 @@ impl Draft {
             Node::Unary(operator, operand) => {
                 let operand = self.add(scene, operand.get())?;
                 self.unary(&scene.layout, *operator, operand)
+            }
+            Node::Bounded(operator, window, operand) => {
+                let operand = self.add(scene, operand.get())?;
+                self.bounded(&scene.layout, *operator, *window, operand)
             }
             Node::Implies(left, right) => {
                 let left = self.add(scene, left.get())?;

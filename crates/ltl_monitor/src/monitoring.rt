@@ -1,7 +1,8 @@
 ghost use Rattle.std.specs.Prelude.{◌≡◌, ◌↔◌, IfOk, IsTrue, length};
 ghost use Rattle.clause_core.specs.Literals.{Within};
 ghost use Rattle.clause_core.specs.Systems.{IsSystem, Gives};
-ghost use Rattle.ltl_meaning.specs.Ltl.{formula_of};
+ghost use Rattle.ltl_meaning.specs.Temporal.{formula_of};
+ghost use Rattle.ltl_meaning.specs.Unfolded.{unfolded};
 ghost use Rattle.ltl_monitor.specs.Monitor.{nodes};
 ghost use Rattle.ltl_monitor.specs.States.{AtomsBelow, IsMonitor};
 ghost use Rattle.ltl_monitor.specs.Assembly.{layout_of, draft_of};
@@ -19,8 +20,8 @@ use std::alloc::{AllocError, Global};
 /// The system with the monitor of a formula beside it, where the formula is false at first.
 ///
 /// `atoms` are the literals of the formula's atoms. A state has, after the system's bits, one bit for
-/// each temporal operator (Lichtenstein, Pnueli and Zuck 1985), and each Boolean operator has a gate
-/// (Tseitin 1968). Time and memory are linear in the formula's size and the system's. The stack grows
+/// each temporal operator (Lichtenstein, Pnueli and Zuck 1985), where one with bounds counts as many as its
+/// upper bound says; each Boolean operator has a gate (Tseitin 1968). The formula is taken without bounds. Time and memory are linear in the formula's size and the system's. The stack grows
 /// with the nesting of nodes, which callers keep to 2000; a chain takes none of it. The only error is
 /// want of memory, which a number of variables past `usize::MAX` counts as.
 pub fn monitored(
@@ -29,10 +30,10 @@ pub fn monitored(
     formula: &Formula,
     atoms: &[Lit],
 ) -> Result<Monitored, AllocError>
-    requires numbers { AtomsBelow (length atoms.now) (formula_of formula.now.root) }
+    requires numbers { AtomsBelow (length atoms.now) (unfolded (formula_of formula.now.root)) }
     requires within { Within system.now.all_bits atoms.now }
     requires given { Gives system.now.state_bits atoms.now system.now.defs }
-    ensures { IfOk result (λ m. IsMonitor system.now (formula_of formula.now.root) atoms.now m.system) }
+    ensures { IfOk result (λ m. IsMonitor system.now (unfolded (formula_of formula.now.root)) atoms.now m.system) }
 {
     system.law();
     let nodes = count_nodes(&formula.root)?;
@@ -46,18 +47,19 @@ pub fn monitored(
 
 /// Whether each atom's number in a formula is below a bound.
 pub fn atoms_below(formula: &Formula, bound: usize) -> bool
-    ensures { IsTrue result ↔ AtomsBelow bound (formula_of formula.now.root) }
+    ensures { IsTrue result ↔ AtomsBelow bound (unfolded (formula_of formula.now.root)) }
 {
     are_below(&formula.root, bound)
 }
 
 fn are_below(node: &Node, bound: usize) -> bool
-    ensures { IsTrue result ↔ AtomsBelow bound (formula_of node.now) }
+    ensures { IsTrue result ↔ AtomsBelow bound (unfolded (formula_of node.now)) }
 {
     match node {
         Node::Constant(_) => true,
         Node::Atom(number) => *number < bound,
         Node::Unary(_, operand) => are_below(operand.get(), bound),
+        Node::Bounded(_, _, operand) => are_below(operand.get(), bound),
         Node::Implies(left, right) => {
             are_below(left.get(), bound) && are_below(right.get(), bound)
         }
@@ -79,7 +81,7 @@ fn draft(
     formula: &Formula,
     atoms: &[Lit],
 ) -> Result<Draft, AllocError>
-    ensures { IfOk result (λ d. d ≡ draft_of layout system.now (formula_of formula.now.root) atoms.now) }
+    ensures { IfOk result (λ d. d ≡ draft_of layout system.now (unfolded (formula_of formula.now.root)) atoms.now) }
 {
     let scene = scene(alloc, layout, system, atoms)?;
     let mut draft = begin(alloc, &layout, system)?;
@@ -90,11 +92,14 @@ fn draft(
 
 // How many temporal operators there are.
 fn count_nodes(node: &Node) -> Result<usize, AllocError>
-    ensures { IfOk result (λ n. n ≡ nodes (formula_of node.now)) }
+    ensures { IfOk result (λ n. n ≡ nodes (unfolded (formula_of node.now))) }
 {
     match node {
         Node::Constant(_) | Node::Atom(_) => Ok(0),
         Node::Unary(operator, operand) => sum(count_nodes(operand.get())?, unary_bits(*operator)),
+        Node::Bounded(_, window, operand) => {
+            sum(count_nodes(operand.get())?, window.high as usize)
+        }
         Node::Implies(left, right) => sum(
             count_nodes(left.get())?,
             sum(

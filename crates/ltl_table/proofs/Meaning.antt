@@ -66,16 +66,16 @@ module _ (n l : ℕ) (inside : l < n) where
               (λ h. subst P (sym r.1) (s.0 (t.0 h)), λ x. t.1 (s.1 (subst P r.1 x)))
         ]
 
+    pub next_told : (i : ℕ) → i < n → Decides (at a (if nat_lt (i + 1) n then i + 1 else l)) (P (i + 1))
+    next_told i h =
+        let e : at a (if nat_lt (i + 1) n then i + 1 else l) ≡ round a (i + 1) = elim (cases_lt (i + 1) n) [
+          | inl b ↦ let s = walk_same n l inside (i + 1) b in ap (at a) (let t : (if nat_lt (i + 1) n then i + 1 else l) ≡ i + 1 = grind (arith, nat_tests) in t ∙ sym s)
+          | inr b ↦ let w = walk_same n l inside i h in let s = walk_turns n l inside i (omega arith) in ap (at a) (let t : (if nat_lt (i + 1) n then i + 1 else l) ≡ l = grind (arith, nat_tests) in t ∙ sym s)
+        ] in
+        Decides-at _ _ e (all_times (i + 1))
+
     pub next_column : (c : List Bool) → length c ≡ n → ((k : ℕ) → k < n → at c k ≡ at a (if nat_lt (k + 1) n then k + 1 else l)) → Tells c n (λ i. P (i + 1))
-    next_column c len each = (
-      len,
-      λ i h.
-          let e : at a (if nat_lt (i + 1) n then i + 1 else l) ≡ round a (i + 1) = elim (cases_lt (i + 1) n) [
-            | inl b ↦ let s = walk_same n l inside (i + 1) b in ap (at a) (let t : (if nat_lt (i + 1) n then i + 1 else l) ≡ i + 1 = grind (arith, nat_tests) in t ∙ sym s)
-            | inr b ↦ let w = walk_same n l inside i h in let s = walk_turns n l inside i (omega arith) in ap (at a) (let t : (if nat_lt (i + 1) n then i + 1 else l) ≡ l = grind (arith, nat_tests) in t ∙ sym s)
-          ] in
-          Decides-at _ _ (each i h ∙ e) (all_times (i + 1)),
-    )
+    next_column c len each = (len, λ i h. Decides-at _ _ (each i h) (next_told i h))
 
   module _ (P Q : Moment) (a b : List Bool) (ta : (i : ℕ) → Decides (round a i) (P i)) (tb : (i : ℕ) → Decides (round b i) (Q i)) where
     until_times : (c : List Bool) → ((k : ℕ) → k < n → at c k ≡ back Step.Until a b k (n - k) (back Step.Until a b l (n - l) false)) → (i : ℕ) → Decides (round c i) (Until P Q i)
@@ -230,19 +230,23 @@ column_like : (n : ℕ) (P Q : Moment) (c : List Bool) → ((i : ℕ) → P i �
 column_like n P Q c e t = (t.0, λ i h. Decides-like (at c i) (e i).0 (e i).1 (t.1 i h))
 
 module _ (n l : ℕ) (inside : l < n) (P : Moment) (rp : Repeats (n - l) l P) (a : List Bool) (ta : Tells a n P) where
+  -- what the place of a neighbouring time tells
+  next_place : (i : ℕ) → i < n → Decides (at a (if nat_lt (i + 1) (length a) then i + 1 else l)) (P (i + 1))
+  next_place i h = subst (λ m. Decides (at a (if nat_lt (i + 1) m then i + 1 else l)) (P (i + 1))) (sym ta.0) (next_told n l inside P rp a ta i h)
+
+  yesterday_place : (i : ℕ) → i < n → Decides (if nat_lt 0 i then at a (i - 1) else false) (Yesterday P i)
+  yesterday_place zero h = (λ t. absurd cc, λ x. absurd x)
+  yesterday_place (suc i) h = let s : suc i - 1 ≡ i = omega arith in Decides-at _ _ (after_first (at a (suc i - 1)) _ i ∙ ap (at a) s) (ta.1 i (omega arith))
+
+  weak_yesterday_place : (i : ℕ) → i < n → Decides (if nat_lt 0 i then at a (i - 1) else true) (WeakYesterday P i)
+  weak_yesterday_place zero h = (λ t. tt, λ x. refl)
+  weak_yesterday_place (suc i) h = let s : suc i - 1 ≡ i = omega arith in Decides-at _ _ (after_first (at a (suc i - 1)) _ i ∙ ap (at a) s) (ta.1 i (omega arith))
+
   yesterday_tells : (c : List Bool) → length c ≡ n → ((k : ℕ) → k < n → at c k ≡ (if nat_lt 0 k then at a (k - 1) else false)) → Tells c n (Yesterday P)
-  yesterday_tells c len each = (len, go)
-    where
-      go : (i : ℕ) → i < n → Decides (at c i) (Yesterday P i)
-      go zero h = (λ t. let e = each 0 h in absurd cc, λ x. absurd x)
-      go (suc i) h = let s : suc i - 1 ≡ i = omega arith in Decides-at _ _ (each (suc i) h ∙ after_first (at a (suc i - 1)) _ i ∙ ap (at a) s) (ta.1 i (omega arith))
+  yesterday_tells c len each = (len, λ i h. Decides-at _ _ (each i h) (yesterday_place i h))
 
   weak_yesterday_tells : (c : List Bool) → length c ≡ n → ((k : ℕ) → k < n → at c k ≡ (if nat_lt 0 k then at a (k - 1) else true)) → Tells c n (WeakYesterday P)
-  weak_yesterday_tells c len each = (len, go)
-    where
-      go : (i : ℕ) → i < n → Decides (at c i) (WeakYesterday P i)
-      go zero h = (λ t. tt, λ x. each 0 h)
-      go (suc i) h = let s : suc i - 1 ≡ i = omega arith in Decides-at _ _ (each (suc i) h ∙ after_first (at a (suc i - 1)) _ i ∙ ap (at a) s) (ta.1 i (omega arith))
+  weak_yesterday_tells c len each = (len, λ i h. Decides-at _ _ (each i h) (weak_yesterday_place i h))
 
   -- the same, by the operand's own length
   here : (o : UnaryOperator) (c : List Bool) → ((k : ℕ) → k < length a → at c k ≡ unary_value o a l k) → (k : ℕ) → k < n → at c k ≡ unary_value o a l k
@@ -273,6 +277,22 @@ module _ (n l : ℕ) (inside : l < n) (P : Moment) (rp : Repeats (n - l) l P) (a
   unary_tells UnaryOperator.Historically c len each =
       column_like n _ _ c (historically_triggered P)
       (triggered_column n (λ i. ⊥) P (always a false) a (always_false n a ta.0) ta c (len ∙ ta.0) (here UnaryOperator.Historically c each))
+  unary_tells UnaryOperator.NowOrNext c len each = (
+    len ∙ ta.0,
+    λ i h. Decides-at _ _ (here UnaryOperator.NowOrNext c each i h) (Decides-or _ _ (ta.1 i h) (next_place i h)),
+  )
+  unary_tells UnaryOperator.NowAndNext c len each = (
+    len ∙ ta.0,
+    λ i h. Decides-at _ _ (here UnaryOperator.NowAndNext c each i h) (Decides-and _ _ (ta.1 i h) (next_place i h)),
+  )
+  unary_tells UnaryOperator.NowOrBefore c len each = (
+    len ∙ ta.0,
+    λ i h. Decides-at _ _ (here UnaryOperator.NowOrBefore c each i h) (Decides-or _ _ (ta.1 i h) (yesterday_place i h)),
+  )
+  unary_tells UnaryOperator.NowAndBefore c len each = (
+    len ∙ ta.0,
+    λ i h. Decides-at _ _ (here UnaryOperator.NowAndBefore c each i h) (Decides-and _ _ (ta.1 i h) (weak_yesterday_place i h)),
+  )
 
 module _ (n l : ℕ) (inside : l < n) (P Q : Moment) (rp : Repeats (n - l) l P) (rq : Repeats (n - l) l Q) (a b : List Bool) (ta : Tells a n P) (tb : Tells b n Q) where
   pub binary_tells : (o : BinaryOperator) (c : List Bool) → length c ≡ length b → ((k : ℕ) → k < length b → at c k ≡ binary_value o a b l k) →

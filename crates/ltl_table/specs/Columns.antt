@@ -63,6 +63,10 @@ unary_value UnaryOperator.Yesterday p start t = if nat_lt 0 t then at p (t - 1) 
 unary_value UnaryOperator.WeakYesterday p start t = if nat_lt 0 t then at p (t - 1) else true
 unary_value UnaryOperator.Once p start t = forth Step.Until (always p true) p (t + 1)
 unary_value UnaryOperator.Historically p start t = forth Step.Releases (always p false) p (t + 1)
+unary_value UnaryOperator.NowOrNext p start t = combine Connective.Or (at p t) (at p (if nat_lt (t + 1) (length p) then t + 1 else start))
+unary_value UnaryOperator.NowAndNext p start t = combine Connective.And (at p t) (at p (if nat_lt (t + 1) (length p) then t + 1 else start))
+unary_value UnaryOperator.NowOrBefore p start t = combine Connective.Or (at p t) (if nat_lt 0 t then at p (t - 1) else false)
+unary_value UnaryOperator.NowAndBefore p start t = combine Connective.And (at p t) (if nat_lt 0 t then at p (t - 1) else true)
 
 abbrev pub binary_value : BinaryOperator → List Bool → List Bool → ℕ → ℕ → Bool
 binary_value BinaryOperator.And p q start t = combine Connective.And (at p t) (at q t)

@@ -1,12 +1,14 @@
-ghost use Rattle.std.specs.Prelude.{◌≡◌, ◌+◌, ◌*◌, ◌≤◌, IfOk, IsTrue};
-ghost use Rattle.ltl_meaning.specs.Ltl.{formula_of, past_height};
+ghost use Rattle.std.specs.Prelude.{◌≡◌, ◌+◌, ◌*◌, ◌≤◌, IfOk, IsTrue, vec_len};
+ghost use Rattle.ltl_meaning.specs.Ltl.{Ltl, past_height};
+ghost use Rattle.ltl_meaning.specs.Temporal.{formula_of};
+ghost use Rattle.ltl_meaning.specs.Unfolded.{repeated, unfolded};
 ghost use Rattle.ltl_meaning.specs.Truth.{Satisfies};
 ghost use Rattle.ltl_meaning.specs.Lasso.{on, period};
 ghost use Rattle.ltl_table.specs.Columns.{Tells};
 
 use crate::constant::constant;
 use crate::operators::{binary, unary};
-use ltl_meaning::node::{BinaryOperator, Node};
+use ltl_meaning::node::{BinaryOperator, Node, UnaryOperator};
 use ltl_meaning::word::Word;
 use std::alloc::{AllocError, Global};
 
@@ -22,6 +24,32 @@ fn atom(alloc: Global, word: &Word, n: usize, number: usize) -> Result<Vec<bool>
     Ok(column)
 }
 
+// The column of an operator that stands so many times over an operand, at the first `n` times, which end with one
+// pass of the loop.
+fn repeated(
+    alloc: Global,
+    word: &Word,
+    passes: usize,
+    start: usize,
+    n: usize,
+    operator: UnaryOperator,
+    times: u8,
+    operand: Vec<bool>,
+) -> Result<Vec<bool>, AllocError>
+    requires low { start ≡ word.now.start + passes * period word.now }
+    requires high { n ≡ start + period word.now }
+    requires full { vec_len operand ≡ n }
+    ensures full { IfOk result (λ c. vec_len c ≡ n) }
+    ensures told { IfOk result (λ c. (f : Ltl) → past_height (repeated operator times f) ≤ passes → Tells operand.items n (Satisfies (on word.now) f) → Tells c.items n (Satisfies (on word.now) (repeated operator times f))) }
+{
+    let mut column = operand;
+    for _ in 0..times {
+        let above = unary(alloc, operator, column.as_slice(), start)?;
+        column = above;
+    }
+    Ok(column)
+}
+
 // A node's truth at the first `n` times, which end with one pass of the loop, from `start` on, after
 // `passes` others.
 pub fn column(
@@ -32,10 +60,10 @@ pub fn column(
     n: usize,
     node: &Node,
 ) -> Result<Vec<bool>, AllocError>
-    requires deep { past_height (formula_of node.now) ≤ passes }
+    requires deep { past_height (unfolded (formula_of node.now)) ≤ passes }
     requires low { start ≡ word.now.start + passes * period word.now }
     requires high { n ≡ start + period word.now }
-    ensures { IfOk result (λ c. Tells c.items n (Satisfies (on word.now) (formula_of node.now))) }
+    ensures { IfOk result (λ c. Tells c.items n (Satisfies (on word.now) (unfolded (formula_of node.now)))) }
 {
     match node {
         Node::Constant(value) => constant(alloc, *value, n),
@@ -44,6 +72,22 @@ pub fn column(
             let of = column(alloc, word, passes, start, n, operand.get())?;
             let whole = unary(alloc, *operator, of.as_slice(), start)?;
             Ok(whole)
+        }
+        Node::Bounded(operator, window, operand) => {
+            let of = column(alloc, word, passes, start, n, operand.get())?;
+            let times = window.high - window.low;
+            let wide = repeated(alloc, word, passes, start, n, operator.widen(), times, of)?;
+            let late = repeated(
+                alloc,
+                word,
+                passes,
+                start,
+                n,
+                operator.delay(),
+                window.low,
+                wide,
+            )?;
+            Ok(late)
         }
         Node::Implies(left, right) => {
             let from = column(alloc, word, passes, start, n, left.get())?;

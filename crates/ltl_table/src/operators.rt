@@ -1,5 +1,5 @@
 ghost use Rattle.std.specs.Prelude.{◌≡◌, ◌<◌, ℕ, length, IfOk, vec_len};
-ghost use Rattle.ltl_table.specs.Columns.{at, unary_value, binary_value};
+ghost use Rattle.ltl_table.specs.Columns.{at, combine, unary_value, binary_value};
 
 use crate::constant::constant;
 use crate::loops::{backward, forward};
@@ -7,6 +7,21 @@ use crate::pointwise::{negation, next, pointwise, yesterday};
 use crate::rules::{Connective, Step};
 use ltl_meaning::node::{BinaryOperator, UnaryOperator};
 use std::alloc::{AllocError, Global};
+
+// The column of an operand joined with that of a neighbouring time.
+fn beside(
+    alloc: Global,
+    connective: Connective,
+    operand: &[bool],
+    neighbour: Vec<bool>,
+) -> Result<Vec<bool>, AllocError>
+    requires { length operand.now ≡ vec_len neighbour }
+    ensures len { IfOk result (λ c. vec_len c ≡ length operand.now) }
+    ensures each { IfOk result (λ c. (t : ℕ) → t < length operand.now → at c.items t ≡ combine connective (at operand.now t) (at neighbour.items t)) }
+{
+    let column = pointwise(alloc, connective, operand, neighbour.as_slice())?;
+    Ok(column)
+}
 
 // The column of an operator over its operand's, where the last time is followed by `start`.
 pub fn unary(
@@ -39,6 +54,22 @@ pub fn unary(
         UnaryOperator::Historically => {
             let never = constant(alloc, false, operand.len())?;
             forward(alloc, Step::Releases, never.as_slice(), operand)
+        }
+        UnaryOperator::NowOrNext => {
+            let after = next(alloc, operand, start)?;
+            beside(alloc, Connective::Or, operand, after)
+        }
+        UnaryOperator::NowAndNext => {
+            let after = next(alloc, operand, start)?;
+            beside(alloc, Connective::And, operand, after)
+        }
+        UnaryOperator::NowOrBefore => {
+            let before = yesterday(alloc, operand, false)?;
+            beside(alloc, Connective::Or, operand, before)
+        }
+        UnaryOperator::NowAndBefore => {
+            let before = yesterday(alloc, operand, true)?;
+            beside(alloc, Connective::And, operand, before)
         }
     }
 }

@@ -15,20 +15,21 @@ pub struct Table {
 
 impl Table {
     ghost use Rattle.std.specs.Prelude.{◌≡◌, ◌↔◌, ℕ, IfOk, IsTrue};
-    ghost use Rattle.ltl_meaning.specs.Ltl.{formula_of};
-    ghost use Rattle.ltl_meaning.specs.Truth.{Satisfies};
+    ghost use Rattle.ltl_meaning.specs.Temporal.{formula_of};
+    ghost use Rattle.ltl_meaning.specs.Truth.{IsTrueAt};
     ghost use Rattle.ltl_meaning.specs.Lasso.{on};
     ghost use Rattle.ltl_table.specs.Told.{told};
 
     /// The table of a formula on a word.
     ///
     /// Time and memory are linear in the formula's size times the number of times that the table
-    /// has: the word's length, and one more pass of its loop for each level of past operators. The
+    /// has: the word's length, and one more pass of its loop for each level of past operators. An operator
+    /// with bounds counts as many times as its upper bound says. The
     /// stack grows with the nesting of nodes, which callers keep to 2000; a chain takes none of it,
     /// however long. A table of more than `usize::MAX` times is refused as one for which there is no
     /// memory.
     pub fn make(alloc: Global, formula: &Formula, word: &Word) -> Result<Table, AllocError>
-        ensures { IfOk result (λ t. (i : ℕ) → IsTrue (told t i) ↔ Satisfies (on word.now) (formula_of formula.now.root) i) }
+        ensures { IfOk result (λ t. (i : ℕ) → IsTrue (told t i) ↔ IsTrueAt (on word.now) (formula_of formula.now.root) i) }
     {
         let passes = formula.past_height() as usize;
         let period = word.period();

@@ -10,3 +10,4 @@ pub mod OfNamed
 pub mod Alike
 pub mod Loops
 pub mod OfLevels
+pub mod OfAfter

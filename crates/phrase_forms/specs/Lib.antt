@@ -1,3 +1,4 @@
 pub mod Forms
 pub mod Language
 pub mod Levels
+pub mod Depending

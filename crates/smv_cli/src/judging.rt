@@ -2,6 +2,8 @@
 
 ghost use Rattle.std.specs.Prelude.{◌≡◌, Contains, map, IfOk};
 ghost use Rattle.smv_resolve.specs.Items.{item_by};
+ghost use Rattle.smv_resolve.specs.declared.item.ItemKind.TheVariants as item;
+ghost use Rattle.smv_tree.specs.declared.tree.SpecificationKind.TheVariants as claim;
 ghost use Rattle.smv_scope.specs.Paths.{slot_name};
 ghost use Rattle.smv_meaning.specs.Runs.{specifications_of};
 ghost use Rattle.smv_cli.specs.Records.{AreNames, IsRight};
@@ -28,11 +30,16 @@ pub fn judge(
     spec: &Item,
     effort: &Effort,
 ) -> Result<Record, AllocError>
-    requires { Contains (specifications_of typed.now.scope.program) (item_by typed.now.nodes spec.now) }
+    requires claim { Contains (specifications_of typed.now.scope.program) (item_by typed.now.nodes spec.now) }
+    requires kind { spec.now.kind ≡ item.Specification kind }
     ensures number { IfOk result (λ r. r.number ≡ number) }
     ensures kind { IfOk result (λ r. r.kind ≡ kind) }
     ensures right { IfOk result (λ r. IsRight typed.now.scope.program effort.now (item_by typed.now.nodes spec.now) r.verdict) }
 {
+    // No text has such a specification as long as its words go beyond the language.
+    if kind == SpecificationKind::Temporal {
+        return Err(AllocError);
+    }
     let mut purse = PlainPurse::new(effort.conflicts);
     let verdict = verdict_of(alloc, typed, spec, effort.bound, &mut purse)?;
     Ok(Record {
@@ -51,6 +58,7 @@ fn verdict_of<Q: Purse>(
     purse: &mut Q,
 ) -> Result<Verdict, AllocError>
     requires claim { Contains (specifications_of typed.now.scope.program) (item_by typed.now.nodes spec.now) }
+    requires invariant { spec.now.kind ≡ item.Specification claim.Invariant }
     requires ready { Q.ready purse.old }
     ensures right { IfOk result (IsVerdict typed.now.scope.program (item_by typed.now.nodes spec.now) (Q.budget purse.old) bound (Q.spent purse.new)) }
     ensures ready { Q.ready purse.new }

@@ -2,3 +2,4 @@ pub mod Tables
 pub mod Items
 pub mod Choosing
 pub mod Operating
+pub mod Turns

@@ -1,5 +1,5 @@
 -- The values of operands, from a place of their list on.
-use Rattle.std.proofs.Common.{◌≡◌, ◌∙◌, ℕ, ◌+◌, ◌<◌, ◌≤◌, List, [], ◌∷◌, ◌++◌, length, get_or, drop, ap, sym, refl, Option, None, Some, Result, Ok, Err, IfOk}
+use Rattle.std.proofs.Common.{◌≡◌, ◌∙◌, ℕ, ◌+◌, ◌<◌, ◌≤◌, List, [], ◌∷◌, ◌++◌, length, get_or, drop, ap, sym, refl, None, Some, Result, Ok, Err, IfOk}
 use Rattle.std.proofs.lemmas.List.{drop_all, drop_more}
 use Rattle.smv_value.specs.declared.operator.Operator.{Operator}
 use Rattle.smv_value.specs.declared.operator.Operator.TheVariants as operator

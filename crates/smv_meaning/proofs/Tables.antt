@@ -1,15 +1,12 @@
 -- The outcome of one node more.
-use Rattle.std.proofs.Common.{◌≡◌, ◌∙◌, ℕ, ◌+◌, ◌-◌, ◌<◌, ◌≤◌, List, [], ◌∷◌, ◌++◌, map, take, drop, length, get_or, refl, sym, ap, arith, append_assoc, append-nil, length-append}
-use Rattle.std.specs.List.{fold}
+use Rattle.std.proofs.Common.{◌≡◌, ◌∙◌, ℕ, ◌+◌, ◌<◌, ◌≤◌, List, [], ◌∷◌, ◌++◌, map, take, length, get_or, refl, sym, ap}
 use Rattle.std.proofs.Math.ListN.{get_or-map}
-use Rattle.std.proofs.lemmas.List.{drop-map, length-map, map-append, take-map, take_more, take-append-drop, length-take-le}
-use Rattle.std.proofs.Math.Seq.{take-append_seam}
-use Rattle.std.proofs.lemmas.List.Sums.{fold-append}
+use Rattle.std.proofs.lemmas.List.{map-append, take-map, take_more}
 use Rattle.smv_value.specs.declared.value.Value.{Value}
 use Rattle.smv_resolve.specs.declared.node.Node.{Node}
 use Rattle.smv_resolve.specs.declared.node.Node.TheVariants as node
 use Rattle.smv_scope.specs.declared.slot.Slot.{Slot}
-use Rattle.smv_resolve.specs.Resolved.{Resolved, operands_of, last_of, parts_of, part_at, resolved_by, with_node}
+use Rattle.smv_resolve.specs.Resolved.{Resolved, operands_of, last_of, parts_of, part_at, resolved_by}
 use Rattle.smv_resolve.proofs.Parts.{last_of-map, parts_of-push, parts_of-take}
 use Rattle.smv_meaning.specs.declared.value.Outcome.{Outcome}
 use Rattle.smv_meaning.specs.Tables.{outcome_at, outcome_by, outcomes_of}

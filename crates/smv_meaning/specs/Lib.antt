@@ -3,3 +3,5 @@ pub mod Runs
 pub mod Tables
 pub mod Answers
 pub mod Paths
+pub mod Formulas
+pub mod Lassos

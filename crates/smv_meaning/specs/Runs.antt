@@ -5,6 +5,7 @@ use Rattle.std.specs.Option.{is_some}
 use Rattle.smv_tree.specs.declared.tree.Program.{Program}
 use Rattle.smv_tree.specs.declared.tree.AssignmentKind.TheVariants as side
 use Rattle.smv_tree.specs.declared.tree.ConstraintKind.TheVariants as asked
+use Rattle.smv_tree.specs.declared.tree.SpecificationKind.TheVariants as claim
 use Rattle.smv_tree.specs.declared.tree.VariableKind.{VariableKind}
 use Rattle.smv_tree.specs.declared.tree.VariableKind.TheVariants as sort
 use Rattle.smv_value.specs.declared.value.Value.{Value}
@@ -20,6 +21,7 @@ use Rattle.smv_resolve.specs.Resolved.{Resolved}
 use Rattle.smv_scope.specs.Slots.{slots_of, is_input}
 use Rattle.smv_meaning.specs.declared.value.Outcome.{Outcome}
 use Rattle.smv_meaning.specs.declared.value.Outcome.TheVariants.{Values}
+use Rattle.smv_meaning.specs.Formulas.{is_known_formula}
 use Rattle.smv_meaning.specs.Values.{nothing, one, outcome, outcome_in, truth}
 
 -- the value is one of the type's (manual 2.1, Types Overview)
@@ -152,7 +154,8 @@ pub record IsRun (p : Program) (states inputs : List (List Value)) : Type 0 wher
 abbrev pub is_known : Outcome → Bool
 is_known o = is_some (truth o)
 
--- what an item assigns has a value in a state, and its own value is TRUE or FALSE in the state, or the step, of which it speaks
+-- what an item assigns has a value in a state, and its own value is TRUE or FALSE in the state, or the step, of which it speaks; so are
+-- the parts of a temporal formula
 abbrev pub is_known_by : List Slot → List Value → List Value → List Value → Option Resolved → Resolved → ItemKind → Bool
 is_known_by slots s u t target e (item.Assignment side.Init) = is_known (outcome_of_target slots s target) && is_known (outcome_in slots s e)
 is_known_by slots s u t target e (item.Assignment side.Next) = is_known (outcome_of_target slots s target) && is_known (outcome slots s u t e)
@@ -161,7 +164,8 @@ is_known_by slots s u t target e (item.Constraint asked.Init) = is_known (outcom
 is_known_by slots s u t target e (item.Constraint asked.Invar) = is_known (outcome_in slots s e)
 is_known_by slots s u t target e (item.Constraint asked.Trans) = is_known (outcome slots s u t e)
 is_known_by slots s u t target e (item.Constraint asked.Justice) = is_known (outcome_in slots s e)
-is_known_by slots s u t target e (item.Specification kind) = is_known (outcome_in slots s e)
+is_known_by slots s u t target e (item.Specification claim.Invariant) = is_known (outcome_in slots s e)
+is_known_by slots s u t target e (item.Specification claim.Temporal) = is_known_formula slots s u e
 
 abbrev pub is_known_item : List Slot → List Value → List Value → List Value → ResolvedItem → Bool
 is_known_item slots s u t x = is_known_by slots s u t x.target x.value x.kind

@@ -3,12 +3,16 @@
 #![tactic(auto)]
 
 mod evaluation;
+mod formulas;
+mod law;
 mod meets;
 mod readers;
 mod typed;
 mod value;
 
 pub use evaluation::{eval, instance_at, outcomes};
+pub use formulas::{is_over_formulas, is_temporal};
+pub use law::lassos;
 pub use meets::{meets_init, meets_inv, meets_step};
 pub use readers::{input_slots, is_claim, slots, specifications, state_slots};
 pub use typed::Typed;

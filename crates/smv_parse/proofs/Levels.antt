@@ -11,7 +11,7 @@ use Rattle.smv_tree.specs.declared.tree.Expr.TheVariants as expr
 use Rattle.smv_tree.specs.Kinds.{is_kind}
 use Rattle.smv_parse.specs.declared.expressions.Rank.TheVariants as rank
 use Rattle.smv_parse.specs.Names.{just, opening}
-use Rattle.smv_parse.specs.Expressions.{parenthesised, operand, conditional, equivalence, implication, implication_of, is_zero, phrases, expression_within}
+use Rattle.smv_parse.specs.Expressions.{parenthesised, denied, temporal, timed, operand, conditional, equivalence, implication, implication_of, is_zero, phrases, expression_within}
 use Rattle.smv_parse.specs.Ranks.{under, phrase_within}
 use Rattle.smv_parse.proofs.OfNames.{begins_same}
 
@@ -57,6 +57,21 @@ pub under_operand : (room : ℕ) (ts : List Token) → 0 < room → (operand (is
 unfolding phrases
 under_operand zero ts h = absurd (omega arith)
 under_operand (suc n) ts h = let m : suc n - 1 ≡ n = omega arith in rw m refl
+
+pub under_denied : (room : ℕ) (ts : List Token) → 0 < room → (denied (is_zero (room - 1)) (under (room - 1))).parse ts ≡ (under room).denied.parse ts
+unfolding phrases
+under_denied zero ts h = absurd (omega arith)
+under_denied (suc n) ts h = let m : suc n - 1 ≡ n = omega arith in rw m refl
+
+pub under_temporal : (room : ℕ) (ts : List Token) → 0 < room → (temporal (is_zero (room - 1)) (under (room - 1))).parse ts ≡ (under room).temporal.parse ts
+unfolding phrases
+under_temporal zero ts h = absurd (omega arith)
+under_temporal (suc n) ts h = let m : suc n - 1 ≡ n = omega arith in rw m refl
+
+pub under_timed : (room : ℕ) (ts : List Token) → 0 < room → (timed (is_zero (room - 1)) (under (room - 1))).parse ts ≡ (under room).timed.parse ts
+unfolding phrases
+under_timed zero ts h = absurd (omega arith)
+under_timed (suc n) ts h = let m : suc n - 1 ≡ n = omega arith in rw m refl
 
 -- the opening token and the expression that is closed, and the tokens behind its parenthesis
 abbrev closing : Token → Read Token Expr → Read Token (Token × Expr)

@@ -1,6 +1,8 @@
 pub mod KindNumbers
 pub mod EachKind
 pub mod OfNames
+pub mod Reaching
+pub mod Temporals
 pub mod OfExpressions
 pub mod ExpressionsAlike
 pub mod OfRanks

@@ -18,7 +18,7 @@ use Rattle.smv_tree.specs.declared.tree.TypeExpr.TheVariants as type
 use Rattle.smv_tree.specs.Kinds.{is_kind, is_identifier}
 use Rattle.smv_parse.specs.Names.{just, identifier, member, name}
 use Rattle.smv_parse.specs.Expressions.{expression_within, most_levels}
-use Rattle.smv_parse.specs.Programs.{expression, further, listed, or_none, maybe_listed, bracketed, under_one, instance_type, written_type, declaration, declares, variables, definition, definitions, sided, left_side, assignment, assignments, formula, constrains, constraint, given_name, specification, section_form, parameter_of, module_form, program}
+use Rattle.smv_parse.specs.Programs.{expression, further, listed, or_none, maybe_listed, bracketed, under_one, instance_type, written_type, declaration, declares, variables, definition, definitions, sided, left_side, assignment, assignments, formula, constrains, constraint, given_name, claims, specification, section_form, parameter_of, module_form, program}
 use Rattle.smv_parse.proofs.EachKind.{token_at, apart}
 use Rattle.smv_parse.proofs.OfNames.{just_lawful, identifier_lawful, name_lawful}
 use Rattle.smv_parse.proofs.OfExpressions.{expression_lawful, expression_alike}
@@ -147,7 +147,7 @@ given_name_lawful = second_lawful _ _ (just_lawful kind.Name refl) (first_lawful
 specification_lawful : (past : ℕ) → Lawful (specification past)
 unfolding specification given_name formula expression_within
 specification_lawful past =
-    to_lawful _ _ (then_lawful _ _ (just_lawful kind.Invarspec refl) (second_lawful _ _ (maybe_lawful _ given_name_lawful refl) (formula_lawful past) (apart _ _ (λ t. refl) (λ t. refl) refl)) (λ t e. refl))
+    to_lawful _ _ (then_lawful _ _ (token_lawful false claims (token_at kind.Invarspec) refl) (second_lawful _ _ (maybe_lawful _ given_name_lawful refl) (formula_lawful past) (apart _ _ (λ t. refl) (λ t. refl) refl)) (λ t e. refl))
 
 pub section_lawful : (past : ℕ) → Lawful (section_form past)
 unfolding section_form variables definitions assignments constraint specification
@@ -275,7 +275,7 @@ constraint_alike past = to_alike _ (behind_alike constrains _ _ (formula_alike p
 specification_alike : (past : ℕ) → Alike (specification 0) (specification past)
 unfolding specification given_name formula expression_within
 specification_alike past =
-    to_alike _ (behind_alike (is_kind kind.Invarspec) _ _ (second_alike _ _ _ _ (same_form (maybe given_name)) (formula_alike past) (λ t. refl)))
+    to_alike _ (behind_alike claims _ _ (second_alike _ _ _ _ (same_form (maybe given_name)) (formula_alike past) (λ t. refl)))
 
 section_alike : (past : ℕ) → Alike (section_form 0) (section_form past)
 unfolding section_form variables definitions assignments constraint specification

@@ -1,6 +1,7 @@
 -- The expressions of the language (NuSMV 2.6 User Manual, 2.2). The levels of precedence are an own choice of this project.
-use Rattle.std.specs.Prelude.{ℕ, zero, suc, Bool, true, false, ◌||◌, List, [], ◌∷◌, map, Option, None, Some}
+use Rattle.std.specs.Prelude.{ℕ, zero, suc, ◌+◌, ◌-◌, ◌*◌, min, Bool, true, false, ◌||◌, List, [], ◌∷◌, fold, map, Option, None, Some}
 use Rattle.phrase_forms.specs.Forms.{Form, token, or, maybe, many, to, named, ◌⨾◌, ◌▹◌, ◌◃◌}
+use Rattle.phrase_forms.specs.Depending.{pure, after}
 use Rattle.smv_tree.specs.declared.place.Place.{Place}
 use Rattle.smv_tree.specs.declared.token.Token.{Token}
 use Rattle.smv_tree.specs.declared.token.TokenKind.{TokenKind}
@@ -8,16 +9,31 @@ use Rattle.smv_tree.specs.declared.token.TokenKind.TheVariants as kind
 use Rattle.smv_value.specs.declared.operator.Operator.{Operator}
 use Rattle.smv_value.specs.declared.operator.Operator.TheVariants as operator
 use Rattle.smv_value.specs.declared.operator.Logic.TheVariants as logic
+use Rattle.smv_value.specs.declared.operator.Temporal.{Temporal}
+use Rattle.smv_value.specs.declared.operator.Temporal.TheVariants as tense
+use Rattle.smv_value.specs.declared.operator.Bounded.{Bounded}
+use Rattle.smv_value.specs.declared.operator.Bounded.TheVariants as bounded
 use Rattle.smv_tree.specs.declared.tree.Expr.{Expr}
 use Rattle.smv_tree.specs.declared.tree.Expr.TheVariants as expr
 use Rattle.smv_tree.specs.Kinds.{is_kind}
 use Rattle.smv_parse.specs.Names.{just, opening, begins_name, name}
+
+-- the bounds of a temporal operator, if it has some, and its operand
+abbrev pub Timed : Type 0
+Timed = Option (ℕ × ℕ) × Expr
+
+-- an operand of a temporal operator as far as it may be denied, and whether it begins with a temporal operator itself
+abbrev pub Denied : Type 0
+Denied = Bool × Expr
 
 -- the phrases that stand under a level
 pub record Phrases : Type 1 where
   pub expression : Form Token Expr
   pub conditional : Form Token Expr
   pub operand : Form Token Expr
+  pub denied : Form Token Denied
+  pub temporal : Form Token Expr
+  pub timed : Form Token Timed
 
 -- TRUE or FALSE
 abbrev pub is_constant : Token → Bool
@@ -26,13 +42,32 @@ is_constant t = is_kind kind.True t || is_kind kind.False t
 abbrev pub constant_of : Token → Expr
 constant_of t = expr.Bool t.place (is_kind kind.True t)
 
--- the tokens that an operand, and so any expression, begins with
+-- the temporal operators with one operand (manual 2.4.3): those that have no bounds, and those that may have some
+abbrev pub is_step_operator : Token → Bool
+is_step_operator t = is_kind kind.NextTime t || is_kind kind.PreviousTime t || is_kind kind.WeakPreviousTime t
+
+abbrev pub is_timed_operator : Token → Bool
+is_timed_operator t = is_kind kind.Finally t || is_kind kind.Globally t || is_kind kind.Once t || is_kind kind.Historically t
+
+-- the tokens that an operand begins with
 abbrev pub begins_operand : Token → Bool
 begins_operand t = is_constant t || begins_name t || is_kind kind.LeftParen t || is_kind kind.Next t || is_kind kind.Not t
+
+-- the tokens that an expression begins with
+abbrev pub begins_expression : Token → Bool
+begins_expression t = begins_operand t || is_step_operator t || is_timed_operator t
+
+-- bounds, or an operand
+abbrev pub begins_timed : Token → Bool
+begins_timed t = is_kind kind.LeftBracket t || begins_expression t
 
 -- the operators of each level of precedence
 abbrev pub is_equality : Token → Bool
 is_equality t = is_kind kind.Equal t || is_kind kind.NotEqual t
+
+-- the temporal operators with two operands
+abbrev pub is_connection : Token → Bool
+is_connection t = is_kind kind.Until t || is_kind kind.Releases t || is_kind kind.Since t || is_kind kind.Triggered t
 
 abbrev pub is_conjunction : Token → Bool
 is_conjunction t = is_kind kind.And t
@@ -50,8 +85,11 @@ goes_on_operand t = is_kind kind.Dot t
 abbrev pub goes_on_equality : Token → Bool
 goes_on_equality t = is_equality t || goes_on_operand t
 
+abbrev pub goes_on_connection : Token → Bool
+goes_on_connection t = is_connection t || goes_on_equality t
+
 abbrev pub goes_on_conjunction : Token → Bool
-goes_on_conjunction t = is_conjunction t || goes_on_equality t
+goes_on_conjunction t = is_conjunction t || goes_on_connection t
 
 abbrev pub goes_on_disjunction : Token → Bool
 goes_on_disjunction t = is_disjunction t || goes_on_conjunction t
@@ -72,6 +110,10 @@ operator_of kind.And = operator.Logic logic.And
 operator_of kind.Xor = operator.Logic logic.Xor
 operator_of kind.Xnor = operator.Logic logic.Xnor
 operator_of kind.Iff = operator.Logic logic.Iff
+operator_of kind.Until = operator.Temporal tense.Until
+operator_of kind.Releases = operator.Temporal tense.Releases
+operator_of kind.Since = operator.Temporal tense.Since
+operator_of kind.Triggered = operator.Temporal tense.Triggered
 operator_of other = operator.Logic logic.Or
 
 -- an operator and its right operand
@@ -83,9 +125,9 @@ abbrev pub chain_of : Expr × List (Token × Expr) → Expr
 chain_of (first, []) = first
 chain_of (first, link ∷ links) = expr.Chain first (map link_of (link ∷ links))
 
--- an operand, and any number more behind these operators; no token goes on an operand but m
-abbrev pub chain : (Token → Bool) → (Token → Bool) → Form Token Expr → Form Token Expr
-chain is_operator m operand = to chain_of (named begins_operand m operand ⨾ many (token false is_operator ⨾ named begins_operand m operand))
+-- an operand, and any number more behind these operators; an operand begins with f, and no token goes on it but m
+abbrev pub chain : (Token → Bool) → (Token → Bool) → (Token → Bool) → Form Token Expr → Form Token Expr
+chain is_operator f m operand = to chain_of (named f m operand ⨾ many (token false is_operator ⨾ named f m operand))
 
 abbrev pub chosen_by : Expr → Token × (Expr × Expr) → Expr
 chosen_by condition x = expr.Apply x.0.place operator.Choice (condition ∷ []) (x.1.0 ∷ x.1.1 ∷ [])
@@ -125,13 +167,90 @@ unfoldable pub operand : Bool → Phrases → Form Token Expr
 operand closed under = or (to not_of (opening closed kind.Not ⨾ under.operand)) (primary closed under)
 
 unfoldable pub equality : Bool → Phrases → Form Token Expr
-equality closed under = chain is_equality goes_on_operand (operand closed under)
+equality closed under = chain is_equality begins_operand goes_on_operand (operand closed under)
+
+-- The number that an integer token writes, up to the greatest of such tokens.
+abbrev pub greatest_number : ℕ
+greatest_number = 2147483647
+
+abbrev pub with_digit : ℕ → ℕ → ℕ
+with_digit n digit = min (n * 10 + (digit - 48)) greatest_number
+
+unfoldable pub number_in : List ℕ → ℕ
+number_in digits = fold with_digit 0 digits
+
+abbrev pub number_of : Token → ℕ
+number_of t = number_in t.text
+
+-- "[" integer "," integer "]"
+unfoldable pub bounds : Bool → Form Token (ℕ × ℕ)
+bounds closed =
+    to (λ x. (number_of x.0, number_of x.1)) (opening closed kind.LeftBracket ▹ just kind.Integer ⨾ just kind.Comma ▹ just kind.Integer ◃ just kind.RightBracket)
+
+abbrev pub step_operator : TokenKind → Temporal
+step_operator kind.NextTime = tense.Next
+step_operator kind.PreviousTime = tense.Previously
+step_operator other = tense.WeaklyPreviously
+
+abbrev pub timed_operator : TokenKind → Temporal
+timed_operator kind.Finally = tense.Finally
+timed_operator kind.Globally = tense.Globally
+timed_operator kind.Once = tense.Once
+timed_operator other = tense.Historically
+
+abbrev pub bounded_operator : TokenKind → Bounded
+bounded_operator kind.Finally = bounded.Finally
+bounded_operator kind.Globally = bounded.Globally
+bounded_operator kind.Once = bounded.Once
+bounded_operator other = bounded.Historically
+
+-- a temporal operator over its operand, with bounds or without
+abbrev pub timed_by : TokenKind → Option (ℕ × ℕ) → Operator
+timed_by k None = operator.Temporal (timed_operator k)
+timed_by k (Some x) = operator.Bounded (bounded_operator k) x.0 x.1
+
+abbrev pub below : Place → Operator → Expr → Expr
+below place o e = expr.Apply place o [] (e ∷ [])
+
+abbrev pub denied_again : Token × Denied → Denied
+denied_again x = (x.1.0, not_of (x.0, x.1.1))
+
+abbrev pub stepped : Token × Expr → Denied
+stepped x = (true, below x.0.place (operator.Temporal (step_operator x.0.kind)) x.1)
+
+abbrev pub timed_of : Token × Timed → Denied
+timed_of x = (true, below x.0.place (timed_by x.0.kind x.1.0) x.1.1)
+
+-- "!" and what it denies, a temporal operator and its operand, or a primary expression
+unfoldable pub denied : Bool → Phrases → Form Token Denied
+denied closed under =
+    or (to denied_again (opening closed kind.Not ⨾ under.denied))
+    (or (to stepped (token closed is_step_operator ⨾ under.temporal))
+    (or (to timed_of (token closed is_timed_operator ⨾ under.timed)) (to (λ e. (false, e)) (primary closed under))))
+
+-- what follows: nothing behind a temporal operator and its operand; behind a plain operand any number of equations
+abbrev pub equations : Bool → Phrases → Denied → Form Token Expr
+equations closed under (true, e) = pure e
+equations closed under (false, e) =
+    to (λ links. chain_of (e, links)) (many (token false is_equality ⨾ named begins_operand goes_on_operand (operand closed under)))
+
+-- an operand of temporal operators: "!" is over a temporal operator as a whole, and over the first operand of an equation
+unfoldable pub temporal : Bool → Phrases → Form Token Expr
+temporal closed under =
+    to (λ x. x.1) (after (named begins_expression goes_on_equality (denied closed under)) is_equality goes_on_equality true (equations closed under))
+
+-- bounds and an operand, or an operand
+unfoldable pub timed : Bool → Phrases → Form Token Timed
+timed closed under = maybe (bounds closed) ⨾ named begins_expression goes_on_equality (temporal closed under)
+
+unfoldable pub connection : Bool → Phrases → Form Token Expr
+connection closed under = chain is_connection begins_expression goes_on_equality (temporal closed under)
 
 unfoldable pub conjunction : Bool → Phrases → Form Token Expr
-conjunction closed under = chain is_conjunction goes_on_equality (equality closed under)
+conjunction closed under = chain is_conjunction begins_expression goes_on_connection (connection closed under)
 
 unfoldable pub disjunction : Bool → Phrases → Form Token Expr
-disjunction closed under = chain is_disjunction goes_on_conjunction (conjunction closed under)
+disjunction closed under = chain is_disjunction begins_expression goes_on_conjunction (conjunction closed under)
 
 -- "?" expression ":" conditional, both one level deeper
 abbrev pub branches : Bool → Phrases → Form Token (Token × (Expr × Expr))
@@ -139,31 +258,48 @@ branches closed under = opening closed kind.Question ⨾ under.expression ⨾ ju
 
 -- a condition, and its branches: what stands behind ":" may have branches itself, so "? :" associates to the right
 unfoldable pub conditional : Bool → Phrases → Form Token Expr
-conditional closed under = to conditional_of (named begins_operand goes_on_disjunction (disjunction closed under) ⨾ maybe (branches closed under))
+conditional closed under = to conditional_of (named begins_expression goes_on_disjunction (disjunction closed under) ⨾ maybe (branches closed under))
 
 unfoldable pub equivalence : Bool → Phrases → Form Token Expr
-equivalence closed under = chain is_equivalence goes_on_conditional (conditional closed under)
+equivalence closed under = chain is_equivalence begins_expression goes_on_conditional (conditional closed under)
 
 -- "->" associates to the right: its right side is a whole expression, one level deeper
 unfoldable pub implication : Bool → Phrases → Form Token Expr
 implication closed under =
-    to implication_of (named begins_operand goes_on_equivalence (equivalence closed under) ⨾ maybe (opening closed kind.Implies ⨾ under.expression))
+    to implication_of (named begins_expression goes_on_equivalence (equivalence closed under) ⨾ maybe (opening closed kind.Implies ⨾ under.expression))
 
 -- the same phrases, with these tokens for what they begin with and what goes on them
 abbrev pub known : Phrases → Phrases
 known p = record {
-  expression = named begins_operand goes_on_expression p.expression;
-  conditional = named begins_operand goes_on_conditional p.conditional;
+  expression = named begins_expression goes_on_expression p.expression;
+  conditional = named begins_expression goes_on_conditional p.conditional;
   operand = named begins_operand goes_on_operand p.operand;
+  denied = named begins_expression goes_on_equality p.denied;
+  temporal = named begins_expression goes_on_equality p.temporal;
+  timed = named begins_timed goes_on_equality p.timed;
 }
 
 -- under the last level of all only TRUE is asked for
 abbrev pub deepest : Phrases
-deepest = let t : Form Token Expr = to constant_of (just kind.True) in record { expression = t; conditional = t; operand = t }
+deepest = let t : Form Token Expr = to constant_of (just kind.True) in record {
+  expression = t;
+  conditional = t;
+  operand = t;
+  denied = to (λ e. (false, e)) t;
+  temporal = t;
+  timed = to (λ e. (None, e)) t;
+}
 
 -- the phrases over those of the level below; where it is closed, no level may be opened
 abbrev pub over : Bool → Phrases → Phrases
-over closed under = let p = known under in record { expression = implication closed p; conditional = conditional closed p; operand = operand closed p }
+over closed under = let p = known under in record {
+  expression = implication closed p;
+  conditional = conditional closed p;
+  operand = operand closed p;
+  denied = denied closed p;
+  temporal = temporal closed p;
+  timed = timed closed p;
+}
 
 abbrev pub is_zero : ℕ → Bool
 is_zero zero = true
@@ -185,4 +321,4 @@ most_levels = 256
 
 -- an expression in which so many levels may be opened, and then `past` that are too many
 unfoldable pub expression_within : ℕ → ℕ → Form Token Expr
-expression_within past room = named begins_operand goes_on_expression (phrases past (suc room)).expression
+expression_within past room = named begins_expression goes_on_expression (phrases past (suc room)).expression

@@ -21,6 +21,7 @@ use Rattle.smv_tree.specs.declared.tree.AssignmentKind.{AssignmentKind}
 use Rattle.smv_tree.specs.declared.tree.AssignmentKind.TheVariants as side
 use Rattle.smv_tree.specs.declared.tree.ConstraintKind.{ConstraintKind}
 use Rattle.smv_tree.specs.declared.tree.ConstraintKind.TheVariants as asked
+use Rattle.smv_tree.specs.declared.tree.SpecificationKind.{SpecificationKind}
 use Rattle.smv_tree.specs.declared.tree.SpecificationKind.TheVariants as claim
 use Rattle.smv_tree.specs.declared.tree.Expr.{Expr}
 use Rattle.smv_tree.specs.declared.tree.Expr.TheVariants as expr
@@ -132,10 +133,18 @@ constraint past = to (λ x. section.Constraint (record { place = x.0.place; kind
 unfoldable pub given_name : Form Token Token
 given_name = just kind.Name ▹ identifier ◃ just kind.Becomes
 
--- "INVARSPEC" expression, with a name or without
+-- "INVARSPEC" or "LTLSPEC"
+abbrev pub claims : Token → Bool
+claims t = is_kind kind.Invarspec t || is_kind kind.Ltlspec t
+
+abbrev pub kind_claimed : TokenKind → SpecificationKind
+kind_claimed kind.Invarspec = claim.Invariant
+kind_claimed other = claim.Temporal
+
+-- one of those words and a formula, with a name or without
 unfoldable pub specification : ℕ → Form Token Section
 specification past =
-    to (λ x. section.Specification (record { place = x.0.place; kind = claim.Invariant; formula = x.1 })) (just kind.Invarspec ⨾ maybe given_name ▹ formula past)
+    to (λ x. section.Specification (record { place = x.0.place; kind = kind_claimed x.0.kind; formula = x.1 })) (token false claims ⨾ maybe given_name ▹ formula past)
 
 unfoldable pub section_form : ℕ → Form Token Section
 section_form past = or (variables past) (or (definitions past) (or (assignments past) (or (constraint past) (specification past))))

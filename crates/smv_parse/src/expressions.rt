@@ -1,18 +1,23 @@
 //! Expressions, read from the front of tokens (NuSMV 2.6 User Manual, 2.2).
 
 ghost use Rattle.std.specs.Prelude.{◌≡◌, [], ◌∷◌, IfOk, false};
-ghost use Rattle.phrase_forms.specs.Forms.{token, to, head};
+ghost use Rattle.phrase_forms.specs.Forms.{token, to, head, ◌⨾◌};
 ghost use Rattle.smv_tree.specs.declared.tree.Expr.TheVariants as expr;
-ghost use Rattle.smv_parse.specs.Names.{name};
-ghost use Rattle.smv_parse.specs.Expressions.{is_constant, constant_of, begins_operand, operator_of, parenthesised, group_of, primary, operand, chosen_by, branches, conditional, is_zero, expression_within};
+ghost use Rattle.smv_tree.specs.declared.token.TokenKind.TheVariants as kind;
+ghost use Rattle.smv_parse.specs.Names.{name, opening};
+ghost use Rattle.smv_parse.specs.Expressions.{is_constant, constant_of, begins_operand, begins_expression, is_step_operator, is_timed_operator, operator_of, parenthesised, group_of, primary, operand, denied_again, stepped, timed_of, denied, temporal, timed, chosen_by, branches, conditional, is_zero, expression_within};
 ghost use Rattle.smv_parse.specs.Ranks.{is_operator_of, operand_within, phrase_within, under, link_within, links_within};
 ghost use Rattle.smv_parse.specs.Reading.{Gives};
 
 use crate::names::{begins_name, name};
 use crate::reading::{Stop, begins, is_kind, just, opening};
+use crate::temporal::{
+    below, is_step_operator, is_timed_operator, maybe_bounds, step_operator, step_token, timed_by,
+    timed_token,
+};
 use phrase_forms::Fault;
 use smv_tree::{Expr, Place, Token, TokenKind};
-use smv_value::{Logic, Operator};
+use smv_value::{Logic, Operator, Temporal};
 use sqlite_items::{Boxed, Items};
 use std::alloc::{AllocError, Global};
 
@@ -20,6 +25,7 @@ use std::alloc::{AllocError, Global};
 #[derive(Clone, Copy, Debug, PartialEq, Eq)]
 enum Rank {
     Equality,
+    Connection,
     Conjunction,
     Disjunction,
     Equivalence,
@@ -33,6 +39,12 @@ impl Rank {
         match self {
             Rank::Equality => {
                 is_kind(TokenKind::Equal, token) || is_kind(TokenKind::NotEqual, token)
+            }
+            Rank::Connection => {
+                is_kind(TokenKind::Until, token)
+                    || is_kind(TokenKind::Releases, token)
+                    || is_kind(TokenKind::Since, token)
+                    || is_kind(TokenKind::Triggered, token)
             }
             Rank::Conjunction => is_kind(TokenKind::And, token),
             Rank::Disjunction => {
@@ -76,6 +88,10 @@ fn operator_of(kind: TokenKind) -> Operator
         TokenKind::Xor => Operator::Logic(Logic::Xor),
         TokenKind::Xnor => Operator::Logic(Logic::Xnor),
         TokenKind::Iff => Operator::Logic(Logic::Iff),
+        TokenKind::Until => Operator::Temporal(Temporal::Until),
+        TokenKind::Releases => Operator::Temporal(Temporal::Releases),
+        TokenKind::Since => Operator::Temporal(Temporal::Since),
+        TokenKind::Triggered => Operator::Temporal(Temporal::Triggered),
         _ => Operator::Logic(Logic::Or),
     }
 }
@@ -102,7 +118,14 @@ fn constant_of(token: &Token) -> Expr
 }
 
 /// Whether an expression begins with this token.
-pub fn begins_operand(token: &Token) -> bool
+pub fn begins_expression(token: &Token) -> bool
+    ensures { result ≡ begins_expression token.now }
+{
+    begins_operand(token) || is_step_operator(token) || is_timed_operator(token)
+}
+
+/// Whether an operand begins with this token.
+fn begins_operand(token: &Token) -> bool
     ensures { result ≡ begins_operand token.now }
 {
     is_constant(token)
@@ -193,6 +216,113 @@ fn operand<'a>(
     Ok((Expr::Apply(not.place, Operator::Not, none, below), tokens))
 }
 
+/// `!` and what it denies.
+#[cycle(expressions)]
+#[tactic(auto, using(crate::proofs::Levels::under_denied))]
+fn denied_again<'a>(
+    alloc: Global,
+    room: usize,
+    tokens: &'a [Token],
+) -> Result<((bool, Expr), &'a [Token]), Stop<'a>>
+    ensures { Gives (λ x. ((x.0.0, x.0.1), x.1.now)) result ((to denied_again (opening (is_zero room) kind.Not ⨾ (under room).denied)).parse tokens.now) }
+{
+    let (not, tokens) = opening(is_closed(room), TokenKind::Not, tokens)?;
+    let ((temporal, inner), tokens) = denied(alloc, room - 1, tokens)?;
+    let whole = below(alloc, not.place, Operator::Not, inner)?;
+    Ok(((temporal, whole), tokens))
+}
+
+/// `X`, `Y` or `Z` and its operand.
+#[cycle(expressions)]
+#[tactic(auto, using(crate::proofs::Levels::under_temporal))]
+fn stepped<'a>(
+    alloc: Global,
+    room: usize,
+    tokens: &'a [Token],
+) -> Result<((bool, Expr), &'a [Token]), Stop<'a>>
+    ensures { Gives (λ x. ((x.0.0, x.0.1), x.1.now)) result ((to stepped (token (is_zero room) is_step_operator ⨾ (under room).temporal)).parse tokens.now) }
+{
+    let (first, tokens) = step_token(is_closed(room), tokens)?;
+    let (inner, tokens) = temporal(alloc, room - 1, tokens)?;
+    let operator = Operator::Temporal(step_operator(first.kind));
+    let whole = below(alloc, first.place, operator, inner)?;
+    Ok(((true, whole), tokens))
+}
+
+/// `F`, `G`, `O` or `H`, its bounds, if it has some, and its operand.
+#[cycle(expressions)]
+#[tactic(auto, using(crate::proofs::Levels::under_timed))]
+fn timed_of<'a>(
+    alloc: Global,
+    room: usize,
+    tokens: &'a [Token],
+) -> Result<((bool, Expr), &'a [Token]), Stop<'a>>
+    ensures { Gives (λ x. ((x.0.0, x.0.1), x.1.now)) result ((to timed_of (token (is_zero room) is_timed_operator ⨾ (under room).timed)).parse tokens.now) }
+{
+    let (first, tokens) = timed_token(is_closed(room), tokens)?;
+    let ((bounds, inner), tokens) = timed(alloc, room - 1, tokens)?;
+    let whole = below(alloc, first.place, timed_by(first.kind, bounds), inner)?;
+    Ok(((true, whole), tokens))
+}
+
+/// What `!` may deny: a temporal operator and its operand, or a primary expression.
+#[cycle(expressions)]
+#[tactic(auto, unfolding(crate::specs::Expressions::denied))]
+fn denied<'a>(
+    alloc: Global,
+    room: usize,
+    tokens: &'a [Token],
+) -> Result<((bool, Expr), &'a [Token]), Stop<'a>>
+    ensures { Gives (λ x. ((x.0.0, x.0.1), x.1.now)) result ((denied (is_zero room) (under room)).parse tokens.now) }
+{
+    match tokens {
+        [first, ..] if is_kind(TokenKind::Not, first) => denied_again(alloc, room, tokens),
+        [first, ..] if is_step_operator(first) => stepped(alloc, room, tokens),
+        [first, ..] if is_timed_operator(first) => timed_of(alloc, room, tokens),
+        _ => {
+            let (plain, tokens) = primary(alloc, room, tokens)?;
+            Ok(((false, plain), tokens))
+        }
+    }
+}
+
+/// An operand of temporal operators: `!` is over a temporal operator as a whole, and over the first operand of an equation.
+#[cycle(expressions)]
+#[tactic(auto, using(crate::proofs::Temporals::temporal_reads))]
+fn temporal<'a>(
+    alloc: Global,
+    room: usize,
+    tokens: &'a [Token],
+) -> Result<(Expr, &'a [Token]), Stop<'a>>
+    ensures { Gives (λ x. (x.0, x.1.now)) result ((temporal (is_zero room) (under room)).parse tokens.now) }
+{
+    let ((is_temporal, first), tokens) = denied(alloc, room, tokens)?;
+    if is_temporal {
+        return Ok((first, tokens));
+    }
+    let (links, tokens) = links(alloc, Rank::Equality, room, tokens)?;
+    if links.is_empty() {
+        return Ok((first, tokens));
+    }
+    let first = Boxed::new(alloc, first)?;
+    Ok((Expr::Chain(first, links), tokens))
+}
+
+/// Bounds, if there are some, and an operand.
+#[cycle(expressions)]
+#[tactic(auto, unfolding(crate::specs::Expressions::timed))]
+fn timed<'a>(
+    alloc: Global,
+    room: usize,
+    tokens: &'a [Token],
+) -> Result<((Option<(u32, u32)>, Expr), &'a [Token]), Stop<'a>>
+    ensures { Gives (λ x. ((x.0.0, x.0.1), x.1.now)) result ((timed (is_zero room) (under room)).parse tokens.now) }
+{
+    let (bounds, tokens) = maybe_bounds(is_closed(room), tokens)?;
+    let (operand, tokens) = temporal(alloc, room, tokens)?;
+    Ok(((bounds, operand), tokens))
+}
+
 /// An operand of the rank: a phrase of the rank below, where a conditional stands below an equivalence.
 #[cycle(expressions)]
 #[tactic(auto, unfolding(crate::specs::Ranks::operand_within, crate::specs::Ranks::phrase_within))]
@@ -206,7 +336,8 @@ fn operand_of<'a>(
 {
     match rank {
         Rank::Equality => operand(alloc, room, tokens),
-        Rank::Conjunction => phrase_of(alloc, Rank::Equality, room, tokens),
+        Rank::Connection => temporal(alloc, room, tokens),
+        Rank::Conjunction => phrase_of(alloc, Rank::Connection, room, tokens),
         Rank::Disjunction => phrase_of(alloc, Rank::Conjunction, room, tokens),
         Rank::Equivalence => conditional(alloc, room, tokens),
     }
@@ -323,8 +454,8 @@ fn conditional<'a>(
 }
 
 /// The expression at the front of the tokens, and the tokens behind it (NuSMV 2.6 User Manual, 2.2, Expressions). At most
-/// `room` levels are open at one place in it: each parenthesis, each `!`, what stands behind each `?` and the right side of
-/// each `->` opens one, so `? :` and `->` associate to the right.
+/// `room` levels are open at one place in it: each parenthesis, each `!`, each temporal operator with one operand and its
+/// bounds, what stands behind each `?` and the right side of each `->` opens one, so `? :` and `->` associate to the right.
 ///
 /// It is refused as unexpected from the first token with which the tokens no longer begin an expression, or from their
 /// end; as too deep from the first token that opens a level too many. Memory may be refused at any time.

@@ -7,6 +7,7 @@ mod names;
 mod parsing;
 mod programs;
 mod reading;
+mod temporal;
 mod types;
 mod unsupported;
 

@@ -4,7 +4,7 @@ ghost use Rattle.std.specs.Prelude.{◌≡◌, false, IfOk};
 ghost use Rattle.phrase_forms.specs.Forms.{token, many, maybe, to, head};
 ghost use Rattle.std.specs.Option.{option_copied};
 ghost use Rattle.smv_parse.specs.Names.{identifier};
-ghost use Rattle.smv_parse.specs.Programs.{expression, further, listed, maybe_listed, bracketed, definition, definitions, sided, left_side, assignment, assignments, formula, constrains, kind_asked, constraint, given_name, specification, section_form, parameter_of, module_form, program};
+ghost use Rattle.smv_parse.specs.Programs.{expression, further, listed, maybe_listed, bracketed, definition, definitions, sided, left_side, assignment, assignments, formula, constrains, kind_asked, constraint, claims, kind_claimed, given_name, specification, section_form, parameter_of, module_form, program};
 ghost use Rattle.smv_parse.specs.Reading.{Gives};
 
 use crate::expressions;
@@ -264,17 +264,44 @@ fn maybe_given_name(tokens: &[Token]) -> Result<(Option<&Token>, &[Token]), Stop
     }
 }
 
-/// `INVARSPEC` expression, with a name or without.
+/// What a specification behind this keyword claims.
+fn kind_claimed(keyword: TokenKind) -> SpecificationKind
+    ensures { result ≡ kind_claimed keyword }
+{
+    match keyword {
+        TokenKind::Invarspec => SpecificationKind::Invariant,
+        _ => SpecificationKind::Temporal,
+    }
+}
+
+/// Whether the token is `INVARSPEC` or `LTLSPEC`.
+fn claims(token: &Token) -> bool
+    ensures { result ≡ claims token.now }
+{
+    is_kind(TokenKind::Invarspec, token) || is_kind(TokenKind::Ltlspec, token)
+}
+
+/// `INVARSPEC` or `LTLSPEC`.
+fn claiming(tokens: &[Token]) -> Result<(&Token, &[Token]), Stop<'_>>
+    ensures { Gives (λ x. (x.0.now, x.1.now)) result ((token false claims).parse tokens.now) }
+{
+    match tokens {
+        [first, rest @ ..] if claims(first) => Ok((first, rest)),
+        _ => Err(Stop::Refused(Fault::Unexpected, tokens)),
+    }
+}
+
+/// `INVARSPEC` or `LTLSPEC`, and a formula, with a name or without.
 #[tactic(auto, unfolding(crate::specs::Programs::specification))]
 fn specification<'a>(alloc: Global, tokens: &'a [Token]) -> Result<(Section, &'a [Token]), Stop<'a>>
     ensures { Gives (λ x. (x.0, x.1.now)) result ((specification 0).parse tokens.now) }
 {
-    let (first, tokens) = just(TokenKind::Invarspec, tokens)?;
+    let (first, tokens) = claiming(tokens)?;
     let (_, tokens) = maybe_given_name(tokens)?;
     let (formula, tokens) = formula(alloc, tokens)?;
     let specification = Specification {
         place: first.place,
-        kind: SpecificationKind::Invariant,
+        kind: kind_claimed(first.kind),
         formula,
     };
     Ok((Section::Specification(specification), tokens))
@@ -305,7 +332,7 @@ fn begins_section(tokens: &[Token]) -> bool
                 || is_kind(TokenKind::Define, first)
                 || is_kind(TokenKind::Assign, first)
                 || constrains(first)
-                || is_kind(TokenKind::Invarspec, first)
+                || claims(first)
         }
         [] => false,
     }

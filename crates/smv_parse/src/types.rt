@@ -6,7 +6,7 @@ ghost use Rattle.smv_parse.specs.Expressions.{expression_within};
 ghost use Rattle.smv_parse.specs.Programs.{further, listed, maybe_listed, bracketed, under_one, instance_type, written_type, declaration, declares, kind_declared, variables};
 ghost use Rattle.smv_parse.specs.Reading.{Gives};
 
-use crate::expressions::{begins_operand, expression};
+use crate::expressions::{begins_expression, expression};
 use crate::reading::{Stop, begins, identifier, is_identifier, is_kind, just};
 use phrase_forms::Fault;
 use smv_tree::{Expr, Section, Token, TokenKind, TypeExpr, Variable, VariableKind};
@@ -57,7 +57,7 @@ fn given<'a>(alloc: Global, tokens: &'a [Token]) -> Result<(Items<Expr>, &'a [To
     ensures { Gives (λ x. (x.0, x.1.now)) result ((maybe_listed (expression_within 0 under_one)).parse tokens.now) }
 {
     match tokens {
-        [first, ..] if begins_operand(first) => listed_arguments(alloc, tokens),
+        [first, ..] if begins_expression(first) => listed_arguments(alloc, tokens),
         _ => Ok((Items::new(alloc), tokens)),
     }
 }

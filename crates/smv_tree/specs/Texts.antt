@@ -3,10 +3,10 @@ use Rattle.std.specs.Prelude.{ℕ, List, [], ◌∷◌, ◌++◌, codes, Option,
 use Rattle.std.specs.Fmt.{decimal}
 use Rattle.smv_tree.specs.declared.place.Place.{Place}
 use Rattle.smv_tree.specs.declared.refusal.Rule.{Rule}
-use Rattle.smv_tree.specs.declared.refusal.Rule.TheVariants.{SourceTooLarge, BadByte, OpenComment, BadWordConstant, IntTooLarge, Unexpected, TooDeep, Unsupported, NoMain, MainHasParameters, DuplicateModule, UnknownName, DuplicateName, UnknownModule, ArgumentCount, ModuleCycle, DefineCycle, UnfoldedDepth, TooManyInstances, TooManySlots, TypeMismatch, NextHere, InputHere, NotAssignable, AssignedTwice, AssignCycle}
+use Rattle.smv_tree.specs.declared.refusal.Rule.TheVariants.{SourceTooLarge, BadByte, OpenComment, BadWordConstant, IntTooLarge, Unexpected, TooDeep, Unsupported, NoMain, MainHasParameters, DuplicateModule, UnknownName, DuplicateName, UnknownModule, ArgumentCount, ModuleCycle, DefineCycle, UnfoldedDepth, TooManyInstances, TooManySlots, TypeMismatch, NextHere, InputHere, TemporalHere, NotAssignable, BadBound, AssignedTwice, AssignCycle}
 use Rattle.smv_tree.specs.declared.refusal.Refusal.{Refusal}
 use Rattle.smv_tree.specs.declared.tree.SpecificationKind.{SpecificationKind}
-use Rattle.smv_tree.specs.declared.tree.SpecificationKind.TheVariants.{Invariant}
+use Rattle.smv_tree.specs.declared.tree.SpecificationKind.TheVariants.{Invariant, Temporal}
 
 -- a line of a report ends with this byte
 abbrev pub line_end : List ℕ
@@ -39,12 +39,15 @@ rule_text TooManySlots = codes "312 TooManySlots"
 rule_text TypeMismatch = codes "401 TypeMismatch"
 rule_text NextHere = codes "406 NextHere"
 rule_text InputHere = codes "407 InputHere"
+rule_text TemporalHere = codes "408 TemporalHere"
 rule_text NotAssignable = codes "411 NotAssignable"
+rule_text BadBound = codes "413 BadBound"
 rule_text AssignedTwice = codes "501 AssignedTwice"
 rule_text AssignCycle = codes "502 AssignCycle"
 
 abbrev pub kind_text : SpecificationKind → List ℕ
 kind_text Invariant = codes "INVARSPEC"
+kind_text Temporal = codes "LTLSPEC"
 
 -- a detail stands behind a colon
 abbrev pub detail_text : Option (List ℕ) → List ℕ

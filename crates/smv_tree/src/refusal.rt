@@ -58,8 +58,12 @@ pub enum Rule {
     NextHere,
     /// An input stands where no step is.
     InputHere,
+    /// A temporal operator stands where none may.
+    TemporalHere,
     /// What is assigned is no variable of the state.
     NotAssignable,
+    /// The bounds of a temporal operator are out of order or too large.
+    BadBound,
     /// A variable is assigned twice.
     AssignedTwice,
     /// Assignments of one time depend on each other.
@@ -119,7 +123,9 @@ impl fmt::Display for Rule {
             Rule::TypeMismatch => write!(f, "401 TypeMismatch"),
             Rule::NextHere => write!(f, "406 NextHere"),
             Rule::InputHere => write!(f, "407 InputHere"),
+            Rule::TemporalHere => write!(f, "408 TemporalHere"),
             Rule::NotAssignable => write!(f, "411 NotAssignable"),
+            Rule::BadBound => write!(f, "413 BadBound"),
             Rule::AssignedTwice => write!(f, "501 AssignedTwice"),
             Rule::AssignCycle => write!(f, "502 AssignCycle"),
         }

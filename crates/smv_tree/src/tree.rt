@@ -126,6 +126,8 @@ pub struct Assignment {
 pub enum SpecificationKind {
     /// `INVARSPEC`: the formula holds in each reachable state (manual 2.4.2, Invariant Specifications).
     Invariant,
+    /// `LTLSPEC`: the formula is true at the first time of each fair path (manual 2.4.3, LTL Specifications).
+    Temporal,
 }
 
 impl fmt::Display for SpecificationKind {
@@ -134,6 +136,7 @@ impl fmt::Display for SpecificationKind {
     fn fmt<W: fmt::Write>(&self, f: &mut fmt::Formatter<W>) -> fmt::Result {
         match self {
             SpecificationKind::Invariant => write!(f, "INVARSPEC"),
+            SpecificationKind::Temporal => write!(f, "LTLSPEC"),
         }
     }
 }

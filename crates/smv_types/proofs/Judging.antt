@@ -1,20 +1,22 @@
 -- What is noted of nodes, with one node more.
-use Rattle.std.proofs.Common.{◌≡◌, ℕ, zero, suc, ◌+◌, ◌-◌, ◌<◌, false, List, map, [], ◌∷◌, ◌++◌, length, get_or, take, drop, slice_index_or, slice_get, Option, None, Some, refl, sym, ap, subst, ◌∙◌, arith, length-append}
+use Rattle.std.proofs.Common.{◌≡◌, ℕ, zero, suc, ◌+◌, ◌-◌, ◌<◌, true, false, inl, inr, List, map, [], ◌∷◌, ◌++◌, length, get_or, take, drop, slice_index_or, slice_get, Option, None, Some, refl, sym, ap, subst, ◌∙◌, arith, length-append}
 use Rattle.smv_tree.specs.declared.place.Place.{Place}
 use Rattle.smv_tree.specs.declared.refusal.Refusal.{Refusal}
 use Rattle.smv_value.specs.declared.operator.Operator.{Operator}
 use Rattle.smv_resolve.specs.declared.node.Naming.TheVariants as naming
 use Rattle.smv_names.specs.Verdicts.{first_of, or_else}
+use Rattle.std.proofs.lemmas.Bool.{cases_Bool}
 use Rattle.std.proofs.lemmas.List.{take_more}
 use Rattle.smv_resolve.specs.declared.node.Node.{Node}
 use Rattle.smv_scope.specs.declared.slot.Slot.{Slot}
-use Rattle.smv_resolve.specs.Resolved.{Resolved, last_of, operands_of, part_at, parts_of, resolved_by, with_node}
+use Rattle.smv_resolve.specs.Resolved.{Resolved, last_of, operands_of, part_at, parts_of, resolved_by}
 use Rattle.smv_resolve.proofs.Parts.{parts_of-next}
 use Rattle.smv_types.specs.declared.judged.Judged.{Judged}
 use Rattle.smv_tree.specs.declared.tree.AssignmentKind.TheVariants as side
 use Rattle.smv_tree.specs.declared.tree.VariableKind.{VariableKind}
 use Rattle.smv_tree.specs.declared.tree.VariableKind.TheVariants as sort
-use Rattle.smv_types.specs.Kinds.{Context, is_assignable, kind_of, kind_refusal, kinds_of, mismatch, of_state, of_step, operands_refusal, slot_takes, takes_assignment, typed}
+use Rattle.smv_types.specs.Kinds.{Context, is_assignable, kind_of, kind_refusal, kinds_of, mismatch, of_state, of_step, operands_refusal, slot_takes, takes_assignment, typed, bounds_refusal, of_path, temporal_at, under_operator}
+use Rattle.smv_meaning.specs.Formulas.{is_over_formulas}
 use Rattle.smv_types.specs.declared.judged.Kind.{Kind}
 use Rattle.smv_types.proofs.Firsts.{first_of_both}
 use Rattle.smv_types.specs.Judged.{IsJudged, IsNoted, Tells, as_refusal, judged_at, nothing, of_name}
@@ -31,7 +33,7 @@ each_more R (a ∷ xs) (b ∷ ys) d e x y same none each last zero = each zero
 each_more R (a ∷ xs) (b ∷ ys) d e x y same none each last (suc k) = each_more R xs ys d e x y (omega (arith, same)) none (λ i. each (suc i)) last k
 
 of_nothing : (slots : List Slot) → IsJudged slots Resolved.Stuck nothing
-of_nothing slots = record { kind = refl; place = refl; step = refl; name = refl; state = refl; given = refl; init = refl; later = refl }
+of_nothing slots = record { kind = refl; place = refl; step = refl; name = refl; state = refl; path = refl; given = refl; init = refl; later = refl }
 
 pub told_none : (slots : List Slot) → Tells slots (parts_of []) []
 unfolding parts_of
@@ -120,14 +122,23 @@ kinds_told slots (r ∷ rs) (j ∷ js) t =
     let head = t.each 0 in
     ap (λ (k : Option Kind). k ∷ map (λ (x : Judged). x.kind) js) head.kind ∙ ap (λ (ks : List (Option Kind)). kind_of slots r ∷ ks) (kinds_told slots rs js (told_tail slots r rs j js t))
 
--- an operator breaks what its operands break, or else their kinds do not fit
+-- what an operator itself breaks: its operands' kinds, and its bounds
+abbrev pub own_refusal : Place → Operator → Option Kind → Option Refusal
+own_refusal place o k = or_else (mismatch place k) (bounds_refusal place o)
+
+-- where no temporal operator may stand
+abbrev pub plain_refusal : Place → Operator → Option Kind → Option Refusal
+plain_refusal place o k = or_else (temporal_at place o) (own_refusal place o k)
+
+-- an operator breaks what its operands break, or else what it breaks itself
 pub apply_judged : (slots : List Slot) (place : Place) (o : Operator) (rs : List Resolved) (js : List Judged) (all j : Judged) (k : Option Kind) → Tells slots rs js → IsNoted js all →
     k ≡ typed o (map (λ (x : Judged). x.kind) js) → j.kind ≡ k → j.place ≡ place → j.given ≡ None → j.takes_init ≡ false → j.takes_later ≡ false →
-    as_refusal j.of_step ≡ or_else (as_refusal all.of_step) (mismatch place k) →
-    as_refusal j.of_name ≡ or_else (as_refusal all.of_name) (mismatch place k) →
-    as_refusal j.of_state ≡ or_else (as_refusal all.of_state) (mismatch place k) →
+    as_refusal j.of_step ≡ or_else (as_refusal all.of_step) (plain_refusal place o k) →
+    as_refusal j.of_name ≡ or_else (as_refusal all.of_name) (plain_refusal place o k) →
+    as_refusal j.of_state ≡ or_else (as_refusal all.of_state) (plain_refusal place o k) →
+    as_refusal j.of_path ≡ or_else (operands_refusal slots (under_operator o of_path) (operands_of rs)) (own_refusal place o k) →
     IsJudged slots (Resolved.Apply place o (operands_of rs)) j
-apply_judged slots place o rs js all j k t n fits kind at given init later step name state =
+apply_judged slots place o rs js all j k t n fits kind at given init later step name state path =
     let same : k ≡ typed o (kinds_of slots (operands_of rs)) = fits ∙ ap (typed o) (kinds_told slots rs js t) in
     record {
       kind = kind ∙ same;
@@ -135,14 +146,29 @@ apply_judged slots place o rs js all j k t n fits kind at given init later step 
       step = step ∙ both (as_refusal all.of_step) of_step (n.step ∙ first_told slots of_step (λ x. as_refusal x.of_step) (λ r x i. i.step) rs js t) same;
       name = name ∙ both (as_refusal all.of_name) of_name (n.name ∙ first_told slots of_name (λ x. as_refusal x.of_name) (λ r x i. i.name) rs js t) same;
       state = state ∙ both (as_refusal all.of_state) of_state (n.state ∙ first_told slots of_state (λ x. as_refusal x.of_state) (λ r x i. i.state) rs js t) same;
+      path = path ∙ ap (λ (x : Option Kind). or_else (operands_refusal slots (under_operator o of_path) (operands_of rs)) (own_refusal place o x)) same;
       given = ap as_refusal given;
       init = init;
       later = later;
     }
   where
     both : (first : Option Refusal) (c : Context) → first ≡ operands_refusal slots c (operands_of rs) → k ≡ typed o (kinds_of slots (operands_of rs)) →
-        or_else first (mismatch place k) ≡ or_else (operands_refusal slots c (operands_of rs)) (mismatch place (typed o (kinds_of slots (operands_of rs))))
-    both first c e f = ap (λ o. or_else o (mismatch place k)) e ∙ ap (λ (x : Option Kind). or_else (operands_refusal slots c (operands_of rs)) (mismatch place x)) f
+        or_else first (plain_refusal place o k) ≡ or_else (operands_refusal slots c (operands_of rs)) (plain_refusal place o (typed o (kinds_of slots (operands_of rs))))
+    both first c e f =
+        ap (λ r. or_else r (plain_refusal place o k)) e ∙ ap (λ (x : Option Kind). or_else (operands_refusal slots c (operands_of rs)) (plain_refusal place o x)) f
+
+-- what operands break where a path is spoken of, under this operator
+pub path_told : (slots : List Slot) (o : Operator) (rs : List Resolved) (js : List Judged) (all : Judged) → Tells slots rs js → IsNoted js all → (r : Option Refusal) →
+    (is_over_formulas o ≡ true → r ≡ as_refusal all.of_path) → (is_over_formulas o ≡ false → r ≡ as_refusal all.of_name) →
+    r ≡ operands_refusal slots (under_operator o of_path) (operands_of rs)
+path_told slots o rs js all t n r over plain = elim (cases_Bool (is_over_formulas o)) [
+  | inl e ↦
+      over e ∙ n.path ∙ first_told slots of_path (λ x. as_refusal x.of_path) (λ q x i. i.path) rs js t
+      ∙ ap (λ b. operands_refusal slots (record { next = false; input = true; temporal = b }) (operands_of rs)) (sym e)
+  | inr e ↦
+      plain e ∙ n.name ∙ first_told slots of_name (λ x. as_refusal x.of_name) (λ q x i. i.name) rs js t
+      ∙ ap (λ b. operands_refusal slots (record { next = false; input = true; temporal = b }) (operands_of rs)) (sym e)
+]
 
 first_of_more : {A : Type 0} (f : A → Option Refusal) (xs : List A) (i : ℕ) (d : A) → i < length xs → first_of f (take (i + 1) xs) ≡ or_else (first_of f (take i xs)) (f (get_or xs i d))
 first_of_more f xs i d l =
@@ -152,17 +178,19 @@ first_of_more f xs i d l =
     last_one None = refl
     last_one (Some r) = refl
 
-pub noted_none : (all : Judged) → all.of_step ≡ None → all.of_name ≡ None → all.of_state ≡ None → IsNoted [] all
-noted_none all s n t = record { step = ap as_refusal s; name = ap as_refusal n; state = ap as_refusal t }
+pub noted_none : (all : Judged) → all.of_step ≡ None → all.of_name ≡ None → all.of_state ≡ None → all.of_path ≡ None → IsNoted [] all
+noted_none all s n t p = record { step = ap as_refusal s; name = ap as_refusal n; state = ap as_refusal t; path = ap as_refusal p }
 
 -- one operand more
 pub noted_more : (js : List Judged) (i : ℕ) (d all new : Judged) → i < length js → IsNoted (take i js) all →
     (let j = get_or js i d in
     (as_refusal new.of_step ≡ or_else (as_refusal all.of_step) (as_refusal j.of_step))
-    × (as_refusal new.of_name ≡ or_else (as_refusal all.of_name) (as_refusal j.of_name)) × (as_refusal new.of_state ≡ or_else (as_refusal all.of_state) (as_refusal j.of_state))) →
+    × (as_refusal new.of_name ≡ or_else (as_refusal all.of_name) (as_refusal j.of_name)) × (as_refusal new.of_state ≡ or_else (as_refusal all.of_state) (as_refusal j.of_state))
+    × (as_refusal new.of_path ≡ or_else (as_refusal all.of_path) (as_refusal j.of_path))) →
     IsNoted (take (i + 1) js) new
 noted_more js i d all new l n h = record {
   step = h.0 ∙ ap (λ o. or_else o (as_refusal (get_or js i d).of_step)) n.step ∙ sym (first_of_more (λ (x : Judged). as_refusal x.of_step) js i d l);
   name = h.1 ∙ ap (λ o. or_else o (as_refusal (get_or js i d).of_name)) n.name ∙ sym (first_of_more (λ (x : Judged). as_refusal x.of_name) js i d l);
   state = h.2 ∙ ap (λ o. or_else o (as_refusal (get_or js i d).of_state)) n.state ∙ sym (first_of_more (λ (x : Judged). as_refusal x.of_state) js i d l);
+  path = h.3 ∙ ap (λ o. or_else o (as_refusal (get_or js i d).of_path)) n.path ∙ sym (first_of_more (λ (x : Judged). as_refusal x.of_path) js i d l);
 }

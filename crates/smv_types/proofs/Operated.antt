@@ -9,10 +9,11 @@ use Rattle.smv_value.specs.declared.value.Value.TheVariants as value
 use Rattle.smv_meaning.specs.declared.value.Outcome.{Outcome}
 use Rattle.smv_meaning.specs.declared.value.Outcome.TheVariants.{Fault, Values}
 use Rattle.smv_meaning.specs.Values.{applied, one}
+use Rattle.smv_meaning.specs.Formulas.{is_temporal}
 use Rattle.smv_meaning.specs.Runs.{is_known}
 use Rattle.smv_types.specs.declared.judged.Kind.{Kind}
 use Rattle.smv_types.specs.declared.judged.Kind.TheVariants.{Boolean}
-use Rattle.smv_types.specs.Kinds.{booleans, is_boolean, typed}
+use Rattle.smv_types.specs.Kinds.{booleans, is_boolean, operands_of_temporal, typed}
 use Rattle.smv_types.proofs.SlotValues.{left, right}
 
 -- what is known is TRUE or FALSE
@@ -82,19 +83,23 @@ operands_are (operator.Logic o) ks e = (booleans_are 2 ks e).1
 operands_are operator.Equal ks e = (booleans_are 2 ks e).1
 operands_are operator.NotEqual ks e = (booleans_are 2 ks e).1
 operands_are operator.Choice ks e = (booleans_are 3 ks e).1
+operands_are (operator.Temporal o) ks e = (booleans_are (operands_of_temporal o) ks e).1
+operands_are (operator.Bounded o low high) ks e = (booleans_are 1 ks e).1
 operands_are o ks e = absurd (let no : ⊥ = cc in no)
 
--- an operator over booleans, where the table takes them
-pub applied_known : (o : Operator) (place : Place) (ks : List (Option Kind)) (os : List Outcome) → is_boolean (typed o ks) ≡ true → length os ≡ length ks →
-    list_all is_known os ≡ true → is_known (applied o place os) ≡ true
-applied_known operator.Not place ks os e l h =
+-- an operator over booleans that is not temporal, where the table takes them
+pub applied_known : (o : Operator) (place : Place) (ks : List (Option Kind)) (os : List Outcome) → is_temporal o ≡ false → is_boolean (typed o ks) ≡ true →
+    length os ≡ length ks → list_all is_known os ≡ true → is_known (applied o place os) ≡ true
+applied_known operator.Not place ks os plain e l h =
     one_known (applied operator.Not place) (λ a. refl) os (l ∙ (booleans_are 1 ks e).0) h
-applied_known (operator.Logic o) place ks os e l h =
+applied_known (operator.Logic o) place ks os plain e l h =
     two_known (applied (operator.Logic o) place) (λ a b. refl) os (l ∙ (booleans_are 2 ks e).0) h
-applied_known operator.Equal place ks os e l h =
+applied_known operator.Equal place ks os plain e l h =
     two_known (applied operator.Equal place) (λ a b. refl) os (l ∙ (booleans_are 2 ks e).0) h
-applied_known operator.NotEqual place ks os e l h =
+applied_known operator.NotEqual place ks os plain e l h =
     two_known (applied operator.NotEqual place) (λ a b. refl) os (l ∙ (booleans_are 2 ks e).0) h
-applied_known operator.Choice place ks os e l h =
+applied_known operator.Choice place ks os plain e l h =
     three_known (applied operator.Choice place) (chosen_known place) os (l ∙ (booleans_are 3 ks e).0) h
-applied_known o place ks os e l h = absurd (let no : ⊥ = cc in no)
+applied_known (operator.Temporal o) place ks os plain e l h = absurd (let no : ⊥ = cc in no)
+applied_known (operator.Bounded o low high) place ks os plain e l h = absurd (let no : ⊥ = cc in no)
+applied_known o place ks os plain e l h = absurd (let no : ⊥ = cc in no)

@@ -1,8 +1,11 @@
 -- The rules of depth, kinds and contexts: an own choice of this project (the kinds are those of manual 2.1 and 2.2).
-use Rattle.std.specs.Prelude.{ℕ, nat_lt, ◌==◌, Bool, true, false, not, ◌&&◌, if◌then◌else◌, List, [], ◌∷◌, length, Option, None, Some, slice_get}
+use Rattle.std.specs.Prelude.{ℕ, nat_lt, nat_le, ◌==◌, Bool, true, false, not, ◌&&◌, if◌then◌else◌, List, [], ◌∷◌, ◌++◌, codes, length, Option, None, Some, slice_get}
+use Rattle.std.specs.Fmt.{decimal}
 use Rattle.std.specs.List.{list_all}
 use Rattle.smv_value.specs.declared.operator.Operator.{Operator}
 use Rattle.smv_value.specs.declared.operator.Operator.TheVariants as operator
+use Rattle.smv_value.specs.declared.operator.Temporal.{Temporal}
+use Rattle.smv_value.specs.declared.operator.Temporal.TheVariants as tense
 use Rattle.smv_tree.specs.declared.place.Place.{Place}
 use Rattle.smv_tree.specs.declared.refusal.Refusal.{Refusal}
 use Rattle.smv_tree.specs.declared.refusal.Rule.TheVariants as rule
@@ -16,6 +19,8 @@ use Rattle.smv_tree.specs.declared.tree.AssignmentKind.{AssignmentKind}
 use Rattle.smv_tree.specs.declared.tree.AssignmentKind.TheVariants as side
 use Rattle.smv_tree.specs.declared.tree.ConstraintKind.{ConstraintKind}
 use Rattle.smv_tree.specs.declared.tree.ConstraintKind.TheVariants as asked
+use Rattle.smv_tree.specs.declared.tree.SpecificationKind.{SpecificationKind}
+use Rattle.smv_tree.specs.declared.tree.SpecificationKind.TheVariants as claim
 use Rattle.smv_tree.specs.Places.{start}
 use Rattle.smv_scope.specs.declared.instance.Instance.{Instance}
 use Rattle.smv_resolve.specs.declared.item.ItemKind.{ItemKind}
@@ -29,7 +34,8 @@ use Rattle.smv_scope.specs.Slots.{slots_of, is_input}
 use Rattle.smv_resolve.specs.declared.node.Naming.TheVariants as naming
 use Rattle.smv_resolve.specs.Resolved.{Operands, Resolved}
 use Rattle.smv_resolve.specs.Items.{ResolvedItem, items_of, first_stuck}
-use Rattle.smv_names.specs.Verdicts.{or_else, first_of, plain}
+use Rattle.smv_names.specs.Verdicts.{or_else, first_of, plain, detailed}
+use Rattle.smv_meaning.specs.Formulas.{is_over_formulas, is_temporal}
 use Rattle.smv_types.specs.declared.judged.Kind.{Kind}
 use Rattle.smv_types.specs.declared.judged.Kind.TheVariants as kinds
 
@@ -61,21 +67,30 @@ most_slots = 65536
 abbrev pub too_many_slots : Program → Option Refusal
 too_many_slots p = if nat_lt most_slots (length (slots_of p)) then Some (plain rule.TooManySlots start) else None
 
--- what may stand somewhere: `next`, and inputs
+-- what may stand somewhere: `next`, inputs, and temporal operators
 pub record Context : Type 0 where
   pub next : Bool
   pub input : Bool
+  pub temporal : Bool
 
--- where a step is spoken of (manual 2.3.7, TRANS Constraint), and where a state is
+-- where a step is spoken of (manual 2.3.7, TRANS Constraint), where a state is, and where a path is (manual 2.4.3, LTL
+-- Specifications)
 abbrev pub of_step : Context
-of_step = record { next = true; input = true }
+of_step = record { next = true; input = true; temporal = false }
 
 abbrev pub of_state : Context
-of_state = record { next = false; input = false }
+of_state = record { next = false; input = false; temporal = false }
 
--- in what a name stands for there is no `next`
+abbrev pub of_path : Context
+of_path = record { next = false; input = true; temporal = true }
+
+-- in what a name stands for there is no `next` and no temporal operator
 abbrev pub under_name : Context → Context
-under_name c = record c { next = false }
+under_name c = record { next = false; input = c.input; temporal = false }
+
+-- temporal operators stand under propositions and temporal operators alone
+abbrev pub under_operator : Operator → Context → Context
+under_operator o c = record c { temporal = c.temporal && is_over_formulas o }
 
 -- Kinds: each operator is a line of the table.
 
@@ -87,6 +102,13 @@ is_boolean other = false
 abbrev pub booleans : ℕ → List (Option Kind) → Option Kind
 booleans count ks = if (length ks == count) && list_all is_boolean ks then Some kinds.Boolean else None
 
+abbrev pub operands_of_temporal : Temporal → ℕ
+operands_of_temporal tense.Until = 2
+operands_of_temporal tense.Releases = 2
+operands_of_temporal tense.Since = 2
+operands_of_temporal tense.Triggered = 2
+operands_of_temporal other = 1
+
 -- The table: the kind of an operator over operands of these kinds; none where it takes no such operands.
 abbrev pub typed : Operator → List (Option Kind) → Option Kind
 typed operator.Not = booleans 1
@@ -94,6 +116,8 @@ typed (operator.Logic o) = booleans 2
 typed operator.Equal = booleans 2
 typed operator.NotEqual = booleans 2
 typed operator.Choice = booleans 3
+typed (operator.Temporal o) = booleans (operands_of_temporal o)
+typed (operator.Bounded o low high) = booleans 1
 typed other = λ ks. None
 
 abbrev pub kind_of_type : ValueType → Kind
@@ -134,6 +158,27 @@ input_here c place input = if input && not c.input then Some (plain rule.InputHe
 abbrev pub next_here : Context → Place → Option Refusal
 next_here c place = if c.next then None else Some (plain rule.NextHere place)
 
+-- a temporal operator stands where none may
+abbrev pub temporal_at : Place → Operator → Option Refusal
+temporal_at place o = if is_temporal o then Some (plain rule.TemporalHere place) else None
+
+abbrev pub temporal_here : Context → Place → Operator → Option Refusal
+temporal_here c place o = if c.temporal then None else temporal_at place o
+
+-- bounds of a temporal operator are in order and no greater than this: an own choice of this project
+abbrev pub greatest_bound : ℕ
+greatest_bound = 255
+
+abbrev pub bounds_text : ℕ → ℕ → List ℕ
+bounds_text low high = decimal low ++ codes "," ++ decimal high
+
+abbrev pub bounds_at : Place → ℕ → ℕ → Option Refusal
+bounds_at place low high = if nat_le low high && nat_le high greatest_bound then None else Some (detailed rule.BadBound place (bounds_text low high))
+
+abbrev pub bounds_refusal : Place → Operator → Option Refusal
+bounds_refusal place (operator.Bounded o low high) = bounds_at place low high
+bounds_refusal place other = None
+
 -- the place of an expression
 abbrev pub place_of : Resolved → Place
 place_of (Resolved.Constant place b) = place
@@ -154,7 +199,9 @@ abbrev mutual
   kind_refusal slots c (Resolved.Named place naming.Given r) = kind_refusal slots (under_name c) r
   kind_refusal slots c (Resolved.Named place naming.Defined r) = or_else (kind_refusal slots (under_name c) r) (mismatch (place_of r) (kind_of slots r))
   kind_refusal slots c (Resolved.Next place r) = or_else (kind_refusal slots of_state r) (or_else (next_here c place) (mismatch place (kind_of slots r)))
-  kind_refusal slots c (Resolved.Apply place o rs) = or_else (operands_refusal slots c rs) (mismatch place (typed o (kinds_of slots rs)))
+  kind_refusal slots c (Resolved.Apply place o rs) =
+      or_else (operands_refusal slots (under_operator o c) rs)
+      (or_else (temporal_here c place o) (or_else (mismatch place (typed o (kinds_of slots rs))) (bounds_refusal place o)))
   kind_refusal slots c Resolved.Stuck = None
 
   pub operands_refusal : List Slot → Context → Operands → Option Refusal
@@ -198,6 +245,10 @@ abbrev pub context_of_constraint : ConstraintKind → Context
 context_of_constraint asked.Trans = of_step
 context_of_constraint other = of_state
 
+abbrev pub context_of_specification : SpecificationKind → Context
+context_of_specification claim.Invariant = of_state
+context_of_specification claim.Temporal = of_path
+
 -- an expression that has to be a boolean
 abbrev pub formula_refusal : List Slot → Context → Resolved → Option Refusal
 formula_refusal slots c r = or_else (kind_refusal slots c r) (mismatch (place_of r) (kind_of slots r))
@@ -216,7 +267,7 @@ assignment_refusal slots place which (Some target) e =
 abbrev pub refusal_by_kind : List Slot → Place → Option Resolved → Resolved → ItemKind → Option Refusal
 refusal_by_kind slots place target e (item.Assignment which) = assignment_refusal slots place which target e
 refusal_by_kind slots place target e (item.Constraint which) = formula_refusal slots (context_of_constraint which) e
-refusal_by_kind slots place target e (item.Specification which) = formula_refusal slots of_state e
+refusal_by_kind slots place target e (item.Specification which) = formula_refusal slots (context_of_specification which) e
 
 -- the first refusal of an item by kinds and contexts
 abbrev pub item_refusal : List Slot → ResolvedItem → Option Refusal

@@ -1,22 +1,24 @@
 //! The rules of kinds and contexts, over items.
 
-ghost use Rattle.std.specs.Prelude.{◌≡◌, List, Some, map};
+ghost use Rattle.std.specs.Prelude.{◌≡◌, List, Some, map, IfOk};
 ghost use Rattle.smv_scope.specs.declared.slot.Slot.{Slot};
 ghost use Rattle.smv_resolve.specs.Items.{item_by};
 ghost use Rattle.smv_resolve.specs.Resolved.{Resolved, parts_of};
 ghost use Rattle.smv_types.specs.Judged.{IsJudged, Tells, as_refusal};
-ghost use Rattle.smv_types.specs.Kinds.{assignment_refusal, context_of_constraint, context_of_side, formula_refusal, is_assignable, item_refusal, kind_refusal, left_refusal, of_state, target_refusal};
+ghost use Rattle.smv_types.specs.Kinds.{assignment_refusal, bounds_text, context_of_constraint, context_of_specification, context_of_side, formula_refusal, is_assignable, item_refusal, kind_refusal, left_refusal, of_state, target_refusal};
 ghost use Rattle.smv_names.specs.Verdicts.{Judges, first_of};
 
 use crate::judged::{Judged, Violation};
 use crate::kinds::{first, judged_at, mismatched, or_mismatch};
-use smv_names::refused;
+use plain_text::Text;
 use smv_resolve::{Item, ItemKind, Node};
 use smv_scope::Slot;
-use smv_tree::{AssignmentKind, ConstraintKind, Place, Rule, TextStop};
+use smv_tree::{AssignmentKind, ConstraintKind, Place, Refusal, Rule, SpecificationKind, TextStop};
+use std::alloc::{AllocError, Global};
 
 // The first item whose expressions are of other kinds, or stand where they may not.
 pub(crate) fn misused(
+    alloc: Global,
     slots: &[Slot],
     nodes: &[Node],
     table: &[Judged],
@@ -27,7 +29,7 @@ pub(crate) fn misused(
 {
     for item in items {
         if let Some(violation) = item_violation(slots, nodes, table, item) {
-            return Err(refused(violation.rule, violation.place));
+            return refused_by(alloc, violation);
         }
     }
     Ok(())
@@ -45,14 +47,11 @@ fn item_violation(
     let value = judged_at(table, item.value);
     match item.kind {
         ItemKind::Assignment(which) => match item.target {
-            None => Some(Violation {
-                rule: Rule::NotAssignable,
-                place: item.place,
-            }),
+            None => Some(Violation::new(Rule::NotAssignable, item.place)),
             Some(k) => assignment_violation(item.place, which, judged_at(table, k), value),
         },
         ItemKind::Constraint(which) => constraint_violation(which, value),
-        ItemKind::Specification(_) => or_mismatch(value.of_state, value.place, value.kind),
+        ItemKind::Specification(which) => specification_violation(which, value),
     }
 }
 
@@ -90,10 +89,7 @@ fn target_violation(place: Place, which: AssignmentKind, target: Judged) -> Opti
     if takes(which, target) {
         None
     } else {
-        Some(Violation {
-            rule: Rule::NotAssignable,
-            place,
-        })
+        Some(Violation::new(Rule::NotAssignable, place))
     }
 }
 
@@ -125,4 +121,37 @@ fn constraint_violation(which: ConstraintKind, value: Judged) -> Option<Violatio
         ConstraintKind::Init | ConstraintKind::Invar | ConstraintKind::Justice => value.of_state,
     };
     or_mismatch(inside, value.place, value.kind)
+}
+
+fn specification_violation(which: SpecificationKind, value: Judged) -> Option<Violation>
+    ensures { (slots : List Slot) (e : Resolved) → IsJudged slots e value → as_refusal result ≡ formula_refusal slots (context_of_specification which) e }
+{
+    let inside = match which {
+        SpecificationKind::Invariant => value.of_state,
+        SpecificationKind::Temporal => value.of_path,
+    };
+    or_mismatch(inside, value.place, value.kind)
+}
+
+// The refusal by the rule that is broken.
+fn refused_by(alloc: Global, violation: Violation) -> Result<(), TextStop>
+    ensures { Judges result (as_refusal (Some violation)) }
+{
+    let detail = match violation.bounds {
+        None => None,
+        Some((low, high)) => Some(bounds_text(alloc, low, high)?),
+    };
+    Err(TextStop::Refused(Refusal {
+        rule: violation.rule,
+        place: violation.place,
+        detail,
+    }))
+}
+
+// Bounds as they are told.
+fn bounds_text(alloc: Global, low: u32, high: u32) -> Result<Text, AllocError>
+    ensures { IfOk result (λ t. t ≡ bounds_text low high) }
+{
+    let text = format!(in alloc; "{low},{high}")?;
+    Text::from_str(alloc, text.as_str())
 }

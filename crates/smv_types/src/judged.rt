@@ -7,6 +7,23 @@ use smv_tree::{Place, Rule};
 pub struct Violation {
     pub rule: Rule,
     pub place: Place,
+    /// The bounds of a temporal operator, where it is they that break the rule.
+    pub bounds: Option<(u32, u32)>,
+}
+
+impl Violation {
+    ghost use Rattle.std.specs.Prelude.{◌≡◌, None};
+
+    /// A rule that is broken at a place.
+    pub fn new(rule: Rule, place: Place) -> Violation
+        ensures { result ≡ record { rule = rule; place = place; bounds = None } }
+    {
+        Violation {
+            rule,
+            place,
+            bounds: None,
+        }
+    }
 }
 
 /// What an expression gives.
@@ -30,6 +47,8 @@ pub struct Judged {
     pub of_name: Option<Violation>,
     /// The first rule that it breaks where a state is spoken of.
     pub of_state: Option<Violation>,
+    /// The first rule that it breaks where a path is spoken of.
+    pub of_path: Option<Violation>,
     /// The first rule that it breaks on the left side of an assignment, where a parameter was given it.
     pub given: Option<Violation>,
     /// It may be assigned by `init`.

@@ -8,17 +8,21 @@ ghost use Rattle.smv_resolve.specs.declared.node.Naming.TheVariants as naming;
 ghost use Rattle.smv_resolve.specs.Resolved.{Resolved, Resolved as R, operands_of, parts_of, resolved_by};
 ghost use Rattle.smv_scope.specs.Slots.{is_input};
 ghost use Rattle.smv_types.specs.Judged.{IsJudged, IsNoted, Tells, as_refusal, judged_at};
-ghost use Rattle.smv_types.specs.Kinds.{booleans, input_here, is_boolean, kind_of_type, mismatch, of_state, takes_assignment, typed};
+ghost use Rattle.smv_types.specs.Kinds.{booleans, bounds_at, bounds_refusal, input_here, is_boolean, kind_of_type, mismatch, of_path, of_state, operands_of_temporal, operands_refusal, takes_assignment, temporal_at, typed, under_operator};
 ghost use Rattle.smv_types.specs.declared.judged.Kind.TheVariants.{Boolean};
 ghost use Rattle.smv_names.specs.Verdicts.{or_else};
 
 use crate::judged::{Judged, Kind, Violation};
+use smv_meaning::{is_over_formulas, is_temporal};
 use smv_names::START;
 use smv_resolve::{Naming, Node, last};
 use smv_scope::{Slot, ValueType};
 use smv_tree::{Place, Rule, VariableKind};
-use smv_value::Operator;
+use smv_value::{Operator, Temporal};
 use std::alloc::{AllocError, Global};
+
+// The bounds of temporal operators are no greater.
+const GREATEST_BOUND: u32 = 255;
 
 /// What is noted of each node.
 pub(crate) fn judge_nodes(
@@ -67,6 +71,7 @@ pub(crate) fn judged_at(table: &[Judged], k: usize) -> Judged
             of_step: None,
             of_name: None,
             of_state: None,
+            of_path: None,
             given: None,
             takes_init: false,
             takes_later: false,
@@ -77,7 +82,7 @@ pub(crate) fn judged_at(table: &[Judged], k: usize) -> Judged
 
 // What is noted of a boolean that breaks no rule and cannot be assigned.
 fn sound(place: Place) -> Judged
-    ensures { result ≡ record { kind = Some Boolean; place = place; of_step = None; of_name = None; of_state = None; given = None; takes_init = false; takes_later = false } }
+    ensures { result ≡ record { kind = Some Boolean; place = place; of_step = None; of_name = None; of_state = None; of_path = None; given = None; takes_init = false; takes_later = false } }
 {
     Judged {
         kind: Some(Kind::Boolean),
@@ -85,6 +90,7 @@ fn sound(place: Place) -> Judged
         of_step: None,
         of_name: None,
         of_state: None,
+        of_path: None,
         given: None,
         takes_init: false,
         takes_later: false,
@@ -138,13 +144,11 @@ fn judge_slot_of(place: Place, kind: VariableKind) -> Judged
     ensures step { as_refusal result.of_step ≡ None }
     ensures name { as_refusal result.of_name ≡ None }
     ensures state { as_refusal result.of_state ≡ input_here of_state place (is_input kind) }
+    ensures path { as_refusal result.of_path ≡ None }
     ensures init { result.takes_init ≡ takes_assignment side.Init kind }
     ensures later { result.takes_later ≡ takes_assignment side.Next kind }
 {
-    let input = Violation {
-        rule: Rule::InputHere,
-        place,
-    };
+    let input = Violation::new(Rule::InputHere, place);
     match kind {
         VariableKind::State => Judged {
             takes_init: true,
@@ -169,6 +173,7 @@ fn judge_given(place: Place, a: Judged) -> Judged
     Judged {
         place,
         of_step: a.of_name,
+        of_path: a.of_name,
         given: a.of_name,
         ..a
     }
@@ -184,6 +189,7 @@ fn judge_defined(place: Place, a: Judged) -> Judged
         of_step: of_name,
         of_name,
         of_state: or_mismatch(a.of_state, a.place, a.kind),
+        of_path: of_name,
         ..sound(place)
     }
 }
@@ -208,10 +214,7 @@ pub(crate) fn mismatched(place: Place, kind: Option<Kind>) -> Option<Violation>
     if is_boolean(kind) {
         None
     } else {
-        Some(Violation {
-            rule: Rule::TypeMismatch,
-            place,
-        })
+        Some(Violation::new(Rule::TypeMismatch, place))
     }
 }
 
@@ -237,18 +240,13 @@ pub(crate) fn first(a: Option<Violation>, b: Option<Violation>) -> Option<Violat
 fn judge_next(place: Place, a: Judged) -> Judged
     ensures { (slots : List Slot) (r : Resolved) → IsJudged slots r a → IsJudged slots (R.Next place r) result }
 {
-    let misplaced = first(
-        a.of_state,
-        Some(Violation {
-            rule: Rule::NextHere,
-            place,
-        }),
-    );
+    let misplaced = first(a.of_state, Some(Violation::new(Rule::NextHere, place)));
     Judged {
         kind: a.kind,
         of_step: or_mismatch(a.of_state, place, a.kind),
         of_name: misplaced,
         of_state: misplaced,
+        of_path: misplaced,
         ..sound(place)
     }
 }
@@ -259,13 +257,67 @@ fn judge_apply(place: Place, operator: Operator, operands: &[Judged]) -> Judged
 {
     let all = noted(place, operands);
     let kind = typed(operator, operands);
+    let whole = whole_violation(place, operator, kind);
+    let misplaced = first(temporal_at(place, operator), whole);
     Judged {
         kind,
-        of_step: or_mismatch(all.of_step, place, kind),
-        of_name: or_mismatch(all.of_name, place, kind),
-        of_state: or_mismatch(all.of_state, place, kind),
+        of_step: first(all.of_step, misplaced),
+        of_name: first(all.of_name, misplaced),
+        of_state: first(all.of_state, misplaced),
+        of_path: first(under_path(operator, all), whole),
         ..sound(place)
     }
+}
+
+// What operands break where a path is spoken of: no temporal operator stands under what is no proposition.
+fn under_path(operator: Operator, all: Judged) -> Option<Violation>
+    ensures { (js : List Judged) → IsNoted js all → (slots : List Slot) (rs : List Resolved) → Tells slots rs js → as_refusal result ≡ operands_refusal slots (under_operator operator of_path) (operands_of rs) }
+{
+    if is_over_formulas(operator) {
+        all.of_path
+    } else {
+        all.of_name
+    }
+}
+
+// A temporal operator where none may stand.
+fn temporal_at(place: Place, operator: Operator) -> Option<Violation>
+    ensures { as_refusal result ≡ temporal_at place operator }
+{
+    if is_temporal(operator) {
+        Some(Violation::new(Rule::TemporalHere, place))
+    } else {
+        None
+    }
+}
+
+// The kind of an operator and its bounds.
+fn whole_violation(place: Place, operator: Operator, kind: Option<Kind>) -> Option<Violation>
+    ensures { as_refusal result ≡ or_else (mismatch place kind) (bounds_refusal place operator) }
+{
+    first(mismatched(place, kind), bounds_violation(place, operator))
+}
+
+fn bounds_violation(place: Place, operator: Operator) -> Option<Violation>
+    ensures { as_refusal result ≡ bounds_refusal place operator }
+{
+    match operator {
+        Operator::Bounded(_, low, high) => bounds_at(place, low, high),
+        _ => None,
+    }
+}
+
+fn bounds_at(place: Place, low: u32, high: u32) -> Option<Violation>
+    ensures { as_refusal result ≡ bounds_at place low high }
+{
+    if low <= high && high <= GREATEST_BOUND {
+        return None;
+    }
+    Some(Violation {
+        rule: Rule::BadBound,
+        place,
+        bounds: Some((low, high)),
+    })
 }
 
 // The kind of an operator over these operands.
@@ -278,7 +330,18 @@ fn typed(operator: Operator, operands: &[Judged]) -> Option<Kind>
         Operator::Equal => booleans(2, operands),
         Operator::NotEqual => booleans(2, operands),
         Operator::Choice => booleans(3, operands),
+        Operator::Temporal(o) => booleans(operands_of_temporal(o), operands),
+        Operator::Bounded(..) => booleans(1, operands),
         _ => None,
+    }
+}
+
+fn operands_of_temporal(operator: Temporal) -> usize
+    ensures { result ≡ operands_of_temporal operator }
+{
+    match operator {
+        Temporal::Until | Temporal::Releases | Temporal::Since | Temporal::Triggered => 2,
+        _ => 1,
     }
 }
 
@@ -315,11 +378,13 @@ fn with_operand(all: Judged, j: Judged) -> Judged
     ensures step { as_refusal result.of_step ≡ or_else (as_refusal all.of_step) (as_refusal j.of_step) }
     ensures name { as_refusal result.of_name ≡ or_else (as_refusal all.of_name) (as_refusal j.of_name) }
     ensures state { as_refusal result.of_state ≡ or_else (as_refusal all.of_state) (as_refusal j.of_state) }
+    ensures path { as_refusal result.of_path ≡ or_else (as_refusal all.of_path) (as_refusal j.of_path) }
 {
     Judged {
         of_step: first(all.of_step, j.of_step),
         of_name: first(all.of_name, j.of_name),
         of_state: first(all.of_state, j.of_state),
+        of_path: first(all.of_path, j.of_path),
         ..all
     }
 }

@@ -29,13 +29,16 @@ use std::alloc::Global;
 /// - `TypeMismatch`: `IVAR` or `FROZENVAR` declares an instance (2.3.1). At the module's name, with no detail.
 /// - `TooManySlots`: there are more than 65536 variables. At the first byte, with no detail.
 ///
-/// And then item by item, operands before their operator, each with no detail:
+/// And then item by item, operands before their operator, with no detail but for the last:
 ///
 /// - `NotAssignable`: what is assigned is no variable that may be assigned so (2.3.8). At the assignment.
-/// - `InputHere`: an input stands where no step is spoken of (2.3.5, 2.3.6). At its name.
+/// - `InputHere`: an input stands where no step and no path is spoken of (2.3.5, 2.3.6). At its name.
 /// - `NextHere`: `next` stands elsewhere than in the right side of `next(x) := e` and in TRANS, or it stands under `next` or in
 ///   what a name stands for (2.3.5, 2.3.7, 2.3.8). At the `next`.
+/// - `TemporalHere`: a temporal operator stands elsewhere than in LTLSPEC, or there under what is neither a proposition nor a
+///   temporal operator, or in what a name stands for (2.4.3). At the operator.
 /// - `TypeMismatch`: an instance stands where a value is wanted. At the operator, the assignment or the whole expression.
+/// - `BadBound`: the bounds of a temporal operator are out of order, or greater than 255. At the operator, with the bounds.
 ///
 /// `NoMemory` comes where memory was refused, which may be at any time.
 pub fn check(alloc: Global, program: Program) -> Result<Typed, TextStop>
@@ -82,5 +85,5 @@ fn kinds(alloc: Global, scope: &Scope, resolution: &Resolution) -> Result<(), Te
     let slots = scope.slots.as_slice();
     let nodes = resolution.nodes.as_slice();
     let table = judge_nodes(alloc, slots, nodes)?;
-    misused(slots, nodes, &table, resolution.items.as_slice())
+    misused(alloc, slots, nodes, &table, resolution.items.as_slice())
 }

@@ -11,7 +11,7 @@ mod whole;
 mod words;
 
 pub use operations::apply;
-pub use operator::{Arithmetic, Division, Logic, Operator, Order, Shift, Temporal};
+pub use operator::{Arithmetic, Bounded, Division, Logic, Operator, Order, Shift, Temporal};
 pub use shown::Shown;
 pub use value::{FaultRule, Value};
 pub use values::{is_value, same};

@@ -120,6 +120,7 @@ pub fn apply(operator: Operator, operands: &[Value]) -> Result<Option<Value>, Fa
         Operator::In => Ok(None),
         Operator::Choice => Ok(None),
         Operator::Temporal(_) => Ok(None),
+        Operator::Bounded(..) => Ok(None),
     }
 }
 

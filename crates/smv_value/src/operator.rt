@@ -58,6 +58,15 @@ pub enum Temporal {
     Triggered,
 }
 
+/// `F G O H` with bounds.
+#[derive(Clone, Copy, Debug)]
+pub enum Bounded {
+    Finally,
+    Globally,
+    Once,
+    Historically,
+}
+
 /// What is done to operands.
 #[derive(Clone, Copy, Debug)]
 pub enum Operator {
@@ -104,4 +113,6 @@ pub enum Operator {
     /// `swconst`
     SignedConstant,
     Temporal(Temporal),
+    /// `F [a, b]`, and so on, with the bounds.
+    Bounded(Bounded, u32, u32),
 }

@@ -13,4 +13,4 @@ returns-in-Holds-clause-found g c =
     let never : Unrolls p spec.value 0 (g.Q.Purse.budget c.args.purse.now) (g.Q.Purse.spent c.unroll.new.purse) Nothing = rw c.in-Nothing.is at c.in_ok-states.ensures.found in
     let holds : TellsInduction p spec.value (g.Q.Purse.budget c.unroll.new.purse) (g.Q.Purse.spent c.is_inductive.new.purse) induction.Holds =
     rw c.in-Holds.is at c.in_ok-is_inductive.ensures.found in
-    unbroken p spec c.args.typed.now.known c.requires.claim (within_none p spec never) holds
+    unbroken p spec c.args.typed.now.known c.requires.claim c.requires.invariant (within_none p spec never) holds

@@ -41,8 +41,8 @@ listed_claim p nodes specs i s within same =
     subst (λ (x : ResolvedItem). Contains (specifications_of p) x) (get_or-map (item_by nodes) specs i s)
     (subst (λ (xs : List ResolvedItem). Contains xs (get_or (listed nodes specs) i (item_by nodes s))) same here)
 
-pub judge-requires : goal.judge-requires
-judge-requires g c = listed_claim c.args.typed.now.scope.program c.args.typed.now.nodes c.args.specs.now c.specs.i _ c.specs-test.true c.requires.listed
+pub judge-requires-clause-claim : goal.judge-requires-clause-claim
+judge-requires-clause-claim g c = listed_claim c.args.typed.now.scope.program c.args.typed.now.nodes c.args.specs.now c.specs.i _ c.specs-test.true c.requires.listed
 
 pub specs-preserved : goal.specs-preserved
 specs-preserved g c =

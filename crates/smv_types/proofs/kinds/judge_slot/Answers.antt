@@ -1,9 +1,8 @@
 -- What is noted of a slot is so of the slot that is there.
 use Rattle.std.proofs.Common.{◌≡◌, ◌∙◌, Bool, true, false, None, Some, refl, sym, ap, slice_get}
 use Rattle.std.proofs.lemmas.Option.{slice_get_read}
-use Rattle.smv_scope.specs.declared.slot.Slot.{Slot}
 use Rattle.smv_tree.specs.declared.place.Place.{Place}
-use Rattle.smv_types.specs.Kinds.{input_here, of_step}
+use Rattle.smv_types.specs.Kinds.{input_here, of_path, of_step}
 use Rattle.smv_types.specs.Judged.{of_name}
 use Rattle.smv_types.proofs.kinds.judge_slot.Goals as goal
 
@@ -11,6 +10,10 @@ use Rattle.smv_types.proofs.kinds.judge_slot.Goals as goal
 in_step : (place : Place) (input : Bool) → input_here of_step place input ≡ None
 in_step place true = refl
 in_step place false = refl
+
+in_path : (place : Place) (input : Bool) → input_here of_path place input ≡ None
+in_path place true = refl
+in_path place false = refl
 
 in_name : (place : Place) (input : Bool) → input_here of_name place input ≡ None
 in_name place true = refl
@@ -27,6 +30,7 @@ returns-in-Some c =
       step = rw here (of_slot.step ∙ sym (in_step c.args.place _));
       name = rw here (of_slot.name ∙ sym (in_name c.args.place _));
       state = rw here of_slot.state;
+      path = rw here (of_slot.path ∙ sym (in_path c.args.place _));
       given = refl;
       init = rw here of_slot.init;
       later = rw here of_slot.later;
