@@ -3,4 +3,4 @@ pub mod Known
 pub mod Listings
 pub mod Recording
 pub mod Reports
-pub mod Writing
+pub mod Replays

@@ -1,5 +1,5 @@
 -- Right records of the specifications of a program, and the status that they give.
-use Rattle.std.specs.Prelude.{◌≡◌, ℕ, ◌+◌, Bool, true, false, if◌then◌else◌, List, [], ◌∷◌, map}
+use Rattle.std.specs.Prelude.{◌≡◌, ℕ, ◌+◌, Bool, true, false, if◌then◌else◌, List, [], ◌∷◌}
 use Rattle.std.specs.List.{list_any}
 use Rattle.command_words.specs.declared.command.Effort.{Effort}
 use Rattle.effort_purse.specs.declared.plain.PlainPurse.{PlainPurse}
@@ -7,26 +7,19 @@ use Rattle.effort_purse.specs.Plain.{plain_budget, plain_spent}
 use Rattle.smv_tree.specs.declared.tree.Program.{Program}
 use Rattle.smv_resolve.specs.declared.item.ItemKind.TheVariants as item
 use Rattle.smv_resolve.specs.Items.{ResolvedItem}
-use Rattle.smv_scope.specs.Paths.{slot_name}
-use Rattle.smv_scope.specs.Slots.{slots_of}
-use Rattle.smv_meaning.specs.Runs.{Breaks, input_slots, state_slots}
 use Rattle.invariant_queries.specs.Deciding.{IsCause, IsUnbroken}
+use Rattle.trace_replay.specs.Tests.{ShowsBroken}
 use Rattle.smv_cli.specs.declared.record.Verdict.{Verdict}
 use Rattle.smv_cli.specs.declared.record.Verdict.TheVariants.{True, False, Unknown}
-use Rattle.smv_cli.specs.declared.record.Trace.{Trace}
 use Rattle.smv_cli.specs.declared.record.Record.{Record}
 
--- the names in a trace are those of the slots of a state, and of the input slots
-abbrev pub AreNames : Program → Trace → Type 0
-AreNames p trace = (trace.names ≡ map (slot_name p) (state_slots (slots_of p))) × (trace.input_names ≡ map (slot_name p) (input_slots (slots_of p)))
-
--- What is said of a specification with this effort is right. True: no run of any length breaks it. False: the trace is a
--- run that breaks it. Unknown, `conflicts D of B`: D and B are the budget of the effort, and some purse of that budget
+-- What is said of a specification with this effort is right. True: no run of any length breaks it. False: the trace is that of
+-- a run that breaks it. Unknown, `conflicts D of B`: D and B are the budget of the effort, and some purse of that budget
 -- is spent, which need not be the one that paid; `bound N`: N is the bound of the effort, no run of at most N steps
 -- breaks the specification, and induction over one step does not show it.
 abbrev pub IsRight : Program → Effort → ResolvedItem → Verdict → Type 0
 IsRight p effort spec True = IsUnbroken p spec
-IsRight p effort spec (False trace) = AreNames p trace × Breaks p spec trace.states trace.inputs
+IsRight p effort spec (False trace) = ShowsBroken p spec trace
 IsRight p effort spec (Unknown cause) =
     (purse : PlainPurse) × (plain_budget purse ≡ effort.conflicts) × IsCause p spec effort.conflicts effort.bound (plain_spent purse) cause
 

@@ -6,12 +6,12 @@ use Rattle.command_words.specs.declared.command.Command.{Command}
 use Rattle.command_words.specs.declared.command.Effort.{Effort}
 use Rattle.smv_tree.specs.declared.tree.Program.{Program}
 use Rattle.smv_resolve.specs.Items.{ResolvedItem}
-use Rattle.smv_meaning.specs.Runs.{Breaks}
 use Rattle.invariant_queries.specs.Deciding.{IsCause, IsUnbroken}
+use Rattle.trace_replay.specs.Tests.{ShowsBroken}
 use Rattle.smv_cli.specs.declared.record.Verdict.{Verdict}
 use Rattle.smv_cli.specs.declared.record.Verdict.TheVariants.{True, False, Unknown}
 use Rattle.smv_cli.specs.declared.record.Record.{Record}
-use Rattle.smv_cli.specs.Records.{AreNames, RightFrom, status_of}
+use Rattle.smv_cli.specs.Records.{RightFrom, status_of}
 use Rattle.smv_cli.specs.Report.{CommandStage}
 use Rattle.smv_cli.specs.Streams.{AppendsFront}
 use Rattle.smv_cli.specs.Texts.{record_text}
@@ -19,7 +19,7 @@ use Rattle.smv_cli.specs.Texts.{record_text}
 -- what is said of a specification is right, where a purse of this budget paid and was spent or not
 abbrev pub IsVerdict : Program → ResolvedItem → ℕ → ℕ → Bool → Verdict → Type 0
 IsVerdict p spec budget bound over True = IsUnbroken p spec
-IsVerdict p spec budget bound over (False trace) = AreNames p trace × Breaks p spec trace.states trace.inputs
+IsVerdict p spec budget bound over (False trace) = ShowsBroken p spec trace
 IsVerdict p spec budget bound over (Unknown cause) = IsCause p spec budget bound over cause
 
 -- the status after one more verdict

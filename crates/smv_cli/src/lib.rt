@@ -8,5 +8,5 @@ mod record;
 mod streams;
 mod top;
 
-pub use record::{Record, Trace, Verdict};
+pub use record::{Record, Verdict};
 pub use top::{SOURCE_LIMIT, run, run_over_bytes};

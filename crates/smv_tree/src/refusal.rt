@@ -68,6 +68,10 @@ pub enum Rule {
     AssignedTwice,
     /// Assignments of one time depend on each other.
     AssignCycle,
+    /// A line of a certificate is not as it should be.
+    BadCertificate,
+    /// A line of a trace is not as it should be.
+    BadTrace,
 }
 
 /// Why a text is not read.
@@ -128,6 +132,8 @@ impl fmt::Display for Rule {
             Rule::BadBound => write!(f, "413 BadBound"),
             Rule::AssignedTwice => write!(f, "501 AssignedTwice"),
             Rule::AssignCycle => write!(f, "502 AssignCycle"),
+            Rule::BadCertificate => write!(f, "701 BadCertificate"),
+            Rule::BadTrace => write!(f, "702 BadTrace"),
         }
     }
 }

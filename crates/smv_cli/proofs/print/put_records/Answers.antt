@@ -1,9 +1,10 @@
 -- One more record is written, or a part of it.
-use Rattle.std.proofs.Common.{◌≡◌, ◌∙◌, ◌+◌, ◌<◌, ℕ, List, All, map, length, get_or, sym, subst, ap, true, arith}
+use Rattle.std.proofs.Common.{◌≡◌, ◌∙◌, ◌+◌, ◌-◌, ◌<◌, ℕ, List, All, Some, map, length, get_or, slice_get, sym, subst, ap, true, arith}
 use Rattle.std.specs.Prelude.{Contains}
 use Rattle.std.proofs.lemmas.List.Elements.{All-get_or}
 use Rattle.std.proofs.lemmas.List.{length-map}
 use Rattle.std.proofs.lemmas.List.Elements.{Contains-get_or}
+use Rattle.std.proofs.lemmas.Option.{slice_get-get_or}
 use Rattle.std.proofs.Math.ListN.{get_or-map}
 use Rattle.command_words.specs.declared.command.Effort.{Effort}
 use Rattle.smv_resolve.specs.declared.item.Item.{Item}
@@ -13,6 +14,7 @@ use Rattle.smv_resolve.specs.Items.{ResolvedItem, item_by}
 use Rattle.smv_tree.specs.declared.tree.Program.{Program}
 use Rattle.smv_tree.specs.declared.tree.SpecificationKind.{SpecificationKind}
 use Rattle.smv_meaning.specs.Runs.{is_claim, specifications_of}
+use Rattle.trace_replay.specs.Tests.{specification_at}
 use Rattle.smv_cli.specs.declared.record.Record.{Record}
 use Rattle.smv_cli.specs.Records.{IsRight}
 use Rattle.smv_cli.proofs.Recording.{IsRecordOf, claimed, Recorded-push, RecordedPart-push, RecordedPart-whole}
@@ -40,6 +42,17 @@ listed_claim p nodes specs i s within same =
     Contains-get_or (listed nodes specs) i (item_by nodes s) (omega (arith, within, length-map specs (item_by nodes))) in
     subst (λ (x : ResolvedItem). Contains (specifications_of p) x) (get_or-map (item_by nodes) specs i s)
     (subst (λ (xs : List ResolvedItem). Contains xs (get_or (listed nodes specs) i (item_by nodes s))) same here)
+
+numbered_claim : (p : Program) (nodes : List Node) (specs : List Item) (i : ℕ) (s : Item) → i < length specs → listed nodes specs ≡ specifications_of p → specification_at p (i + 1) ≡ Some (item_by nodes (get_or specs i s))
+numbered_claim p nodes specs i s within same =
+    let back : i + 1 - 1 ≡ i = omega arith in
+    ap (slice_get (specifications_of p)) back
+    ∙ ap (λ (xs : List ResolvedItem). slice_get xs i) (sym same)
+    ∙ slice_get-get_or (listed nodes specs) i (item_by nodes s) (omega (arith, within, length-map specs (item_by nodes)))
+    ∙ ap (λ (x : ResolvedItem). Some x) (get_or-map (item_by nodes) specs i s)
+
+pub judge-requires-clause-numbered : goal.judge-requires-clause-numbered
+judge-requires-clause-numbered g c = numbered_claim c.args.typed.now.scope.program c.args.typed.now.nodes c.args.specs.now c.specs.i _ c.specs-test.true c.requires.listed
 
 pub judge-requires-clause-claim : goal.judge-requires-clause-claim
 judge-requires-clause-claim g c = listed_claim c.args.typed.now.scope.program c.args.typed.now.nodes c.args.specs.now c.specs.i _ c.specs-test.true c.requires.listed

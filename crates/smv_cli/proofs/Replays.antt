@@ -1,0 +1,27 @@
+-- The trace of a run that breaks a specification is accepted.
+use Rattle.std.proofs.Common.{◌≡◌, ◌↔◌, ◌≤◌, ◌-◌, ◌<◌, ℕ, List, length, Some, IfSome, subst, arith}
+use Rattle.std.proofs.lemmas.Option.{slice_get_within}
+use Rattle.std.specs.declared.option.Option.{Option}
+use Rattle.smv_tree.specs.declared.tree.Program.{Program}
+use Rattle.smv_value.specs.declared.value.Value.{Value}
+use Rattle.smv_resolve.specs.Items.{ResolvedItem}
+use Rattle.smv_meaning.specs.Runs.{Breaks, specifications_of}
+use Rattle.trace_replay.specs.declared.rule.ReplayRule.{ReplayRule}
+use Rattle.trace_replay.specs.declared.rule.Replayed.{Replayed}
+use Rattle.trace_replay.specs.declared.rule.Replayed.TheVariants.{Accepted, Rejected}
+use Rattle.trace_replay.specs.declared.trace.Trace.{Trace}
+use Rattle.trace_replay.specs.Rows.{run_trace}
+use Rattle.trace_replay.specs.Tests.{ShowsBroken, specification_at}
+
+pub is_numbered : (p : Program) (number : ℕ) (spec : ResolvedItem) → specification_at p number ≡ Some spec → number ≤ length (specifications_of p)
+is_numbered p number spec h = let within = slice_get_within (specifications_of p) (number - 1) spec h in omega (arith, within)
+
+pub shown : (p : Program) (spec : ResolvedItem) (states inputs : List (List Value)) (t : Trace) → t ≡ run_trace p states inputs → Breaks p spec states inputs → ShowsBroken p spec t
+shown p spec states inputs t told broken = record { states = states; inputs = inputs; told = told; broken = broken }
+
+pub never_rejected : (p : Program) (number : ℕ) (spec : ResolvedItem) (t : Trace) (r : Replayed) (rule : ReplayRule) (n : ℕ) → specification_at p number ≡ Some spec
+    → IfSome (specification_at p number) (λ x. (r ≡ Accepted) ↔ ShowsBroken p x t) → ShowsBroken p spec t → r ≡ Rejected rule n → ⊥
+never_rejected p number spec t r rule n numbered h broken is =
+    let both = subst (λ (o : Option ResolvedItem). IfSome o (λ x. (r ≡ Accepted) ↔ ShowsBroken p x t)) numbered h in
+    let accepted : r ≡ Accepted = both.1 broken in
+    let never : ⊥ = cc in never

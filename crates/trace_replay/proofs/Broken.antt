@@ -1,0 +1,204 @@
+-- The trace of a run that breaks the specification passes all tests.
+use Rattle.std.proofs.Common.{◌≡◌, ◌⊎◌, inl, inr, ℕ, zero, suc, ◌+◌, ◌-◌, ◌<◌, ◌≤◌, max, Bool, true, false, not, cond, ◌&&◌, ◌||◌, List, [], ◌∷◌, length, map, get_or, Option, None, Some, refl, sym, subst, ap, ◌∙◌, arith, unwrap_or, slice_get, IsTrue}
+use lib.Dec.{eqb, leb, ltb}
+use Rattle.std.specs.List.{list_all, range_with_len, zip}
+use Rattle.std.specs.Option.{is_some}
+use Rattle.std.proofs.lemmas.Bool.{and_from, and_parts, cases_lt, cond-false, cond-true, eqb-true, le-leb, le-ltb, lt-ltb, ltb-true}
+use Rattle.std.proofs.lemmas.List.{get_or_default, length-map, same_lists}
+use Rattle.std.proofs.lemmas.List.FromFn.{get_or-map-range_with_len, length-map-range_with_len}
+use Rattle.std.proofs.lemmas.Option.{slice_get-get_or}
+use Rattle.std.proofs.Math.ListN.{get_or-map}
+use Rattle.smv_tree.specs.declared.tree.Program.{Program}
+use Rattle.smv_tree.specs.declared.tree.AssignmentKind.TheVariants as side
+use Rattle.smv_tree.specs.declared.tree.ConstraintKind.TheVariants as asks
+use Rattle.smv_value.specs.declared.value.Value.{Value}
+use Rattle.smv_value.specs.declared.value.Value.TheVariants as value
+use Rattle.smv_resolve.specs.declared.item.ItemKind.{ItemKind}
+use Rattle.smv_resolve.specs.declared.item.ItemKind.TheVariants as item
+use Rattle.smv_resolve.specs.Items.{ResolvedItem, items_of}
+use Rattle.smv_scope.specs.declared.slot.Slot.{Slot}
+use Rattle.smv_scope.specs.Slots.{slots_of}
+use Rattle.smv_meaning.specs.declared.value.Outcome.{Outcome}
+use Rattle.smv_meaning.specs.Runs.{Breaks, IsRun, allows_always, allows_first, allows_step, are_inputs, asks_always, asks_first, at_time, fits, in_type, input_slots, is_first_state, is_state, is_step, keeps_frozen, meets_invariants, outcome_of_target, state_slots}
+use Rattle.smv_meaning.specs.Values.{one, outcome_in}
+use Rattle.trace_replay.specs.declared.columns.Column.{Column}
+use Rattle.trace_replay.specs.declared.entry.Binding.{Binding}
+use Rattle.trace_replay.specs.declared.rule.ReplayRule.{ReplayRule}
+use Rattle.trace_replay.specs.declared.rule.ReplayRule.TheVariants as rule
+use Rattle.trace_replay.specs.declared.trace.Trace.{Trace}
+use Rattle.trace_replay.specs.Rows.{bindings_of, column_of, given_rows, input_columns, inputs_read, inputs_told, line_read, row_read, run_trace, state_columns, state_read, states_told}
+use Rattle.trace_replay.specs.Tests.{ShowsBroken, begins, due_beside, ends, goes_on, inputs_fit, is_false, passes, state_fits, stays}
+use Rattle.trace_replay.proofs.Cells.{row_back}
+use Rattle.trace_replay.proofs.Shows.{fit, read_at, unasked, unless}
+
+-- what is asked of a first state has what is asked of each
+always_from_first : (x e : Outcome) (kind : ItemKind) → asks_first x e kind ≡ true → asks_always x e kind ≡ true
+always_from_first x e (item.Assignment side.Init) h = refl
+always_from_first x e (item.Assignment side.Next) h = refl
+always_from_first x e (item.Assignment side.Current) h = h
+always_from_first x e (item.Constraint asks.Init) h = refl
+always_from_first x e (item.Constraint asks.Invar) h = h
+always_from_first x e (item.Constraint asks.Trans) h = refl
+always_from_first x e (item.Constraint asks.Justice) h = refl
+always_from_first x e (item.Specification kind) h = refl
+
+all_allowed : (slots : List Slot) (s : List Value) (items : List ResolvedItem) → list_all (allows_first slots s) items ≡ true → list_all (allows_always slots s) items ≡ true
+all_allowed slots s [] h = refl
+all_allowed slots s (x ∷ items) h =
+    let both = and_parts (allows_first slots s x) (list_all (allows_first slots s) items) h in
+    and_from (allows_always slots s x) (list_all (allows_always slots s) items)
+    (always_from_first (outcome_of_target slots s x.target) (outcome_in slots s x.value) x.kind both.0) (all_allowed slots s items both.1)
+
+module _ (p : Program) where
+  pub first_parts : (s : List Value) → is_first_state p s ≡ true → (is_state p s ≡ true) × (meets_invariants p s ≡ true)
+  first_parts s h =
+      let both = and_parts (is_state p s) (list_all (allows_first (slots_of p) s) (items_of p)) h in
+      (both.0, all_allowed (slots_of p) s (items_of p) both.1)
+
+  pub step_parts : (s u t : List Value) → is_step p s u t ≡ true
+      → (is_state p s ≡ true) × (are_inputs p u ≡ true) × (is_state p t ≡ true) × (meets_invariants p s ≡ true) × (meets_invariants p t ≡ true)
+  step_parts s u t h =
+      let a = and_parts (((is_state p s && are_inputs p u) && is_state p t) && keeps_frozen (slots_of p) s t && list_all (allows_step (slots_of p) s u t) (items_of p)) (meets_invariants p s && meets_invariants p t) h in
+      let b = and_parts (((is_state p s && are_inputs p u) && is_state p t) && keeps_frozen (slots_of p) s t) (list_all (allows_step (slots_of p) s u t) (items_of p)) a.0 in
+      let c = and_parts ((is_state p s && are_inputs p u) && is_state p t) (keeps_frozen (slots_of p) s t) b.0 in
+      let d = and_parts (is_state p s && are_inputs p u) (is_state p t) c.0 in
+      let e = and_parts (is_state p s) (are_inputs p u) d.0 in
+      let f = and_parts (meets_invariants p s) (meets_invariants p t) a.1 in
+      (e.0, e.1, d.1, f.0, f.1)
+
+  -- rows of values
+  module _ (slots : List Slot) where
+    abbrev cols : List Column
+    cols = map (column_of p) slots
+
+    row_there : (rows : List (List Value)) (i : ℕ) → i < length rows → slice_get (map (bindings_of cols) rows) i ≡ Some (bindings_of cols (at_time rows i))
+    row_there rows i within =
+        slice_get-get_or (map (bindings_of cols) rows) i (bindings_of cols []) (let long = length-map rows (bindings_of cols) in omega (arith, within, long))
+        ∙ ap (λ (bs : List Binding). Some bs) (get_or-map (bindings_of cols) rows i [])
+
+    read_back : (rows : List (List Value)) (i : ℕ) → i < length rows → fits slots (at_time rows i) ≡ true → line_read cols (slice_get (map (bindings_of cols) rows) i) ≡ Some (at_time rows i)
+    read_back rows i within h = ap (line_read cols) (row_there rows i within) ∙ row_back p slots (at_time rows i) h
+
+  no_values : (u : List Value) → fits [] u ≡ true → [] ≡ u
+  no_values [] h = refl
+  no_values (v ∷ u) h = absurd (let e = eqb-true 0 (length (v ∷ u)) (and_parts (eqb 0 (length (v ∷ u))) true h).0 in let never : ⊥ = omega (arith, e) in never)
+
+  given_at : (slots : List Slot) (inputs : List (List Value)) (i : ℕ) → i < length inputs → fits slots (at_time inputs i) ≡ true
+      → read_at (map (column_of p) slots) (given_rows (map (column_of p) slots) inputs) i ≡ at_time inputs i
+  given_at [] inputs i within h = no_values (at_time inputs i) h
+  given_at (x ∷ slots) inputs i within h = ap (λ (o : Option (List Value)). unwrap_or o []) (read_back (x ∷ slots) inputs i within h)
+
+  given_fit : (slots : List Slot) (inputs : List (List Value)) (n : ℕ) → n ≡ length inputs + 1 → ((i : ℕ) → i < length inputs → fits slots (at_time inputs i) ≡ true)
+      → (i : ℕ) → fit (map (column_of p) slots) (given_rows (map (column_of p) slots) inputs) n i ≡ true
+  given_fit [] inputs n long all i =
+      cond-false (ltb i 0) (is_some (line_read [] (slice_get [] i))) _ (le-ltb i 0 (omega arith)) ∙ unless (eqb i 0) (leb 0 i) (le-leb 0 i (omega arith))
+  given_fit (x ∷ slots) inputs n long all i =
+      let rows = map (bindings_of (map (column_of p) (x ∷ slots))) inputs in
+      let counted : length rows ≡ length inputs = length-map inputs (bindings_of (map (column_of p) (x ∷ slots))) in
+      elim (cases_lt i (n - 1)) [
+        inl below ↦
+        let within : i < length inputs = omega (arith, below, long) in
+        cond-true (ltb i (n - 1)) (is_some (line_read (map (column_of p) (x ∷ slots)) (slice_get rows i))) _ (lt-ltb i (n - 1) below)
+        ∙ ap (λ (o : Option (List Value)). is_some o) (read_back (x ∷ slots) inputs i within (all i within))
+      | inr past ↦
+        cond-false (ltb i (n - 1)) (is_some (line_read (map (column_of p) (x ∷ slots)) (slice_get rows i))) _ (le-ltb i (n - 1) past)
+        ∙ unless (eqb i (n - 1)) (leb (length rows) i) (le-leb (length rows) i (omega (arith, counted, long, past))) ]
+
+  state_back : (s : List Value) → is_state p s ≡ true → row_read (state_columns p) (bindings_of (state_columns p) s) ≡ Some s
+  unfolding state_columns
+  state_back s h = row_back p (state_slots (slots_of p)) s h
+
+  states_back : (rows : List (List Value)) (i : ℕ) → i < length rows → is_state p (at_time rows i) ≡ true → line_read (state_columns p) (slice_get (map (bindings_of (state_columns p)) rows) i) ≡ Some (at_time rows i)
+  unfolding state_columns
+  states_back rows i within h = read_back (state_slots (slots_of p)) rows i within h
+
+  inputs_at : (inputs : List (List Value)) (i : ℕ) → i < length inputs → are_inputs p (at_time inputs i) ≡ true
+      → read_at (input_columns p) (given_rows (input_columns p) inputs) i ≡ at_time inputs i
+  unfolding input_columns
+  inputs_at inputs i within h = given_at (input_slots (slots_of p)) inputs i within h
+
+  inputs_fitting : (inputs : List (List Value)) (n : ℕ) → n ≡ length inputs + 1 → ((i : ℕ) → i < length inputs → are_inputs p (at_time inputs i) ≡ true)
+      → (i : ℕ) → fit (input_columns p) (given_rows (input_columns p) inputs) n i ≡ true
+  unfolding input_columns
+  inputs_fitting inputs n long all i = given_fit (input_slots (slots_of p)) inputs n long all i
+
+module _ (p : Program) (spec : ResolvedItem) (states inputs : List (List Value)) (b : Breaks p spec states inputs) where
+  abbrev t : Trace
+  t = run_trace p states inputs
+
+  stepped : (i : ℕ) → i < length inputs → is_step p (at_time states i) (at_time inputs i) (at_time states (i + 1)) ≡ true
+  stepped i below = b.run.steps i below
+
+  each : (i : ℕ) → i < length states → (is_state p (at_time states i) ≡ true) × (meets_invariants p (at_time states i) ≡ true)
+  each zero below = first_parts p (at_time states 0) b.run.first
+  each (suc i) below =
+      let within : i < length inputs = omega (arith, below, b.run.long) in
+      let parts = step_parts p (at_time states i) (at_time inputs i) (at_time states (i + 1)) (stepped i within) in
+      let n : i + 1 ≡ suc i = omega arith in
+      (subst (λ k. is_state p (at_time states k) ≡ true) n parts.2, subst (λ k. meets_invariants p (at_time states k) ≡ true) n parts.4)
+
+  inputs_are : (i : ℕ) → i < length inputs → are_inputs p (at_time inputs i) ≡ true
+  inputs_are i below = (step_parts p (at_time states i) (at_time inputs i) (at_time states (i + 1)) (stepped i below)).1
+
+  counted : length (map (bindings_of (state_columns p)) states) ≡ length states
+  counted = length-map states (bindings_of (state_columns p))
+
+  told_states : states_told p t ≡ states
+  told_states = same_lists (states_told p t) states (length-map (map (bindings_of (state_columns p)) states) _ ∙ counted)
+      (λ k d below.
+          let within : k < length states = let whole = length-map (map (bindings_of (state_columns p)) states) (λ (bs : List Binding). unwrap_or (row_read (state_columns p) bs) []) in omega (arith, below, whole, counted) in
+          let told : List Binding → List Value = λ bs. unwrap_or (row_read (state_columns p) bs) [] in
+          get_or_default (states_told p t) k d (told (bindings_of (state_columns p) [])) below
+          ∙ get_or-map told (map (bindings_of (state_columns p)) states) k (bindings_of (state_columns p) [])
+          ∙ ap told (get_or-map (bindings_of (state_columns p)) states k [])
+          ∙ ap (λ (o : Option (List Value)). unwrap_or o []) (state_back p (at_time states k) (each k within).0)
+          ∙ get_or_default states k [] d within)
+
+  told_inputs : inputs_told p t ≡ inputs
+  told_inputs =
+      let m : length (map (bindings_of (state_columns p)) states) - 1 ≡ length inputs = omega (arith, counted, b.run.long) in
+      ap (λ n. map (read_at (input_columns p) (given_rows (input_columns p) inputs)) (range_with_len 0 n)) m
+      ∙ same_lists (map (read_at (input_columns p) (given_rows (input_columns p) inputs)) (range_with_len 0 (length inputs))) inputs
+      (length-map-range_with_len (read_at (input_columns p) (given_rows (input_columns p) inputs)) 0 (length inputs))
+      (λ k d below.
+          let within : k < length inputs = let whole = length-map-range_with_len (read_at (input_columns p) (given_rows (input_columns p) inputs)) 0 (length inputs) in omega (arith, below, whole) in
+          get_or-map-range_with_len (read_at (input_columns p) (given_rows (input_columns p) inputs)) 0 (length inputs) k k d within (omega arith)
+          ∙ inputs_at p inputs k within (inputs_are k within)
+          ∙ get_or_default inputs k [] d within)
+
+  values_pass : (i : ℕ) → passes p spec t rule.Values i ≡ true
+  values_pass i =
+      and_from (state_fits p t i) (inputs_fit p t i)
+      (elim (cases_lt i (length states)) [
+        inl below ↦ unless (ltb i (max 1 (length t.states))) (is_some (state_read p t i)) (ap (λ (o : Option (List Value)). is_some o) (states_back p states i below (each i below).0))
+      | inr past ↦ cond-false (ltb i (max 1 (length t.states))) (is_some (state_read p t i)) true (le-ltb i (max 1 (length t.states)) (omega (arith, counted, past, b.run.long))) ])
+      (inputs_fitting p inputs (length t.states) (counted ∙ b.run.long) inputs_are i)
+
+  first_passes : (i : ℕ) → begins p states i ≡ true
+  first_passes i = unasked (eqb i 0) (is_first_state p (at_time states 0)) (λ e. b.run.first)
+
+  inv_passes : (i : ℕ) → stays p states i ≡ true
+  inv_passes i = unasked (ltb i (length states)) (meets_invariants p (at_time states i)) (λ e. (each i (ltb-true i (length states) e)).1)
+
+  step_passes : (i : ℕ) → goes_on p states inputs i ≡ true
+  step_passes i = unasked (ltb (i + 1) (length states)) (is_step p (at_time states i) (at_time inputs i) (at_time states (i + 1)))
+      (λ e. stepped i (let below = ltb-true (i + 1) (length states) e in omega (arith, below, b.run.long)))
+
+  spec_passes : (i : ℕ) → ends p spec states i ≡ true
+  spec_passes i =
+      let last : length states - 1 ≡ length inputs = omega (arith, b.run.long) in
+      unasked (eqb i 0) (is_false (outcome_in (slots_of p) (at_time states (length states - 1)) spec.value))
+      (λ e. ap (λ n. is_false (outcome_in (slots_of p) (at_time states n) spec.value)) last ∙ ap is_false b.broken)
+
+  run_passes : (r : ReplayRule) (i : ℕ) → passes p spec t r i ≡ true
+  run_passes rule.Values i = values_pass i
+  run_passes rule.First i = subst (λ (ss : List (List Value)). begins p ss i ≡ true) (sym told_states) (first_passes i)
+  run_passes rule.Inv i = subst (λ (ss : List (List Value)). stays p ss i ≡ true) (sym told_states) (inv_passes i)
+  run_passes rule.Step i =
+      subst (λ (us : List (List Value)). goes_on p (states_told p t) us i ≡ true) (sym told_inputs)
+      (subst (λ (ss : List (List Value)). goes_on p ss inputs i ≡ true) (sym told_states) (step_passes i))
+  run_passes rule.Loop i = refl
+  run_passes rule.Spec i = subst (λ (ss : List (List Value)). ends p spec ss i ≡ true) (sym told_states) (spec_passes i)
+
+pub broken_passes : (p : Program) (spec : ResolvedItem) (t : Trace) → ShowsBroken p spec t → (r : ReplayRule) (i : ℕ) → passes p spec t r i ≡ true
+broken_passes p spec t h r i = subst (λ (x : Trace). passes p spec x r i ≡ true) (sym h.told) (run_passes p spec h.states h.inputs h.broken r i)

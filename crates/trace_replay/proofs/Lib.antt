@@ -1,0 +1,13 @@
+pub mod OfLines
+pub mod OfRuns
+pub mod OfTelling
+pub mod OfTests
+pub mod Cells
+pub mod Shows
+pub mod Broken
+pub mod Judged
+pub mod OfWords
+pub mod OfTexts
+pub mod OfReading
+pub mod LawsOfReading
+pub mod Readable

@@ -1,0 +1,183 @@
+-- A trace is accepted just where it is that of a run that breaks the specification.
+use Rattle.std.proofs.Common.{◌≡◌, ◌⊎◌, inl, inr, ◌≢◌, ℕ, zero, suc, ◌+◌, ◌-◌, ◌<◌, ◌≤◌, max, Bool, true, false, not, cond, ◌&&◌, ◌||◌, List, [], ◌∷◌, length, map, get_or, Option, None, Some, refl, sym, subst, ap, ◌∙◌, arith, unwrap_or, slice_get, IsTrue}
+use lib.Dec.{eqb, leb, ltb}
+use Rattle.std.specs.List.{list_all, range_with_len}
+use Rattle.std.specs.Option.{is_some}
+use Rattle.std.proofs.lemmas.Bool.{and_from, and_parts, cases_lt, cond-false, cond-true, eq-eqb, eqb-true, le-leb, le-ltb, leb-true, lt-ltb, ne_eqb, or_right}
+use Rattle.std.proofs.lemmas.List.{get_or_default, length-map, same_lists}
+use Rattle.std.proofs.lemmas.List.FromFn.{get_or-map-range_with_len, length-map-range_with_len}
+use Rattle.std.proofs.lemmas.Option.{get_or_from_slice_get, slice_get-get_or, slice_get_past, slice_get_within}
+use Rattle.std.proofs.Math.ListN.{get_or-map}
+use Rattle.smv_tree.specs.declared.tree.Program.{Program}
+use Rattle.smv_value.specs.declared.value.Value.{Value}
+use Rattle.smv_value.specs.declared.value.Value.TheVariants as value
+use Rattle.smv_resolve.specs.Items.{ResolvedItem}
+use Rattle.smv_scope.specs.declared.slot.Slot.{Slot}
+use Rattle.smv_scope.specs.Slots.{slots_of}
+use Rattle.smv_meaning.specs.declared.value.Outcome.{Outcome}
+use Rattle.smv_meaning.specs.declared.value.Outcome.TheVariants.{Fault, Values}
+use Rattle.smv_meaning.specs.Runs.{Breaks, IsRun, are_inputs, at_time, fits, input_slots, is_first_state, is_state, is_step, meets_invariants, state_slots}
+use Rattle.smv_meaning.specs.Values.{one, outcome_in}
+use Rattle.trace_replay.specs.declared.columns.Column.{Column}
+use Rattle.trace_replay.specs.declared.entry.Binding.{Binding}
+use Rattle.trace_replay.specs.declared.rule.ReplayRule.{ReplayRule}
+use Rattle.trace_replay.specs.declared.rule.ReplayRule.TheVariants as rule
+use Rattle.trace_replay.specs.declared.trace.Trace.{Trace}
+use Rattle.trace_replay.specs.Rows.{bindings_of, column_of, given_rows, input_columns, inputs_read, inputs_told, line_read, row_read, run_trace, state_columns, state_read, states_told}
+use Rattle.trace_replay.specs.Tests.{ShowsBroken, due_beside, ends, goes_on, inputs_due, inputs_fit, is_false, passes, starts_at, state_fits, values_fit}
+use Rattle.trace_replay.proofs.Cells.{row_back, row_told}
+use Rattle.trace_replay.proofs.OfTelling.{is_there, line_row, some_state}
+
+-- a test that is asked at all
+asked : (a b : Bool) → (not a || b) ≡ true → a ≡ true → b ≡ true
+asked true b h e = h
+asked false b h e = absurd (let never : ⊥ = cc in never)
+
+pub unasked : (a b : Bool) → (a ≡ true → b ≡ true) → (not a || b) ≡ true
+unasked true b h = h refl
+unasked false b h = refl
+
+at_some : (a x : Bool) → cond a x true ≡ true → a ≡ true → x ≡ true
+at_some true x h e = h
+at_some false x h e = absurd (let never : ⊥ = cc in never)
+
+pub unless : (b x : Bool) → x ≡ true → cond b x true ≡ true
+unless true x h = h
+unless false x h = refl
+
+none_of : (o : Option ℕ) → ((i : ℕ) → not (starts_at o i) ≡ true) → o ≡ None
+none_of None h = refl
+none_of (Some n) h = absurd (let e : not (eqb n n) ≡ true = h n in let f : not (eqb n n) ≡ false = ap not (eq-eqb n n refl) in let never : ⊥ = cc in never)
+
+no_rows : {A : Type 0} (xs : List A) → length xs ≤ 0 → xs ≡ []
+no_rows [] h = refl
+no_rows (x ∷ xs) h = absurd (let never : ⊥ = omega (arith, h) in never)
+
+false_is : (o : Outcome) → is_false o ≡ true → o ≡ one (value.Bool false)
+false_is (Values None) h = absurd (let never : ⊥ = cc in never)
+false_is (Values (Some (value.Bool true))) h = absurd (let never : ⊥ = cc in never)
+false_is (Values (Some (value.Bool false))) h = refl
+false_is (Values (Some (value.Int z))) h = absurd (let never : ⊥ = cc in never)
+false_is (Values (Some (value.Sym n))) h = absurd (let never : ⊥ = cc in never)
+false_is (Values (Some (value.Word s w b))) h = absurd (let never : ⊥ = cc in never)
+false_is (Fault f place) h = absurd (let never : ⊥ = cc in never)
+
+-- whether the inputs of a number are told as they should be, by the columns
+abbrev pub fit : List Column → List (List Binding) → ℕ → ℕ → Bool
+fit cs rows n i = cond (ltb i (due_beside cs n)) (is_some (line_read cs (slice_get rows i))) (cond (eqb i (due_beside cs n)) (leb (length rows) i) true)
+
+abbrev pub read_at : List Column → List (List Binding) → ℕ → List Value
+read_at cs rows i = unwrap_or (line_read cs (slice_get rows i)) []
+
+-- From a trace that passes to a run.
+module _ (cs : List Column) where
+  abbrev told : List Binding → List Value
+  told bs = unwrap_or (row_read cs bs) []
+
+  some_equal : (xs ys : List Binding) → Some xs ≡ Some ys → xs ≡ ys
+  some_equal xs ys e = cc
+
+  line_back : (o : Option (List Binding)) (bs : List Binding) → o ≡ Some bs → is_some (line_read cs o) ≡ true → bindings_of cs (unwrap_or (line_read cs o) []) ≡ bs
+  line_back o bs here h =
+      let value = is_there (line_read cs o) h in
+      let row = line_row cs o value.0 value.1 in
+      ap (bindings_of cs) (ap (λ (x : Option (List Value)). unwrap_or x []) value.1) ∙ row_told cs row.0 value.0 row.2 ∙ some_equal row.0 bs (sym row.1 ∙ here)
+
+  -- rows that all tell values are those of the values
+  rows_back : (rows : List (List Binding)) → ((i : ℕ) → i < length rows → is_some (line_read cs (slice_get rows i)) ≡ true) → map (bindings_of cs) (map told rows) ≡ rows
+  rows_back rows h = same_lists (map (bindings_of cs) (map told rows)) rows
+      (length-map (map told rows) (bindings_of cs) ∙ length-map rows told)
+      (λ k d below.
+          let within : k < length rows = omega (arith, below, length-map (map told rows) (bindings_of cs), length-map rows told) in
+          let here : slice_get rows k ≡ Some (get_or rows k d) = slice_get-get_or rows k d within in
+          let is : is_some (line_read cs (Some (get_or rows k d))) ≡ true = ap (λ (o : Option (List Binding)). is_some (line_read cs o)) (sym here) ∙ h k within in
+          get_or_default (map (bindings_of cs) (map told rows)) k d (bindings_of cs (told d)) below
+          ∙ get_or-map (bindings_of cs) (map told rows) k (told d) ∙ ap (bindings_of cs) (get_or-map told rows k d)
+          ∙ line_back (Some (get_or rows k d)) (get_or rows k d) refl is)
+
+  -- the same of the rows at numbers
+  numbers_back : (rows : List (List Binding)) (m : ℕ) → length rows ≡ m → ((i : ℕ) → i < m → is_some (line_read cs (slice_get rows i)) ≡ true)
+      → map (bindings_of cs) (map (read_at cs rows) (range_with_len 0 m)) ≡ rows
+  numbers_back rows m long h =
+      let len = length-map-range_with_len (read_at cs rows) 0 m in
+      let both = length-map (map (read_at cs rows) (range_with_len 0 m)) (bindings_of cs) in
+      same_lists (map (bindings_of cs) (map (read_at cs rows) (range_with_len 0 m))) rows (both ∙ len ∙ sym long)
+      (λ k d below.
+          let within : k < m = omega (arith, below, both, len) in
+          let inside : k < length rows = omega (arith, within, long) in
+          let here : slice_get rows k ≡ Some (get_or rows k d) = slice_get-get_or rows k d inside in
+          get_or_default (map (bindings_of cs) (map (read_at cs rows) (range_with_len 0 m))) k d (bindings_of cs []) below
+          ∙ get_or-map (bindings_of cs) (map (read_at cs rows) (range_with_len 0 m)) k []
+          ∙ ap (bindings_of cs) (get_or-map-range_with_len (read_at cs rows) 0 m k k [] within (omega arith))
+          ∙ line_back (slice_get rows k) (get_or rows k d) here (h k within))
+
+inputs_back : (cs : List Column) (rows : List (List Binding)) (n : ℕ) → ((i : ℕ) → fit cs rows n i ≡ true) → given_rows cs (map (read_at cs rows) (range_with_len 0 (n - 1))) ≡ rows
+inputs_back [] rows n h = sym (no_rows rows (leb-true (length rows) 0 (h 0)))
+inputs_back (c ∷ cs) rows n h =
+    let last = h (n - 1) in
+    let most : length rows ≤ n - 1 =
+    leb-true (length rows) (n - 1)
+    (sym (cond-false (ltb (n - 1) (n - 1)) (is_some (line_read (c ∷ cs) (slice_get rows (n - 1)))) _ (le-ltb (n - 1) (n - 1) (omega arith))
+    ∙ cond-true (eqb (n - 1) (n - 1)) (leb (length rows) (n - 1)) true (eq-eqb (n - 1) (n - 1) refl)) ∙ last) in
+    let each : (i : ℕ) → i < n - 1 → is_some (line_read (c ∷ cs) (slice_get rows i)) ≡ true =
+    λ i below. sym (cond-true (ltb i (n - 1)) (is_some (line_read (c ∷ cs) (slice_get rows i))) _ (lt-ltb i (n - 1) below)) ∙ h i in
+    let least : n - 1 ≤ length rows = elim (cases_lt (length rows) (n - 1)) [
+      inl short ↦
+      let value = is_there (line_read (c ∷ cs) (slice_get rows (length rows))) (each (length rows) short) in
+      let row = line_row (c ∷ cs) (slice_get rows (length rows)) value.0 value.1 in
+      let within : length rows < length rows = slice_get_within rows (length rows) row.0 row.1 in
+      absurd (let never : ⊥ = omega (arith, within) in never)
+    | inr enough ↦ enough ] in
+    numbers_back (c ∷ cs) rows (n - 1) (omega (arith, most, least)) each
+
+module _ (p : Program) (spec : ResolvedItem) (t : Trace) (all : (r : ReplayRule) (i : ℕ) → passes p spec t r i ≡ true) where
+  some : 0 < length t.states
+  some = some_state p t (all rule.Values 0)
+
+  state_is : (i : ℕ) → i < length t.states → is_some (line_read (state_columns p) (slice_get t.states i)) ≡ true
+  state_is i below =
+      let both = and_parts (state_fits p t i) (inputs_fit p t i) (all rule.Values i) in
+      at_some (ltb i (max 1 (length t.states))) (is_some (state_read p t i)) both.0 (lt-ltb i (max 1 (length t.states)) (omega (arith, below)))
+
+  states_back : map (bindings_of (state_columns p)) (states_told p t) ≡ t.states
+  states_back = rows_back (state_columns p) t.states state_is
+
+  given_back : given_rows (input_columns p) (inputs_told p t) ≡ t.inputs
+  given_back = inputs_back (input_columns p) t.inputs (length t.states) (λ i. (and_parts (state_fits p t i) (inputs_fit p t i) (all rule.Values i)).1)
+
+  told_as : t ≡ run_trace p (states_told p t) (inputs_told p t)
+  told_as =
+      let made : List (List Binding) → List (List Binding) → Option ℕ → Trace = λ a b c. record { states = a; inputs = b; start = c } in
+      ap (λ (a : List (List Binding)). made a t.inputs t.start) (sym states_back)
+      ∙ ap (λ (b : List (List Binding)). made (map (bindings_of (state_columns p)) (states_told p t)) b t.start) (sym given_back)
+      ∙ ap (λ (c : Option ℕ). made (map (bindings_of (state_columns p)) (states_told p t)) (given_rows (input_columns p) (inputs_told p t)) c) (none_of t.start (all rule.Loop))
+
+  long : length (states_told p t) ≡ length (inputs_told p t) + 1
+  long =
+      let a : length (states_told p t) ≡ length t.states = length-map t.states (told (state_columns p)) in
+      let b : length (inputs_told p t) ≡ length t.states - 1 = length-map-range_with_len (λ (i : ℕ). unwrap_or (inputs_read p t i) []) 0 (length t.states - 1) in
+      let c = some in
+      omega (arith, a, b, c)
+
+  run : IsRun p (states_told p t) (inputs_told p t)
+  run = record {
+    long = long;
+    first = all rule.First 0;
+    steps = λ i below.
+        asked (ltb (i + 1) (length (states_told p t))) (is_step p (at_time (states_told p t) i) (at_time (inputs_told p t) i) (at_time (states_told p t) (i + 1)))
+        (all rule.Step i) (lt-ltb (i + 1) (length (states_told p t)) (omega (arith, below, long)));
+  }
+
+  pub shows : ShowsBroken p spec t
+  shows = record {
+    states = states_told p t;
+    inputs = inputs_told p t;
+    told = told_as;
+    broken = record {
+      run = run;
+      broken =
+          let last : length (states_told p t) - 1 ≡ length (inputs_told p t) = omega (arith, long) in
+          false_is (outcome_in (slots_of p) (at_time (states_told p t) (length (inputs_told p t))) spec.value)
+          (ap (λ n. is_false (outcome_in (slots_of p) (at_time (states_told p t) n) spec.value)) (sym last) ∙ all rule.Spec 0);
+    };
+  }

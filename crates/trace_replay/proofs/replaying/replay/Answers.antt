@@ -1,0 +1,14 @@
+-- A trace is accepted just where it shows that the specification is broken.
+use Rattle.std.proofs.Common.{◌≡◌, ◌∙◌, ◌-◌, ◌<◌, ap, length, map, arith}
+use Rattle.smv_resolve.specs.Items.{item_by}
+use Rattle.smv_meaning.specs.Runs.{specifications_of}
+use Rattle.trace_replay.proofs.Judged.{accepted_at}
+use Rattle.trace_replay.proofs.replaying.replay.Goals as goal
+
+pub returns-clause-accepted : goal.returns-clause-accepted
+returns-clause-accepted c =
+    let p = c.args.typed.now.scope.program in
+    let nodes = c.args.typed.now.nodes in
+    let within : c.args.spec - 1 < length (specifications_of p) = omega (arith, c.requires.first, c.requires.last) in
+    accepted_at p (item_by nodes) c.as_slice.result.now (specifications_of p) (c.args.spec - 1) _ c.args.trace.now c.judge.result
+    (ap (map (item_by nodes)) c.as_slice.ensures ∙ c.in_ok-specs.ensures.resolved) within c.judge.ensures

@@ -1,0 +1,93 @@
+-- The values of slots as the lines of a trace tell them.
+use Rattle.std.specs.Prelude.{ℕ, ◌-◌, Bool, if◌then◌else◌, List, [], ◌∷◌, length, map, bytes_eq, codes, Option, None, Some, slice_get, unwrap_or, true, false}
+use Rattle.std.specs.List.{range_with_len}
+use Rattle.smv_tree.specs.declared.tree.Program.{Program}
+use Rattle.smv_value.specs.declared.value.Value.{Value}
+use Rattle.smv_value.specs.declared.value.Value.TheVariants as value
+use Rattle.smv_value.specs.Texts.{value_text}
+use Rattle.smv_scope.specs.declared.slot.Slot.{Slot}
+use Rattle.smv_scope.specs.declared.slot.ValueType.{ValueType}
+use Rattle.smv_scope.specs.declared.slot.ValueType.TheVariants.{Boolean}
+use Rattle.smv_scope.specs.Paths.{slot_name}
+use Rattle.smv_scope.specs.Slots.{slots_of}
+use Rattle.smv_meaning.specs.Runs.{input_slots, state_slots}
+use Rattle.trace_replay.specs.declared.columns.Column.{Column}
+use Rattle.trace_replay.specs.declared.entry.Binding.{Binding}
+use Rattle.trace_replay.specs.declared.trace.Trace.{Trace}
+use Rattle.trace_replay.specs.Forms.{is_name}
+
+-- the name and the type of a slot
+abbrev pub column_of : Program → Slot → Column
+column_of p slot = record { name = slot_name p slot; declared = slot.declared }
+
+-- those of the slots of a state, and of the input slots
+unfoldable pub state_columns : Program → List Column
+state_columns p = map (column_of p) (state_slots (slots_of p))
+
+unfoldable pub input_columns : Program → List Column
+input_columns p = map (column_of p) (input_slots (slots_of p))
+
+-- the name is such as may stand in a line
+abbrev pub has_name : Column → Bool
+has_name c = is_name c.name
+
+-- From values to bindings, in a language without symbols.
+
+abbrev pub binding_of : Column → Value → Binding
+binding_of c v = record { name = c.name; value = value_text [] v }
+
+abbrev pub bindings_of : List Column → List Value → List Binding
+bindings_of [] vs = []
+bindings_of (c ∷ cs) [] = []
+bindings_of (c ∷ cs) (v ∷ vs) = binding_of c v ∷ bindings_of cs vs
+
+-- the inputs of steps; nothing is told of them where there are no input slots
+abbrev pub given_rows : List Column → List (List Value) → List (List Binding)
+given_rows [] inputs = []
+given_rows (c ∷ cs) inputs = map (bindings_of (c ∷ cs)) inputs
+
+-- the trace of a run
+abbrev pub run_trace : Program → List (List Value) → List (List Value) → Trace
+run_trace p states inputs = record { states = map (bindings_of (state_columns p)) states; inputs = given_rows (input_columns p) inputs; start = None }
+
+-- From bindings to values.
+
+-- the value of this type that is printed so
+abbrev pub value_read : ValueType → List ℕ → Option Value
+value_read Boolean text =
+    if bytes_eq text (codes "TRUE") then Some (value.Bool true)
+    else if bytes_eq text (codes "FALSE") then Some (value.Bool false)
+    else None
+
+abbrev pub cell_read : Column → Binding → Option Value
+cell_read c b = if bytes_eq c.name b.name then value_read c.declared b.value else None
+
+abbrev pub in_front : Option Value → Option (List Value) → Option (List Value)
+in_front None vs = None
+in_front (Some v) None = None
+in_front (Some v) (Some vs) = Some (v ∷ vs)
+
+-- one value of its type for each slot, where the names are just those of the slots, in their order
+abbrev pub row_read : List Column → List Binding → Option (List Value)
+row_read [] [] = Some []
+row_read [] (b ∷ bs) = None
+row_read (c ∷ cs) [] = None
+row_read (c ∷ cs) (b ∷ bs) = in_front (cell_read c b) (row_read cs bs)
+
+abbrev pub line_read : List Column → Option (List Binding) → Option (List Value)
+line_read cs None = None
+line_read cs (Some bs) = row_read cs bs
+
+-- the values of the state of this number, and of the inputs of the step from it, if the trace tells them
+abbrev pub state_read : Program → Trace → ℕ → Option (List Value)
+state_read p t i = line_read (state_columns p) (slice_get t.states i)
+
+abbrev pub inputs_read : Program → Trace → ℕ → Option (List Value)
+inputs_read p t i = line_read (input_columns p) (slice_get t.inputs i)
+
+-- the values of each state, and of the inputs of each step; no values where the trace does not tell them
+abbrev pub states_told : Program → Trace → List (List Value)
+states_told p t = map (λ (bs : List Binding). unwrap_or (row_read (state_columns p) bs) []) t.states
+
+abbrev pub inputs_told : Program → Trace → List (List Value)
+inputs_told p t = map (λ (i : ℕ). unwrap_or (inputs_read p t i) []) (range_with_len 0 (length t.states - 1))

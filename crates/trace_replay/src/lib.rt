@@ -1,0 +1,26 @@
+//! Traces of runs: their text, printed and read back, and their replay by the meaning of the program.
+#![tactic(auto)]
+
+mod columns;
+mod entry;
+mod forms;
+mod laws;
+mod printing;
+mod reader;
+mod reading;
+mod replaying;
+mod rule;
+mod run;
+mod source;
+mod telling;
+mod trace;
+mod words;
+
+pub use entry::{Binding, Entry};
+pub use laws::{is_read_once, is_run_readable};
+pub use printing::{TraceLines, print};
+pub use reader::read;
+pub use replaying::replay;
+pub use rule::{ReplayRule, Replayed};
+pub use source::Line;
+pub use trace::Trace;

@@ -1,0 +1,88 @@
+//! The trace of a run.
+
+ghost use Rattle.std.specs.Prelude.{◌≡◌, map, IfOk};
+ghost use Rattle.trace_replay.specs.Rows.{binding_of, bindings_of, given_rows, run_trace};
+
+use crate::columns::{Column, input_columns, state_columns};
+use crate::{Binding, Trace};
+use plain_text::Text;
+use smv_meaning::{Inputs, State, Typed};
+use smv_value::{Shown, Value};
+use sqlite_items::Items;
+use std::alloc::{AllocError, Global};
+
+impl Trace {
+    /// The trace of a run: the names of the slots, with the values of each state and of the inputs of each step. Without
+    /// input slots no inputs are told. Memory may be refused.
+    pub fn of_run(
+        alloc: Global,
+        typed: &Typed,
+        states: &[State],
+        inputs: &[Inputs],
+    ) -> Result<Trace, AllocError>
+        ensures { IfOk result (λ t. t ≡ run_trace typed.now.scope.program states.now inputs.now) }
+    {
+        let held = state_columns(alloc, typed)?;
+        let given = input_columns(alloc, typed)?;
+        let states = rows_of(alloc, held.as_slice(), states)?;
+        let inputs = given_rows(alloc, given.as_slice(), inputs)?;
+        Ok(Trace {
+            states,
+            inputs,
+            start: None,
+        })
+    }
+}
+
+// The inputs of steps, if there are input slots.
+fn given_rows(
+    alloc: Global,
+    columns: &[Column],
+    inputs: &[Inputs],
+) -> Result<Items<Items<Binding>>, AllocError>
+    ensures { IfOk result (λ rows. rows ≡ given_rows columns.now inputs.now) }
+{
+    if columns.is_empty() {
+        return Ok(Items::new(alloc));
+    }
+    rows_of(alloc, columns, inputs)
+}
+
+fn rows_of(
+    alloc: Global,
+    columns: &[Column],
+    values: &[Items<Value>],
+) -> Result<Items<Items<Binding>>, AllocError>
+    ensures { IfOk result (λ rows. rows ≡ map (bindings_of columns.now) values.now) }
+{
+    let mut rows = Vec::new(alloc);
+    for row in values {
+        rows.push(bindings_of(alloc, columns, row.as_slice())?)?;
+    }
+    Ok(Items::from_vec(rows))
+}
+
+// The bindings of names to values, as many as there are of both.
+fn bindings_of(
+    alloc: Global,
+    columns: &[Column],
+    values: &[Value],
+) -> Result<Items<Binding>, AllocError>
+    ensures { IfOk result (λ bindings. bindings ≡ bindings_of columns.now values.now) }
+{
+    let mut bindings = Vec::new(alloc);
+    for i in 0..columns.len().min(values.len()) {
+        bindings.push(binding_of(alloc, &columns[i], values[i])?)?;
+    }
+    Ok(Items::from_vec(bindings))
+}
+
+fn binding_of(alloc: Global, column: &Column, value: Value) -> Result<Binding, AllocError>
+    ensures { IfOk result (λ b. b ≡ binding_of column.now value) }
+{
+    let text = Shown { value, names: &[] }.to_string(alloc)?;
+    Ok(Binding {
+        name: column.name.copy(alloc)?,
+        value: Text::from_str(alloc, text.as_str())?,
+    })
+}
