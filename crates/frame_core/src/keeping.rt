@@ -11,7 +11,7 @@ use crate::looking::{first_behind, holder};
 use crate::outcomes::{Insertion, Noting, Opening, Raising, Verdict};
 use crate::parts::{Lemma, Obligation};
 use crate::runs::BitRun;
-use clause_core::{Bits, System};
+use clause_core::{Bits, Clause, System};
 use std::alloc::{AllocError, Global};
 use std::marker::Model;
 use std::slice::from_ref;
@@ -168,18 +168,22 @@ impl<'a> Frames<'a> {
         if let Some(place) = difference(&systems[0], proved.system(), false) {
             return Ok(Insertion::OtherSystem { place });
         }
-        let insertion = self.insert_same(proved)?;
+        let clause = Clause::from_slice(self.lemmas.alloc(), proved.clause())?;
+        let insertion = self.insert_same(&proved, clause)?;
         Ok(insertion)
     }
 
-    /// The same where the clause is known to be of the frames' systems; compares no systems.
+    /// The same where the clause is known to be of the frames' systems; compares no systems. The proof is
+    /// lent, and `clause` is a copy of its clause, which becomes the lemma's. After want of memory the frames
+    /// are as before.
     ///
     /// It takes a table of two entries for each state bit, and looks at one word of each lemma. Where that
     /// does not rule the lemma out and its level is high enough, it looks at its literals up to the first
     /// that the clause lacks, each by one look into the table.
-    pub fn insert_same(&mut self, proved: Proved) -> Result<Insertion, AllocError>
-        requires { IsOfSystem self.old 0 false proved.system }
-        ensures done { IfOk result (λ r. InsertsSame self.old proved.entry r self.new) }
+    pub fn insert_same(&mut self, proved: &Proved, clause: Clause) -> Result<Insertion, AllocError>
+        requires same { IsOfSystem self.old 0 false proved.now.system }
+        requires copy { clause ≡ proved.now.clause }
+        ensures done { IfOk result (λ r. InsertsSame self.old proved.now r self.new) }
         ensures err { OnErr result (self.new ≡ self.old) }
     {
         let alloc = self.lemmas.alloc();
@@ -196,7 +200,6 @@ impl<'a> Frames<'a> {
         }
         let number = self.lemmas.len();
         let level = proved.level();
-        let clause = proved.into_clause();
         self.lemmas.push(clause, level)?;
         let _after = self.lemmas.len();
         count_more(&mut self.counts, level);
@@ -214,15 +217,15 @@ impl<'a> Frames<'a> {
         if let Some(place) = difference(&systems[0], proved.system(), false) {
             return Raising::OtherSystem { place };
         }
-        self.raise_same(n, proved)
+        self.raise_same(n, &proved)
     }
 
-    /// The same where the proof is known to be of the frames' systems; compares no systems.
-    pub fn raise_same(&mut self, n: usize, proved: Proved) -> Raising
+    /// The same where the proof, which is lent, is known to be of the frames' systems; compares no systems.
+    pub fn raise_same(&mut self, n: usize, proved: &Proved) -> Raising
         requires in_range { n < length self.old.lemmas }
-        requires clause { proved.clause ≡ (lemma_at self.old.lemmas n).clause }
-        requires same { IsOfSystem self.old 0 false proved.system }
-        ensures { RaisesSame self.old n proved.entry result self.new }
+        requires clause { proved.now.clause ≡ (lemma_at self.old.lemmas n).clause }
+        requires same { IsOfSystem self.old 0 false proved.now.system }
+        ensures { RaisesSame self.old n proved.now result self.new }
     {
         let _system = proved.system();
         let level = proved.level();
@@ -268,16 +271,16 @@ impl<'a> Frames<'a> {
         if let Some(place) = difference(&systems[j], clear.system(), true) {
             return Ok(Opening::OtherSystem { place });
         }
-        let opening = self.open_same(j, clear)?;
+        let opening = self.open_same(j, &clear)?;
         Ok(opening)
     }
 
-    /// The same where the proof is known to be of system `j`; compares no systems.
-    pub fn open_same(&mut self, j: usize, clear: Clear) -> Result<Opening, AllocError>
+    /// The same where the proof, which is lent, is known to be of system `j`; compares no systems.
+    pub fn open_same(&mut self, j: usize, clear: &Clear) -> Result<Opening, AllocError>
         requires in_range { j < length self.old.systems }
         requires room { top_at self.old.tops j + 1 < 2 ^ 32 }
-        requires same { IsOfSystem self.old j true clear.system }
-        ensures done { IfOk result (λ r. OpensSame self.old j clear.entry r self.new) }
+        requires same { IsOfSystem self.old j true clear.now.system }
+        ensures done { IfOk result (λ r. OpensSame self.old j clear.now r self.new) }
         ensures err { OnErr result (self.new ≡ self.old) }
     {
         let _system = clear.system();

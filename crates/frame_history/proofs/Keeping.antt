@@ -1,11 +1,8 @@
 -- The law of the frames is kept by each change that is accepted, and so by each lawful history.
-use Rattle.std.proofs.Common.{◌≡◌, ℕ, zero, suc, ◌+◌, ◌-◌, ◌<◌, ◌≤◌, Bool, true, false, List, [], ◌∷◌, ◌++◌, length, take, set, refl, sym, subst, ◌∙◌, inl, inr, arith, length-set, get_or-set_same, get_or-set_other}
-use Rattle.std.specs.Prelude.{Option, Some, None, map}
-use Rattle.std.specs.List.{All}
-use Rattle.std.proofs.Math.ListN.{length-map}
+use Rattle.std.proofs.Common.{◌≡◌, ℕ, zero, suc, ◌+◌, ◌<◌, ◌≤◌, Bool, true, false, List, [], ◌∷◌, ◌++◌, length, take, set, refl, sym, subst, ◌∙◌, inl, inr, arith, length-set, get_or-set_same, get_or-set_other}
+use Rattle.std.specs.Prelude.{Option, Some, None}
 use Rattle.std.proofs.lemmas.Bool.{cases_eq}
-use Rattle.std.proofs.lemmas.List.{get_or-map}
-use Rattle.std.proofs.lemmas.List.Elements.{All-map, All-weaker, All-contains_itself}
+use Rattle.std.proofs.lemmas.List.Elements.{All-contains_itself}
 use Rattle.clause_core.specs.declared.literal.Lit.{Lit}
 use Rattle.clause_core.specs.Assignments.{ClauseTrue}
 use Rattle.clause_core.specs.Systems.{TransitionSystem, BadBits, ReachedWithin}
@@ -13,7 +10,7 @@ use Rattle.frame_core.specs.declared.parts.Lemma.{Lemma}
 use Rattle.frame_core.specs.declared.parts.Parent.{Parent}
 use Rattle.frame_core.specs.Facts.{ProvedClause, IsProved, FoundState, IsFound, IsFirstFlag}
 use Rattle.frame_core.specs.Differences.{IsSameSystem}
-use Rattle.frame_core.specs.Law.{FrameState, FramesHold, IsSafe, Stands, AllStand, InFrame, IsAsHigh, system_at, top_at, lemma_at}
+use Rattle.frame_core.specs.Law.{FrameState, FramesHold, IsSafe, InFrame, IsAsHigh, system_at, top_at, lemma_at}
 use Rattle.frame_core.specs.Changes.{with_lemma, with_level, with_top, with_obligation, fresh}
 use Rattle.frame_core.proofs.Changing.{opened}
 use Rattle.frame_core.proofs.States.{inserted, lifted, dropped_one, noted, made}
@@ -24,57 +21,32 @@ use Rattle.frame_history.specs.declared.entries.Change.{Change}
 use Rattle.frame_history.specs.declared.entries.Change.TheVariants.{Add, Raise, Held, Retire, Behind, Dropped, Note, Open, PushFailed, Limit, Spent}
 use Rattle.frame_history.specs.declared.entries.Entry.{Entry}
 use Rattle.frame_history.specs.declared.entries.Entry.TheVariants.{Claim, Settle, Back}
-use Rattle.frame_history.specs.History.{BookState, changed, all_changed, after, replay, IsShown, MayBeNoted, Accepts, AcceptsRest, AcceptsAll, MayStand, IsLawful, AreCarried}
-
--- lemmas as parents, with their clauses
-abbrev pub parent_of : List Lemma → ℕ → Parent
-parent_of lemmas n = record { number = n; clause = (lemma_at lemmas n).clause }
-
-abbrev pub parents_of : List Lemma → List ℕ → List Parent
-parents_of lemmas ns = map (parent_of lemmas) ns
-
-pub All-unmap : {X Y : Type 0} (P : Y → Type 0) (f : X → Y) (xs : List X) → All P (map f xs) → All (λ x. P (f x)) xs
-All-unmap P f xs h k d lt = subst P (get_or-map f xs k d (f d) lt) (h k (f d) (omega (arith, length-map xs f)))
+use Rattle.frame_history.specs.History.{BookState, changed, all_changed, after, replay, IsShown, MayBeNoted, Accepts, AcceptsNext, AcceptsEach, AcceptsAll, MayStand, IsLawful, AreCarried}
 
 itself : (w : Bool) (sys : TransitionSystem) → IsSameSystem w sys sys
 itself w sys = record { state_bits = refl; all_bits = refl; init = refl; step = refl; bad = λ e. refl; good = λ e. refl }
 
 -- what is shown of a clause, as a query proves it
-abbrev pub proved_of : FrameState → List Lit → ℕ → List ℕ → ProvedClause
+abbrev pub proved_of : FrameState → List Lit → ℕ → List Parent → ProvedClause
 proved_of f clause level parents =
-    record { system = system_at f.systems 0; clause = clause; part = clause; level = level; parents = parents_of f.lemmas parents }
+    record { system = system_at f.systems 0; clause = clause; part = clause; level = level; parents = parents }
 
-pub shown_is_proved : (f : FrameState) (clause : List Lit) (level : ℕ) (parents : List ℕ) → IsShown f clause level parents →
+pub shown_is_proved : (f : FrameState) (clause : List Lit) (level : ℕ) (parents : List Parent) → IsShown f clause level parents →
     IsProved (proved_of f clause level parents)
 shown_is_proved f clause level parents h =
-    record {
-      above = h.above;
-      within = h.within;
-      part_in = All-contains_itself clause;
-      first = h.first;
-      step = λ x y at_first later s. h.step x y at_first
-          (λ many. let l = later many in (l.0, All-unmap (λ (p : Parent). ClauseTrue x p.clause) (parent_of f.lemmas) parents l.1)) s;
-    }
+    record { above = h.above; within = h.within; part_in = All-contains_itself clause; first = h.first; step = h.step }
 
-pub shown_stand : (f : FrameState) (clause : List Lit) (level : ℕ) (parents : List ℕ) → IsShown f clause level parents →
-    AllStand f.lemmas (level - 1) (parents_of f.lemmas parents)
-shown_stand f clause level parents h some =
-    All-map (Stands f.lemmas (level - 1)) (parent_of f.lemmas) parents
-    (All-weaker (λ n. (n < length f.lemmas) × (level - 1 ≤ (lemma_at f.lemmas n).level)) (λ n. Stands f.lemmas (level - 1) (parent_of f.lemmas n))
-    (λ n s. (s.0, refl, s.1)) parents (h.stand some))
-
-keeps_add : (f : FrameState) (clause : List Lit) (level : ℕ) (parents : List ℕ) → FramesHold f → IsShown f clause level parents →
+keeps_add : (f : FrameState) (clause : List Lit) (level : ℕ) (parents : List Parent) → FramesHold f → IsShown f clause level parents →
     FramesHold (with_lemma f clause level)
 keeps_add f clause level parents h is =
-    inserted f (proved_of f clause level parents) h (itself false (system_at f.systems 0)) (shown_is_proved f clause level parents is)
-    (shown_stand f clause level parents is)
+    inserted f (proved_of f clause level parents) h (itself false (system_at f.systems 0)) (shown_is_proved f clause level parents is) is.stand
 
-keeps_raise : (f : FrameState) (n level : ℕ) (parents : List ℕ) → FramesHold f → n < length f.lemmas → (IsAsHigh f.lemmas n level → ⊥) →
+keeps_raise : (f : FrameState) (n level : ℕ) (parents : List Parent) → FramesHold f → n < length f.lemmas → (IsAsHigh f.lemmas n level → ⊥) →
     IsShown f (lemma_at f.lemmas n).clause level parents → FramesHold (with_level f n level)
 keeps_raise f n level parents h lt needed is =
     let clause : List Lit = (lemma_at f.lemmas n).clause in
     lifted f n (proved_of f clause level parents) h lt refl (itself false (system_at f.systems 0)) (shown_is_proved f clause level parents is) needed
-    (shown_stand f clause level parents is)
+    is.stand
 
 keeps_open : (f : FrameState) (j : ℕ) → FramesHold f → j < length f.systems →
     ((x : ℕ → Bool) → InFrame (system_at f.systems j) f.lemmas (top_at f.tops j) x → BadBits (system_at f.systems j) x → ⊥) → FramesHold (with_top f j)
@@ -112,7 +84,7 @@ keeps_note f c j values (Some o) first h may whole flag =
     let lt : j < length f.systems = subst (λ (k : ℕ). k < length f.systems) may.2 (h.obligations o may.1).of in
     noted f j g (Some o) h lt (itself false (system_at f.systems j)) found (refl, may.1, may.2, may.4)
 
-pub keeps_change : (s : BookState) (c : Made) (d : Change) → FramesHold s.frames → Accepts s c d → FramesHold (changed s d).frames
+pub keeps_change : (s : BookState) (c : Made) (d : Change) → FramesHold s.frames → Accepts s.frames c d → FramesHold (changed s d).frames
 keeps_change s c (Add clause level parents) h a = keeps_add s.frames clause level parents.items h a.1
 keeps_change s c (Raise n level parents) h a = keeps_raise s.frames n level parents.items h a.2 a.3 a.4
 keeps_change s c (Held n clause level) h a = h
@@ -125,25 +97,28 @@ keeps_change s c (PushFailed n level) h a = h
 keeps_change s c (Limit j) h a = absurd a
 keeps_change s c Spent h a = h
 
-pub keeps_rest : (limits : Limits) (s : BookState) (ds : List Change) → FramesHold s.frames → AcceptsRest limits s ds →
+keeps_next : (limits : Limits) (s : BookState) (d : Change) → FramesHold s.frames → AcceptsNext limits s d → FramesHold (changed s d).frames
+keeps_next limits s (Retire n) h a = dropped_one s.frames n h a.0 a.2
+keeps_next limits s (Limit j) h a = h
+keeps_next limits s (Add clause level parents) h a = absurd a
+keeps_next limits s (Raise n level parents) h a = absurd a
+keeps_next limits s (Held n clause level) h a = absurd a
+keeps_next limits s (Behind lag) h a = absurd a
+keeps_next limits s Dropped h a = absurd a
+keeps_next limits s (Note j values parent first) h a = absurd a
+keeps_next limits s (Open j) h a = absurd a
+keeps_next limits s (PushFailed n level) h a = absurd a
+keeps_next limits s Spent h a = absurd a
+
+pub keeps_each : (limits : Limits) (s : BookState) (ds : List Change) → FramesHold s.frames → AcceptsEach limits s ds →
     FramesHold (all_changed s ds).frames
-keeps_rest limits s [] h a = h
-keeps_rest limits s (Retire n ∷ ds) h a = keeps_rest limits (changed s (Retire n)) ds (dropped_one s.frames n h a.0 a.2) a.3
-keeps_rest limits s (Limit j ∷ ds) h a = keeps_rest limits (changed s (Limit j)) ds h a.3
-keeps_rest limits s (Add clause level parents ∷ ds) h a = absurd a
-keeps_rest limits s (Raise n level parents ∷ ds) h a = absurd a
-keeps_rest limits s (Held n clause level ∷ ds) h a = absurd a
-keeps_rest limits s (Behind lag ∷ ds) h a = absurd a
-keeps_rest limits s (Dropped ∷ ds) h a = absurd a
-keeps_rest limits s (Note j values parent first ∷ ds) h a = absurd a
-keeps_rest limits s (Open j ∷ ds) h a = absurd a
-keeps_rest limits s (PushFailed n level ∷ ds) h a = absurd a
-keeps_rest limits s (Spent ∷ ds) h a = absurd a
+keeps_each limits s [] h a = h
+keeps_each limits s (d ∷ ds) h a = keeps_each limits (changed s d) ds (keeps_next limits s d h a.0) a.1
 
 pub keeps_all : (limits : Limits) (s : BookState) (c : Made) (ds : List Change) → FramesHold s.frames → AcceptsAll limits s c ds →
     FramesHold (all_changed s ds).frames
 keeps_all limits s c [] h a = absurd a
-keeps_all limits s c (d ∷ ds) h a = keeps_rest limits (changed s d) ds (keeps_change s c d h a.0) a.1
+keeps_all limits s c (d ∷ ds) h a = keeps_each limits (changed s d) ds (keeps_change s c d h a.0) a.1
 
 pub keeps_entry : (limits : Limits) (s : BookState) (e : Entry) → FramesHold s.frames → MayStand limits s e → FramesHold (after s e).frames
 keeps_entry limits s (Claim worker subject level) h m = h
@@ -204,3 +179,14 @@ pub lawful-append : (limits : Limits) (s : BookState) (es : List Entry) (e : Ent
     IsLawful limits s (es ++ e ∷ [])
 lawful-append limits s [] e l m = (m, tt)
 lawful-append limits s (d ∷ ds) e l m = (l.0, lawful-append limits (after s d) ds e l.1 m)
+
+-- ---- One change more
+
+pub changed-append : (s : BookState) (ds : List Change) (d : Change) → all_changed s (ds ++ d ∷ []) ≡ changed (all_changed s ds) d
+changed-append s [] d = refl
+changed-append s (e ∷ es) d = changed-append (changed s e) es d
+
+pub each-append : (limits : Limits) (s : BookState) (ds : List Change) (d : Change) → AcceptsEach limits s ds →
+    AcceptsNext limits (all_changed s ds) d → AcceptsEach limits s (ds ++ d ∷ [])
+each-append limits s [] d a n = (n, tt)
+each-append limits s (e ∷ es) d a n = (a.0, each-append limits (changed s e) es d a.1 n)

@@ -1,14 +1,15 @@
 -- The lawful history of the frames that workers share: the state that its entries lead to, what may be claimed, and what a
 -- settlement may change (after Bradley 2011, sections 3 and 4; Een, Mishchenko, Brayton 2011).
-use Rattle.std.specs.Prelude.{◌≡◌, ◌≢◌, ◌⊎◌, ℕ, ◌+◌, ◌-◌, ◌<◌, ◌≤◌, Bool, true, false, List, [], ◌∷◌, ◌++◌, length, slice_index_or, slice_set, replicate, All, Contains, Option, Some, None}
+use Rattle.std.specs.Prelude.{◌≡◌, ◌≢◌, ◌⊎◌, ℕ, ◌+◌, ◌-◌, ◌<◌, ◌≤◌, Bool, true, false, List, [], ◌∷◌, ◌++◌, length, slice_index_or, slice_set, replicate, All, Option, Some, None}
 use Rattle.clause_core.specs.declared.literal.Lit.{Lit}
 use Rattle.clause_core.specs.Literals.{Within}
 use Rattle.clause_core.specs.Assignments.{ClauseTrue, assignment_of}
 use Rattle.clause_core.specs.Systems.{TransitionSystem, FirstBits, StepBits, BadBits, NextIs}
 use Rattle.frame_core.specs.declared.parts.Lemma.{Lemma}
+use Rattle.frame_core.specs.declared.parts.Parent.{Parent}
 use Rattle.frame_core.specs.declared.outcomes.Verdict.{Verdict}
-use Rattle.frame_core.specs.Facts.{IsFirstFlag}
-use Rattle.frame_core.specs.Law.{FrameState, AreAlike, LemmasHold, system_at, top_at, lemma_at, obligation_at, InFrame, IsAsHigh}
+use Rattle.frame_core.specs.Facts.{MeetsParents, IsFirstFlag}
+use Rattle.frame_core.specs.Law.{FrameState, AreAlike, LemmasHold, system_at, top_at, lemma_at, obligation_at, InFrame, AllStand, IsAsHigh}
 use Rattle.frame_core.specs.Looking.{IsHeldBy, IsKeptLevel}
 use Rattle.frame_core.specs.Changes.{fresh, with_lemma, with_level, with_retired, with_top, IsCovered, VerdictSays}
 use Rattle.frame_history.specs.declared.entries.Limits.{Limits}
@@ -25,20 +26,27 @@ use Rattle.frame_history.specs.declared.entries.Entry.TheVariants.{Claim, Settle
 -- ---- The state
 
 -- what a history leads to: the frames; for each entry the claim that it made, if it made one, and what became of it; how often
--- a lemma was added or raised; from which levels a push failed since; for each system whether its limit was met; whether the
--- purse was spent
+-- a lemma was added or raised; for each level up to the limit whether a push from it failed since; for each system whether its
+-- limit was met; whether the purse was spent
 pub record BookState : Type 0 where
   pub frames : FrameState
   pub claims : List (Option Made)
   pub growth : ℕ
-  pub failed : List ℕ
+  pub failed : List Bool
   pub limited : List Bool
   pub spent : Bool
 
 -- the state before all entries: the carried lemmas, tops 0, and nothing else
-abbrev pub start : List TransitionSystem → List Lemma → BookState
-start systems carried =
-    record { frames = fresh systems carried; claims = []; growth = 0; failed = []; limited = replicate (length systems) false; spent = false }
+abbrev pub start : Limits → List TransitionSystem → List Lemma → BookState
+start limits systems carried =
+    record {
+      frames = fresh systems carried;
+      claims = [];
+      growth = 0;
+      failed = replicate (limits.frames + 1) false;
+      limited = replicate (length systems) false;
+      spent = false;
+    }
 
 -- the claim that entry n made
 abbrev pub claim_at : List (Option Made) → ℕ → Option Made
@@ -48,7 +56,7 @@ claim_at claims n = slice_index_or claims n None
 
 -- the frames with a lemma more, or a lemma raised: no push has failed since
 abbrev pub grown : BookState → FrameState → BookState
-grown s frames = record s { frames = frames; growth = s.growth + 1; failed = [] }
+grown s frames = record s { frames = frames; growth = s.growth + 1; failed = replicate (length s.failed) false }
 
 abbrev pub changed : BookState → Change → BookState
 changed s (Add clause level parents) = grown s (with_lemma s.frames clause level)
@@ -62,7 +70,7 @@ changed s (Note j values parent first) =
     record s.frames { obligations = s.frames.obligations ++ record { system = j; values = values; parent = parent; first = first } ∷ [] } in
     record s { frames = noted }
 changed s (Open j) = record s { frames = with_top s.frames j }
-changed s (PushFailed n level) = record s { failed = s.failed ++ level ∷ [] }
+changed s (PushFailed n level) = record s { failed = slice_set s.failed level true }
 changed s (Limit j) = record s { limited = slice_set s.limited j true }
 changed s Spent = record s { spent = true }
 
@@ -141,19 +149,15 @@ pub record IsLawfulClaim (limits : Limits) (s : BookState) (subject : Subject) (
 
 -- ---- What a settlement may change
 
--- x meets the lemmas of these numbers
-abbrev pub MeetsLemmas : FrameState → List ℕ → (ℕ → Bool) → Type 0
-MeetsLemmas f parents x = All (λ n. ClauseTrue x (lemma_at f.lemmas n).clause) parents
-
 -- first states meet the clause; a step from a state that meets it and the parents, at level 1 from a first state, ends in it; and the
--- level of each parent is at most one below
-pub record IsShown (f : FrameState) (clause : List Lit) (level : ℕ) (parents : List ℕ) : Type 0 where
+-- kept level of each parent is at least one below
+pub record IsShown (f : FrameState) (clause : List Lit) (level : ℕ) (parents : List Parent) : Type 0 where
   pub above : 0 < level
   pub within : Within (system_at f.systems 0).state_bits clause
   pub first : (x : ℕ → Bool) → FirstBits (system_at f.systems 0) x → ClauseTrue x clause
-  pub step : (x y : ℕ → Bool) → (level ≡ 1 → FirstBits (system_at f.systems 0) x) → (1 < level → ClauseTrue x clause × MeetsLemmas f parents x) →
+  pub step : (x y : ℕ → Bool) → (level ≡ 1 → FirstBits (system_at f.systems 0) x) → (1 < level → ClauseTrue x clause × MeetsParents parents x) →
       StepBits (system_at f.systems 0) x y → ClauseTrue y clause
-  pub stand : 0 < level - 1 → All (λ n. (n < length f.lemmas) × (level - 1 ≤ (lemma_at f.lemmas n).level)) parents
+  pub stand : AllStand f.lemmas (level - 1) parents
 
 -- the claim blocks obligation o at this level, whose state does not meet the clause
 abbrev pub BlocksBy : FrameState → Made → ℕ → ℕ → List Lit → Type 0
@@ -200,63 +204,70 @@ LagsBy f c (lag.State values) =
     InFrame (system_at f.systems (asked_system f c.subject)) f.lemmas (asked_level c.subject c.level) (assignment_of values) → ⊥
 
 -- what comes of the claim
-abbrev pub Accepts : BookState → Made → Change → Type 0
+abbrev pub Accepts : FrameState → Made → Change → Type 0
 -- the clause is proved at the level, and no lemma is looked at but its parents
-Accepts s c (Add clause level parents) =
-    ((o : ℕ) × BlocksBy s.frames c o level clause) × IsShown s.frames clause level parents.items
+Accepts f c (Add clause level parents) =
+    ((o : ℕ) × BlocksBy f c o level clause) × IsShown f clause level parents.items
 -- a live lemma of a lower level is proved at the level
-Accepts s c (Raise n level parents) =
-    (c.subject ≡ Push n) × (c.level ≡ level) × (n < length s.frames.lemmas) × (IsAsHigh s.frames.lemmas n level → ⊥)
-    × IsShown s.frames (lemma_at s.frames.lemmas n).clause level parents.items
+Accepts f c (Raise n level parents) =
+    (c.subject ≡ Push n) × (c.level ≡ level) × (n < length f.lemmas) × (IsAsHigh f.lemmas n level → ⊥)
+    × IsShown f (lemma_at f.lemmas n).clause level parents.items
 -- a lemma has a part of the clause's literals and at least the level
-Accepts s c (Held n clause level) =
-    ((o : ℕ) × BlocksBy s.frames c o level clause) × IsHeldBy s.frames.lemmas clause level n
+Accepts f c (Held n clause level) =
+    ((o : ℕ) × BlocksBy f c o level clause) × IsHeldBy f.lemmas clause level n
 -- nothing comes of a claim but what follows from one that does
-Accepts s c (Retire n) = ⊥
+Accepts f c (Retire n) = ⊥
 -- a parent has too low a level here, or the state found is not in the frame that was asked about
-Accepts s c (Behind lag) = LagsBy s.frames c lag
+Accepts f c (Behind lag) = LagsBy f c lag
 -- the lemma is retired, or at the level already; or the top is another than the one that was asked about
-Accepts s c Dropped =
-    ((n : ℕ) × (c.subject ≡ Push n) × IsAsHigh s.frames.lemmas n c.level) ⊎ ((j : ℕ) × (c.subject ≡ Bad j) × (c.level ≢ top_at s.frames.tops j))
+Accepts f c Dropped =
+    ((n : ℕ) × (c.subject ≡ Push n) × IsAsHigh f.lemmas n c.level) ⊎ ((j : ℕ) × (c.subject ≡ Bad j) × (c.level ≢ top_at f.tops j))
 -- a bad state of the top's frame; or a state of the frame below with a step to the obligation
-Accepts s c (Note j values parent first) =
-    MayBeNoted s.frames c j values parent × (length values ≡ (system_at s.frames.systems j).all_bits)
-    × IsFirstFlag (system_at s.frames.systems j) values first
+Accepts f c (Note j values parent first) =
+    MayBeNoted f c j values parent × (length values ≡ (system_at f.systems j).all_bits)
+    × IsFirstFlag (system_at f.systems j) values first
 -- the top's frame has no bad state
-Accepts s c (Open j) =
-    (c.subject ≡ Bad j) × (c.level ≡ top_at s.frames.tops j) × (j < length s.frames.systems)
-    × ((x : ℕ → Bool) → InFrame (system_at s.frames.systems j) s.frames.lemmas (top_at s.frames.tops j) x → BadBits (system_at s.frames.systems j) x → ⊥)
+Accepts f c (Open j) =
+    (c.subject ≡ Bad j) × (c.level ≡ top_at f.tops j) × (j < length f.systems)
+    × ((x : ℕ → Bool) → InFrame (system_at f.systems j) f.lemmas (top_at f.tops j) x → BadBits (system_at f.systems j) x → ⊥)
 -- a step leads from a state of the level's frame out of the lemma
-Accepts s c (PushFailed n level) =
+Accepts f c (PushFailed n level) =
     (c.subject ≡ Push n) × (c.level ≡ level + 1)
-    × ((x y : ℕ → Bool) × InFrame (system_at s.frames.systems 0) s.frames.lemmas level x × StepBits (system_at s.frames.systems 0) x y
-    × (ClauseTrue y (lemma_at s.frames.lemmas n).clause → ⊥))
-Accepts s c (Limit j) = ⊥
+    × ((x y : ℕ → Bool) × InFrame (system_at f.systems 0) f.lemmas level x × StepBits (system_at f.systems 0) x y
+    × (ClauseTrue y (lemma_at f.lemmas n).clause → ⊥))
+Accepts f c (Limit j) = ⊥
 -- the purse was spent
-Accepts s c Spent = Unit {0}
+Accepts f c Spent = Unit {0}
 
 -- the top of j is past the limit, and at each level up to the limit a push failed since a lemma was last added or raised
 abbrev pub MeetsLimit : Limits → BookState → ℕ → Type 0
 MeetsLimit limits s j =
-    (top_at s.frames.tops j ≡ limits.frames + 1) × ((i : ℕ) → 0 < i → i ≤ limits.frames → Contains s.failed i)
+    (top_at s.frames.tops j ≡ limits.frames + 1) × ((i : ℕ) → 0 < i → i ≤ limits.frames → slice_index_or s.failed i false ≡ true)
 
--- what follows in the same settlement: lemmas that others cover are retired, and each limit that is met now, and was not before, is noted
-abbrev pub AcceptsRest : Limits → BookState → List Change → Type 0
-AcceptsRest limits s [] = (j : ℕ) → j < length s.frames.systems → slice_index_or s.limited j false ≡ false → MeetsLimit limits s j → ⊥
-AcceptsRest limits s (Retire n ∷ cs) =
-    (n < length s.frames.lemmas) × ((lemma_at s.frames.lemmas n).live ≡ true) × IsCovered s.frames n × AcceptsRest limits (changed s (Retire n)) cs
-AcceptsRest limits s (Limit j ∷ cs) =
-    (j < length s.frames.systems) × (slice_index_or s.limited j false ≡ false) × MeetsLimit limits s j × AcceptsRest limits (changed s (Limit j)) cs
-AcceptsRest limits s (c ∷ cs) = ⊥
+-- a limit that is met and was not noted before
+abbrev pub IsLimitLeft : Limits → BookState → ℕ → Type 0
+IsLimitLeft limits s j = (j < length s.frames.systems) × (slice_index_or s.limited j false ≡ false) × MeetsLimit limits s j
+
+-- what may follow in the same settlement: a lemma that another covers is retired, and a limit that is met now is noted
+abbrev pub AcceptsNext : Limits → BookState → Change → Type 0
+AcceptsNext limits s (Retire n) = (n < length s.frames.lemmas) × ((lemma_at s.frames.lemmas n).live ≡ true) × IsCovered s.frames n
+AcceptsNext limits s (Limit j) = IsLimitLeft limits s j
+AcceptsNext limits s c = ⊥
+
+-- each of these may follow
+abbrev pub AcceptsEach : Limits → BookState → List Change → Type 0
+AcceptsEach limits s [] = Unit {0}
+AcceptsEach limits s (c ∷ cs) = AcceptsNext limits s c × AcceptsEach limits (changed s c) cs
 
 -- claim n of this worker is out
 abbrev pub IsOut : BookState → ℕ → ℕ → Made → Type 0
 IsOut s worker n c = (claim_at s.claims n ≡ Some c) × (c.out ≡ true) × (c.worker ≡ worker)
 
--- the changes come of this claim
+-- one change comes of this claim, the others follow from it, and at the end no limit is left
 abbrev pub AcceptsAll : Limits → BookState → Made → List Change → Type 0
 AcceptsAll limits s c [] = ⊥
-AcceptsAll limits s c (d ∷ ds) = Accepts s c d × AcceptsRest limits (changed s d) ds
+AcceptsAll limits s c (d ∷ ds) =
+    Accepts s.frames c d × AcceptsEach limits (changed s d) ds × ((j : ℕ) → IsLimitLeft limits (all_changed (changed s d) ds) j → ⊥)
 
 -- ---- Which histories are lawful
 

@@ -45,17 +45,17 @@ pub enum Lag {
 /// What a settlement changes, or finds.
 #[derive(Drop)]
 pub enum Change {
-    /// A lemma is added, shown with the lemmas of these numbers.
+    /// A lemma is added, shown with these lemmas.
     Add {
         clause: Clause,
         level: u32,
-        parents: Vec<usize>,
+        parents: Vec<Parent>,
     },
-    /// A lemma is raised, shown with the lemmas of these numbers.
+    /// A lemma is raised, shown with these lemmas.
     Raise {
         lemma: usize,
         level: u32,
-        parents: Vec<usize>,
+        parents: Vec<Parent>,
     },
     /// This lemma holds the clause at the level already.
     Held {

@@ -13,12 +13,12 @@ ghost use Rattle.frame_history.specs.Limits.{WasAtLimit, IsSafeWithin};
 /// After each entry of a lawful history the law of the frames holds, whatever lemmas were carried that hold in each of
 /// the systems.
 pub fn a_lawful_history_keeps_the_law_of_the_frames()
-    ensures { (limits : ALimits) (systems : List TransitionSystem) (carried : List ALemma) (history : List AnEntry) → AreCarried systems carried → IsLawful limits (start systems carried) history → (n : ℕ) → FramesHold (replay (start systems carried) (take n history)).frames }
+    ensures { (limits : ALimits) (systems : List TransitionSystem) (carried : List ALemma) (history : List AnEntry) → AreCarried systems carried → IsLawful limits (start limits systems carried) history → (n : ℕ) → FramesHold (replay (start limits systems carried) (take n history)).frames }
 {}
 
 /// So after each entry each lemma of level i holds in each state that is reached in at most i steps.
 pub fn lemmas_hold_in_reached_states()
-    ensures { (limits : ALimits) (systems : List TransitionSystem) (carried : List ALemma) (history : List AnEntry) → AreCarried systems carried → IsLawful limits (start systems carried) history → (n j : ℕ) → j < length systems → (i : ℕ) (x : ℕ → Bool) → ReachedWithin (system_at systems j) i x → (l : ℕ) → l < length (replay (start systems carried) (take n history)).frames.lemmas → i ≤ (lemma_at (replay (start systems carried) (take n history)).frames.lemmas l).level → ClauseTrue x (lemma_at (replay (start systems carried) (take n history)).frames.lemmas l).clause }
+    ensures { (limits : ALimits) (systems : List TransitionSystem) (carried : List ALemma) (history : List AnEntry) → AreCarried systems carried → IsLawful limits (start limits systems carried) history → (n j : ℕ) → j < length systems → (i : ℕ) (x : ℕ → Bool) → ReachedWithin (system_at systems j) i x → (l : ℕ) → l < length (replay (start limits systems carried) (take n history)).frames.lemmas → i ≤ (lemma_at (replay (start limits systems carried) (take n history)).frames.lemmas l).level → ClauseTrue x (lemma_at (replay (start limits systems carried) (take n history)).frames.lemmas l).clause }
 {}
 
 /// Where the limit of a system is met, some entry left the frames with a top past it and steps out of each frame up to it, and

@@ -4,4 +4,4 @@ use Rattle.frame_history.proofs.laws.a_lawful_history_keeps_the_law_of_the_frame
 
 pub returns : goal.returns
 returns c = λ limits systems carried history are lawful n.
-    keeps_history limits (start systems carried) history (holds_at_start systems carried are) lawful n
+    keeps_history limits (start limits systems carried) history (holds_at_start systems carried are) lawful n

@@ -15,7 +15,7 @@ count_more-requires c = λ lt.
     let ls = c.self.inside.lemmas in
     let counts = c.self.inside.counts.items in
     let level = c.level-level.result in
-    let l : Lemma = record { clause = c.into_clause-clause.result; level = level; live = true } in
+    let l : Lemma = record { clause = c.args.clause; level = level; live = true } in
     let e : c.push.new.self ≡ ls ++ l ∷ [] = c.in_ok-push.ensures.done in
     let len : c.len-after.result ≡ length (ls ++ l ∷ []) = c.len-after.ensures ∙ ap length e in
     let fits = more_fits (ls ++ l ∷ []) counts level lt (counted_added ls l counts refl c.self.invariant.counted) in
@@ -24,17 +24,17 @@ count_more-requires c = λ lt.
 
 pub invariant_of-self-2 : goal.invariant_of-self-2
 invariant_of-self-2 c =
-    let p = c.args.proved in
+    let p = c.args.proved.now in
     let f : FrameState =
     record { systems = c.self.inside.systems.now; lemmas = c.self.inside.lemmas; tops = c.self.inside.tops.items; obligations = c.self.inside.obligations.items } in
     let counts = c.self.inside.counts.items in
     let marks = c.self.inside.marks.items in
-    let l : Lemma = record { clause = c.into_clause-clause.result; level = c.level-level.result; live = true } in
+    let l : Lemma = record { clause = c.args.clause; level = c.level-level.result; live = true } in
     let m : Lemma = record { clause = p.clause; level = p.level; live = true } in
-    let lm : l ≡ m = λ i. record { clause = c.into_clause-clause.ensures i; level = c.level-level.ensures i; live = true } in
+    let lm : l ≡ m = λ i. record { clause = c.requires.copy i; level = c.level-level.ensures i; live = true } in
     let items : c.push.new.self ≡ f.lemmas ++ m ∷ [] = c.in_ok-push.ensures.done ∙ ap (λ (z : Lemma). f.lemmas ++ z ∷ []) lm in
     let counted : c.count_more.new.counts.items ≡ more_at counts p.level = c.count_more.ensures ∙ ap (more_at counts) c.level-level.ensures in
-    let same : IsOfSystem f 0 false p.system = subst (λ (z : FrameState). IsOfSystem z 0 false p.system) (sym c.self.view_is) c.requires in
+    let same : IsOfSystem f 0 false p.system = subst (λ (z : FrameState). IsOfSystem z 0 false p.system) (sym c.self.view_is) c.requires.same in
     let stand : AllStand f.lemmas (p.level - 1) p.parents =
     subst (λ (z : List Lemma). AllStand z (p.level - 1) p.parents) c.as_slice.ensures
     (subst (λ (z : ℕ). AllStand c.as_slice.result.now (z - 1) p.parents) c.level-2.ensures
@@ -46,7 +46,7 @@ invariant_of-self-2 c =
 pub returns-in-Some-clause-done : goal.returns-in-Some-clause-done
 returns-in-Some-clause-done c =
     let f = c.args.self.now in
-    let p = c.args.proved in
+    let p = c.args.proved.now in
     let e1 : c.self.inside.lemmas ≡ f.lemmas = ap (λ (z : FrameState). z.lemmas) c.self.view_is in
     let all : Holder f.lemmas p.clause p.level c.in_ok-n.field-0 =
     holder_same c.self.inside.lemmas f.lemmas c.clause.result.now p.clause c.level.result p.level c.in_ok-n.field-0 e1 c.clause.ensures c.level.ensures c.in_ok-n.ensures in
@@ -55,7 +55,7 @@ returns-in-Some-clause-done c =
 pub returns-in-Some-first_behind-clause-done : goal.returns-in-Some-first_behind-clause-done
 returns-in-Some-first_behind-clause-done c =
     let f = c.args.self.now in
-    let p = c.args.proved in
+    let p = c.args.proved.now in
     let e1 : c.self.inside.lemmas ≡ f.lemmas = ap (λ (z : FrameState). z.lemmas) c.self.view_is in
     let e2 : c.as_slice.result.now ≡ f.lemmas = c.as_slice.ensures ∙ ap (λ (z : FrameState). z.lemmas) c.self.view_is in
     let all : Holder f.lemmas p.clause p.level c.in_ok-n.field-0 =
@@ -70,7 +70,7 @@ returns-in-Some-first_behind-clause-done c =
 pub returns-clause-done : goal.returns-clause-done
 returns-clause-done c =
     let f = c.args.self.now in
-    let p = c.args.proved in
+    let p = c.args.proved.now in
     let g : FrameState =
     record { systems = c.self.inside.systems.now; lemmas = c.self.inside.lemmas; tops = c.self.inside.tops.items; obligations = c.self.inside.obligations.items } in
     let e1 : c.self.inside.lemmas ≡ f.lemmas = ap (λ (z : FrameState). z.lemmas) c.self.view_is in
@@ -81,9 +81,9 @@ returns-clause-done c =
     subst (λ (z : List Lemma). AllStand z (p.level - 1) p.parents) e2
     (subst (λ (z : ℕ). AllStand c.as_slice.result.now (z - 1) p.parents) c.level-2.ensures
     (subst (AllStand c.as_slice.result.now (c.level-2.result - 1)) c.parents.ensures c.in_default-first_behind.ensures)) in
-    let l : Lemma = record { clause = c.into_clause-clause.result; level = c.level-level.result; live = true } in
+    let l : Lemma = record { clause = c.args.clause; level = c.level-level.result; live = true } in
     let m : Lemma = record { clause = p.clause; level = p.level; live = true } in
-    let lm : l ≡ m = λ i. record { clause = c.into_clause-clause.ensures i; level = c.level-level.ensures i; live = true } in
+    let lm : l ≡ m = λ i. record { clause = c.requires.copy i; level = c.level-level.ensures i; live = true } in
     let items : c.push.new.self ≡ g.lemmas ++ m ∷ [] = c.in_ok-push.ensures.done ∙ ap (λ (z : Lemma). g.lemmas ++ z ∷ []) lm in
     let number : c.len-number.result ≡ length f.lemmas = c.len-number.ensures ∙ ap (λ (z : FrameState). length z.lemmas) c.self.view_is in (
       holder_none f.lemmas p.clause p.level c.in_ok-n.field-0 c.in_default.is all,

@@ -17,7 +17,7 @@ invariant_of-self c =
 
 pub invariant_of-self-2 : goal.invariant_of-self-2
 invariant_of-self-2 c =
-    let k = c.args.clear in
+    let k = c.args.clear.now in
     let j = c.args.j in
     let f : FrameState =
     record { systems = c.self.inside.systems.now; lemmas = c.self.inside.lemmas; tops = c.self.inside.tops.items; obligations = c.self.inside.obligations.items } in

@@ -10,7 +10,7 @@ use Rattle.frame_core.proofs.keeping.Frames.raise_same.Goals as goal
 
 pub invariant_of-self : goal.invariant_of-self
 invariant_of-self c =
-    let p = c.args.proved in
+    let p = c.args.proved.now in
     let n = c.args.n in
     let f : FrameState =
     record { systems = c.self.inside.systems.now; lemmas = c.self.inside.lemmas; tops = c.self.inside.tops.items; obligations = c.self.inside.obligations.items } in
@@ -39,7 +39,7 @@ invariant_of-self c =
 
 pub count_more-requires : goal.count_more-requires
 count_more-requires c = λ below.
-    let p = c.args.proved in
+    let p = c.args.proved.now in
     let n = c.args.n in
     let f : FrameState =
     record { systems = c.self.inside.systems.now; lemmas = c.self.inside.lemmas; tops = c.self.inside.tops.items; obligations = c.self.inside.obligations.items } in

@@ -1,0 +1,35 @@
+use Rattle.std.proofs.Common.{◌≡◌, ◌<◌, ℕ, List, length, true, sym, ap, subst, ◌∙◌}
+use Rattle.clause_core.specs.Assignments.{assignment_of}
+use Rattle.frame_core.specs.declared.parts.Lemma.{Lemma}
+use Rattle.frame_core.specs.declared.outcomes.Insertion.{Insertion}
+use Rattle.frame_core.specs.declared.outcomes.Insertion.TheVariants.{Added}
+use Rattle.frame_core.specs.Facts.{ProvedClause}
+use Rattle.frame_core.specs.Law.{FrameState, lemma_at, obligation_at}
+use Rattle.frame_core.specs.Changes.{InsertsSame}
+use Rattle.book_agenda.specs.Values.{AreBlocked, IsLifted, blocked_at}
+use Rattle.book_agenda.proofs.Blocked.{blocked_added, lemma_last}
+use Rattle.book_agenda.proofs.levels.Levels.insert.Goals as goal
+
+pub invariant_of-self-in-Added : goal.invariant_of-self-in-Added
+invariant_of-self-in-Added c =
+    let f : FrameState = c.self.inside.frames in
+    let p : ProvedClause = c.args.proved.now in
+    let now : FrameState = c.insert_same.new.self in
+    let n : ℕ = c.in-Added.n in
+    let l : Lemma = record { clause = p.clause; level = p.level; live = true } in
+    let done : InsertsSame f p (Added n) now = subst (λ (r : Insertion). InsertsSame f p r now) c.in-Added.is c.in_ok-insertion.ensures.done in
+    let bs : List ℕ = c.self.inside.blocked.items in
+    let cs : List ℕ = c.lift.new.blocked.items in
+    let here : lemma_at now.lemmas n ≡ l = ap (λ (z : FrameState). lemma_at z.lemmas n) done.3 ∙ lemma_last f.lemmas l n (sym done.2) in
+    let each : (o : ℕ) → o < length bs → IsLifted l (assignment_of (obligation_at f.obligations o).values) (blocked_at bs o) (blocked_at cs o) =
+    λ o lt. subst (λ (z : FrameState). IsLifted l (assignment_of (obligation_at z.obligations o).values) (blocked_at bs o) (blocked_at cs o)) done.3
+    (subst (λ (z : Lemma). IsLifted z (assignment_of (obligation_at now.obligations o).values) (blocked_at bs o) (blocked_at cs o)) here (c.lift.ensures.each o lt)) in
+    subst (λ (z : FrameState). AreBlocked z.lemmas z.obligations cs) (sym done.3)
+    (blocked_added f.lemmas f.obligations l bs cs c.self.invariant c.lift.ensures.length each)
+
+pub returns-in-Added-clause-done : goal.returns-in-Added-clause-done
+returns-in-Added-clause-done c =
+    let p : ProvedClause = c.args.proved.now in
+    let now : FrameState = c.insert_same.new.self in
+    subst (λ (f : FrameState). InsertsSame f p (Added c.in-Added.n) now) c.self.view_is
+    (subst (λ (r : Insertion). InsertsSame c.self.inside.frames p r now) c.in-Added.is c.in_ok-insertion.ensures.done)

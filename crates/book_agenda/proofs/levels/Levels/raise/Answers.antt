@@ -1,0 +1,28 @@
+use Rattle.std.proofs.Common.{◌<◌, ◌≤◌, ℕ, List, length, sym, subst, arith}
+use Rattle.clause_core.specs.Assignments.{assignment_of}
+use Rattle.frame_core.specs.declared.outcomes.Raising.{Raising}
+use Rattle.frame_core.specs.declared.outcomes.Raising.TheVariants.{Raised}
+use Rattle.frame_core.specs.Facts.{ProvedClause}
+use Rattle.frame_core.specs.Law.{FrameState, lemma_at, obligation_at, raised_at}
+use Rattle.frame_core.specs.Changes.{RaisesSame}
+use Rattle.book_agenda.specs.Values.{AreBlocked, IsLifted, blocked_at}
+use Rattle.book_agenda.proofs.Blocked.{blocked_raised}
+use Rattle.book_agenda.proofs.Blocked.{is_lower}
+use Rattle.book_agenda.proofs.levels.Levels.raise.Goals as goal
+
+pub invariant_of-self : goal.invariant_of-self
+invariant_of-self c =
+    let f : FrameState = c.self.inside.frames in
+    let p : ProvedClause = c.args.proved.now in
+    let n : ℕ = c.args.n in
+    let now : FrameState = c.raise_same-raising.new.self in
+    let done : RaisesSame f n p Raised now = subst (λ (r : Raising). RaisesSame f n p r now) c.in-Raised.is c.raise_same-raising.ensures in
+    let bs : List ℕ = c.self.inside.blocked.items in
+    let cs : List ℕ = c.lift.new.blocked.items in
+    let lt : n < length f.lemmas = subst (λ (z : FrameState). n < length z.lemmas) (sym c.self.view_is) c.requires.in_range in
+    let lower : (lemma_at f.lemmas n).level ≤ p.level = let low = is_lower f.lemmas n p.level done.0 in omega arith in
+    let each : (o : ℕ) → o < length bs → IsLifted (lemma_at (raised_at f.lemmas n p.level) n) (assignment_of (obligation_at f.obligations o).values) (blocked_at bs o) (blocked_at cs o) =
+    λ o in'. subst (λ (z : FrameState). IsLifted (lemma_at z.lemmas n) (assignment_of (obligation_at z.obligations o).values) (blocked_at bs o) (blocked_at cs o)) done.2
+    (c.lift.ensures.each o in') in
+    subst (λ (z : FrameState). AreBlocked z.lemmas z.obligations cs) (sym done.2)
+    (blocked_raised f.lemmas f.obligations n p.level bs cs c.self.invariant lt lower c.lift.ensures.length each)

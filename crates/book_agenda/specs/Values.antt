@@ -1,0 +1,30 @@
+-- How far a state is blocked: the greatest level of a lemma that it does not meet.
+use Rattle.std.specs.Prelude.{◌≡◌, ◌⊎◌, ℕ, ◌<◌, ◌≤◌, Bool, List, length, slice_index_or}
+use Rattle.clause_core.specs.Assignments.{ClauseTrue, assignment_of}
+use Rattle.frame_core.specs.declared.parts.Lemma.{Lemma}
+use Rattle.frame_core.specs.declared.parts.Obligation.{Obligation}
+use Rattle.frame_core.specs.Law.{lemma_at, obligation_at}
+
+-- x meets each of the first lemmas above this level, and does not meet one of this level, where that is not 0
+pub record IsBlockedBelow (lemmas : List Lemma) (bound : ℕ) (level : ℕ) (x : ℕ → Bool) : Type 0 where
+  pub above : (n : ℕ) → n < bound → level < (lemma_at lemmas n).level → ClauseTrue x (lemma_at lemmas n).clause
+  pub at' : (level ≡ 0) ⊎ ((n : ℕ) × (n < bound) × ((lemma_at lemmas n).level ≡ level) × (ClauseTrue x (lemma_at lemmas n).clause → ⊥))
+
+-- the same of all lemmas
+abbrev pub IsBlockedTo : List Lemma → ℕ → (ℕ → Bool) → Type 0
+IsBlockedTo lemmas level x = IsBlockedBelow lemmas (length lemmas) level x
+
+-- the level to which obligation o is blocked
+abbrev pub blocked_at : List ℕ → ℕ → ℕ
+blocked_at blocked o = slice_index_or blocked o 0
+
+-- each obligation's state is blocked to the level that is kept for it
+pub record AreBlocked (lemmas : List Lemma) (obligations : List Obligation) (blocked : List ℕ) : Type 0 where
+  pub as_many : length blocked ≡ length obligations
+  pub each : (o : ℕ) → o < length obligations → IsBlockedTo lemmas (blocked_at blocked o) (assignment_of (obligation_at obligations o).values)
+
+-- with one more lemma the level is that of the lemma, where x does not meet it and it is higher, and else as before
+abbrev pub IsLifted : Lemma → (ℕ → Bool) → ℕ → ℕ → Type 0
+IsLifted lemma x before now =
+    ((now ≡ before) × (ClauseTrue x lemma.clause ⊎ (lemma.level ≤ before)))
+    ⊎ ((now ≡ lemma.level) × (before < lemma.level) × (ClauseTrue x lemma.clause → ⊥))

@@ -1,0 +1,148 @@
+//! The frames, with the level to which each obligation is blocked, which follows the lemmas.
+
+ghost use Rattle.std.specs.Prelude.{◌≡◌, ◌<◌, length};
+
+use crate::values::{blocked_to, lift};
+use clause_core::Clause;
+use frame_core::{Clear, Found, Frames, Insertion, Noting, Opening, Proved, Raising};
+use std::alloc::{AllocError, Global};
+use std::marker::Model;
+
+/// The frames of some systems, and for each obligation the greatest level of a lemma that its state does not
+/// meet. Contracts see the frames.
+#[derive(Drop)]
+pub struct Levels<'a> {
+    frames: Frames<'a>,
+    // for each obligation the greatest level of a lemma that its state does not meet
+    blocked: Vec<u32>,
+}
+
+impl<'a> Model for Levels<'a> {
+    ghost use Rattle.frame_core.specs.Law.{FrameState};
+    ghost use Rattle.book_agenda.specs.Values.{AreBlocked};
+
+    ghost Value = { FrameState };
+
+    ghost view = { λ l. l.frames };
+
+    ghost invariant = { λ l. AreBlocked l.frames.lemmas l.frames.obligations l.blocked.items };
+}
+
+impl<'a> Levels<'a> {
+    ghost use Rattle.std.specs.Prelude.{◌≡◌, ◌<◌, ◌+◌, ◌^◌, [], ℕ, List, is_none, length, false, true, IfOk, OnErr};
+    ghost use Rattle.clause_core.specs.Assignments.{assignment_of};
+    ghost use Rattle.frame_core.specs.Law.{FrameState, top_at, lemma_at, obligation_at};
+    ghost use Rattle.frame_core.specs.Changes.{IsOfSystem, InsertsSame, RaisesSame, IsCovered, with_retired, OpensSame, MayHaveParent, NotesSame};
+    ghost use Rattle.book_agenda.specs.Values.{IsBlockedTo, AreBlocked};
+
+    /// These frames, which have no obligation; takes no memory.
+    pub fn of(alloc: Global, frames: Frames<'a>) -> Levels<'a>
+        requires { frames.obligations ≡ [] }
+        ensures { result ≡ frames.entry }
+    {
+        Levels {
+            frames,
+            blocked: Vec::new(alloc),
+        }
+    }
+
+    /// The frames.
+    pub fn frames(&self) -> &Frames<'a>
+        ensures { result.now ≡ self.now }
+    {
+        &self.frames
+    }
+
+    /// The frames, taken out; takes no memory.
+    pub fn into_frames(self) -> Frames<'a>
+        ensures { result ≡ self.entry }
+    {
+        let Levels { frames, blocked: _ } = self;
+        frames
+    }
+
+    /// The greatest level of a lemma that the obligation's state does not meet, 0 where it meets them all.
+    pub fn blocked(&self, o: usize) -> u32
+        requires { o < length self.now.obligations }
+        ensures { IsBlockedTo self.now.lemmas result (assignment_of (obligation_at self.now.obligations o).values) }
+    {
+        self.blocked[o]
+    }
+
+    /// Says what the type keeps.
+    pub fn follow(&self)
+        ensures { (blocked : List ℕ) × AreBlocked self.now.lemmas self.now.obligations blocked }
+    {
+        let _obligations = self.blocked.len();
+    }
+
+    /// As `insert_same` of the frames. Where a lemma is added it is tried at each obligation that is blocked
+    /// below its level.
+    pub fn insert(&mut self, proved: &Proved, clause: Clause) -> Result<Insertion, AllocError>
+        requires same { IsOfSystem self.old 0 false proved.now.system }
+        requires copy { clause ≡ proved.now.clause }
+        ensures done { IfOk result (λ r. InsertsSame self.old proved.now r self.new) }
+        ensures err { OnErr result (self.new ≡ self.old) }
+    {
+        let insertion = self.frames.insert_same(proved, clause)?;
+        if let Insertion::Added(n) = insertion {
+            lift(&mut self.blocked, &self.frames, n);
+        }
+        Ok(insertion)
+    }
+
+    /// As `raise_same` of the frames; the lemma is tried as for `insert`. Takes no memory.
+    pub fn raise(&mut self, n: usize, proved: &Proved) -> Raising
+        requires in_range { n < length self.old.lemmas }
+        requires clause { proved.now.clause ≡ (lemma_at self.old.lemmas n).clause }
+        requires same { IsOfSystem self.old 0 false proved.now.system }
+        ensures { RaisesSame self.old n proved.now result self.new }
+    {
+        let raising = self.frames.raise_same(n, proved);
+        if let Raising::Raised = raising {
+            lift(&mut self.blocked, &self.frames, n);
+        }
+        raising
+    }
+
+    /// As `open_same` of the frames.
+    pub fn open(&mut self, j: usize, clear: &Clear) -> Result<Opening, AllocError>
+        requires in_range { j < length self.old.systems }
+        requires room { top_at self.old.tops j + 1 < 2 ^ 32 }
+        requires same { IsOfSystem self.old j true clear.now.system }
+        ensures done { IfOk result (λ r. OpensSame self.old j clear.now r self.new) }
+        ensures err { OnErr result (self.new ≡ self.old) }
+    {
+        let opening = self.frames.open_same(j, clear)?;
+        Ok(opening)
+    }
+
+    /// As `add_obligation_same` of the frames. Looks at each lemma once.
+    pub fn note(
+        &mut self,
+        j: usize,
+        found: Found,
+        parent: Option<usize>,
+    ) -> Result<Noting, AllocError>
+        requires in_range { j < length self.old.systems }
+        requires parent { MayHaveParent self.old j found parent }
+        requires same { IsOfSystem self.old j (is_none parent) found.system }
+        ensures done { IfOk result (λ r. NotesSame self.old j found.entry parent r self.new) }
+        ensures err { OnErr result (self.new ≡ self.old) }
+    {
+        self.blocked.reserve(1)?;
+        let level = blocked_to(self.frames.all_lemmas(), found.values().as_slice());
+        let noting = self.frames.add_obligation_same(j, found, parent)?;
+        self.blocked.push_reserved(level);
+        Ok(noting)
+    }
+
+    /// As `retire` of the frames. Takes no memory.
+    pub fn retire(&mut self, n: usize)
+        requires in_range { n < length self.old.lemmas }
+        requires covered { IsCovered self.old n }
+        ensures { self.new ≡ with_retired self.old n }
+    {
+        self.frames.retire(n);
+    }
+}

@@ -1,0 +1,12 @@
+//! What a book looks up to tell what may be claimed: the frames with the level to which each obligation is blocked
+//! (Bradley 2011, section 4), and the claims that were made with the last one of each subject.
+#![tactic(auto)]
+
+mod latest;
+pub mod levels;
+pub mod register;
+pub mod values;
+
+pub use levels::Levels;
+pub use register::Register;
+pub use values::blocked_to;

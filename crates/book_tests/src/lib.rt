@@ -1,0 +1,5 @@
+//! Tests of the book.
+#![tactic(auto)]
+
+#[cfg(test)]
+mod books;

@@ -1,0 +1,7 @@
+pub mod Accepted
+pub mod Backed
+pub mod Entering
+pub mod Opening
+pub mod Picked
+pub mod Sane
+pub mod Turning

@@ -1,0 +1,9 @@
+pub mod Backed
+pub mod Book
+pub mod Claims
+pub mod Marked
+pub mod Outcomes
+pub mod Pages
+pub mod Picking
+pub mod Rooms
+pub mod Steps
