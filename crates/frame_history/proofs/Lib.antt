@@ -1,2 +1,4 @@
 pub mod Keeping
 pub mod Limiting
+pub mod Tracking
+pub mod Waiting

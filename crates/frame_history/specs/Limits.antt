@@ -1,10 +1,11 @@
--- How far the frames of a history went for a system without an answer.
-use Rattle.std.specs.Prelude.{◌≡◌, ℕ, ◌+◌, ◌<◌, ◌≤◌, Bool, List, take}
+-- How far the frames of a history went for a system without an answer; and whether a claim is out.
+use Rattle.std.specs.Prelude.{◌≡◌, ℕ, ◌+◌, ◌<◌, ◌≤◌, Bool, true, List, take, Option, Some}
 use Rattle.clause_core.specs.Systems.{TransitionSystem, StepBits, ReachedWithin, BadBits}
 use Rattle.frame_core.specs.Law.{FrameState, InFrame, system_at, top_at}
 use Rattle.frame_history.specs.declared.entries.Limits.{Limits}
+use Rattle.frame_history.specs.declared.entries.Made.{Made}
 use Rattle.frame_history.specs.declared.entries.Entry.{Entry}
-use Rattle.frame_history.specs.History.{BookState, replay}
+use Rattle.frame_history.specs.History.{BookState, replay, claim_at}
 
 -- a step leads out of frame i
 abbrev pub IsLeft : FrameState → ℕ → Type 0
@@ -24,3 +25,7 @@ WasAtLimit limits s history j = (n : ℕ) × IsAtLimit limits (replay s (take n 
 -- no bad state is reached in at most n steps
 abbrev pub IsSafeWithin : TransitionSystem → ℕ → Type 0
 IsSafeWithin sys n = (x : ℕ → Bool) → ReachedWithin sys n x → BadBits sys x → ⊥
+
+-- some claim is out
+abbrev pub SomeIsOut : List (Option Made) → Type 0
+SomeIsOut claims = (n : ℕ) × (c : Made) × (claim_at claims n ≡ Some c) × (c.out ≡ true)
