@@ -17,6 +17,8 @@ mod edge_queries;
 #[cfg(test)]
 mod formulas;
 #[cfg(test)]
+mod frame_queries;
+#[cfg(test)]
 mod frames;
 #[cfg(test)]
 mod graph_clauses;

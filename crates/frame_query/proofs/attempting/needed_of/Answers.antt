@@ -1,0 +1,27 @@
+use Rattle.std.proofs.Common.{◌≡◌, ◌++◌, ◌∷◌, [], List, take, get_or, length, subst, sym, ◌<◌}
+use Rattle.std.proofs.lemmas.List.{take_more}
+use Rattle.clause_core.specs.declared.literal.Lit.{Lit}
+use Rattle.clause_core.specs.Literals.{none_lit}
+use Rattle.frame_query.specs.Trying.{IsNeeded}
+use Rattle.frame_query.proofs.Tried.{needed_push, needed_skip}
+use Rattle.frame_query.proofs.attempting.needed_of.Goals as goal
+use Rattle.frame_query.proofs.attempting.needed_of.Goals.{then-is_needed+in_ok-push, else-is_needed}
+
+pub literals-preserved : goal.literals-preserved
+literals-preserved c =
+    let left = c.args.left.now in
+    let i = c.literals.l-index in
+    let needed = c.literals.needed.items in
+    let lt : i < length left = c.literals-test.true in
+    let l : Lit = get_or left i none_lit in
+    let more = take_more left i none_lit lt in
+    let P : List Lit → Type 0 = λ xs. IsNeeded xs c.args.part.now c.args.met.now c.if-is_needed.needed.items in
+    let Q : List Lit → Type 0 = λ ys. IsNeeded (take i left ++ l ∷ []) c.args.part.now c.args.met.now ys in
+    elim c.if-is_needed.branch [
+      | then-is_needed+in_ok-push w ↦
+          let e : c.if-is_needed.needed.items ≡ needed ++ l ∷ [] = cc (w.needed-is, w.in_ok-push.ensures.items) in
+          subst P (sym more) (subst Q (sym e) (needed_push (take i left) c.args.part.now c.args.met.now needed l c.literals.invariant))
+      | else-is_needed w ↦
+          let e : c.if-is_needed.needed.items ≡ needed = cc w.needed-is in
+          subst P (sym more) (subst Q (sym e) (needed_skip (take i left) c.args.part.now c.args.met.now needed l c.literals.invariant w.if-is_needed.ensures))
+    ]

@@ -1,0 +1,12 @@
+pub mod Asking
+pub mod Bads
+pub mod Dropping
+pub mod Engines
+pub mod Findings
+pub mod Firsts
+pub mod Flags
+pub mod Groups
+pub mod Guards
+pub mod Paying
+pub mod Stepping
+pub mod Trying

@@ -1,0 +1,116 @@
+-- What the steps of a generalisation say.
+use Rattle.std.specs.Prelude.{◌≡◌, ◌⊎◌, ℕ, ◌+◌, ◌-◌, ◌≤◌, Bool, true, List, [], ◌∷◌, ◌++◌, length, All, Contains}
+use Rattle.clause_core.specs.declared.literal.Lit.{Lit}
+use Rattle.clause_core.specs.Systems.{TransitionSystem}
+use Rattle.frame_core.specs.declared.parts.Lemma.{Lemma}
+use Rattle.frame_core.specs.declared.parts.Parent.{Parent}
+use Rattle.frame_core.specs.Facts.{IsPart, IsProved, ProvedClause}
+use Rattle.frame_core.specs.Law.{AllStand}
+use Rattle.frame_query.specs.declared.trying.Trial.{Trial}
+use Rattle.frame_query.specs.declared.trying.Trial.TheVariants.{Holds, Fails, Spent}
+use Rattle.frame_query.specs.declared.trying.Draft.{Draft}
+use Rattle.frame_query.specs.declared.trying.Walk.{Walk}
+use Rattle.frame_query.specs.declared.trying.Turn.{Turn}
+use Rattle.frame_query.specs.declared.trying.Turn.TheVariants as turn
+use Rattle.frame_query.specs.declared.trying.Ending.{Ending}
+use Rattle.frame_query.specs.declared.trying.Ending.TheVariants as ending
+use Rattle.frame_query.specs.Firsts.{AllFirstsMeet}
+use Rattle.frame_query.specs.Stepping.{Ends}
+use Rattle.frame_query.specs.Paying.{AskedQuery, Pays, AllDiffer}
+use Rattle.frame_query.specs.Dropping.{IsBroken, AllNeeded, AsksOf, AsksOfSome, IsProperPart}
+
+-- the draft as a proof
+abbrev pub proof_of : TransitionSystem → ℕ → Draft → ProvedClause
+proof_of sys level d = record { system = sys; clause = d.clause.items; part = d.part.items; level = level; parents = d.parents.items }
+
+-- what was found of a clause
+abbrev pub Tries : TransitionSystem → List Lemma → ℕ → List Parent → List Lit → ℕ → Bool → Trial → Type 0
+Tries sys lemmas level given d budget over (Holds parents part met) =
+    Ends sys level d parents.items part.items × IsPart part.items d × AllFirstsMeet sys met × IsPart met d
+    × (AllStand lemmas (level - 1) given → AllStand lemmas (level - 1) parents.items)
+Tries sys lemmas level given d budget over Fails = IsBroken sys lemmas level d
+Tries sys lemmas level given d budget over (Spent drawn b) = (drawn ≡ budget) × (b ≡ budget) × (over ≡ true)
+
+-- queries of one clause, no two equal, paid for
+abbrev pub PaysFor : List TransitionSystem → List Lemma → List (List Lit) → List (List Lit) → List ℕ → List ℕ → ℕ → List Lit → Type 0
+PaysFor systems lemmas old new before after level d =
+    (log : List AskedQuery) × Pays systems lemmas old new before after log × All (AsksOf level d) log × AllDiffer log
+
+-- the others have each literal of the list but l
+pub record IsOthers (xs : List Lit) (l : Lit) (ys : List Lit) : Type 0 where
+  pub enough : (m : Lit) → Contains xs m → (m ≡ l → ⊥) → Contains ys m
+  pub only : IsPart ys xs
+  pub lacks : Contains ys l → ⊥
+  pub fewer : length ys ≤ length xs
+
+-- the literals that are in the part or in the other part
+pub record IsNeeded (left part met needed : List Lit) : Type 0 where
+  pub enough : (m : Lit) → Contains left m → Contains part m ⊎ Contains met m → Contains needed m
+  pub only : IsPart needed left
+  pub fewer : length needed ≤ length left
+
+-- each literal is in one of the two lists, which have no more
+pub record IsSplit (xs inside outside : List Lit) : Type 0 where
+  pub enough : (m : Lit) → Contains xs m → Contains inside m ⊎ Contains outside m
+  pub inside_only : IsPart inside xs
+  pub outside_only : IsPart outside xs
+  pub many : length inside + length outside ≡ length xs
+
+-- a generalisation under way: the proof at hand, the literals that are needed, and those still to be tried
+pub record IsUnderWay (sys : TransitionSystem) (lemmas : List Lemma) (given : ProvedClause) (draft : Draft) (kept rest : List Lit) : Type 0 where
+  pub proved : IsProved (proof_of sys given.level draft)
+  pub stands : AllStand lemmas (given.level - 1) given.parents → AllStand lemmas (given.level - 1) draft.parents.items
+  pub part : IsPart draft.clause.items given.clause
+  pub to : IsPart draft.clause.items (kept ++ rest)
+  pub from : IsPart (kept ++ rest) draft.clause.items
+  pub needed : AllNeeded sys lemmas given.level given.clause draft.clause.items kept
+  pub apart : (l : Lit) → Contains kept l → Contains rest l → ⊥
+
+-- a clause that was asked about will not be asked about again: it has all literals at hand, or lacks one that is needed
+abbrev pub IsPast : List Lit → List Lit → List Lit → Type 0
+IsPast best kept d = IsPart best d ⊎ ((l : Lit) × Contains kept l × (Contains d l → ⊥))
+
+-- the queries of a generalisation so far, of which `left` literals are still to be tried
+pub record IsPaidSoFar (systems : List TransitionSystem) (lemmas : List Lemma) (old new : List (List Lit)) (before after : List ℕ) (level : ℕ) (given best kept : List Lit)
+    (left : ℕ) : Type 0 where
+  pub log : List AskedQuery
+  pub parts : List (List Lit)
+  pub pays : Pays systems lemmas old new before after log
+  pub differ : AllDiffer log
+  pub proper : All (IsProperPart given) parts
+  pub past : All (IsPast best kept) parts
+  pub asks : All (AsksOfSome level parts) log
+  pub few : length parts + left ≤ length given
+
+-- the clause that was tried: without l, with all that is needed
+pub record IsCandidate (kept rest : List Lit) (l : Lit) (d : List Lit) : Type 0 where
+  pub lacks : Contains d l → ⊥
+  pub kept_in : IsPart kept d
+  pub inside : IsPart d (kept ++ rest)
+
+-- what a trial does to a walk, where these literals are left
+abbrev pub MovesBy : Walk → Lit → List Lit → Trial → Walk → Turn → Type 0
+MovesBy old l left (Holds parents part met) new t =
+    (t ≡ turn.Went) × (new.kept.items ≡ old.kept.items) × IsNeeded left part.items met new.rest.items
+    × (new.draft.clause.items ≡ old.kept.items ++ new.rest.items) × (new.draft.part.items ≡ part.items) × (new.draft.parents.items ≡ parents.items)
+MovesBy old l left Fails new t = (t ≡ turn.Went) × (new.kept.items ≡ old.kept.items ++ l ∷ []) × (new.rest.items ≡ left) × (new.draft ≡ old.draft)
+MovesBy old l left (Spent drawn b) new t = t ≡ turn.Spent drawn b
+
+-- the literal was dropped, and maybe others; or it is needed
+pub data Moves (old new : Walk) (l : Lit) (d : List Lit) : Type 0 where
+  Drops : IsPart new.draft.clause.items d → IsPart new.draft.clause.items old.draft.clause.items → new.kept.items ≡ old.kept.items → Moves old new l d
+  Keeps : new.draft ≡ old.draft → new.kept.items ≡ old.kept.items ++ l ∷ [] → Moves old new l d
+
+-- what a turn says
+abbrev pub TurnSays : TransitionSystem → List Lemma → ProvedClause → Walk → Walk → Lit → List Lit → ℕ → Bool → Turn → Type 0
+TurnSays sys lemmas given old new l d budget over turn.Went =
+    IsUnderWay sys lemmas given new.draft new.kept.items new.rest.items × Moves old new l d × (length new.rest.items ≤ length old.rest.items)
+TurnSays sys lemmas given old new l d budget over (turn.Spent drawn b) = (drawn ≡ budget) × (b ≡ budget) × (over ≡ true)
+
+-- what a generalisation came to
+abbrev pub EndSays : TransitionSystem → List Lemma → ProvedClause → ℕ → Bool → Ending → Type 0
+EndSays sys lemmas given budget over (ending.Done draft) =
+    IsProved (proof_of sys given.level draft) × IsPart draft.clause.items given.clause
+    × AllNeeded sys lemmas given.level given.clause draft.clause.items draft.clause.items
+    × (AllStand lemmas (given.level - 1) given.parents → AllStand lemmas (given.level - 1) draft.parents.items)
+EndSays sys lemmas given budget over (ending.Spent drawn b) = (drawn ≡ budget) × (b ≡ budget) × (over ≡ true)

@@ -1,0 +1,183 @@
+ghost use Rattle.std.specs.Prelude.{◌≡◌, ◌⊎◌, MatchBool, ◌-◌, ◌<◌, ◌≤◌, ◌++◌, ℕ, Bool, List, IfOk, All, Contains, length, take};
+ghost use Rattle.frame_core.specs.declared.parts.Lemma.{Lemma as ALemma};
+ghost use Rattle.clause_core.specs.Literals.{Within};
+ghost use Rattle.frame_core.specs.Facts.{IsPart, IsProved};
+ghost use Rattle.frame_core.specs.Law.{AreAlike, system_at};
+ghost use Rattle.frame_query.specs.Groups.{base as base_of, step_heads, state_heads, clauses_of};
+ghost use Rattle.frame_query.specs.Engines.{IsLoaded, known_of};
+ghost use Rattle.frame_query.specs.Firsts.{AllFirstsMeet};
+ghost use Rattle.frame_query.specs.Paying.{Steps, PaysOne};
+ghost use Rattle.frame_query.specs.Trying.{proof_of, Tries, PaysFor, IsOthers, IsNeeded, IsSplit};
+
+use crate::loading::Engine;
+use crate::outcomes::Firsts;
+use crate::querying::{firsts_of, steps_of};
+use crate::stepping::{Stepping, has};
+use crate::trying::{Draft, Trial};
+use clause_core::{Clause, Lit, System};
+use effort_purse::Purse;
+use frame_core::{Lemma, Parent, is_part_of};
+use std::alloc::{AllocError, Global};
+
+// A copy of the parents.
+pub(crate) fn copy_parents(alloc: Global, parents: &[Parent]) -> Result<Vec<Parent>, AllocError>
+    ensures { IfOk result (λ v. v.items ≡ parents.now) }
+{
+    let mut copies = Vec::new(alloc);
+    'parents: for p in parents {
+        let clause = Clause::from_slice(alloc, p.clause.as_slice())?;
+        copies.push(Parent {
+            number: p.number,
+            clause,
+        })?;
+    }
+    Ok(copies)
+}
+
+// The literals but this one.
+pub(crate) fn others(alloc: Global, literals: &[Lit], l: Lit) -> Result<Vec<Lit>, AllocError>
+    ensures { IfOk result (λ v. IsOthers literals.now l v.items) }
+{
+    let mut rest = Vec::new(alloc);
+    'literals: for m in literals {
+        if !m.is_same(l) {
+            rest.push(*m)?;
+        }
+    }
+    Ok(rest)
+}
+
+// Whether the literal is in one of the two parts.
+fn is_needed(part: &[Lit], met: &[Lit], l: Lit) -> bool
+    ensures { MatchBool result (Contains part.now l ⊎ Contains met.now l) (Contains part.now l ⊎ Contains met.now l → ⊥) }
+{
+    if has(part, l) {
+        return true;
+    }
+    has(met, l)
+}
+
+// The literals that are in one of the two parts.
+pub(crate) fn needed_of(
+    alloc: Global,
+    left: &[Lit],
+    part: &[Lit],
+    met: &[Lit],
+) -> Result<Vec<Lit>, AllocError>
+    ensures { IfOk result (λ v. IsNeeded left.now part.now met.now v.items) }
+{
+    let mut needed = Vec::new(alloc);
+    'literals: for l in left {
+        if is_needed(part, met, *l) {
+            needed.push(*l)?;
+        }
+    }
+    Ok(needed)
+}
+
+// The literals of the clause in an order in which those of the part come first.
+pub(crate) fn ordered(alloc: Global, clause: &[Lit], part: &[Lit]) -> Result<Vec<Lit>, AllocError>
+    ensures enough { IfOk result (λ v. IsPart clause.now v.items) }
+    ensures only { IfOk result (λ v. IsPart v.items clause.now) }
+    ensures many { IfOk result (λ v. length v.items ≡ length clause.now) }
+{
+    let mut inside = Vec::new(alloc);
+    let mut outside = Vec::new(alloc);
+    'literals: for l in clause {
+        if has(part, *l) {
+            inside.push(*l)?;
+        } else {
+            outside.push(*l)?;
+        }
+    }
+    both(alloc, &inside, &outside)
+}
+
+// The literals of both lists.
+pub(crate) fn both(alloc: Global, a: &[Lit], b: &[Lit]) -> Result<Vec<Lit>, AllocError>
+    ensures { IfOk result (λ v. v.items ≡ a.now ++ b.now) }
+{
+    let mut all = Vec::from_slice(alloc, a)?;
+    all.extend_from_slice(b)?;
+    Ok(all)
+}
+
+// Whether a step leaves the clause, a part of the draft's that first states meet. Where it has the draft's own
+// part, no query is needed: the draft shows it.
+fn steps_or_draft<Q: Purse>(
+    alloc: Global,
+    systems: &[System],
+    lemmas: &[Lemma],
+    steps: &mut Engine,
+    draft: &Draft,
+    clause: &[Lit],
+    met: Clause,
+    level: u32,
+    purse: &mut Q,
+) -> Result<Trial, AllocError>
+    requires some { 0 < length systems.now }
+    requires lemmas { All (λ (l : ALemma). Within (system_at systems.now 0).state_bits l.clause) lemmas.now }
+    requires steps { IsLoaded (base_of (system_at systems.now 0)) (step_heads (system_at systems.now 0)) (clauses_of lemmas.now) steps.old }
+    requires draft { IsProved (proof_of (system_at systems.now 0) level draft.now) }
+    requires part { IsPart clause.now draft.now.clause.items }
+    requires within { Within (system_at systems.now 0).state_bits clause.now }
+    requires meets { AllFirstsMeet (system_at systems.now 0) met }
+    requires met { IsPart met clause.now }
+    requires ready { Q.ready purse.old }
+    ensures tried { IfOk result (Tries (system_at systems.now 0) lemmas.now level draft.now.parents.items clause.now (Q.budget purse.old) (Q.spent purse.new)) }
+    ensures pays { PaysOne systems.now lemmas.now steps.old.solver.learned steps.new.solver.learned (Q.tickets purse.old) (Q.tickets purse.new) (Steps level clause.now) }
+    ensures steps { IsLoaded (base_of (system_at systems.now 0)) (step_heads (system_at systems.now 0)) (clauses_of lemmas.now) steps.new }
+    ensures kept { Q.kept purse.old purse.new }
+    ensures ready { Q.ready purse.new }
+    ensures budget { Q.budget purse.new ≡ Q.budget purse.old }
+{
+    if is_part_of(&draft.part, clause) {
+        let parents = copy_parents(alloc, &draft.parents)?;
+        let part = Vec::from_slice(alloc, &draft.part)?;
+        return Ok(Trial::Holds { parents, part, met });
+    }
+    match steps_of(alloc, systems, lemmas, steps, clause, level, purse)? {
+        Stepping::Holds { parents, part } => Ok(Trial::Holds { parents, part, met }),
+        Stepping::Leaves(_) => Ok(Trial::Fails),
+        Stepping::Spent { drawn, budget } => Ok(Trial::Spent { drawn, budget }),
+    }
+}
+
+// Whether the clause, a part of the draft's, is inductive at the level: first whether first states meet it, then
+// whether a step leaves it.
+pub(crate) fn attempt<Q: Purse>(
+    alloc: Global,
+    systems: &[System],
+    lemmas: &[Lemma],
+    steps: &mut Engine,
+    states: &mut Engine,
+    draft: &Draft,
+    clause: &[Lit],
+    level: u32,
+    purse: &mut Q,
+) -> Result<Trial, AllocError>
+    requires some { 0 < length systems.now }
+    requires alike { AreAlike systems.now }
+    requires lemmas { All (λ (l : ALemma). Within (system_at systems.now 0).state_bits l.clause) lemmas.now }
+    requires steps { IsLoaded (base_of (system_at systems.now 0)) (step_heads (system_at systems.now 0)) (clauses_of lemmas.now) steps.old }
+    requires states { IsLoaded (base_of (system_at systems.now 0)) (state_heads systems.now) (clauses_of lemmas.now) states.old }
+    requires draft { IsProved (proof_of (system_at systems.now 0) level draft.now) }
+    requires part { IsPart clause.now draft.now.clause.items }
+    requires within { Within (system_at systems.now 0).state_bits clause.now }
+    requires ready { Q.ready purse.old }
+    ensures tried { IfOk result (Tries (system_at systems.now 0) lemmas.now level draft.now.parents.items clause.now (Q.budget purse.old) (Q.spent purse.new)) }
+    ensures pays { PaysFor systems.now lemmas.now (known_of steps.old states.old) (known_of steps.new states.new) (Q.tickets purse.old) (Q.tickets purse.new) level clause.now }
+    ensures steps { IsLoaded (base_of (system_at systems.now 0)) (step_heads (system_at systems.now 0)) (clauses_of lemmas.now) steps.new }
+    ensures states { IsLoaded (base_of (system_at systems.now 0)) (state_heads systems.now) (clauses_of lemmas.now) states.new }
+    ensures kept { Q.kept purse.old purse.new }
+    ensures ready { Q.ready purse.new }
+    ensures budget { Q.budget purse.new ≡ Q.budget purse.old }
+{
+    match firsts_of(alloc, systems, lemmas, states, clause, purse)? {
+        Firsts::First(_) => Ok(Trial::Fails),
+        Firsts::Spent { drawn, budget } => Ok(Trial::Spent { drawn, budget }),
+        Firsts::Meet(met) => steps_or_draft(
+            alloc, systems, lemmas, steps, draft, clause, met, level, purse,
+        ),
+    }
+}

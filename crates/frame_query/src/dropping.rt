@@ -1,0 +1,214 @@
+ghost use Rattle.std.specs.Prelude.{◌≡◌, ◌-◌, ◌<◌, ◌≤◌, ◌++◌, ◌∷◌, [], ℕ, Bool, List, IfOk, All, Contains, length, take};
+ghost use Rattle.frame_core.specs.declared.parts.Lemma.{Lemma as ALemma};
+ghost use Rattle.clause_core.specs.declared.literal.Lit.{Lit as ALit};
+ghost use Rattle.clause_core.specs.Literals.{Within};
+ghost use Rattle.frame_core.specs.Facts.{IsPart, IsProved};
+ghost use Rattle.frame_core.specs.Law.{AreAlike, system_at};
+ghost use Rattle.frame_query.specs.Groups.{base as base_of, step_heads, state_heads, clauses_of};
+ghost use Rattle.frame_query.specs.Engines.{IsLoaded, known_of};
+ghost use Rattle.frame_query.specs.Dropping.{PaysParts, Generalises};
+ghost use Rattle.frame_query.specs.Trying.{proof_of, Tries, PaysFor, IsUnderWay, IsCandidate, TurnSays, EndSays, MovesBy};
+
+use crate::attempting::{attempt, both, copy_parents, needed_of, ordered, others};
+use crate::loading::{Engine, system_of};
+use crate::outcomes::Generalised;
+use crate::trying::{Draft, Ending, Trial, Turn, Walk};
+use clause_core::{Clause, Lit, System};
+use effort_purse::Purse;
+use frame_core::{Lemma, Proved};
+use std::alloc::{AllocError, Global};
+
+// A copy of the proof, taken apart.
+fn drafted(alloc: Global, proved: &Proved) -> Result<Draft, AllocError>
+    ensures clause { IfOk result (λ d. d.clause.items ≡ proved.now.clause) }
+    ensures part { IfOk result (λ d. d.part.items ≡ proved.now.part) }
+    ensures parents { IfOk result (λ d. d.parents.items ≡ proved.now.parents) }
+{
+    let clause = Vec::from_slice(alloc, proved.clause())?;
+    let part = Vec::from_slice(alloc, proved.part())?;
+    let parents = copy_parents(alloc, proved.parents())?;
+    Ok(Draft {
+        clause,
+        part,
+        parents,
+    })
+}
+
+// What the trial of the clause without a literal does to the walk; `left` are the literals still to be tried.
+fn moved(
+    alloc: Global,
+    walk: &mut Walk,
+    l: Lit,
+    left: Vec<Lit>,
+    trial: Trial,
+) -> Result<Turn, AllocError>
+    ensures moves { IfOk result (MovesBy walk.old l left.items trial walk.new) }
+{
+    match trial {
+        Trial::Holds { parents, part, met } => {
+            let rest = needed_of(alloc, &left, &part, met.as_slice())?;
+            let clause = both(alloc, &walk.kept, &rest)?;
+            walk.rest = rest;
+            walk.draft = Draft {
+                clause,
+                part,
+                parents,
+            };
+            Ok(Turn::Went)
+        }
+        Trial::Fails => {
+            walk.kept.push(l)?;
+            walk.rest = left;
+            Ok(Turn::Went)
+        }
+        Trial::Spent { drawn, budget } => Ok(Turn::Spent { drawn, budget }),
+    }
+}
+
+// Tries the clause without the literal `l`, which was the last of those still to be tried.
+fn turn<Q: Purse>(
+    alloc: Global,
+    systems: &[System],
+    lemmas: &[Lemma],
+    steps: &mut Engine,
+    states: &mut Engine,
+    given: &Proved,
+    walk: &mut Walk,
+    l: Lit,
+    purse: &mut Q,
+) -> Result<Turn, AllocError>
+    requires some { 0 < length systems.now }
+    requires alike { AreAlike systems.now }
+    requires lemmas { All (λ (l : ALemma). Within (system_at systems.now 0).state_bits l.clause) lemmas.now }
+    requires steps { IsLoaded (base_of (system_at systems.now 0)) (step_heads (system_at systems.now 0)) (clauses_of lemmas.now) steps.old }
+    requires states { IsLoaded (base_of (system_at systems.now 0)) (state_heads systems.now) (clauses_of lemmas.now) states.old }
+    requires way { IsUnderWay (system_at systems.now 0) lemmas.now given.now walk.old.draft walk.old.kept.items (walk.old.rest.items ++ l ∷ []) }
+    requires ready { Q.ready purse.old }
+    ensures pays { (d : List ALit) × IsCandidate walk.old.kept.items walk.old.rest.items l d × PaysFor systems.now lemmas.now (known_of steps.old states.old) (known_of steps.new states.new) (Q.tickets purse.old) (Q.tickets purse.new) given.now.level d × IfOk result (TurnSays (system_at systems.now 0) lemmas.now given.now walk.old walk.new l d (Q.budget purse.old) (Q.spent purse.new)) }
+    ensures steps { IsLoaded (base_of (system_at systems.now 0)) (step_heads (system_at systems.now 0)) (clauses_of lemmas.now) steps.new }
+    ensures states { IsLoaded (base_of (system_at systems.now 0)) (state_heads systems.now) (clauses_of lemmas.now) states.new }
+    ensures kept { Q.kept purse.old purse.new }
+    ensures ready { Q.ready purse.new }
+    ensures budget { Q.budget purse.new ≡ Q.budget purse.old }
+{
+    let level = given.level();
+    let left = others(alloc, &walk.rest, l)?;
+    let candidate = both(alloc, &walk.kept, &left)?;
+    let trial = attempt(
+        alloc,
+        systems,
+        lemmas,
+        steps,
+        states,
+        &walk.draft,
+        &candidate,
+        level,
+        purse,
+    )?;
+    moved(alloc, walk, l, left, trial)
+}
+
+// Drops literals from the clause, trying each at most once, as long as what is left is inductive at its level.
+pub(crate) fn generalised<Q: Purse>(
+    alloc: Global,
+    systems: &[System],
+    lemmas: &[Lemma],
+    steps: &mut Engine,
+    states: &mut Engine,
+    given: &Proved,
+    purse: &mut Q,
+) -> Result<Ending, AllocError>
+    requires some { 0 < length systems.now }
+    requires alike { AreAlike systems.now }
+    requires lemmas { All (λ (l : ALemma). Within (system_at systems.now 0).state_bits l.clause) lemmas.now }
+    requires steps { IsLoaded (base_of (system_at systems.now 0)) (step_heads (system_at systems.now 0)) (clauses_of lemmas.now) steps.old }
+    requires states { IsLoaded (base_of (system_at systems.now 0)) (state_heads systems.now) (clauses_of lemmas.now) states.old }
+    requires system { given.now.system ≡ system_at systems.now 0 }
+    requires ready { Q.ready purse.old }
+    ensures ends { IfOk result (EndSays (system_at systems.now 0) lemmas.now given.now (Q.budget purse.old) (Q.spent purse.new)) }
+    ensures pays { PaysParts systems.now lemmas.now (known_of steps.old states.old) (known_of steps.new states.new) (Q.tickets purse.old) (Q.tickets purse.new) given.now.level given.now.clause }
+    ensures steps { IsLoaded (base_of (system_at systems.now 0)) (step_heads (system_at systems.now 0)) (clauses_of lemmas.now) steps.new }
+    ensures states { IsLoaded (base_of (system_at systems.now 0)) (state_heads systems.now) (clauses_of lemmas.now) states.new }
+    ensures kept { Q.kept purse.old purse.new }
+    ensures ready { Q.ready purse.new }
+    ensures budget { Q.budget purse.new ≡ Q.budget purse.old }
+{
+    let _system = given.system();
+    let rest = ordered(alloc, given.clause(), given.part())?;
+    let draft = drafted(alloc, given)?;
+    let mut walk = Walk {
+        kept: Vec::new(alloc),
+        rest,
+        draft,
+    };
+    'literals: while let Some(l) = walk.rest.pop() {
+        if let Turn::Spent { drawn, budget } = turn(
+            alloc, systems, lemmas, steps, states, given, &mut walk, l, purse,
+        )? {
+            return Ok(Ending::Spent { drawn, budget });
+        }
+    }
+    let Walk {
+        kept: _,
+        rest: _,
+        draft,
+    } = walk;
+    Ok(Ending::Done(draft))
+}
+
+// The proof that a draft is.
+pub(crate) fn finished<'a>(system: &'a System, level: u32, draft: Draft) -> Proved<'a>
+    requires { IsProved (proof_of system.now level draft) }
+    ensures { result ≡ proof_of system.now level draft }
+{
+    let Draft {
+        clause,
+        part,
+        parents,
+    } = draft;
+    let clause = Clause::from_vec(clause);
+    let part = Clause::from_vec(part);
+    Proved::new(system, clause, part, level, parents)
+}
+
+// The proof of a smaller clause; where that is not reached the proof that was given.
+pub(crate) fn generalise_in<'a, Q: Purse>(
+    alloc: Global,
+    systems: &'a [System],
+    lemmas: &[Lemma],
+    steps: &mut Engine,
+    states: &mut Engine,
+    given: Proved<'a>,
+    purse: &mut Q,
+) -> Generalised<'a>
+    requires some { 0 < length systems.now }
+    requires alike { AreAlike systems.now }
+    requires lemmas { All (λ (l : ALemma). Within (system_at systems.now 0).state_bits l.clause) lemmas.now }
+    requires steps { IsLoaded (base_of (system_at systems.now 0)) (step_heads (system_at systems.now 0)) (clauses_of lemmas.now) steps.old }
+    requires states { IsLoaded (base_of (system_at systems.now 0)) (state_heads systems.now) (clauses_of lemmas.now) states.old }
+    requires system { given.system ≡ system_at systems.now 0 }
+    requires ready { Q.ready purse.old }
+    ensures found { Generalises (system_at systems.now 0) lemmas.now given.entry (Q.budget purse.old) (Q.spent purse.new) result }
+    ensures pays { PaysParts systems.now lemmas.now (known_of steps.old states.old) (known_of steps.new states.new) (Q.tickets purse.old) (Q.tickets purse.new) given.entry.level given.entry.clause }
+    ensures steps { IsLoaded (base_of (system_at systems.now 0)) (step_heads (system_at systems.now 0)) (clauses_of lemmas.now) steps.new }
+    ensures states { IsLoaded (base_of (system_at systems.now 0)) (state_heads systems.now) (clauses_of lemmas.now) states.new }
+    ensures kept { Q.kept purse.old purse.new }
+    ensures ready { Q.ready purse.new }
+    ensures budget { Q.budget purse.new ≡ Q.budget purse.old }
+{
+    let level = given.level();
+    match generalised(alloc, systems, lemmas, steps, states, &given, purse) {
+        Ok(ending) => match ending {
+            Ending::Done(draft) => {
+                let system = system_of(systems, 0);
+                Generalised::Smaller(finished(system, level, draft))
+            }
+            Ending::Spent { drawn, budget } => Generalised::Spent {
+                given,
+                drawn,
+                budget,
+            },
+        },
+        Err(_) => Generalised::NoMemory { given },
+    }
+}

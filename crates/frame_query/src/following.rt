@@ -1,0 +1,59 @@
+ghost use Rattle.std.specs.Prelude.{◌≡◌, ◌<◌, ◌≤◌, ◌++◌, [], ◌∷◌, true, OnOk, OnErr, length, take, slice_set};
+ghost use Rattle.frame_core.specs.Law.{lemma_at};
+ghost use Rattle.frame_query.specs.Findings.{IsOlder};
+
+use clause_core::Clause;
+use frame_core::{Lemma, Lemmas};
+use std::alloc::AllocError;
+
+// Lemma n of the copy becomes that of the lemmas, whose clause it has.
+fn follow_at(copy: &mut Lemmas, lemmas: &Lemmas, n: usize)
+    requires in_copy { n < length copy.old }
+    requires in_lemmas { n < length lemmas.now }
+    requires clause { (lemma_at copy.old n).clause ≡ (lemma_at lemmas.now n).clause }
+    requires live { (lemma_at lemmas.now n).live ≡ true → (lemma_at copy.old n).live ≡ true }
+    ensures { copy.new ≡ slice_set copy.old n (lemma_at lemmas.now n) }
+{
+    let lemma = lemmas.lemma(n);
+    copy.raise(n, lemma.level);
+    if !lemma.live {
+        copy.retire(n);
+    }
+}
+
+// The lemmas of the copy get the levels that they have now, and are retired where they are now.
+pub(crate) fn follow_levels(copy: &mut Lemmas, lemmas: &Lemmas)
+    requires { IsOlder copy.old lemmas.now }
+    ensures { copy.new ≡ take (length copy.old) lemmas.now }
+{
+    'lemmas: for n in 0..copy.len() {
+        follow_at(copy, lemmas, n);
+    }
+}
+
+// Adds a copy of the lemma. After want of memory all is as before.
+fn add_copy(copy: &mut Lemmas, lemma: &Lemma) -> Result<(), AllocError>
+    ensures done { OnOk result (copy.new ≡ copy.old ++ lemma.now ∷ []) }
+    ensures failed { OnErr result (copy.new ≡ copy.old) }
+{
+    let n = copy.len();
+    let clause = Clause::from_slice(copy.alloc(), lemma.clause.as_slice())?;
+    copy.push(clause, lemma.level)?;
+    if !lemma.live {
+        copy.retire(n);
+    }
+    Ok(())
+}
+
+// Adds the lemmas that the copy lacks. After want of memory it has some of them.
+pub(crate) fn follow_adds(copy: &mut Lemmas, lemmas: &Lemmas) -> Result<(), AllocError>
+    requires { copy.old ≡ take (length copy.old) lemmas.now }
+    ensures done { OnOk result (copy.new ≡ lemmas.now) }
+    ensures part { copy.new ≡ take (length copy.new) lemmas.now }
+    ensures more { length copy.old ≤ length copy.new }
+{
+    'lemmas: for n in copy.len()..lemmas.len() {
+        add_copy(copy, lemmas.lemma(n))?;
+    }
+    Ok(())
+}

@@ -1,0 +1,61 @@
+use clause_core::{Bits, Clause};
+use frame_core::{Clear, Found, Proved, Step};
+
+/// What a query about steps finds.
+#[derive(Drop)]
+pub enum Relative<'a> {
+    /// First states meet the clause, and a step from the frame below that meets it ends in it.
+    Proved(Proved<'a>),
+    /// A step from a state of the frame below that meets the clause, to one that does not.
+    Step(Step<'a>),
+    /// The purse was spent before it was known.
+    Spent { drawn: u64, budget: u64 },
+}
+
+/// What a query about bad states finds.
+#[derive(Drop)]
+pub enum Bads<'a> {
+    /// The frame has no bad state.
+    Clear(Clear<'a>),
+    /// A bad state of the frame.
+    Found(Found<'a>),
+    /// The purse was spent before it was known.
+    Spent { drawn: u64, budget: u64 },
+}
+
+/// Whether a state is a first one.
+#[derive(Drop)]
+pub enum Noted<'a> {
+    /// The state that the step leads from.
+    Found(Found<'a>),
+    /// The purse was spent before it was known.
+    Spent { drawn: u64, budget: u64 },
+}
+
+/// What a query about first states finds.
+#[derive(Drop)]
+pub enum Firsts {
+    /// First states meet this part of the clause.
+    Meet(Clause),
+    /// The state bits of a first state that does not meet the clause.
+    First(Bits),
+    /// The purse was spent before it was known.
+    Spent { drawn: u64, budget: u64 },
+}
+
+/// What became of a proof that was to be generalised.
+#[derive(Drop)]
+pub enum Generalised<'a> {
+    /// A proof of a part of its clause, none of whose literals can be dropped.
+    Smaller(Proved<'a>),
+    /// The purse was spent before that; here is the proof that was given.
+    Spent {
+        given: Proved<'a>,
+        drawn: u64,
+        budget: u64,
+    },
+    /// No memory was found; here is the proof that was given.
+    NoMemory {
+        given: Proved<'a>,
+    },
+}
