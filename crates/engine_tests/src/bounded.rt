@@ -23,12 +23,7 @@ fn word(alloc: Global) -> Result<Word, Fail> {
 }
 
 // An operator with bounds over the atom.
-fn formula(
-    alloc: Global,
-    operator: BoundedOperator,
-    low: u8,
-    high: u8,
-) -> Result<Formula, Fail> {
+fn formula(alloc: Global, operator: BoundedOperator, low: u8, high: u8) -> Result<Formula, Fail> {
     if high < low {
         return Err("the bounds are out of order".into());
     }

@@ -1,5 +1,5 @@
 -- What was found, as callers see it.
-use Rattle.std.proofs.Common.{◌≡◌, ℕ, ◌<◌, Bool, true, false, List, length, refl, sym, subst}
+use Rattle.std.proofs.Common.{arith, ◌≡◌, ℕ, ◌<◌, Bool, true, false, List, length, refl, sym, subst}
 use Rattle.std.proofs.lemmas.Bool.{both_ways}
 use Rattle.clause_core.specs.declared.literal.Lit.{Lit}
 use Rattle.clause_core.specs.Literals.{Within}
@@ -78,3 +78,14 @@ flag_same systems j values first lt alike flag =
       not_first = λ e start.
           flag.not_first e (first_same false (system_at systems j) (system_at systems 0) (same_back false (system_at systems 0) (system_at systems j) same) _ start);
     }
+
+-- what a proof says of steps is the same at each level above 1
+pub at_level : (p : ProvedClause) → IsProved p → 1 < p.level → (level : ℕ) → 1 < level →
+    IsProved record { system = p.system; clause = p.clause; part = p.part; level = level; parents = p.parents }
+at_level p h was level now = record {
+  above = omega arith;
+  within = h.within;
+  part_in = h.part_in;
+  first = h.first;
+  step = λ x y first from step. h.step x y (λ e. absurd (omega (arith, e, was))) (λ up. from now) step;
+}

@@ -4,7 +4,8 @@ use Rattle.std.specs.Prelude.{All, Contains}
 use Rattle.std.proofs.lemmas.Bool.{cases_lt, both_ways}
 use Rattle.std.proofs.lemmas.List.Elements.{All-push, All-nil, All-weaker, All-contains, Contains-append_left, Contains-push}
 use Rattle.clause_core.specs.declared.literal.Lit.{Lit}
-use Rattle.clause_core.specs.Literals.{Within}
+use Rattle.clause_core.specs.Literals.{Within, negate}
+use Rattle.clause_core.proofs.Sound.{clause_cases, truths, agrees_true}
 use Rattle.clause_core.specs.Assignments.{ClauseTrue, assignment_of}
 use Rattle.clause_core.specs.Systems.{TransitionSystem}
 use Rattle.frame_core.specs.Facts.{IsPart, IsFirstFlag}
@@ -84,3 +85,21 @@ pub flag_says : (sys : TransitionSystem) (values : List Bool) (budget : ℕ) (ov
 flag_says sys values budget over (firsts.Meet part) f h is = subst (FlagSays sys values budget over) (sym is) (not_first sys values part h.0 h.1)
 flag_says sys values budget over (firsts.First found) f h is = subst (FlagSays sys values budget over) (sym is) (is_first sys values found h)
 flag_says sys values budget over (firsts.Spent d b) f h is = subst (FlagSays sys values budget over) (sym is) h
+
+-- where the state is no first one, all first states meet the clause that excludes it
+pub negation_met : (sys : TransitionSystem) (values : List Bool) → IsFirstFlag sys values false → AllFirstsMeet sys (negation_of values sys.state_bits)
+negation_met sys values flag x start =
+    let clause = negation_of values sys.state_bits in
+    let value : ℕ → Bool = assignment_of values in
+    elim (clause_cases x clause) [
+      | inl h ↦ h
+      | inr none ↦
+          absurd (flag.not_first refl (
+            start.0,
+            (λ u lt.
+                let m : Lit = record { var = u; positive = not (value u) } in
+                let off_x : truths x (negate m) ≡ true = All-contains (λ (q : Lit). truths x (negate q) ≡ true) clause m none (negation_has values sys.state_bits u lt) in
+                start.1 u lt ∙ not_not (x u) (value u) (agrees_true (x u) (not (not (value u))) off_x)),
+            start.2,
+          ))
+    ]

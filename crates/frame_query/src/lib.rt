@@ -14,9 +14,12 @@ mod loading;
 mod negating;
 pub mod outcomes;
 mod querying;
+mod reissuing;
 mod renewing;
 mod stepping;
 mod trying;
 
 pub use keeping::FrameSolver;
+pub use negating::negation;
 pub use outcomes::{Bads, Firsts, Generalised, Noted, Relative};
+pub use reissuing::reissued;

@@ -4,8 +4,9 @@ ghost use Rattle.frame_query.specs.Firsts.{negation_of};
 use clause_core::{Bits, Lit};
 use std::alloc::{AllocError, Global};
 
-// The clause that says that a state is another than that of the first `bits` values.
-pub(crate) fn negation(alloc: Global, values: &Bits, bits: usize) -> Result<Vec<Lit>, AllocError>
+/// The clause that says that a state is another than that of the first `bits` values: to prove it is to
+/// block the state. The only error is want of memory.
+pub fn negation(alloc: Global, values: &Bits, bits: usize) -> Result<Vec<Lit>, AllocError>
     requires { bits ≤ length values.now }
     ensures { IfOk result (λ v. v.items ≡ negation_of values.now bits) }
 {

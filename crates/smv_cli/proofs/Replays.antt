@@ -1,5 +1,5 @@
 -- The trace of a run that breaks a specification is accepted.
-use Rattle.std.proofs.Common.{◌≡◌, ◌↔◌, ◌≤◌, ◌-◌, ◌<◌, ℕ, List, length, Some, IfSome, subst, arith}
+use Rattle.std.proofs.Common.{◌≡◌, ◌↔◌, ◌≤◌, ◌-◌, ℕ, List, length, Some, IfSome, subst, arith}
 use Rattle.std.proofs.lemmas.Option.{slice_get_within}
 use Rattle.std.specs.declared.option.Option.{Option}
 use Rattle.smv_tree.specs.declared.tree.Program.{Program}

@@ -14,7 +14,7 @@ use plain_text::Text;
 use smv_meaning::{Typed, is_claim};
 use smv_resolve::{Item, ItemKind};
 use smv_scope::{Scope, Slot, ValueType, path_of, slot_name};
-use smv_tree::{AssignmentKind, ConstraintKind, Place, VariableKind};
+use smv_tree::{AssignmentKind, ConstraintKind, Place, SpecificationKind, VariableKind};
 use std::alloc::{AllocError, Global};
 use std::fmt;
 
@@ -90,7 +90,8 @@ fn item_kind(kind: ItemKind) -> &'static str
         ItemKind::Assignment(AssignmentKind::Init) => "init",
         ItemKind::Assignment(AssignmentKind::Next) => "next",
         ItemKind::Assignment(AssignmentKind::Current) => "now",
-        ItemKind::Specification(_) => "INVARSPEC",
+        ItemKind::Specification(SpecificationKind::Invariant) => "INVARSPEC",
+        ItemKind::Specification(SpecificationKind::Temporal) => "LTLSPEC",
     }
 }
 

@@ -1,7 +1,7 @@
 -- The trace of a run that breaks the specification passes all tests.
-use Rattle.std.proofs.Common.{◌≡◌, ◌⊎◌, inl, inr, ℕ, zero, suc, ◌+◌, ◌-◌, ◌<◌, ◌≤◌, max, Bool, true, false, not, cond, ◌&&◌, ◌||◌, List, [], ◌∷◌, length, map, get_or, Option, None, Some, refl, sym, subst, ap, ◌∙◌, arith, unwrap_or, slice_get, IsTrue}
+use Rattle.std.proofs.Common.{◌≡◌, inl, inr, ℕ, zero, suc, ◌+◌, ◌-◌, ◌<◌, max, true, ◌&&◌, List, [], ◌∷◌, length, map, Option, Some, refl, sym, subst, ap, ◌∙◌, arith, unwrap_or, slice_get}
 use lib.Dec.{eqb, leb, ltb}
-use Rattle.std.specs.List.{list_all, range_with_len, zip}
+use Rattle.std.specs.List.{list_all, range_with_len}
 use Rattle.std.specs.Option.{is_some}
 use Rattle.std.proofs.lemmas.Bool.{and_from, and_parts, cases_lt, cond-false, cond-true, eqb-true, le-leb, le-ltb, lt-ltb, ltb-true}
 use Rattle.std.proofs.lemmas.List.{get_or_default, length-map, same_lists}
@@ -12,22 +12,21 @@ use Rattle.smv_tree.specs.declared.tree.Program.{Program}
 use Rattle.smv_tree.specs.declared.tree.AssignmentKind.TheVariants as side
 use Rattle.smv_tree.specs.declared.tree.ConstraintKind.TheVariants as asks
 use Rattle.smv_value.specs.declared.value.Value.{Value}
-use Rattle.smv_value.specs.declared.value.Value.TheVariants as value
 use Rattle.smv_resolve.specs.declared.item.ItemKind.{ItemKind}
 use Rattle.smv_resolve.specs.declared.item.ItemKind.TheVariants as item
 use Rattle.smv_resolve.specs.Items.{ResolvedItem, items_of}
 use Rattle.smv_scope.specs.declared.slot.Slot.{Slot}
 use Rattle.smv_scope.specs.Slots.{slots_of}
 use Rattle.smv_meaning.specs.declared.value.Outcome.{Outcome}
-use Rattle.smv_meaning.specs.Runs.{Breaks, IsRun, allows_always, allows_first, allows_step, are_inputs, asks_always, asks_first, at_time, fits, in_type, input_slots, is_first_state, is_state, is_step, keeps_frozen, meets_invariants, outcome_of_target, state_slots}
-use Rattle.smv_meaning.specs.Values.{one, outcome_in}
+use Rattle.smv_meaning.specs.Runs.{Breaks, allows_always, allows_first, allows_step, are_inputs, asks_always, asks_first, at_time, fits, input_slots, is_first_state, is_state, is_step, keeps_frozen, meets_invariants, outcome_of_target, state_slots}
+use Rattle.smv_meaning.specs.Values.{outcome_in}
 use Rattle.trace_replay.specs.declared.columns.Column.{Column}
 use Rattle.trace_replay.specs.declared.entry.Binding.{Binding}
 use Rattle.trace_replay.specs.declared.rule.ReplayRule.{ReplayRule}
 use Rattle.trace_replay.specs.declared.rule.ReplayRule.TheVariants as rule
 use Rattle.trace_replay.specs.declared.trace.Trace.{Trace}
-use Rattle.trace_replay.specs.Rows.{bindings_of, column_of, given_rows, input_columns, inputs_read, inputs_told, line_read, row_read, run_trace, state_columns, state_read, states_told}
-use Rattle.trace_replay.specs.Tests.{ShowsBroken, begins, due_beside, ends, goes_on, inputs_fit, is_false, passes, state_fits, stays}
+use Rattle.trace_replay.specs.Rows.{bindings_of, column_of, given_rows, input_columns, inputs_told, line_read, row_read, run_trace, state_columns, state_read, states_told}
+use Rattle.trace_replay.specs.Tests.{ShowsBroken, begins, ends, goes_on, inputs_fit, is_false, passes, state_fits, stays}
 use Rattle.trace_replay.proofs.Cells.{row_back}
 use Rattle.trace_replay.proofs.Shows.{fit, read_at, unasked, unless}
 
@@ -96,13 +95,14 @@ module _ (p : Program) where
       let rows = map (bindings_of (map (column_of p) (x ∷ slots))) inputs in
       let counted : length rows ≡ length inputs = length-map inputs (bindings_of (map (column_of p) (x ∷ slots))) in
       elim (cases_lt i (n - 1)) [
-        inl below ↦
-        let within : i < length inputs = omega (arith, below, long) in
-        cond-true (ltb i (n - 1)) (is_some (line_read (map (column_of p) (x ∷ slots)) (slice_get rows i))) _ (lt-ltb i (n - 1) below)
-        ∙ ap (λ (o : Option (List Value)). is_some o) (read_back (x ∷ slots) inputs i within (all i within))
-      | inr past ↦
-        cond-false (ltb i (n - 1)) (is_some (line_read (map (column_of p) (x ∷ slots)) (slice_get rows i))) _ (le-ltb i (n - 1) past)
-        ∙ unless (eqb i (n - 1)) (leb (length rows) i) (le-leb (length rows) i (omega (arith, counted, long, past))) ]
+        | inl below ↦
+            let within : i < length inputs = omega (arith, below, long) in
+            cond-true (ltb i (n - 1)) (is_some (line_read (map (column_of p) (x ∷ slots)) (slice_get rows i))) _ (lt-ltb i (n - 1) below)
+            ∙ ap (λ (o : Option (List Value)). is_some o) (read_back (x ∷ slots) inputs i within (all i within))
+        | inr past ↦
+            cond-false (ltb i (n - 1)) (is_some (line_read (map (column_of p) (x ∷ slots)) (slice_get rows i))) _ (le-ltb i (n - 1) past)
+            ∙ unless (eqb i (n - 1)) (leb (length rows) i) (le-leb (length rows) i (omega (arith, counted, long, past)))
+      ]
 
   state_back : (s : List Value) → is_state p s ≡ true → row_read (state_columns p) (bindings_of (state_columns p) s) ≡ Some s
   unfolding state_columns
@@ -146,13 +146,13 @@ module _ (p : Program) (spec : ResolvedItem) (states inputs : List (List Value))
   told_states : states_told p t ≡ states
   told_states = same_lists (states_told p t) states (length-map (map (bindings_of (state_columns p)) states) _ ∙ counted)
       (λ k d below.
-          let within : k < length states = let whole = length-map (map (bindings_of (state_columns p)) states) (λ (bs : List Binding). unwrap_or (row_read (state_columns p) bs) []) in omega (arith, below, whole, counted) in
-          let told : List Binding → List Value = λ bs. unwrap_or (row_read (state_columns p) bs) [] in
-          get_or_default (states_told p t) k d (told (bindings_of (state_columns p) [])) below
-          ∙ get_or-map told (map (bindings_of (state_columns p)) states) k (bindings_of (state_columns p) [])
-          ∙ ap told (get_or-map (bindings_of (state_columns p)) states k [])
-          ∙ ap (λ (o : Option (List Value)). unwrap_or o []) (state_back p (at_time states k) (each k within).0)
-          ∙ get_or_default states k [] d within)
+      let within : k < length states = let whole = length-map (map (bindings_of (state_columns p)) states) (λ (bs : List Binding). unwrap_or (row_read (state_columns p) bs) []) in omega (arith, below, whole, counted) in
+      let told : List Binding → List Value = λ bs. unwrap_or (row_read (state_columns p) bs) [] in
+      get_or_default (states_told p t) k d (told (bindings_of (state_columns p) [])) below
+      ∙ get_or-map told (map (bindings_of (state_columns p)) states) k (bindings_of (state_columns p) [])
+      ∙ ap told (get_or-map (bindings_of (state_columns p)) states k [])
+      ∙ ap (λ (o : Option (List Value)). unwrap_or o []) (state_back p (at_time states k) (each k within).0)
+      ∙ get_or_default states k [] d within)
 
   told_inputs : inputs_told p t ≡ inputs
   told_inputs =
@@ -161,17 +161,18 @@ module _ (p : Program) (spec : ResolvedItem) (states inputs : List (List Value))
       ∙ same_lists (map (read_at (input_columns p) (given_rows (input_columns p) inputs)) (range_with_len 0 (length inputs))) inputs
       (length-map-range_with_len (read_at (input_columns p) (given_rows (input_columns p) inputs)) 0 (length inputs))
       (λ k d below.
-          let within : k < length inputs = let whole = length-map-range_with_len (read_at (input_columns p) (given_rows (input_columns p) inputs)) 0 (length inputs) in omega (arith, below, whole) in
-          get_or-map-range_with_len (read_at (input_columns p) (given_rows (input_columns p) inputs)) 0 (length inputs) k k d within (omega arith)
-          ∙ inputs_at p inputs k within (inputs_are k within)
-          ∙ get_or_default inputs k [] d within)
+      let within : k < length inputs = let whole = length-map-range_with_len (read_at (input_columns p) (given_rows (input_columns p) inputs)) 0 (length inputs) in omega (arith, below, whole) in
+      get_or-map-range_with_len (read_at (input_columns p) (given_rows (input_columns p) inputs)) 0 (length inputs) k k d within (omega arith)
+      ∙ inputs_at p inputs k within (inputs_are k within)
+      ∙ get_or_default inputs k [] d within)
 
   values_pass : (i : ℕ) → passes p spec t rule.Values i ≡ true
   values_pass i =
       and_from (state_fits p t i) (inputs_fit p t i)
       (elim (cases_lt i (length states)) [
-        inl below ↦ unless (ltb i (max 1 (length t.states))) (is_some (state_read p t i)) (ap (λ (o : Option (List Value)). is_some o) (states_back p states i below (each i below).0))
-      | inr past ↦ cond-false (ltb i (max 1 (length t.states))) (is_some (state_read p t i)) true (le-ltb i (max 1 (length t.states)) (omega (arith, counted, past, b.run.long))) ])
+        | inl below ↦ unless (ltb i (max 1 (length t.states))) (is_some (state_read p t i)) (ap (λ (o : Option (List Value)). is_some o) (states_back p states i below (each i below).0))
+        | inr past ↦ cond-false (ltb i (max 1 (length t.states))) (is_some (state_read p t i)) true (le-ltb i (max 1 (length t.states)) (omega (arith, counted, past, b.run.long)))
+      ])
       (inputs_fitting p inputs (length t.states) (counted ∙ b.run.long) inputs_are i)
 
   first_passes : (i : ℕ) → begins p states i ≡ true

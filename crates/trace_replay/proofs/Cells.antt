@@ -1,8 +1,8 @@
 -- Bindings tell just the values of which they are made.
-use Rattle.std.proofs.Common.{◌≡◌, ◌⊎◌, inl, inr, ℕ, suc, Bool, true, false, cond, ◌&&◌, List, [], ◌∷◌, length, map, codes, Option, None, Some, refl, sym, ap, ◌∙◌, arith, bytes_eq}
+use Rattle.std.proofs.Common.{◌≡◌, inl, inr, ℕ, true, false, List, [], ◌∷◌, length, map, codes, Option, None, Some, refl, sym, ap, ◌∙◌, arith, bytes_eq}
 use lib.Dec.{eqb}
 use Rattle.std.specs.List.{list_all, zip}
-use Rattle.std.proofs.lemmas.Bool.{and_from, and_parts, cases_Bool, cond-false, cond-true, eq-eqb, eqb-true}
+use Rattle.std.proofs.lemmas.Bool.{and_parts, cases_Bool, cond-false, cond-true, eqb-true}
 use Rattle.std.proofs.lemmas.Slice.Eq.{bytes_eq-Decides}
 use Rattle.smv_tree.specs.declared.tree.Program.{Program}
 use Rattle.smv_value.specs.declared.value.Value.{Value}
@@ -30,29 +30,32 @@ some_same v w e = cc
 -- and only from it
 text_read : (d : ValueType) (text : List ℕ) (v : Value) → value_read d text ≡ Some v → text ≡ value_text [] v
 text_read Boolean text v e = elim (cases_Bool (bytes_eq text (codes "TRUE"))) [
-    inl hit ↦
-    let is : Some (value.Bool true) ≡ Some v = sym (cond-true (bytes_eq text (codes "TRUE")) (Some (value.Bool true)) _ hit) ∙ e in
-    (bytes_eq-Decides text (codes "TRUE")).0 hit ∙ ap (value_text []) (some_same (value.Bool true) v is)
+  | inl hit ↦
+      let is : Some (value.Bool true) ≡ Some v = sym (cond-true (bytes_eq text (codes "TRUE")) (Some (value.Bool true)) _ hit) ∙ e in
+      (bytes_eq-Decides text (codes "TRUE")).0 hit ∙ ap (value_text []) (some_same (value.Bool true) v is)
   | inr never ↦ elim (cases_Bool (bytes_eq text (codes "FALSE"))) [
-      inl hit ↦
-      let is : Some (value.Bool false) ≡ Some v =
-      sym (cond-false (bytes_eq text (codes "TRUE")) (Some (value.Bool true)) _ never ∙ cond-true (bytes_eq text (codes "FALSE")) (Some (value.Bool false)) None hit) ∙ e in
-      (bytes_eq-Decides text (codes "FALSE")).0 hit ∙ ap (value_text []) (some_same (value.Bool false) v is)
+    | inl hit ↦
+        let is : Some (value.Bool false) ≡ Some v =
+        sym (cond-false (bytes_eq text (codes "TRUE")) (Some (value.Bool true)) _ never ∙ cond-true (bytes_eq text (codes "FALSE")) (Some (value.Bool false)) None hit) ∙ e in
+        (bytes_eq-Decides text (codes "FALSE")).0 hit ∙ ap (value_text []) (some_same (value.Bool false) v is)
     | inr neither ↦
-      let is : None ≡ Some v =
-      sym (cond-false (bytes_eq text (codes "TRUE")) (Some (value.Bool true)) _ never ∙ cond-false (bytes_eq text (codes "FALSE")) (Some (value.Bool false)) None neither) ∙ e in
-      absurd (let clash : ⊥ = cc in clash) ] ]
+        let is : None ≡ Some v =
+        sym (cond-false (bytes_eq text (codes "TRUE")) (Some (value.Bool true)) _ never ∙ cond-false (bytes_eq text (codes "FALSE")) (Some (value.Bool false)) None neither) ∙ e in
+        absurd (let clash : ⊥ = cc in clash)
+  ]
+]
 
 cell_told : (c : Column) (b : Binding) (v : Value) → cell_read c b ≡ Some v → b ≡ binding_of c v
 cell_told c b v e = elim (cases_Bool (bytes_eq c.name b.name)) [
-    inl hit ↦
-    let name : c.name ≡ b.name = (bytes_eq-Decides c.name b.name).0 hit in
-    let text : b.value ≡ value_text [] v = text_read c.declared b.value v (sym (cond-true (bytes_eq c.name b.name) (value_read c.declared b.value) None hit) ∙ e) in
-    let made : List ℕ → List ℕ → Binding = λ n x. record { name = n; value = x } in
-    ap (λ (n : List ℕ). made n b.value) (sym name) ∙ ap (λ (x : List ℕ). made c.name x) text
+  | inl hit ↦
+      let name : c.name ≡ b.name = (bytes_eq-Decides c.name b.name).0 hit in
+      let text : b.value ≡ value_text [] v = text_read c.declared b.value v (sym (cond-true (bytes_eq c.name b.name) (value_read c.declared b.value) None hit) ∙ e) in
+      let made : List ℕ → List ℕ → Binding = λ n x. record { name = n; value = x } in
+      ap (λ (n : List ℕ). made n b.value) (sym name) ∙ ap (λ (x : List ℕ). made c.name x) text
   | inr never ↦
-    let is : None ≡ Some v = sym (cond-false (bytes_eq c.name b.name) (value_read c.declared b.value) None never) ∙ e in
-    absurd (let clash : ⊥ = cc in clash) ]
+      let is : None ≡ Some v = sym (cond-false (bytes_eq c.name b.name) (value_read c.declared b.value) None never) ∙ e in
+      absurd (let clash : ⊥ = cc in clash)
+]
 
 pub record InFront (v : Option Value) (ws : Option (List Value)) (vs : List Value) : Type 0 where
   pub first : Value

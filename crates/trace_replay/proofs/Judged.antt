@@ -1,5 +1,5 @@
 -- What is accepted shows that the specification is broken, and only that.
-use Rattle.std.proofs.Common.{◌≡◌, ◌↔◌, ◌<◌, ℕ, List, length, map, get_or, slice_get, true, false, refl, sym, subst, ap, ◌∙◌, Option, Some, Result, Ok, Err, IfOk, IfSome}
+use Rattle.std.proofs.Common.{◌≡◌, ◌↔◌, ◌<◌, ℕ, List, length, map, get_or, slice_get, refl, sym, subst, ap, ◌∙◌, Option, Some, Result, Ok, Err, IfOk, IfSome}
 use Rattle.std.proofs.lemmas.Option.{slice_get-get_or}
 use Rattle.std.proofs.Math.ListN.{get_or-map}
 use Rattle.smv_tree.specs.declared.tree.Program.{Program}

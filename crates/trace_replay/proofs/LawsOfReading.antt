@@ -1,5 +1,5 @@
 -- Lines hold one list of traces at most, each front of good lines is good, and printed lines are read back.
-use Rattle.std.proofs.Common.{◌≡◌, ◌⊎◌, inl, inr, ℕ, zero, suc, ◌+◌, ◌-◌, ◌<◌, ◌≤◌, max, Bool, true, false, cond, ◌&&◌, List, [], ◌∷◌, ◌++◌, length, map, take, drop, get_or, replicate, slice_get, slice_set, Option, None, Some, refl, sym, subst, ap, ◌∙◌, arith, take-append-drop, length-take}
+use Rattle.std.proofs.Common.{◌≡◌, inl, inr, ℕ, zero, suc, ◌+◌, ◌-◌, ◌<◌, ◌≤◌, max, Bool, true, cond, List, [], ◌∷◌, ◌++◌, length, map, take, drop, get_or, replicate, slice_get, slice_set, Option, None, Some, refl, sym, ap, ◌∙◌, arith, take-append-drop, length-take}
 use lib.Dec.{eqb, ltb}
 use Rattle.std.specs.List.{flat_map, fold, list_all, range_with_len}
 use Rattle.std.specs.Option.{option_map}
@@ -7,17 +7,16 @@ use Rattle.std.proofs.lemmas.Bool.{and_from, and_parts, cond-true, eq-eqb, lt-lt
 use Rattle.std.proofs.lemmas.Grind.{fold-append}
 use Rattle.std.proofs.lemmas.List.{take-map, take_all, take_more}
 use Rattle.std.proofs.lemmas.List.Folds.{list_all-append}
-use Rattle.std.proofs.lemmas.Option.{slice_get-get_or, slice_get_cases, slice_get_within}
+use Rattle.std.proofs.lemmas.Option.{slice_get_cases}
 use Rattle.smv_tree.specs.declared.refusal.Refusal.{Refusal}
 use Rattle.trace_replay.specs.declared.entry.Binding.{Binding}
 use Rattle.trace_replay.specs.declared.entry.Entry.{Entry}
 use Rattle.trace_replay.specs.declared.entry.Entry.TheVariants as entry
-use Rattle.trace_replay.specs.declared.reading.Block.{Block}
 use Rattle.trace_replay.specs.declared.reading.Reading.{Reading}
 use Rattle.trace_replay.specs.declared.source.Line.{Line}
 use Rattle.trace_replay.specs.declared.trace.Trace.{Trace}
 use Rattle.trace_replay.specs.Lines.{body_entries, entries_of, entry_text, input_entries, loop_entries, moment_entries, moments, state_entries}
-use Rattle.trace_replay.specs.Reading.{Holds, IsRefusedAt, all_read, begun_with, closed, followed, followed_by, in_form, is_free, kept_open, may_begin, nothing_read, texts}
+use Rattle.trace_replay.specs.Reading.{Holds, IsRefusedAt, all_read, closed, followed, followed_by, in_form, is_free, kept_open, may_begin, nothing_read, texts}
 use Rattle.trace_replay.proofs.OfLines.{numbers_more}
 use Rattle.trace_replay.proofs.OfReading.{same_entries}
 
@@ -50,13 +49,15 @@ front_held specs lines traces n h =
     let split : all_read specs h.entries ≡ fold followed_by (all_read specs (take n h.entries)) (drop n h.entries) =
     ap (all_read specs) cut ∙ fold-append followed_by (Some (nothing_read specs)) (take n h.entries) (drop n h.entries) in
     let front = some_front (all_read specs (take n h.entries)) (drop n h.entries) whole.0 (sym split ∙ whole.1) in
-    let formed = and_parts (list_all in_form (take n h.entries)) (list_all in_form (drop n h.entries)) (sym (list_all-append in_form (take n h.entries) (drop n h.entries)) ∙ ap (list_all in_form) (sym cut) ∙ h.formed) in
-    (closed front.0, record {
-      entries = take n h.entries;
-      formed = formed.0;
-      text = ap (take n) h.text ∙ take-map entry_text n h.entries;
-      told = ap (option_map closed) front.1;
-    })
+    let formed = and_parts (list_all in_form (take n h.entries)) (list_all in_form (drop n h.entries)) (sym (list_all-append in_form (take n h.entries) (drop n h.entries)) ∙ ap (list_all in_form) (sym cut) ∙ h.formed) in (
+      closed front.0,
+      record {
+        entries = take n h.entries;
+        formed = formed.0;
+        text = ap (take n) h.text ∙ take-map entry_text n h.entries;
+        told = ap (option_map closed) front.1;
+      },
+    )
 
 pub held_or_refused : (specs : ℕ) (lines : List Line) (traces : List (Option Trace)) (r : Refusal) → Holds specs (texts lines) traces → IsRefusedAt specs lines r → ⊥
 held_or_refused specs lines traces r h refused =
@@ -100,23 +101,25 @@ module _ (specs number : ℕ) where
 
   state_read : (ss us : List (List Binding)) (i : ℕ) → fold followed_by (Some (reading (take i ss) us None)) (state_entries i (slice_get ss i)) ≡ Some (reading (take (suc i) ss) us None)
   state_read ss us i = elim (slice_get_cases ss i).1 [
-      inl found ↦
-      ap (λ (o : Option (List Binding)). fold followed_by (Some (reading (take i ss) us None)) (state_entries i o)) found.2
-      ∙ ap (λ (b : Bool). with_rows (take i ss ++ found.0 ∷ []) us b) (at_length ss i found.1)
-      ∙ ap (λ (rows : List (List Binding)). Some (reading rows us None)) (took ss i found.0 found.2 found.1 found.3)
+    | inl found ↦
+        ap (λ (o : Option (List Binding)). fold followed_by (Some (reading (take i ss) us None)) (state_entries i o)) found.2
+        ∙ ap (λ (b : Bool). with_rows (take i ss ++ found.0 ∷ []) us b) (at_length ss i found.1)
+        ∙ ap (λ (rows : List (List Binding)). Some (reading rows us None)) (took ss i found.0 found.2 found.1 found.3)
     | inr none ↦
-      ap (λ (o : Option (List Binding)). fold followed_by (Some (reading (take i ss) us None)) (state_entries i o)) none.1
-      ∙ ap (λ (rows : List (List Binding)). Some (reading rows us None)) (past ss i none.0) ]
+        ap (λ (o : Option (List Binding)). fold followed_by (Some (reading (take i ss) us None)) (state_entries i o)) none.1
+        ∙ ap (λ (rows : List (List Binding)). Some (reading rows us None)) (past ss i none.0)
+  ]
 
   inputs_read : (ss us : List (List Binding)) (i : ℕ) → fold followed_by (Some (reading ss (take i us) None)) (input_entries i (slice_get us i)) ≡ Some (reading ss (take (suc i) us) None)
   inputs_read ss us i = elim (slice_get_cases us i).1 [
-      inl found ↦
-      ap (λ (o : Option (List Binding)). fold followed_by (Some (reading ss (take i us) None)) (input_entries i o)) found.2
-      ∙ ap (λ (b : Bool). with_rows ss (take i us ++ found.0 ∷ []) b) (at_length us i found.1)
-      ∙ ap (λ (rows : List (List Binding)). Some (reading ss rows None)) (took us i found.0 found.2 found.1 found.3)
+    | inl found ↦
+        ap (λ (o : Option (List Binding)). fold followed_by (Some (reading ss (take i us) None)) (input_entries i o)) found.2
+        ∙ ap (λ (b : Bool). with_rows ss (take i us ++ found.0 ∷ []) b) (at_length us i found.1)
+        ∙ ap (λ (rows : List (List Binding)). Some (reading ss rows None)) (took us i found.0 found.2 found.1 found.3)
     | inr none ↦
-      ap (λ (o : Option (List Binding)). fold followed_by (Some (reading ss (take i us) None)) (input_entries i o)) none.1
-      ∙ ap (λ (rows : List (List Binding)). Some (reading ss rows None)) (past us i none.0) ]
+        ap (λ (o : Option (List Binding)). fold followed_by (Some (reading ss (take i us) None)) (input_entries i o)) none.1
+        ∙ ap (λ (rows : List (List Binding)). Some (reading ss rows None)) (past us i none.0)
+  ]
 
   moment_read : (t : Trace) (i : ℕ) → fold followed_by (Some (reading (take i t.states) (take i t.inputs) None)) (moment_entries t i) ≡ Some (reading (take (suc i) t.states) (take (suc i) t.inputs) None)
   moment_read t i =
@@ -154,8 +157,8 @@ module _ (specs number : ℕ) where
 pub printed_held : (specs number : ℕ) (t : Trace) → 0 < number → number ≤ specs → list_all in_form (entries_of number t) ≡ true
     → Holds specs (map entry_text (entries_of number t)) (slice_set (replicate specs None) (number - 1) (Some t))
 printed_held specs number t h k formed = record {
-    entries = entries_of number t;
-    formed = formed;
-    text = refl;
-    told = ap (option_map closed) (trace_read specs number t h k);
-  }
+  entries = entries_of number t;
+  formed = formed;
+  text = refl;
+  told = ap (option_map closed) (trace_read specs number t h k);
+}

@@ -1,7 +1,7 @@
 -- A line says one thing at most; what lines say is read line by line.
-use Rattle.std.proofs.Common.{◌≡◌, ◌⊎◌, inl, inr, ℕ, zero, suc, ◌+◌, ◌-◌, ◌<◌, ◌≤◌, ◌^◌, Bool, true, false, ◌&&◌, List, [], ◌∷◌, ◌++◌, length, map, take, get_or, slice_get, codes, Option, None, Some, Result, Ok, Err, IfOk, refl, sym, subst, ap, ◌∙◌, arith, append-nil}
+use Rattle.std.proofs.Common.{◌≡◌, ℕ, ◌+◌, ◌<◌, ◌^◌, true, List, [], ◌∷◌, ◌++◌, length, map, take, get_or, codes, Option, None, Some, Result, Ok, Err, IfOk, refl, sym, subst, ap, ◌∙◌, arith}
 use Rattle.std.specs.Fmt.{decimal}
-use Rattle.std.specs.List.{fold, list_all}
+use Rattle.std.specs.List.{list_all}
 use Rattle.std.specs.Option.{option_map}
 use Rattle.std.proofs.lemmas.Bool.{and_from, and_parts, ltb-true}
 use Rattle.std.proofs.lemmas.Fmt.{decimal_injective}
@@ -96,19 +96,19 @@ read_none specs r is = record { entries = []; formed = refl; text = refl; read =
 
 pub read_more : (specs : ℕ) (lines : List (List ℕ)) (text : List ℕ) (r s : Reading) → IsRead specs lines r → Follows r text s → IsRead specs (lines ++ text ∷ []) s
 read_more specs lines text r s before next = record {
-    entries = before.entries ++ next.entry ∷ [];
-    formed = list_all-append in_form before.entries (next.entry ∷ []) ∙ and_from (list_all in_form before.entries) (list_all in_form (next.entry ∷ [])) before.formed (and_from (in_form next.entry) true next.formed refl);
-    text = ap (λ (l : List (List ℕ)). l ++ text ∷ []) before.text ∙ ap (λ (l : List ℕ). map entry_text before.entries ++ l ∷ []) next.is ∙ sym (map-append entry_text before.entries (next.entry ∷ []));
-    read = all_more specs before.entries next.entry ∙ ap (λ (o : Option Reading). followed_by o next.entry) before.read ∙ next.read;
-  }
+  entries = before.entries ++ next.entry ∷ [];
+  formed = list_all-append in_form before.entries (next.entry ∷ []) ∙ and_from (list_all in_form before.entries) (list_all in_form (next.entry ∷ [])) before.formed (and_from (in_form next.entry) true next.formed refl);
+  text = ap (λ (l : List (List ℕ)). l ++ text ∷ []) before.text ∙ ap (λ (l : List ℕ). map entry_text before.entries ++ l ∷ []) next.is ∙ sym (map-append entry_text before.entries (next.entry ∷ []));
+  read = all_more specs before.entries next.entry ∙ ap (λ (o : Option Reading). followed_by o next.entry) before.read ∙ next.read;
+}
 
 pub held : (specs : ℕ) (lines : List (List ℕ)) (r : Reading) (traces : List (Option Trace)) → IsRead specs lines r → traces ≡ closed r → Holds specs lines traces
 held specs lines r traces h is = record {
-    entries = h.entries;
-    formed = h.formed;
-    text = h.text;
-    told = ap (option_map closed) h.read ∙ ap (λ (l : List (Option Trace)). Some l) (sym is);
-  }
+  entries = h.entries;
+  formed = h.formed;
+  text = h.text;
+  told = ap (option_map closed) h.read ∙ ap (λ (l : List (Option Trace)). Some l) (sym is);
+}
 
 pub record IsPushed (es : List Entry) (front : List (List ℕ)) (text : List ℕ) : Type 0 where
   pub before : List Entry
@@ -155,13 +155,13 @@ texts_more lines i line within is =
 pub refused_at : (specs : ℕ) (lines : List Line) (i : ℕ) (line : Line) (r : Reading) (refusal : Refusal) → i < length lines → line ≡ get_or lines i line
     → IsRead specs (take i (texts lines)) r → IsAfter r line.text None → refusal ≡ refusal_at line.number → IsRefusedAt specs lines refusal
 refused_at specs lines i line r refusal within is before stop told = record {
-    before = i;
-    line = line;
-    here = slice_get-get_or lines i line within ∙ ap (λ (x : Line). Some x) (sym is);
-    traces = closed r;
-    good = held specs (take i (texts lines)) r (closed r) before refl;
-    bad = λ ts h.
-        none_held specs (take i (texts lines)) line.text r before stop ts
-        (subst (λ (l : List (List ℕ)). Holds specs l ts) (texts_more lines i line within is) h);
-    told = told;
-  }
+  before = i;
+  line = line;
+  here = slice_get-get_or lines i line within ∙ ap (λ (x : Line). Some x) (sym is);
+  traces = closed r;
+  good = held specs (take i (texts lines)) r (closed r) before refl;
+  bad = λ ts h.
+      none_held specs (take i (texts lines)) line.text r before stop ts
+      (subst (λ (l : List (List ℕ)). Holds specs l ts) (texts_more lines i line within is) h);
+  told = told;
+}

@@ -1,7 +1,6 @@
 -- The first test that fails, by the first number at which each fails.
-use Rattle.std.proofs.Common.{◌≡◌, ◌⊎◌, inl, inr, ℕ, ◌+◌, ◌-◌, ◌<◌, Bool, true, false, not, List, [], get_or, length, map, Option, None, Some, refl, sym, subst, ap, ◌∙◌, arith}
-use lib.Dec.{eqb, ltb}
-use Rattle.std.specs.List.{range_with_len}
+use Rattle.std.proofs.Common.{◌≡◌, inl, inr, ℕ, ◌+◌, ◌-◌, ◌<◌, Bool, true, not, List, [], get_or, length, Option, None, Some, refl, sym, subst, ap, ◌∙◌, arith}
+use lib.Dec.{ltb}
 use Rattle.std.proofs.lemmas.Bool.{eq-eqb, ne_eqb, or_right}
 use Rattle.std.proofs.lemmas.List.{get_or_default, length-map}
 use Rattle.std.proofs.lemmas.List.FromFn.{length-map-range_with_len}
@@ -13,7 +12,6 @@ use Rattle.trace_replay.specs.declared.rule.ReplayRule.{ReplayRule}
 use Rattle.trace_replay.specs.declared.rule.ReplayRule.TheVariants as rule
 use Rattle.trace_replay.specs.declared.telling.Told.{Told}
 use Rattle.trace_replay.specs.declared.trace.Trace.{Trace}
-use Rattle.trace_replay.specs.Rows.{inputs_told, states_told}
 use Rattle.trace_replay.specs.Telling.{FirstFailing, IsFirstFailing, IsTold}
 use Rattle.trace_replay.specs.Tests.{FailsFirst, goes_on, passes, rank, starts_at}
 use Rattle.trace_replay.proofs.OfTelling.{some_state}
@@ -48,8 +46,9 @@ module _ (p : Program) (spec : ResolvedItem) (t : Trace) where
   fails_first r n first before = record {
     fails = first.fails;
     earlier = λ s i e. elim e [
-        inl below ↦ before s below i
-      | inr same ↦ subst (λ (q : ReplayRule). passes p spec t q i ≡ true) (sym same.0) (first.before i same.1) ];
+      | inl below ↦ before s below i
+      | inr same ↦ subst (λ (q : ReplayRule). passes p spec t q i ≡ true) (sym same.0) (first.before i same.1)
+    ];
   }
 
   pub values_first : (n : ℕ) → FirstFailing (passes p spec t rule.Values) n → FailsFirst p spec t rule.Values n

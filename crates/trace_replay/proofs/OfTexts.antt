@@ -1,11 +1,10 @@
 -- The words of a line, and the line of words.
-use Rattle.std.proofs.Common.{◌≡◌, ◌⊎◌, inl, inr, ℕ, zero, suc, ◌<◌, ◌^◌, Bool, true, false, not, ◌&&◌, List, [], ◌∷◌, ◌++◌, length, get_or, codes, Option, None, Some, Result, Ok, Err, IfOk, refl, sym, ap, ◌∙◌, arith, append_assoc, append-nil}
+use Rattle.std.proofs.Common.{◌≡◌, inl, inr, ℕ, zero, suc, ◌<◌, ◌^◌, Bool, true, false, not, List, [], ◌∷◌, ◌++◌, length, get_or, codes, Option, None, Some, Result, Ok, Err, IfOk, refl, sym, ap, ◌∙◌, arith, append_assoc, append-nil}
 use lib.Dec.{eqb}
 use Rattle.std.specs.Fmt.{decimal}
 use Rattle.std.specs.List.{All, fold, join_with_byte, list_all, slice_split}
 use Rattle.std.proofs.lemmas.Bool.{and_from, and_parts, cases_Bool, eqb-true, ltb-true, ne_eqb, not_from_false}
 use Rattle.std.proofs.lemmas.Fmt.{decimal_is_IsNumeral}
-use Rattle.std.proofs.lemmas.List.{get_or_default}
 use Rattle.std.proofs.lemmas.List.Folds.{list_all-append}
 use Rattle.std.proofs.lemmas.List.Splits.{join_with_byte-slice_split, slice_split_at, slice_split_none}
 use Rattle.std.proofs.lemmas.Str.Parse.{digit_at}
@@ -31,8 +30,9 @@ free xs = list_all is_dark xs
 
 dark_at : (b : ℕ) → is_dark b ≡ true → eqb b 32 ≡ false
 dark_at b h = elim (cases_Bool (eqb b 32)) [
-    inl hit ↦ absurd (let e : not (eqb b 32) ≡ false = ap not hit in let never : ⊥ = cc in never)
-  | inr miss ↦ miss ]
+  | inl hit ↦ absurd (let e : not (eqb b 32) ≡ false = ap not hit in let never : ⊥ = cc in never)
+  | inr miss ↦ miss
+]
 
 free-at : (x : ℕ) (xs : List ℕ) → is_dark x ≡ true → All (λ b. eqb b 32 ≡ false) xs → All (λ b. eqb b 32 ≡ false) (x ∷ xs)
 free-at x xs h more zero d below = dark_at x h
@@ -53,8 +53,8 @@ decimal_free : (n : ℕ) → n < 2 ^ 64 → free (decimal n) ≡ true
 decimal_free n small =
     let numeral = decimal_is_IsNumeral n small in
     free-from (decimal n) (λ k below.
-        let digit = digit_at (decimal n) k numeral.0.1 below in
-        not_from_false (eqb (get_or (decimal n) k 0) 32) (ne_eqb (get_or (decimal n) k 0) 32 (λ e. let never : ⊥ = omega (arith, e, digit.0) in never)))
+    let digit = digit_at (decimal n) k numeral.0.1 below in
+    not_from_false (eqb (get_or (decimal n) k 0) 32) (ne_eqb (get_or (decimal n) k 0) 32 (λ e. let never : ⊥ = omega (arith, e, digit.0) in never)))
 
 -- Names and values have none.
 
@@ -75,11 +75,12 @@ name_wrong (x ∷ xs) = name_wrong xs
 name_free : (s : NameState) (xs : List ℕ) → ends_name (fold name_after s xs) ≡ true → free xs ≡ true
 name_free s [] h = refl
 name_free s (x ∷ xs) h = elim (cases_Bool (eqb x 32)) [
-    inl hit ↦
-    let wrong : name_after s x ≡ name.Wrong = ap (name_after s) (eqb-true x 32 hit) ∙ name_space s in
-    let fails : ends_name (fold name_after (name_after s x) xs) ≡ false = ap (λ (q : NameState). ends_name (fold name_after q xs)) wrong ∙ name_wrong xs in
-    absurd (let never : ⊥ = cc in never)
-  | inr miss ↦ and_from (is_dark x) (free xs) (not_from_false (eqb x 32) miss) (name_free (name_after s x) xs h) ]
+  | inl hit ↦
+      let wrong : name_after s x ≡ name.Wrong = ap (name_after s) (eqb-true x 32 hit) ∙ name_space s in
+      let fails : ends_name (fold name_after (name_after s x) xs) ≡ false = ap (λ (q : NameState). ends_name (fold name_after q xs)) wrong ∙ name_wrong xs in
+      absurd (let never : ⊥ = cc in never)
+  | inr miss ↦ and_from (is_dark x) (free xs) (not_from_false (eqb x 32) miss) (name_free (name_after s x) xs h)
+]
 
 value_space : (s : ValueState) → value_after s 32 ≡ value.Wrong
 value_space value.Start = refl
@@ -101,11 +102,12 @@ value_wrong (x ∷ xs) = value_wrong xs
 value_free : (s : ValueState) (xs : List ℕ) → ends_value (fold value_after s xs) ≡ true → free xs ≡ true
 value_free s [] h = refl
 value_free s (x ∷ xs) h = elim (cases_Bool (eqb x 32)) [
-    inl hit ↦
-    let wrong : value_after s x ≡ value.Wrong = ap (value_after s) (eqb-true x 32 hit) ∙ value_space s in
-    let fails : ends_value (fold value_after (value_after s x) xs) ≡ false = ap (λ (q : ValueState). ends_value (fold value_after q xs)) wrong ∙ value_wrong xs in
-    absurd (let never : ⊥ = cc in never)
-  | inr miss ↦ and_from (is_dark x) (free xs) (not_from_false (eqb x 32) miss) (value_free (value_after s x) xs h) ]
+  | inl hit ↦
+      let wrong : value_after s x ≡ value.Wrong = ap (value_after s) (eqb-true x 32 hit) ∙ value_space s in
+      let fails : ends_value (fold value_after (value_after s x) xs) ≡ false = ap (λ (q : ValueState). ends_value (fold value_after q xs)) wrong ∙ value_wrong xs in
+      absurd (let never : ⊥ = cc in never)
+  | inr miss ↦ and_from (is_dark x) (free xs) (not_from_false (eqb x 32) miss) (value_free (value_after s x) xs h)
+]
 
 -- Words.
 

@@ -1,6 +1,6 @@
 -- Words that say something, and what they say.
-use Rattle.std.proofs.Common.{◌≡◌, ◌⊎◌, inl, inr, ℕ, ◌<◌, ◌^◌, zero, suc, ◌+◌, ◌*◌, ◌%◌, ◌≤◌, Bool, true, false, cond, ◌&&◌, List, [], ◌∷◌, ◌++◌, length, take, drop, get_or, append_assoc, codes, bytes_eq, Option, None, Some, Bor, Result, Ok, Err, IfOk, refl, sym, subst, ap, ◌∙◌, arith}
-use lib.Dec.{eqb, ltb}
+use Rattle.std.proofs.Common.{◌≡◌, inl, inr, ℕ, ◌<◌, ◌^◌, zero, suc, ◌+◌, ◌*◌, ◌%◌, ◌≤◌, Bool, true, false, cond, ◌&&◌, List, [], ◌∷◌, ◌++◌, length, take, drop, get_or, append_assoc, codes, bytes_eq, Option, None, Some, Bor, Result, Ok, Err, IfOk, refl, sym, subst, ap, ◌∙◌, arith}
+use lib.Dec.{eqb}
 use Rattle.std.specs.Fmt.{decimal}
 use Rattle.std.specs.List.{list_all}
 use Rattle.std.specs.Option.{MatchOption, option_copied}
@@ -27,13 +27,14 @@ in_front-some b (Some u) v e = (u, refl, let same : v ≡ b ∷ u = cc in same)
 pub without_last-some : (c : ℕ) (bs v : List ℕ) → without_last c bs ≡ Some v → bs ≡ v ++ c ∷ []
 without_last-some c [] v e = absurd (let never : ⊥ = cc in never)
 without_last-some c (b ∷ []) v e = elim (cases_Bool (eqb b c)) [
-    inl hit ↦
-    let is : Some [] ≡ Some v = sym (cond-true (eqb b c) (Some []) None hit) ∙ e in
-    let empty : v ≡ [] = cc in
-    ap (λ x. x ∷ []) (eqb-true b c hit) ∙ ap (λ (l : List ℕ). l ++ c ∷ []) (sym empty)
+  | inl hit ↦
+      let is : Some [] ≡ Some v = sym (cond-true (eqb b c) (Some []) None hit) ∙ e in
+      let empty : v ≡ [] = cc in
+      ap (λ x. x ∷ []) (eqb-true b c hit) ∙ ap (λ (l : List ℕ). l ++ c ∷ []) (sym empty)
   | inr miss ↦
-    let is : None ≡ Some v = sym (cond-false (eqb b c) (Some []) None miss) ∙ e in
-    absurd (let never : ⊥ = cc in never) ]
+      let is : None ≡ Some v = sym (cond-false (eqb b c) (Some []) None miss) ∙ e in
+      absurd (let never : ⊥ = cc in never)
+]
 without_last-some c (b ∷ d ∷ bs) v e =
     let parts = in_front-some b (without_last c (d ∷ bs)) v e in
     ap (λ (l : List ℕ). b ∷ l) (without_last-some c (d ∷ bs) parts.0 parts.1) ∙ ap (λ (l : List ℕ). l ++ c ∷ []) (sym parts.2)
@@ -71,23 +72,25 @@ pub record IsBindingOf (a b c : List ℕ) (last : Bool) (x : Binding) : Type 0 w
 bound-some : (a : List ℕ) (o : Option (List ℕ)) (x : Binding) → bound a o ≡ Some x → (a ≡ x.name) × (o ≡ Some x.value) × (is_binding x ≡ true)
 bound-some a None x e = absurd (let never : ⊥ = cc in never)
 bound-some a (Some v) x e = elim (cases_Bool (is_name a && is_value v)) [
-    inl hit ↦
-    let made : Binding = record { name = a; value = v } in
-    let is : Some made ≡ Some x = sym (cond-true (is_name a && is_value v) (Some made) None hit) ∙ e in
-    let same : made ≡ x = cc in
-    (ap (λ (y : Binding). y.name) same, ap (λ (y : Binding). Some y.value) same, subst (λ (y : Binding). is_binding y ≡ true) same hit)
+  | inl hit ↦
+      let made : Binding = record { name = a; value = v } in
+      let is : Some made ≡ Some x = sym (cond-true (is_name a && is_value v) (Some made) None hit) ∙ e in
+      let same : made ≡ x = cc in
+      (ap (λ (y : Binding). y.name) same, ap (λ (y : Binding). Some y.value) same, subst (λ (y : Binding). is_binding y ≡ true) same hit)
   | inr miss ↦
-    let is : None ≡ Some x = sym (cond-false (is_name a && is_value v) (Some (record { name = a; value = v })) None miss) ∙ e in
-    absurd (let never : ⊥ = cc in never) ]
+      let is : None ≡ Some x = sym (cond-false (is_name a && is_value v) (Some (record { name = a; value = v })) None miss) ∙ e in
+      absurd (let never : ⊥ = cc in never)
+]
 
 binding_told : (a b c : List ℕ) (last : Bool) (x : Binding) → binding_in a b c last ≡ Some x → IsBindingOf a b c last x
 binding_told a b c last x e = elim (cases_Bool (bytes_eq b (codes "="))) [
-    inl hit ↦
-    let parts = bound-some a (cond last (Some c) (without_last 44 c)) x (sym (cond-true (bytes_eq b (codes "=")) (bound a (cond last (Some c) (without_last 44 c))) None hit) ∙ e) in
-    record { equals = (bytes_eq-Decides b (codes "=")).0 hit; name = parts.0; value = parts.1; formed = parts.2 }
+  | inl hit ↦
+      let parts = bound-some a (cond last (Some c) (without_last 44 c)) x (sym (cond-true (bytes_eq b (codes "=")) (bound a (cond last (Some c) (without_last 44 c))) None hit) ∙ e) in
+      record { equals = (bytes_eq-Decides b (codes "=")).0 hit; name = parts.0; value = parts.1; formed = parts.2 }
   | inr miss ↦
-    let is : None ≡ Some x = sym (cond-false (bytes_eq b (codes "=")) (bound a (cond last (Some c) (without_last 44 c))) None miss) ∙ e in
-    absurd (let never : ⊥ = cc in never) ]
+      let is : None ≡ Some x = sym (cond-false (bytes_eq b (codes "=")) (bound a (cond last (Some c) (without_last 44 c))) None miss) ∙ e in
+      absurd (let never : ⊥ = cc in never)
+]
 
 pub record AreParts (o : Option Binding) (os : Option (List Binding)) (bs : List Binding) : Type 0 where
   pub first : Binding
@@ -128,13 +131,14 @@ words_told (a ∷ b ∷ c ∷ ws) bs e =
     let p = parts_of (binding_in a b c (is_end ws)) (bindings_in ws) bs e in
     let x = binding_told a b c (is_end ws) p.first p.is_first in
     let rest = words_told ws p.more p.are_more in
-    let word = word_is c p.first ws p.more p.are_more x.value in
-    ( ap (λ (l : List ℕ). l ∷ b ∷ c ∷ ws) x.name
-      ∙ ap (λ (l : List ℕ). p.first.name ∷ l ∷ c ∷ ws) x.equals
-      ∙ ap (λ (l : List ℕ). p.first.name ∷ codes "=" ∷ l ∷ ws) word
-      ∙ ap (λ (l : List (List ℕ)). p.first.name ∷ codes "=" ∷ value_word p.first.value p.more ∷ l) rest.0
-      ∙ ap binding_words (sym p.all)
-    , ap (list_all is_binding) p.all ∙ and_from (is_binding p.first) (list_all is_binding p.more) x.formed rest.1)
+    let word = word_is c p.first ws p.more p.are_more x.value in (
+      ap (λ (l : List ℕ). l ∷ b ∷ c ∷ ws) x.name
+          ∙ ap (λ (l : List ℕ). p.first.name ∷ l ∷ c ∷ ws) x.equals
+          ∙ ap (λ (l : List ℕ). p.first.name ∷ codes "=" ∷ l ∷ ws) word
+          ∙ ap (λ (l : List (List ℕ)). p.first.name ∷ codes "=" ∷ value_word p.first.value p.more ∷ l) rest.0
+          ∙ ap binding_words (sym p.all),
+      ap (list_all is_binding) p.all ∙ and_from (is_binding p.first) (list_all is_binding p.more) x.formed rest.1,
+    )
 
 binding_back : (x : Binding) (c : List ℕ) (last : Bool) → is_binding x ≡ true → cond last (Some c) (without_last 44 c) ≡ Some x.value → binding_in x.name (codes "=") c last ≡ Some x
 binding_back x c last formed e =
@@ -316,8 +320,9 @@ three_more (w ∷ v ∷ u ∷ ws) zero a b c h x y z =
 
 same_test : (a b : ℕ) → eqb a b ≡ eqb (suc a) (suc b)
 same_test a b = elim (cases_eq a b) [
-    inl same ↦ eq-eqb a b same ∙ sym (eq-eqb (suc a) (suc b) (ap suc same))
-  | inr differ ↦ ne_eqb a b differ ∙ sym (ne_eqb (suc a) (suc b) (λ e. differ (omega (arith, e)))) ]
+  | inl same ↦ eq-eqb a b same ∙ sym (eq-eqb (suc a) (suc b) (ap suc same))
+  | inr differ ↦ ne_eqb a b differ ∙ sym (ne_eqb (suc a) (suc b) (λ e. differ (omega (arith, e))))
+]
 
 moved : (made : List Binding) (x : Binding) (o : Option (List Binding)) → behind (made ++ x ∷ []) o ≡ behind made (with_binding (Some x) o)
 moved made x None = refl

@@ -16,10 +16,7 @@ use Rattle.smv_scope.specs.declared.slot.ValueType.{ValueType}
 use Rattle.smv_scope.specs.declared.slot.ValueType.TheVariants.{Boolean}
 use Rattle.smv_scope.specs.Slots.{slots_of}
 use Rattle.smv_meaning.specs.Runs.{IsRun, are_inputs, at_time, fits, in_type, input_slots, is_state, state_slots}
-use Rattle.trace_replay.specs.declared.columns.Column.{Column}
 use Rattle.trace_replay.specs.declared.entry.Binding.{Binding}
-use Rattle.trace_replay.specs.declared.entry.Entry.{Entry}
-use Rattle.trace_replay.specs.declared.trace.Trace.{Trace}
 use Rattle.trace_replay.specs.Forms.{is_name, is_value}
 use Rattle.trace_replay.specs.Lines.{entries_of, input_entries, moment_entries, moments, state_entries}
 use Rattle.trace_replay.specs.Reading.{in_form, is_binding, is_small}
@@ -120,10 +117,10 @@ module _ (p : Program) (states inputs : List (List Value)) (run : IsRun p states
       let given_few = inputs_few p inputs in
       let lines : list_all in_form (moments t) ≡ true =
       all_numbers (moment_entries t) in_form (max (length t.states) (length t.inputs)) (λ i below.
-          let i_small : is_small i ≡ true = lt-ltb i (2 ^ 64) (omega (arith, below, counted, given_few, few, run.long)) in
-          list_all-append in_form (state_entries i (slice_get t.states i)) (input_entries i (slice_get t.inputs i))
-          ∙ and_from (list_all in_form (state_entries i (slice_get t.states i))) (list_all in_form (input_entries i (slice_get t.inputs i)))
-          (state_line i (slice_get t.states i) i_small (λ bs e. states_formed p held_named states i bs each e))
-          (input_line i (slice_get t.inputs i) i_small (λ bs e. inputs_formed p given_named inputs i bs given e))) in
+      let i_small : is_small i ≡ true = lt-ltb i (2 ^ 64) (omega (arith, below, counted, given_few, few, run.long)) in
+      list_all-append in_form (state_entries i (slice_get t.states i)) (input_entries i (slice_get t.inputs i))
+      ∙ and_from (list_all in_form (state_entries i (slice_get t.states i))) (list_all in_form (input_entries i (slice_get t.inputs i)))
+      (state_line i (slice_get t.states i) i_small (λ bs e. states_formed p held_named states i bs each e))
+      (input_line i (slice_get t.inputs i) i_small (λ bs e. inputs_formed p given_named inputs i bs given e))) in
       and_from (is_small number) (list_all in_form (moments t ++ [])) (lt-ltb number (2 ^ 64) small)
       (list_all-append in_form (moments t) [] ∙ and_from (list_all in_form (moments t)) true lines refl)

@@ -1,31 +1,30 @@
 -- A trace is accepted just where it is that of a run that breaks the specification.
-use Rattle.std.proofs.Common.{◌≡◌, ◌⊎◌, inl, inr, ◌≢◌, ℕ, zero, suc, ◌+◌, ◌-◌, ◌<◌, ◌≤◌, max, Bool, true, false, not, cond, ◌&&◌, ◌||◌, List, [], ◌∷◌, length, map, get_or, Option, None, Some, refl, sym, subst, ap, ◌∙◌, arith, unwrap_or, slice_get, IsTrue}
+use Rattle.std.proofs.Common.{◌≡◌, inl, inr, ℕ, ◌+◌, ◌-◌, ◌<◌, ◌≤◌, max, Bool, true, false, not, cond, ◌||◌, List, [], ◌∷◌, length, map, get_or, Option, None, Some, refl, sym, ap, ◌∙◌, arith, unwrap_or, slice_get}
 use lib.Dec.{eqb, leb, ltb}
-use Rattle.std.specs.List.{list_all, range_with_len}
+use Rattle.std.specs.List.{range_with_len}
 use Rattle.std.specs.Option.{is_some}
-use Rattle.std.proofs.lemmas.Bool.{and_from, and_parts, cases_lt, cond-false, cond-true, eq-eqb, eqb-true, le-leb, le-ltb, leb-true, lt-ltb, ne_eqb, or_right}
+use Rattle.std.proofs.lemmas.Bool.{and_parts, cases_lt, cond-false, cond-true, eq-eqb, le-ltb, leb-true, lt-ltb}
 use Rattle.std.proofs.lemmas.List.{get_or_default, length-map, same_lists}
 use Rattle.std.proofs.lemmas.List.FromFn.{get_or-map-range_with_len, length-map-range_with_len}
-use Rattle.std.proofs.lemmas.Option.{get_or_from_slice_get, slice_get-get_or, slice_get_past, slice_get_within}
+use Rattle.std.proofs.lemmas.Option.{slice_get-get_or, slice_get_within}
 use Rattle.std.proofs.Math.ListN.{get_or-map}
 use Rattle.smv_tree.specs.declared.tree.Program.{Program}
 use Rattle.smv_value.specs.declared.value.Value.{Value}
 use Rattle.smv_value.specs.declared.value.Value.TheVariants as value
 use Rattle.smv_resolve.specs.Items.{ResolvedItem}
-use Rattle.smv_scope.specs.declared.slot.Slot.{Slot}
 use Rattle.smv_scope.specs.Slots.{slots_of}
 use Rattle.smv_meaning.specs.declared.value.Outcome.{Outcome}
 use Rattle.smv_meaning.specs.declared.value.Outcome.TheVariants.{Fault, Values}
-use Rattle.smv_meaning.specs.Runs.{Breaks, IsRun, are_inputs, at_time, fits, input_slots, is_first_state, is_state, is_step, meets_invariants, state_slots}
+use Rattle.smv_meaning.specs.Runs.{IsRun, at_time, is_step}
 use Rattle.smv_meaning.specs.Values.{one, outcome_in}
 use Rattle.trace_replay.specs.declared.columns.Column.{Column}
 use Rattle.trace_replay.specs.declared.entry.Binding.{Binding}
 use Rattle.trace_replay.specs.declared.rule.ReplayRule.{ReplayRule}
 use Rattle.trace_replay.specs.declared.rule.ReplayRule.TheVariants as rule
 use Rattle.trace_replay.specs.declared.trace.Trace.{Trace}
-use Rattle.trace_replay.specs.Rows.{bindings_of, column_of, given_rows, input_columns, inputs_read, inputs_told, line_read, row_read, run_trace, state_columns, state_read, states_told}
-use Rattle.trace_replay.specs.Tests.{ShowsBroken, due_beside, ends, goes_on, inputs_due, inputs_fit, is_false, passes, starts_at, state_fits, values_fit}
-use Rattle.trace_replay.proofs.Cells.{row_back, row_told}
+use Rattle.trace_replay.specs.Rows.{bindings_of, given_rows, input_columns, inputs_read, inputs_told, line_read, row_read, run_trace, state_columns, state_read, states_told}
+use Rattle.trace_replay.specs.Tests.{ShowsBroken, due_beside, inputs_fit, is_false, passes, starts_at, state_fits}
+use Rattle.trace_replay.proofs.Cells.{row_told}
 use Rattle.trace_replay.proofs.OfTelling.{is_there, line_row, some_state}
 
 -- a test that is asked at all
@@ -88,12 +87,12 @@ module _ (cs : List Column) where
   rows_back rows h = same_lists (map (bindings_of cs) (map told rows)) rows
       (length-map (map told rows) (bindings_of cs) ∙ length-map rows told)
       (λ k d below.
-          let within : k < length rows = omega (arith, below, length-map (map told rows) (bindings_of cs), length-map rows told) in
-          let here : slice_get rows k ≡ Some (get_or rows k d) = slice_get-get_or rows k d within in
-          let is : is_some (line_read cs (Some (get_or rows k d))) ≡ true = ap (λ (o : Option (List Binding)). is_some (line_read cs o)) (sym here) ∙ h k within in
-          get_or_default (map (bindings_of cs) (map told rows)) k d (bindings_of cs (told d)) below
-          ∙ get_or-map (bindings_of cs) (map told rows) k (told d) ∙ ap (bindings_of cs) (get_or-map told rows k d)
-          ∙ line_back (Some (get_or rows k d)) (get_or rows k d) refl is)
+      let within : k < length rows = omega (arith, below, length-map (map told rows) (bindings_of cs), length-map rows told) in
+      let here : slice_get rows k ≡ Some (get_or rows k d) = slice_get-get_or rows k d within in
+      let is : is_some (line_read cs (Some (get_or rows k d))) ≡ true = ap (λ (o : Option (List Binding)). is_some (line_read cs o)) (sym here) ∙ h k within in
+      get_or_default (map (bindings_of cs) (map told rows)) k d (bindings_of cs (told d)) below
+      ∙ get_or-map (bindings_of cs) (map told rows) k (told d) ∙ ap (bindings_of cs) (get_or-map told rows k d)
+      ∙ line_back (Some (get_or rows k d)) (get_or rows k d) refl is)
 
   -- the same of the rows at numbers
   numbers_back : (rows : List (List Binding)) (m : ℕ) → length rows ≡ m → ((i : ℕ) → i < m → is_some (line_read cs (slice_get rows i)) ≡ true)
@@ -103,13 +102,13 @@ module _ (cs : List Column) where
       let both = length-map (map (read_at cs rows) (range_with_len 0 m)) (bindings_of cs) in
       same_lists (map (bindings_of cs) (map (read_at cs rows) (range_with_len 0 m))) rows (both ∙ len ∙ sym long)
       (λ k d below.
-          let within : k < m = omega (arith, below, both, len) in
-          let inside : k < length rows = omega (arith, within, long) in
-          let here : slice_get rows k ≡ Some (get_or rows k d) = slice_get-get_or rows k d inside in
-          get_or_default (map (bindings_of cs) (map (read_at cs rows) (range_with_len 0 m))) k d (bindings_of cs []) below
-          ∙ get_or-map (bindings_of cs) (map (read_at cs rows) (range_with_len 0 m)) k []
-          ∙ ap (bindings_of cs) (get_or-map-range_with_len (read_at cs rows) 0 m k k [] within (omega arith))
-          ∙ line_back (slice_get rows k) (get_or rows k d) here (h k within))
+      let within : k < m = omega (arith, below, both, len) in
+      let inside : k < length rows = omega (arith, within, long) in
+      let here : slice_get rows k ≡ Some (get_or rows k d) = slice_get-get_or rows k d inside in
+      get_or_default (map (bindings_of cs) (map (read_at cs rows) (range_with_len 0 m))) k d (bindings_of cs []) below
+      ∙ get_or-map (bindings_of cs) (map (read_at cs rows) (range_with_len 0 m)) k []
+      ∙ ap (bindings_of cs) (get_or-map-range_with_len (read_at cs rows) 0 m k k [] within (omega arith))
+      ∙ line_back (slice_get rows k) (get_or rows k d) here (h k within))
 
 inputs_back : (cs : List Column) (rows : List (List Binding)) (n : ℕ) → ((i : ℕ) → fit cs rows n i ≡ true) → given_rows cs (map (read_at cs rows) (range_with_len 0 (n - 1))) ≡ rows
 inputs_back [] rows n h = sym (no_rows rows (leb-true (length rows) 0 (h 0)))
@@ -122,12 +121,13 @@ inputs_back (c ∷ cs) rows n h =
     let each : (i : ℕ) → i < n - 1 → is_some (line_read (c ∷ cs) (slice_get rows i)) ≡ true =
     λ i below. sym (cond-true (ltb i (n - 1)) (is_some (line_read (c ∷ cs) (slice_get rows i))) _ (lt-ltb i (n - 1) below)) ∙ h i in
     let least : n - 1 ≤ length rows = elim (cases_lt (length rows) (n - 1)) [
-      inl short ↦
-      let value = is_there (line_read (c ∷ cs) (slice_get rows (length rows))) (each (length rows) short) in
-      let row = line_row (c ∷ cs) (slice_get rows (length rows)) value.0 value.1 in
-      let within : length rows < length rows = slice_get_within rows (length rows) row.0 row.1 in
-      absurd (let never : ⊥ = omega (arith, within) in never)
-    | inr enough ↦ enough ] in
+      | inl short ↦
+          let value = is_there (line_read (c ∷ cs) (slice_get rows (length rows))) (each (length rows) short) in
+          let row = line_row (c ∷ cs) (slice_get rows (length rows)) value.0 value.1 in
+          let within : length rows < length rows = slice_get_within rows (length rows) row.0 row.1 in
+          absurd (let never : ⊥ = omega (arith, within) in never)
+      | inr enough ↦ enough
+    ] in
     numbers_back (c ∷ cs) rows (n - 1) (omega (arith, most, least)) each
 
 module _ (p : Program) (spec : ResolvedItem) (t : Trace) (all : (r : ReplayRule) (i : ℕ) → passes p spec t r i ≡ true) where

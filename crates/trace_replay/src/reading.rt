@@ -71,17 +71,23 @@ pub fn followed(
     match entry {
         Entry::Spec(n) => Ok(begun_with(alloc, n, closed_with(done, current))),
         Entry::State(i, bindings) => {
-            let Some(block) = current else { return Ok(None) };
+            let Some(block) = current else {
+                return Ok(None)
+            };
             let trace = with_state(i, bindings, block.trace)?;
             Ok(kept_open(done, block.spec, trace))
         }
         Entry::Input(i, bindings) => {
-            let Some(block) = current else { return Ok(None) };
+            let Some(block) = current else {
+                return Ok(None)
+            };
             let trace = with_input(i, bindings, block.trace)?;
             Ok(kept_open(done, block.spec, trace))
         }
         Entry::Loop(n) => {
-            let Some(block) = current else { return Ok(None) };
+            let Some(block) = current else {
+                return Ok(None)
+            };
             Ok(kept_open(done, block.spec, with_loop(n, block.trace)))
         }
     }
@@ -135,11 +141,7 @@ fn is_unlooped(start: Option<usize>) -> bool
     }
 }
 
-fn with_state(
-    i: usize,
-    bindings: Items<Binding>,
-    trace: Trace,
-) -> Result<Option<Trace>, AllocError>
+fn with_state(i: usize, bindings: Items<Binding>, trace: Trace) -> Result<Option<Trace>, AllocError>
     ensures { IfOk result (λ t. t ≡ with_state i bindings trace) }
 {
     let Trace {
@@ -158,11 +160,7 @@ fn with_state(
     }))
 }
 
-fn with_input(
-    i: usize,
-    bindings: Items<Binding>,
-    trace: Trace,
-) -> Result<Option<Trace>, AllocError>
+fn with_input(i: usize, bindings: Items<Binding>, trace: Trace) -> Result<Option<Trace>, AllocError>
     ensures { IfOk result (λ t. t ≡ with_input i bindings trace) }
 {
     let Trace {

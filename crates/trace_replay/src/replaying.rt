@@ -11,7 +11,8 @@ ghost use Rattle.trace_replay.specs.Tests.{IsReplay, ShowsBroken, begins, ends, 
 use crate::telling::{Telling, Told, tell};
 use crate::{ReplayRule, Replayed, Trace};
 use smv_meaning::{
-    Inputs, Outcome, State, Typed, meets_init, meets_inv, meets_step, outcomes, slots, specifications,
+    Inputs, Outcome, State, Typed, meets_init, meets_inv, meets_step, outcomes, slots,
+    specifications,
 };
 use smv_resolve::Item;
 use smv_value::Value;
@@ -38,12 +39,7 @@ pub fn replay(
 }
 
 // What comes of the tests of a trace of this specification.
-fn judge(
-    alloc: Global,
-    typed: &Typed,
-    spec: &Item,
-    trace: &Trace,
-) -> Result<Replayed, AllocError>
+fn judge(alloc: Global, typed: &Typed, spec: &Item, trace: &Trace) -> Result<Replayed, AllocError>
     ensures { IfOk result (IsReplay typed.now.scope.program (item_by typed.now.nodes spec.now) trace.now) }
 {
     match tell(alloc, typed, trace)? {
@@ -107,11 +103,7 @@ fn failing_first(
 }
 
 // The first state that does not have what invariants ask.
-fn failing_inv(
-    alloc: Global,
-    typed: &Typed,
-    states: &[State],
-) -> Result<Option<usize>, AllocError>
+fn failing_inv(alloc: Global, typed: &Typed, states: &[State]) -> Result<Option<usize>, AllocError>
     ensures { IfOk result (IsFirstFailing (stays typed.now.scope.program states.now)) }
 {
     for (i, state) in states.iter().enumerate() {

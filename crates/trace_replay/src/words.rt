@@ -177,7 +177,13 @@ fn bindings_in(alloc: Global, words: &[Text]) -> Result<Option<Items<Binding>>, 
     let mut bindings = Vec::new(alloc);
     for i in 0..words.len() / 3 {
         let last = 3 * i + 3 == words.len();
-        match binding_in(alloc, &words[3 * i], &words[3 * i + 1], &words[3 * i + 2], last)? {
+        match binding_in(
+            alloc,
+            &words[3 * i],
+            &words[3 * i + 1],
+            &words[3 * i + 2],
+            last,
+        )? {
             None => return Ok(None),
             Some(binding) => bindings.push(binding)?,
         }

@@ -208,7 +208,7 @@ const FED_ROWS: [Row; 7] = [
 ];
 
 // What comes of a text behind a model.
-fn given(alloc: Global, source: &str, text: &str) -> Given {
+fn what_comes(alloc: Global, source: &str, text: &str) -> Given {
     match read_model(alloc, source.as_bytes()) {
         Ok(flat) => given_of(alloc, &flat.typed, text),
         Err(_) => Given::Nothing,
@@ -246,7 +246,7 @@ fn judged(alloc: Global, typed: &Typed, trace: &Trace) -> Given {
 // The first row that gives something else, if there is one.
 fn wrong(alloc: Global, source: &str, rows: &[Row]) -> Option<usize> {
     for (i, row) in rows.iter().enumerate() {
-        if given(alloc, source, row.text) != row.gives {
+        if what_comes(alloc, source, row.text) != row.gives {
             return Some(i);
         }
     }

@@ -1,6 +1,6 @@
 -- The trace of a run that breaks the specification is accepted.
 use Rattle.smv_resolve.specs.Items.{item_by}
-use Rattle.smv_cli.proofs.Replays.{is_numbered, never_rejected, shown}
+use Rattle.smv_cli.proofs.Replays.{is_numbered}
 use Rattle.smv_cli.proofs.judging.replayed.Goals as goal
 
 pub replay-requires-clause-last : goal.replay-requires-clause-last

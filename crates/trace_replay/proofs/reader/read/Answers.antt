@@ -1,7 +1,6 @@
 -- One line more, and a line that may not stand there.
-use Rattle.std.proofs.Common.{◌≡◌, ◌<◌, ◌∙◌, List, ℕ, length, None, refl, sym, subst, arith}
-use Rattle.smv_tree.specs.declared.refusal.TextStop.{TextStop}
-use Rattle.trace_replay.specs.Reading.{IsLinesStop, refusal_at, texts}
+use Rattle.std.proofs.Common.{◌<◌, List, ℕ, length, refl, sym, subst, arith}
+use Rattle.trace_replay.specs.Reading.{IsLinesStop, refusal_at}
 use Rattle.trace_replay.specs.Steps.{IsAfter, IsRead}
 use Rattle.trace_replay.proofs.OfReading.{read_more, refused_at, texts_more}
 use Rattle.trace_replay.proofs.reader.read.Goals as goal

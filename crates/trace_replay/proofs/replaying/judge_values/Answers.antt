@@ -3,7 +3,7 @@ use Rattle.std.proofs.Common.{◌≡◌, ◌∙◌, ◌+◌, ◌<◌, ℕ, List,
 use Rattle.smv_value.specs.declared.value.Value.{Value}
 use Rattle.smv_resolve.specs.Items.{item_by}
 use Rattle.trace_replay.specs.declared.rule.ReplayRule.TheVariants as rule
-use Rattle.trace_replay.specs.Rows.{inputs_told, states_told}
+use Rattle.trace_replay.specs.Rows.{states_told}
 use Rattle.trace_replay.specs.Telling.{FirstFailing, IsFirstFailing}
 use Rattle.trace_replay.specs.Tests.{IsReplay, begins, ends, goes_on, stays}
 use Rattle.trace_replay.proofs.OfTests.{Passed, loop_first, no_loop, one_more, passed_from, some_told, spec_first}

@@ -1,5 +1,5 @@
 -- A trace is accepted just where it shows that the specification is broken.
-use Rattle.std.proofs.Common.{◌≡◌, ◌∙◌, ◌-◌, ◌<◌, ap, length, map, arith}
+use Rattle.std.proofs.Common.{◌∙◌, ◌-◌, ◌<◌, ap, length, map, arith}
 use Rattle.smv_resolve.specs.Items.{item_by}
 use Rattle.smv_meaning.specs.Runs.{specifications_of}
 use Rattle.trace_replay.proofs.Judged.{accepted_at}

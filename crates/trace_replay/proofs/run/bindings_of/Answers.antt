@@ -1,5 +1,5 @@
 -- No binding is left.
-use Rattle.std.proofs.Common.{◌≡◌, ◌∙◌, ◌++◌, ◌≤◌, List, min, length, sym, ap, append-nil, arith}
+use Rattle.std.proofs.Common.{◌∙◌, ◌++◌, ◌≤◌, List, min, length, sym, ap, append-nil, arith}
 use Rattle.trace_replay.specs.declared.entry.Binding.{Binding}
 use Rattle.trace_replay.proofs.OfRuns.{bindings_done}
 use Rattle.trace_replay.proofs.run.bindings_of.Goals as goal

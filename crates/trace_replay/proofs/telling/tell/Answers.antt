@@ -1,9 +1,8 @@
 -- The values of one more number, and of all numbers.
-use Rattle.std.proofs.Common.{◌≡◌, ◌∙◌, ◌⊎◌, inl, inr, ◌<◌, ◌≤◌, ◌-◌, ◌+◌, ℕ, List, Some, [], max, min, length, map, take, below_more, refl, sym, subst, ap, arith, unwrap_or, true}
+use Rattle.std.proofs.Common.{◌≡◌, ◌∙◌, inl, inr, ◌<◌, ◌≤◌, ◌-◌, ℕ, Some, [], max, min, length, map, below_more, sym, subst, ap, arith, unwrap_or, true}
 use Rattle.std.specs.List.{range_with_len}
 use Rattle.std.proofs.lemmas.Bool.{cases_lt}
 use Rattle.std.proofs.lemmas.List.{take_all}
-use Rattle.smv_value.specs.declared.value.Value.{Value}
 use Rattle.trace_replay.specs.Rows.{inputs_read, state_columns, state_read}
 use Rattle.trace_replay.specs.Telling.{AreInputs}
 use Rattle.trace_replay.specs.Tests.{values_fit}
@@ -22,8 +21,9 @@ loop-i-preserved c =
       fit = below_more (λ j. values_fit p t j ≡ true) i c.loop-i.invariant.fit (fits_here p t i c.in-Some.state told given.0);
       states = c.in_ok-push.ensures.items ∙ rows_more (state_columns p) t.states c.loop-i.states.items i c.in-Some.state told c.loop-i.invariant.states;
       inputs = elim c.if-i-rows.branch [
-          then-i-rows+in_ok-push-2 w ↦ numbers_more (λ (j : ℕ). unwrap_or (inputs_read p t j) []) c.loop-i.inputs.items c.if-i-rows.inputs.items i (length t.states - 1) c.in-Some-2.given (ap (λ v. v.items) w.inputs-is ∙ w.in_ok-push-2.ensures.items) c.loop-i.invariant.inputs given.1 (omega (arith, w.if-i-rows.true, ap length c.as_slice-rows.ensures))
-        | else-i-rows w ↦ numbers_same (λ (j : ℕ). unwrap_or (inputs_read p t j) []) c.loop-i.inputs.items c.if-i-rows.inputs.items i (length t.states - 1) (ap (λ v. v.items) w.inputs-is) c.loop-i.invariant.inputs (omega (arith, w.if-i-rows.false, ap length c.as_slice-rows.ensures)) ];
+        | then-i-rows+in_ok-push-2 w ↦ numbers_more (λ (j : ℕ). unwrap_or (inputs_read p t j) []) c.loop-i.inputs.items c.if-i-rows.inputs.items i (length t.states - 1) c.in-Some-2.given (ap (λ v. v.items) w.inputs-is ∙ w.in_ok-push-2.ensures.items) c.loop-i.invariant.inputs given.1 (omega (arith, w.if-i-rows.true, ap length c.as_slice-rows.ensures))
+        | else-i-rows w ↦ numbers_same (λ (j : ℕ). unwrap_or (inputs_read p t j) []) c.loop-i.inputs.items c.if-i-rows.inputs.items i (length t.states - 1) (ap (λ v. v.items) w.inputs-is) c.loop-i.invariant.inputs (omega (arith, w.if-i-rows.false, ap length c.as_slice-rows.ensures))
+      ];
     }
 
 pub returns : goal.returns

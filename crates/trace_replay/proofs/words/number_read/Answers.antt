@@ -1,5 +1,5 @@
 -- A number is read where its text is that which it prints.
-use Rattle.std.proofs.Common.{◌≡◌, sym, ◌∙◌}
+use Rattle.std.proofs.Common.{◌∙◌}
 use Rattle.std.proofs.lemmas.Fmt.{parse-decimal}
 use Rattle.trace_replay.proofs.OfWords.{not_printed, same_number}
 use Rattle.trace_replay.proofs.words.number_read.Goals as goal

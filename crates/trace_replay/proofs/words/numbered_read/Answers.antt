@@ -2,7 +2,7 @@
 use Rattle.std.proofs.Common.{◌≡◌, ◌∙◌, None, Some, sym, ap}
 use Rattle.std.specs.Fmt.{decimal}
 use Rattle.trace_replay.specs.Words.{without_last}
-use Rattle.trace_replay.proofs.OfWords.{numbered, numbered_if_ok, without_last-push}
+use Rattle.trace_replay.proofs.OfWords.{numbered_if_ok, without_last-push}
 use Rattle.trace_replay.proofs.words.numbered_read.Goals as goal
 
 pub returns-in-None : goal.returns-in-None

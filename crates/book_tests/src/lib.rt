@@ -1,5 +1,0 @@
-//! Tests of the book.
-#![tactic(auto)]
-
-#[cfg(test)]
-mod books;
