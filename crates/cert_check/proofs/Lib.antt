@@ -1,1 +1,2 @@
-mod Verdicts
+pub mod Joining
+pub mod Verdicts

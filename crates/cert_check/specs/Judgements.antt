@@ -1,31 +1,31 @@
 -- Which part of a certificate fails first.
-use Rattle.std.specs.Prelude.{◌≡◌, ℕ, ◌<◌, ◌⊎◌, List, [], ◌++◌, length, All, Option, None, Some, slice_index_or}
+use Rattle.std.specs.Prelude.{ℕ, ◌<◌, ◌⊎◌, List, [], length, All, Option, None, Some, slice_index_or}
 use Rattle.clause_core.specs.declared.literal.Lit.{Lit}
 use Rattle.clause_core.specs.Literals.{Within}
 use Rattle.clause_core.specs.Systems.{TransitionSystem}
-use Rattle.cert_core.specs.declared.certificate.Certificate.{Certificate}
-use Rattle.cert_core.specs.declared.certificate.Form.{Form}
-use Rattle.cert_core.specs.declared.certificate.Form.TheVariants.{Plain, Hinted}
-use Rattle.cert_core.specs.declared.certificate.Part.{Part}
-use Rattle.cert_core.specs.declared.certificate.Part.TheVariants.{Shared, First, Kept, Safe}
-use Rattle.cert_core.specs.Certificates.{no_steps, shared_steps, shared_clauses, first_clauses, kept_clauses, safe_clauses, Shows, SharedFollow, Certifies}
+use Rattle.cert_core.specs.declared.form.Form.{Form}
+use Rattle.cert_core.specs.declared.form.Form.TheVariants.{Plain, Hinted}
+use Rattle.cert_core.specs.declared.form.Part.{Part}
+use Rattle.cert_core.specs.declared.form.Part.TheVariants.{Shared, First, Kept, Safe}
+use Rattle.cert_core.specs.Blocks.{Block, part_of}
+use Rattle.cert_core.specs.Certificates.{shared_steps, shared_clauses, first_clauses, kept_clauses, safe_clauses, Shows, SharedFollow, Certifies}
 use Rattle.cert_check.specs.declared.judging.Verdict.{Verdict}
 use Rattle.cert_check.specs.declared.judging.Verdict.TheVariants.{Yes, No}
 
 -- the clause has state bits alone, and the part `first` of it shows what it is to show
-abbrev pub FirstHolds : TransitionSystem → Certificate → ℕ → Type 0
+abbrev pub FirstHolds : TransitionSystem → Block → ℕ → Type 0
 FirstHolds sys cert k =
     Within sys.state_bits (slice_index_or cert.clauses k [])
-    × Shows cert.form sys.all_bits (first_clauses sys (slice_index_or cert.clauses k [])) (slice_index_or cert.first.items k no_steps)
+    × Shows cert.form sys.all_bits (first_clauses sys (slice_index_or cert.clauses k [])) (part_of cert (First k))
 
 -- the part `kept` of the clause shows what it is to show
-abbrev pub KeptHolds : TransitionSystem → Certificate → ℕ → Type 0
+abbrev pub KeptHolds : TransitionSystem → Block → ℕ → Type 0
 KeptHolds sys cert k =
     Shows cert.form sys.all_bits (kept_clauses sys cert.clauses (shared_steps cert.form cert.shared) (slice_index_or cert.clauses k []))
-    (slice_index_or cert.kept.items k no_steps)
+    (part_of cert (Kept k))
 
 -- the part `safe` shows what it is to show
-abbrev pub SafeHolds : TransitionSystem → Certificate → Type 0
+abbrev pub SafeHolds : TransitionSystem → Block → Type 0
 SafeHolds sys cert = Shows cert.form sys.all_bits (safe_clauses sys cert.clauses) cert.safe
 
 -- each below n holds
@@ -48,12 +48,12 @@ IsFarAt Plain state_bits cs k = ⊥
 IsFarAt Hinted state_bits cs k = (k < length cs) × EachBelow (λ j. Within state_bits (slice_index_or cs j [])) k × (Within state_bits (slice_index_or cs k []) → ⊥)
 
 -- what is judged before the parts `first`
-abbrev pub Begun : TransitionSystem → Certificate → Type 0
+abbrev pub Begun : TransitionSystem → Block → Type 0
 Begun sys cert =
     IsNear cert.form sys.state_bits cert.clauses × SharedFollow cert.form sys.all_bits (shared_clauses sys cert.clauses) cert.shared
 
 -- this part is the first that fails
-abbrev pub FailsFirst : TransitionSystem → Certificate → Part → Type 0
+abbrev pub FailsFirst : TransitionSystem → Block → Part → Type 0
 FailsFirst sys cert Shared =
     IsNear cert.form sys.state_bits cert.clauses × (SharedFollow cert.form sys.all_bits (shared_clauses sys cert.clauses) cert.shared → ⊥)
 FailsFirst sys cert (First k) =
@@ -70,6 +70,6 @@ FailsFirst sys cert Safe =
     × (SafeHolds sys cert → ⊥)
 
 -- Yes: the certificate certifies; No: this part is the first that fails
-abbrev pub VerdictSays : TransitionSystem → Certificate → Verdict → Type 0
+abbrev pub VerdictSays : TransitionSystem → Block → Verdict → Type 0
 VerdictSays sys cert Yes = Certifies sys cert
 VerdictSays sys cert (No part) = FailsFirst sys cert part

@@ -1,6 +1,7 @@
-ghost use Rattle.std.specs.Prelude.{◌≡◌, ◌*◌, ◌≤◌, ◌++◌, [], length, All, IfOk, MatchOption, slice_index_or};
+ghost use Rattle.std.specs.Prelude.{◌≡◌, ◌*◌, ◌≤◌, ◌++◌, [], length, All, IfOk, MatchBool, MatchOption, slice_index_or};
 ghost use Rattle.clause_core.specs.Literals.{Within};
-ghost use Rattle.cert_core.specs.Certificates.{shared_steps};
+ghost use Rattle.cert_core.specs.declared.form.Form.TheVariants.{Hinted};
+ghost use Rattle.cert_core.specs.Certificates.{shared_steps, SharedFollow};
 ghost use Rattle.cert_check.specs.Judgements.{Begun, EachBelow, FirstHolds, FailsFirst, Judges, VerdictSays};
 
 use crate::lists::{append, joined};
@@ -32,6 +33,23 @@ fn first_far(clauses: &Clauses, state_bits: usize) -> Option<usize>
     None
 }
 
+// Whether the shared part, if it is there, has steps, each of which follows by its hints.
+fn share(checker: &mut Checker, cert: &Certificate, given: &Clauses) -> bool
+    requires { All (Within checker.old) given.now }
+    ensures vars { checker.new ≡ checker.old }
+    ensures says { MatchBool result (SharedFollow Hinted checker.old given.now cert.now.shared) (SharedFollow Hinted checker.old given.now cert.now.shared → ⊥) }
+{
+    match cert.steps(Part::Shared) {
+        None => true,
+        Some(steps) => {
+            if steps.len() == 0 {
+                return false;
+            }
+            all_follow(checker, given, steps)
+        }
+    }
+}
+
 // What fails before the parts `first` are judged.
 fn judge_shared(
     alloc: Global,
@@ -44,15 +62,16 @@ fn judge_shared(
     ensures says { IfOk result (λ r. MatchOption r (Begun system.now cert.now) (FailsFirst system.now cert.now)) }
 {
     system.law();
-    match cert.form {
+    let clauses = cert.clauses();
+    match cert.form() {
         Form::Plain => Ok(None),
         Form::Hinted => {
-            match first_far(&cert.clauses, system.state_bits()) {
+            match first_far(clauses, system.state_bits()) {
                 Some(k) => return Ok(Some(Part::First(k))),
                 None => {}
             }
-            let given = joined(alloc, &cert.clauses, system.step())?;
-            if all_follow(checker, &given, &cert.shared) {
+            let given = joined(alloc, clauses, system.step())?;
+            if share(checker, cert, &given) {
                 Ok(None)
             } else {
                 Ok(Some(Part::Shared))
@@ -65,10 +84,13 @@ fn judge_shared(
 fn kept_from(alloc: Global, step: &Clauses, cert: &Certificate) -> Result<Clauses, AllocError>
     ensures { IfOk result (λ c. c ≡ cert.now.clauses ++ step.now ++ shared_steps cert.now.form cert.now.shared) }
 {
-    let mut given = joined(alloc, &cert.clauses, step)?;
-    match cert.form {
+    let mut given = joined(alloc, cert.clauses(), step)?;
+    match cert.form() {
         Form::Plain => {}
-        Form::Hinted => append(&mut given, cert.shared.steps())?,
+        Form::Hinted => match cert.steps(Part::Shared) {
+            None => {}
+            Some(steps) => append(&mut given, steps.steps())?,
+        },
     }
     Ok(given)
 }
@@ -93,8 +115,8 @@ fn judge_rest(
             part: Part::Kept(k),
         });
     }
-    let given = joined(alloc, &cert.clauses, system.bad())?;
-    if shows(alloc, checker, cert.form, &given, &[], &cert.safe)? {
+    let given = joined(alloc, cert.clauses(), system.bad())?;
+    if shows(alloc, checker, cert, Part::Safe, &given, &[])? {
         Ok(Verdict::Yes)
     } else {
         Ok(Verdict::No { part: Part::Safe })

@@ -1,8 +1,11 @@
 //! Judges certificates, by unit propagation or by hints alone.
 #![tactic(auto)]
 
+pub mod hinting;
 pub mod judging;
-mod lists;
+pub mod lists;
 mod parts;
+pub mod upgrading;
 
 pub use judging::{Verdict, check};
+pub use upgrading::{Upgraded, upgrade};

@@ -5,8 +5,8 @@ ghost use Rattle.cert_core.specs.Certificates.{unit_clauses, negated, negated_ne
 use clause_core::{Clauses, Lit};
 use std::alloc::{AllocError, Global};
 
-// Adds all clauses of another list.
-pub(crate) fn append(to: &mut Clauses, from: &Clauses) -> Result<(), AllocError>
+/// Adds all clauses of another list.
+pub fn append(to: &mut Clauses, from: &Clauses) -> Result<(), AllocError>
     ensures { OnOk result (to.new ≡ to.old ++ from.now) }
 {
     for k in 0..from.len() {
@@ -15,8 +15,8 @@ pub(crate) fn append(to: &mut Clauses, from: &Clauses) -> Result<(), AllocError>
     Ok(())
 }
 
-// Adds a clause of one literal for each of these.
-pub(crate) fn append_units(to: &mut Clauses, units: &[Lit]) -> Result<(), AllocError>
+/// Adds a clause of one literal for each of these.
+pub fn append_units(to: &mut Clauses, units: &[Lit]) -> Result<(), AllocError>
     ensures { OnOk result (to.new ≡ to.old ++ unit_clauses units.now) }
 {
     for l in units {
@@ -25,12 +25,8 @@ pub(crate) fn append_units(to: &mut Clauses, units: &[Lit]) -> Result<(), AllocE
     Ok(())
 }
 
-// The clauses of both lists.
-pub(crate) fn joined(
-    alloc: Global,
-    first: &Clauses,
-    second: &Clauses,
-) -> Result<Clauses, AllocError>
+/// The clauses of both lists.
+pub fn joined(alloc: Global, first: &Clauses, second: &Clauses) -> Result<Clauses, AllocError>
     ensures { IfOk result (λ c. c ≡ first.now ++ second.now) }
 {
     let mut all = Clauses::new(alloc);
@@ -39,8 +35,8 @@ pub(crate) fn joined(
     Ok(all)
 }
 
-// The literals of the negated clause.
-pub(crate) fn negate_all(alloc: Global, c: &[Lit]) -> Result<Vec<Lit>, AllocError>
+/// The literals of the negated clause.
+pub fn negate_all(alloc: Global, c: &[Lit]) -> Result<Vec<Lit>, AllocError>
     ensures { IfOk result (λ v. v.items ≡ negated c.now) }
 {
     let mut lits = Vec::new(alloc);
@@ -50,12 +46,8 @@ pub(crate) fn negate_all(alloc: Global, c: &[Lit]) -> Result<Vec<Lit>, AllocErro
     Ok(lits)
 }
 
-// The literals of the negated clause, at the next state.
-pub(crate) fn negate_next(
-    alloc: Global,
-    state_bits: usize,
-    c: &[Lit],
-) -> Result<Vec<Lit>, AllocError>
+/// The literals of the negated clause, at the next state.
+pub fn negate_next(alloc: Global, state_bits: usize, c: &[Lit]) -> Result<Vec<Lit>, AllocError>
     requires room { 2 * state_bits < 2 ^ 64 }
     requires within { Within state_bits c.now }
     ensures { IfOk result (λ v. v.items ≡ negated_next state_bits c.now) }

@@ -1,18 +1,19 @@
 ghost use Rattle.std.specs.Prelude.{◌≡◌, ◌<◌, ◌≤◌, ◌*◌, ◌++◌, length, All, IfOk, MatchBool, slice_index_or};
 ghost use Rattle.clause_core.specs.Literals.{Within};
 ghost use Rattle.hinted_log.specs.Hints.{IsHinted};
-ghost use Rattle.cert_core.specs.Certificates.{unit_clauses, no_steps, shared_steps, Shows};
+ghost use Rattle.cert_core.specs.Blocks.{part_of};
+ghost use Rattle.cert_core.specs.Certificates.{unit_clauses, shared_steps, StepsShow, Shows};
 ghost use Rattle.cert_check.specs.Judgements.{FirstHolds, KeptHolds, Judges};
 
 use crate::lists::{append, append_units, negate_all, negate_next};
-use cert_core::{Certificate, Form};
+use cert_core::{Certificate, Form, Part};
 use clause_core::{Clauses, Lit, System, is_within};
 use hinted_log::Hinted;
 use rup_check::{Checker, Verdict};
 use std::alloc::{AllocError, Global};
 
 // Whether the steps derive the empty clause from the clauses and the units.
-pub(crate) fn shows(
+fn steps_show(
     alloc: Global,
     checker: &mut Checker,
     form: Form,
@@ -23,7 +24,7 @@ pub(crate) fn shows(
     requires clauses { All (Within checker.old) clauses.now }
     requires units { Within checker.old units.now }
     ensures vars { checker.new ≡ checker.old }
-    ensures says { IfOk result (λ b. MatchBool b (Shows form checker.old (clauses.now ++ unit_clauses units.now) steps.now) (Shows form checker.old (clauses.now ++ unit_clauses units.now) steps.now → ⊥)) }
+    ensures says { IfOk result (λ b. MatchBool b (StepsShow form checker.old (clauses.now ++ unit_clauses units.now) steps.now) (StepsShow form checker.old (clauses.now ++ unit_clauses units.now) steps.now → ⊥)) }
 {
     match form {
         Form::Plain => {
@@ -54,12 +55,24 @@ pub(crate) fn all_follow(checker: &mut Checker, clauses: &Clauses, steps: &Hinte
     }
 }
 
-// The steps at this place, or none.
-fn steps_at<'a>(parts: &'a [Hinted], k: usize, none: &'a Hinted) -> &'a Hinted
-    requires { none.now ≡ no_steps }
-    ensures { result.now ≡ slice_index_or parts.now k no_steps }
+// Whether the part is there, and its steps derive the empty clause from the clauses and the units.
+pub(crate) fn shows(
+    alloc: Global,
+    checker: &mut Checker,
+    cert: &Certificate,
+    part: Part,
+    clauses: &Clauses,
+    units: &[Lit],
+) -> Result<bool, AllocError>
+    requires clauses { All (Within checker.old) clauses.now }
+    requires units { Within checker.old units.now }
+    ensures vars { checker.new ≡ checker.old }
+    ensures says { IfOk result (λ b. MatchBool b (Shows cert.now.form checker.old (clauses.now ++ unit_clauses units.now) (part_of cert.now part)) (Shows cert.now.form checker.old (clauses.now ++ unit_clauses units.now) (part_of cert.now part) → ⊥)) }
 {
-    if k < parts.len() { &parts[k] } else { none }
+    match cert.steps(part) {
+        None => Ok(false),
+        Some(steps) => steps_show(alloc, checker, cert.form(), clauses, units, steps),
+    }
 }
 
 // The first of the parts `first` that fails.
@@ -74,16 +87,15 @@ pub(crate) fn judge_first(
     ensures says { IfOk result (Judges (FirstHolds system.now cert.now) (length cert.now.clauses)) }
 {
     system.law();
-    let none = Hinted::new(alloc);
     let state_bits = system.state_bits();
-    for k in 0..cert.clauses.len() {
-        let c = cert.clauses.get(k);
+    let clauses = cert.clauses();
+    for k in 0..clauses.len() {
+        let c = clauses.get(k);
         if !is_within(c, state_bits) {
             return Ok(Some(k));
         }
         let units = negate_all(alloc, c)?;
-        let steps = steps_at(&cert.first, k, &none);
-        if !shows(alloc, checker, cert.form, system.init(), &units, steps)? {
+        if !shows(alloc, checker, cert, Part::First(k), system.init(), &units)? {
             return Ok(Some(k));
         }
     }
@@ -105,14 +117,13 @@ pub(crate) fn judge_kept(
     ensures vars { checker.new ≡ checker.old }
     ensures says { IfOk result (Judges (KeptHolds system.now cert.now) (length cert.now.clauses)) }
 {
-    let none = Hinted::new(alloc);
     let _all_bits = system.all_bits();
     let state_bits = system.state_bits();
-    for k in 0..cert.clauses.len() {
-        let c = cert.clauses.get(k);
+    let clauses = cert.clauses();
+    for k in 0..clauses.len() {
+        let c = clauses.get(k);
         let units = negate_next(alloc, state_bits, c)?;
-        let steps = steps_at(&cert.kept, k, &none);
-        if !shows(alloc, checker, cert.form, given, &units, steps)? {
+        if !shows(alloc, checker, cert, Part::Kept(k), given, &units)? {
             return Ok(Some(k));
         }
     }

@@ -1,27 +1,32 @@
 -- A certificate's clauses are an invariant.
-use Rattle.std.proofs.Common.{◌≡◌, ℕ, ◌<◌, ◌≤◌, ◌+◌, Bool, true, false, not, List, [], ◌∷◌, ◌++◌, length, map, take, get_or, zero, suc, refl, sym, subst, ◌∙◌, ap, inl, inr, arith, add-one}
-use Rattle.std.specs.List.{All, Contains}
+use Rattle.std.proofs.Common.{Option, None, Some, ◌≡◌, ℕ, ◌<◌, ◌≤◌, ◌+◌, Bool, true, false, not, List, [], ◌∷◌, ◌++◌, length, map, take, get_or, zero, suc, refl, sym, subst, ◌∙◌, inl, inr, arith, add-one}
+use Rattle.std.specs.List.{All}
 use Rattle.std.proofs.lemmas.List.{take_all, length-map, get_or-map}
-use Rattle.std.proofs.lemmas.List.Elements.{All-contains, All-append, All-map, All-cons, All-nil, All-more, All-weaker, All-from_get_or, Contains-get_or}
+use Rattle.std.proofs.lemmas.List.Elements.{All-contains, All-append, All-map, All-nil, All-more, All-weaker, All-from_get_or, Contains-get_or}
 use Rattle.clause_core.specs.declared.literal.Lit.{Lit}
 use Rattle.clause_core.specs.Literals.{negate, Within}
 use Rattle.clause_core.specs.Assignments.{ClauseTrue, Agrees}
 use Rattle.clause_core.specs.Propagation.{AllFalse}
-use Rattle.clause_core.specs.Derivations.{AllStepsBelow}
-use Rattle.clause_core.specs.Systems.{TransitionSystem, FirstBits, StepBits, BadBits, ReachedWithin, NextIs}
+use Rattle.clause_core.specs.Systems.{TransitionSystem, BadBits, ReachedWithin, NextIs}
 use Rattle.clause_core.proofs.Sound.{refutes, clause_cases, truths, agrees_true, Implies-from_follows}
 use Rattle.hinted_log.specs.Hints.{HintedLog, IsHinted}
 use Rattle.hinted_log.proofs.Follow.{Derives-from_hinted, Follows-from_hints}
-use Rattle.cert_core.specs.declared.certificate.Certificate.{Certificate}
-use Rattle.cert_core.specs.declared.certificate.Form.{Form}
-use Rattle.cert_core.specs.declared.certificate.Form.TheVariants.{Plain, Hinted}
-use Rattle.cert_core.specs.Certificates.{next_of, negated, negated_next, unit_clauses, no_steps, shared_steps, shared_clauses, first_clauses, kept_clauses, safe_clauses, Shows, SharedFollow, Certifies, IsInvariant}
+use Rattle.cert_core.specs.declared.form.Form.{Form}
+use Rattle.cert_core.specs.declared.form.Form.TheVariants.{Plain, Hinted}
+use Rattle.cert_core.specs.declared.form.Part.TheVariants.{First, Kept}
+use Rattle.cert_core.specs.Blocks.{Block, part_of}
+use Rattle.cert_core.specs.Certificates.{next_of, negated, unit_clauses, shared_steps, shared_clauses, safe_clauses, StepsShow, Shows, SharedFollow, Certifies, IsInvariant}
 
 -- what shows the empty clause leaves no model
-pub shows_refutes : (form : Form) (vars : ℕ) (cs : List (List Lit)) (log : HintedLog) → Shows form vars cs log → (a : ℕ → Bool) →
+pub steps_refute : (form : Form) (vars : ℕ) (cs : List (List Lit)) (log : HintedLog) → StepsShow form vars cs log → (a : ℕ → Bool) →
     All (ClauseTrue a) cs → ⊥
-shows_refutes Plain vars cs log s a all = refutes vars cs log.steps s a all
-shows_refutes Hinted vars cs log s a all = refutes vars cs log.steps (Derives-from_hinted vars cs log s.0 s.1) a all
+steps_refute Plain vars cs log s a all = refutes vars cs log.steps s a all
+steps_refute Hinted vars cs log s a all = refutes vars cs log.steps (Derives-from_hinted vars cs log s.0 s.1) a all
+
+pub shows_refutes : (form : Form) (vars : ℕ) (cs : List (List Lit)) (part : Option HintedLog) → Shows form vars cs part → (a : ℕ → Bool) →
+    All (ClauseTrue a) cs → ⊥
+shows_refutes form vars cs None s a all = absurd s
+shows_refutes form vars cs (Some log) s a all = steps_refute form vars cs log s a all
 
 -- hinted steps are true where the clauses are
 pub hinted_true : (vars : ℕ) (cs : List (List Lit)) (log : HintedLog) (a : ℕ → Bool) → IsHinted vars cs log → All (ClauseTrue a) cs →
@@ -36,12 +41,13 @@ hinted_true vars cs log a h all (suc n) le =
     (All-append (ClauseTrue a) cs (take n log.steps) all before) in
     rw (← add-one) (All-more (ClauseTrue a) log.steps n [] lt before now)
 
-pub shared_true : (form : Form) (vars : ℕ) (cs : List (List Lit)) (log : HintedLog) (a : ℕ → Bool) → SharedFollow form vars cs log →
-    All (ClauseTrue a) cs → All (ClauseTrue a) (shared_steps form log)
-shared_true Plain vars cs log a h all = All-nil (ClauseTrue a)
-shared_true Hinted vars cs log a h all =
+pub shared_true : (form : Form) (vars : ℕ) (cs : List (List Lit)) (part : Option HintedLog) (a : ℕ → Bool) → SharedFollow form vars cs part →
+    All (ClauseTrue a) cs → All (ClauseTrue a) (shared_steps form part)
+shared_true Plain vars cs part a h all = All-nil (ClauseTrue a)
+shared_true Hinted vars cs None a h all = All-nil (ClauseTrue a)
+shared_true Hinted vars cs (Some log) a h all =
     let P : List (List Lit) → Type 0 = All (ClauseTrue a) in
-    subst P (take_all (length log.steps) log.steps (omega arith)) (hinted_true vars cs log a h all (length log.steps) (omega arith))
+    subst P (take_all (length log.steps) log.steps (omega arith)) (hinted_true vars cs log a h.1 all (length log.steps) (omega arith))
 
 -- an assignment that makes each literal false makes the negated clause's units true
 pub negated_true : (a : ℕ → Bool) (c : List Lit) → AllFalse (truths a) c → All (ClauseTrue a) (unit_clauses (negated c))
@@ -52,7 +58,7 @@ negated_true a c all =
     (λ l e. (0, negate l, omega arith, refl, agrees_true (a l.var) (not l.positive) e)) c all))
 
 -- so a clause is true that derivations show
-pub shown_true : (form : Form) (vars : ℕ) (cs : List (List Lit)) (c : List Lit) (log : HintedLog) (a : ℕ → Bool) →
+pub shown_true : (form : Form) (vars : ℕ) (cs : List (List Lit)) (c : List Lit) (log : Option HintedLog) (a : ℕ → Bool) →
     Shows form vars (cs ++ unit_clauses (negated c)) log → All (ClauseTrue a) cs → ClauseTrue a c
 shown_true form vars cs c log a s all =
     elim (clause_cases a c) [
@@ -86,14 +92,14 @@ ClauseTrue-next n a y c same within h =
     let q = Contains-get_or c h.0 d lt in
     (q.0, l, q.1, q.2, sym (same l.var at) ∙ on)
 
-pub Invariant-from_certifies : (sys : TransitionSystem) (cert : Certificate) → Certifies sys cert → IsInvariant sys cert.clauses
+pub Invariant-from_certifies : (sys : TransitionSystem) (cert : Block) → Certifies sys cert → IsInvariant sys cert.clauses
 Invariant-from_certifies sys cert h =
     let cs = cert.clauses in
     let n = sys.state_bits in
     record {
       initial = λ x f. All-from_get_or (ClauseTrue x) cs [] (λ k lt.
           ClauseTrue-agrees n f.0 x (get_or cs k []) f.1 (h.within k [] lt)
-          (shown_true cert.form sys.all_bits sys.init (get_or cs k []) (get_or cert.first.items k no_steps) f.0 (h.first k lt) f.2));
+          (shown_true cert.form sys.all_bits sys.init (get_or cs k []) (part_of cert (First k)) f.0 (h.first k lt) f.2));
       kept = λ x y all s. All-from_get_or (ClauseTrue y) cs [] (λ k lt.
           let a = s.0 in
           let there : All (ClauseTrue a) cs = clauses_agree n x a cs (Agrees-sym n a x s.1) h.within all in
@@ -101,7 +107,7 @@ Invariant-from_certifies sys cert h =
           let shared : All (ClauseTrue a) (shared_steps cert.form cert.shared) = shared_true cert.form sys.all_bits (shared_clauses sys cs) cert.shared a h.shared both in
           let given : All (ClauseTrue a) (cs ++ sys.step ++ shared_steps cert.form cert.shared) = All-append (ClauseTrue a) (cs ++ sys.step) (shared_steps cert.form cert.shared) both shared in
           ClauseTrue-next n a y (get_or cs k []) s.2 (h.within k [] lt)
-          (shown_true cert.form sys.all_bits (cs ++ sys.step ++ shared_steps cert.form cert.shared) (map (next_of n) (get_or cs k [])) (get_or cert.kept.items k no_steps) a
+          (shown_true cert.form sys.all_bits (cs ++ sys.step ++ shared_steps cert.form cert.shared) (map (next_of n) (get_or cs k [])) (part_of cert (Kept k)) a
           (h.kept k lt) given));
       safe = λ x all b.
           let a = b.0 in
@@ -118,7 +124,7 @@ reached_true sys cs h (suc j) x r =
       | inr s ↦ h.kept s.0 x (reached_true sys cs h j s.0 s.1) s.2
     ]
 
-pub never_bad : (sys : TransitionSystem) (cert : Certificate) → Certifies sys cert → (j : ℕ) (x : ℕ → Bool) → ReachedWithin sys j x → BadBits sys x → ⊥
+pub never_bad : (sys : TransitionSystem) (cert : Block) → Certifies sys cert → (j : ℕ) (x : ℕ → Bool) → ReachedWithin sys j x → BadBits sys x → ⊥
 never_bad sys cert h j x r b =
     let i = Invariant-from_certifies sys cert h in
     i.safe x (reached_true sys cert.clauses i j x r) b

@@ -1,14 +1,15 @@
 -- What a certificate says.
-use Rattle.std.specs.Prelude.{◌≡◌, ℕ, ◌+◌, ◌<◌, Bool, List, [], ◌∷◌, ◌++◌, length, map, All, slice_index_or}
+use Rattle.std.specs.Prelude.{ℕ, ◌+◌, ◌<◌, ⊤, Bool, List, [], ◌∷◌, ◌++◌, length, map, All, Option, None, Some, IfSome, IsSomeAnd, slice_index_or}
 use Rattle.clause_core.specs.declared.literal.Lit.{Lit}
 use Rattle.clause_core.specs.Literals.{negate, Within}
 use Rattle.clause_core.specs.Assignments.{ClauseTrue}
 use Rattle.clause_core.specs.Derivations.{Derives}
 use Rattle.clause_core.specs.Systems.{TransitionSystem, FirstBits, StepBits, BadBits}
 use Rattle.hinted_log.specs.Hints.{HintedLog, IsHinted, Refutes}
-use Rattle.cert_core.specs.declared.certificate.Certificate.{Certificate}
-use Rattle.cert_core.specs.declared.certificate.Form.{Form}
-use Rattle.cert_core.specs.declared.certificate.Form.TheVariants.{Plain, Hinted}
+use Rattle.cert_core.specs.declared.form.Form.{Form}
+use Rattle.cert_core.specs.declared.form.Form.TheVariants.{Plain, Hinted}
+use Rattle.cert_core.specs.declared.form.Part.TheVariants.{First, Kept}
+use Rattle.cert_core.specs.Blocks.{Block, part_of}
 
 -- the same literal of the next state
 abbrev pub next_of : ℕ → Lit → Lit
@@ -26,14 +27,11 @@ negated_next state_bits c = map negate (map (next_of state_bits) c)
 abbrev pub unit_clauses : List Lit → List (List Lit)
 unit_clauses lits = map (λ l. l ∷ []) lits
 
--- no steps
-abbrev pub no_steps : HintedLog
-no_steps = record { steps = []; hints = [] }
-
 -- the steps that are given to each kept part
-abbrev pub shared_steps : Form → HintedLog → List (List Lit)
+abbrev pub shared_steps : Form → Option HintedLog → List (List Lit)
 shared_steps Plain shared = []
-shared_steps Hinted shared = shared.steps
+shared_steps Hinted None = []
+shared_steps Hinted (Some log) = log.steps
 
 -- what the shared part follows from
 abbrev pub shared_clauses : TransitionSystem → List (List Lit) → List (List Lit)
@@ -52,24 +50,28 @@ abbrev pub safe_clauses : TransitionSystem → List (List Lit) → List (List Li
 safe_clauses sys cs = cs ++ sys.bad
 
 -- the steps derive the empty clause from the clauses
-abbrev pub Shows : Form → ℕ → List (List Lit) → HintedLog → Type 0
-Shows Plain vars cs log = Derives vars cs log.steps
-Shows Hinted vars cs log = Refutes vars cs log
+abbrev pub StepsShow : Form → ℕ → List (List Lit) → HintedLog → Type 0
+StepsShow Plain vars cs log = Derives vars cs log.steps
+StepsShow Hinted vars cs log = Refutes vars cs log
 
--- the shared steps follow, where they are used
-abbrev pub SharedFollow : Form → ℕ → List (List Lit) → HintedLog → Type 0
-SharedFollow Plain vars cs log = Unit {0}
-SharedFollow Hinted vars cs log = IsHinted vars cs log
+-- the part is there, and its steps derive the empty clause from the clauses
+abbrev pub Shows : Form → ℕ → List (List Lit) → Option HintedLog → Type 0
+Shows form vars cs part = IsSomeAnd part (StepsShow form vars cs)
+
+-- the shared steps follow: where there is a shared part, it has steps, and each follows by its hints
+abbrev pub SharedFollow : Form → ℕ → List (List Lit) → Option HintedLog → Type 0
+SharedFollow Plain vars cs shared = ⊤
+SharedFollow Hinted vars cs shared = IfSome shared (λ log. (0 < length log.steps) × IsHinted vars cs log)
 
 -- each part is there and shows what it is to show
-pub record Certifies (sys : TransitionSystem) (cert : Certificate) : Type 0 where
+pub record Certifies (sys : TransitionSystem) (cert : Block) : Type 0 where
   pub within : All (Within sys.state_bits) cert.clauses
   pub shared : SharedFollow cert.form sys.all_bits (shared_clauses sys cert.clauses) cert.shared
   pub first : (k : ℕ) → k < length cert.clauses →
-      Shows cert.form sys.all_bits (first_clauses sys (slice_index_or cert.clauses k [])) (slice_index_or cert.first.items k no_steps)
+      Shows cert.form sys.all_bits (first_clauses sys (slice_index_or cert.clauses k [])) (part_of cert (First k))
   pub kept : (k : ℕ) → k < length cert.clauses →
       Shows cert.form sys.all_bits (kept_clauses sys cert.clauses (shared_steps cert.form cert.shared) (slice_index_or cert.clauses k []))
-      (slice_index_or cert.kept.items k no_steps)
+      (part_of cert (Kept k))
   pub safe : Shows cert.form sys.all_bits (safe_clauses sys cert.clauses) cert.safe
 
 -- the clauses hold in each first state, are kept by each step, and exclude bad states

@@ -3,6 +3,11 @@
 #![tactic(auto)]
 
 pub mod certificate;
+pub mod form;
 pub mod laws;
+mod parts;
+pub mod sound;
 
-pub use certificate::{Certificate, Form, Part};
+pub use certificate::Certificate;
+pub use form::{Form, MAX_COUNTER, MAX_VARS, Part};
+pub use sound::Sound;

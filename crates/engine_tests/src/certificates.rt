@@ -1,6 +1,10 @@
+ghost use Rattle.std.specs.Prelude.{◌≡◌, IfOk};
+ghost use Rattle.cert_core.specs.declared.form.Form.TheVariants.{Plain, Hinted as Hints};
+ghost use Rattle.cert_core.specs.Blocks.{HasPlace, LogFits};
+
 use cert_check::{Verdict, check};
-use cert_core::{Certificate, Form, Part};
-use clause_core::{Clauses, Lit, System};
+use cert_core::{Certificate, Form, MAX_VARS, Part};
+use clause_core::{Clauses, Lit, System, is_within};
 use hinted_log::Hinted;
 use std::alloc::{AllocError, Global};
 use std::test::Fail;
@@ -11,11 +15,16 @@ fn literal(letter: u8) -> Lit {
     Lit::new((letter as usize + 31) % 32, letter >= b'a')
 }
 
-fn one_clause(alloc: Global, text: &str) -> Result<Clauses, AllocError> {
+fn clause(alloc: Global, text: &str) -> Result<Vec<Lit>, AllocError> {
     let mut clause = Vec::new(alloc);
     for letter in text.as_bytes() {
         clause.push(literal(*letter))?;
     }
+    Ok(clause)
+}
+
+fn one_clause(alloc: Global, text: &str) -> Result<Clauses, AllocError> {
+    let clause = clause(alloc, text)?;
     let mut clauses = Clauses::new(alloc);
     clauses.push(&clause)?;
     Ok(clauses)
@@ -35,25 +44,47 @@ fn system(alloc: Global) -> Result<Option<System>, AllocError> {
     Ok(Some(system))
 }
 
-// The empty step with these hints, a digit for each; no step for a dash.
-fn steps(alloc: Global, hints: &str) -> Result<Hinted, AllocError> {
+// The empty step.
+fn plain_step(alloc: Global) -> Result<Hinted, AllocError>
+    ensures { IfOk result (LogFits Plain) }
+{
     let mut log = Hinted::new(alloc);
-    if hints == "-" {
-        return Ok(log);
-    }
+    log.push(&[], &[])?;
+    Ok(log)
+}
+
+// The empty step with these hints, a digit for each.
+fn hinted_step(alloc: Global, hints: &str) -> Result<Hinted, AllocError>
+    ensures { IfOk result (LogFits Hints) }
+{
     let mut numbers = Vec::new(alloc);
     for digit in hints.as_bytes() {
         numbers.push(*digit as usize % 16)?;
     }
+    let mut log = Hinted::new(alloc);
     log.push(&[], &numbers)?;
     Ok(log)
 }
 
-fn one_part(alloc: Global, hints: &str) -> Result<Vec<Hinted>, AllocError> {
-    let steps = steps(alloc, hints)?;
-    let mut parts = Vec::new(alloc);
-    parts.push(steps)?;
-    Ok(parts)
+// Gives the part the empty step with these hints; none for a dash.
+fn put(alloc: Global, cert: &mut Certificate, part: Part, hints: &str) -> Result<(), AllocError>
+    requires { HasPlace cert.old part }
+    ensures { cert.new.clauses ≡ cert.old.clauses }
+{
+    if hints == "-" {
+        return Ok(());
+    }
+    match cert.form() {
+        Form::Plain => {
+            let steps = plain_step(alloc)?;
+            cert.put(part, steps);
+        }
+        Form::Hinted => {
+            let steps = hinted_step(alloc, hints)?;
+            cert.put(part, steps);
+        }
+    }
+    Ok(())
 }
 
 // Each row: the form; the one clause; the hints of the empty step of its parts `first` and `kept` and of `safe`; and
@@ -93,26 +124,25 @@ const ROWS: [Row; 13] = [
     (Form::Plain, "B", "", "", "", FIRST_FAILS),
 ];
 
-fn certificate(alloc: Global, row: &Row) -> Result<Certificate, AllocError> {
-    let (form, clause, first, kept, safe, _) = row;
-    let clauses = one_clause(alloc, clause)?;
-    let first = one_part(alloc, first)?;
-    let kept = one_part(alloc, kept)?;
-    let safe = steps(alloc, safe)?;
-    Ok(Certificate {
-        form: *form,
-        counter: None,
-        clauses,
-        shared: Hinted::new(alloc),
-        first,
-        kept,
-        safe,
-    })
+fn certificate(alloc: Global, row: &Row) -> Result<Option<Certificate>, AllocError> {
+    let (form, text, first, kept, safe, _) = row;
+    let c = clause(alloc, text)?;
+    if !is_within(&c, MAX_VARS) {
+        return Ok(None);
+    }
+    let mut cert = Certificate::new(alloc, *form, None);
+    cert.push_clause(&c)?;
+    put(alloc, &mut cert, Part::First(0), first)?;
+    put(alloc, &mut cert, Part::Kept(0), kept)?;
+    put(alloc, &mut cert, Part::Safe, safe)?;
+    Ok(Some(cert))
 }
 
 fn is_checked(alloc: Global, system: &System, row: &Row) -> Result<bool, AllocError> {
-    let cert = certificate(alloc, row)?;
-    Ok(check(alloc, system, &cert)? == row.5)
+    match certificate(alloc, row)? {
+        None => Ok(false),
+        Some(cert) => Ok(check(alloc, system, &cert)? == row.5),
+    }
 }
 
 fn first_wrong(alloc: Global, system: &System) -> Result<Option<usize>, AllocError> {

@@ -1,5 +1,5 @@
 -- Steps that are left out because they have a literal and its negation.
-use Rattle.std.proofs.Common.{◌≡◌, ℕ, ◌<◌, ◌⊎◌, ◌+◌, Bool, true, false, not, List, [], ◌∷◌, ◌++◌, length, take, get_or, suc, ◌≤◌, refl, sym, subst, ◌∙◌, ap, inl, inr, arith, length-append}
+use Rattle.std.proofs.Common.{◌≡◌, ℕ, ◌<◌, ◌⊎◌, ◌+◌, Bool, true, false, not, List, [], ◌∷◌, ◌++◌, length, take, get_or, suc, ◌≤◌, refl, sym, subst, ◌∙◌, ap, inl, inr, arith, length-append, append-nil}
 use Rattle.std.specs.List.{All, Contains}
 use Rattle.std.proofs.lemmas.Bool.{cases_Bool, cases_eq, both_ways}
 use Rattle.std.proofs.lemmas.List.{take_all, take_more, get_or_append_left, get_or_push, take-append-le, take_at}
@@ -12,15 +12,9 @@ use Rattle.clause_core.proofs.Lists.{negate_negate}
 use Rattle.hinted_log.specs.Hints.{HintedLog, FollowsBy, IsHinted, StepHinted}
 use Rattle.hinted_log.proofs.Follow.{Follows-from_hints}
 use Rattle.rup_check.specs.Chains.{IsTaut}
-use Rattle.rup_check.specs.Searches.{AddsStep, NextSays}
+use Rattle.rup_check.specs.Searches.{AddsStep, NextSays, Keeps, AllHintsSay, Covers}
+use Rattle.rup_check.specs.declared.checking.Hints.TheVariants.{Found}
 use Rattle.rup_check.proofs.Walking.{lit_same_or_not}
-
--- the hinted steps are the first k of the log but for those left out
-pub record Keeps (log : List (List Lit)) (k : ℕ) (h : HintedLog) : Type 0 where
-  pub level : length h.hints ≡ length h.steps
-  pub there : All (Contains (take k log)) h.steps
-  pub covered : All (λ c. Contains h.steps c ⊎ IsTaut c) (take k log)
-  pub last : (j : ℕ) → k ≡ suc j → get_or log j [] ≡ [] → EndsEmpty h.steps
 
 -- more clauses, by containment
 pub HasConflict-wider : (t : Lit → Bool) (cs bs : List (List Lit)) → All (Contains bs) cs → HasConflict t cs → HasConflict t bs
@@ -229,3 +223,10 @@ keeps_none log =
       covered = All-nil (λ c. Contains [] c ⊎ IsTaut c);
       last = λ j e empty. absurd (omega (arith, e));
     }
+
+-- what is said of steps that were found from clauses with no units behind them
+pub steps_found : (vars : ℕ) (cs log : List (List Lit)) (h : HintedLog) → AllHintsSay vars (cs ++ []) log (Found h) → IsHinted vars cs h × Covers h.steps log
+steps_found vars cs log h says =
+    let P : List (List Lit) → Type 0 = λ w. IsHinted vars w h in
+    let Q : List (List Lit) → Type 0 = Covers h.steps in
+    (subst P (append-nil cs) says.1, subst Q (take_all (length log) log (omega arith)) says.2.covered)

@@ -1,4 +1,4 @@
-mod Keeping
+pub mod Keeping
 mod Leading
 mod Rounds
 mod Walking

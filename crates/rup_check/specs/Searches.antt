@@ -1,10 +1,10 @@
 -- What the search for a step's hints says.
-use Rattle.std.specs.Prelude.{◌≡◌, ℕ, ◌<◌, ◌⊎◌, Bool, true, false, List, [], ◌∷◌, ◌++◌, All}
+use Rattle.std.specs.Prelude.{◌≡◌, ℕ, suc, ◌<◌, ◌⊎◌, Bool, true, false, List, [], ◌∷◌, ◌++◌, All, Contains, length, take, slice_index_or}
 use Rattle.clause_core.specs.declared.literal.Lit.{Lit}
 use Rattle.clause_core.specs.Propagation.{Follows, Settled}
-use Rattle.clause_core.specs.Derivations.{Derives}
+use Rattle.clause_core.specs.Derivations.{StepHolds, AllStepsBelow, EndsEmpty, Derives}
 use Rattle.clause_core.specs.Values.{holds, Grows, unset}
-use Rattle.hinted_log.specs.Hints.{HintedLog, FollowsBy, Refutes}
+use Rattle.hinted_log.specs.Hints.{HintedLog, FollowsBy, IsHinted, Refutes}
 use Rattle.rup_check.specs.declared.passes.Pass.{Pass}
 use Rattle.rup_check.specs.declared.passes.Pass.TheVariants.{Conflict, Changed, Still}
 use Rattle.rup_check.specs.declared.checking.Hints.{Hints}
@@ -40,6 +40,22 @@ AddsStep cs old step new =
 abbrev pub NextSays : List (List Lit) → HintedLog → List Lit → HintedLog → Bool → Type 0
 NextSays cs old step new true = (IsTaut step × (new ≡ old)) ⊎ AddsStep cs old step new
 NextSays cs old step new false = Follows (cs ++ old.steps) step → ⊥
+
+-- the hinted steps are the first k of the log but for those that have a literal and its negation
+pub record Keeps (log : List (List Lit)) (k : ℕ) (h : HintedLog) : Type 0 where
+  pub level : length h.hints ≡ length h.steps
+  pub there : All (Contains (take k log)) h.steps
+  pub covered : All (λ c. Contains h.steps c ⊎ IsTaut c) (take k log)
+  pub last : (j : ℕ) → k ≡ suc j → slice_index_or log j [] ≡ [] → EndsEmpty h.steps
+
+-- Found: each step of the log follows, and these are the steps with their hints; No: this is the first that does not follow
+abbrev pub AllHintsSay : ℕ → List (List Lit) → List (List Lit) → Hints → Type 0
+AllHintsSay vars cs log (Found h) = AllStepsBelow vars cs log (length log) × IsHinted vars cs h × Keeps log (length log) h
+AllHintsSay vars cs log (No step) = AllStepsBelow vars cs log step × (step < length log) × (StepHolds vars cs log step → ⊥)
+
+-- each step of the log is among these, or has a literal and its negation
+abbrev pub Covers : List (List Lit) → List (List Lit) → Type 0
+Covers steps log = All (λ c. Contains steps c ⊎ IsTaut c) log
 
 -- Found: the log derives the empty clause, and these hinted steps show it; No: it fails first at that step
 abbrev pub HintsSay : ℕ → List (List Lit) → List (List Lit) → Hints → Type 0

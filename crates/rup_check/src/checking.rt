@@ -1,11 +1,13 @@
 ghost use Rattle.std.specs.Prelude.{◌≡◌, ◌<◌, ◌++◌, All, length, IfOk};
 ghost use Rattle.clause_core.specs.Literals.{Within};
+ghost use Rattle.clause_core.specs.Derivations.{AllStepsBelow, Derives};
+ghost use Rattle.hinted_log.specs.Hints.{IsHinted, Refutes};
 ghost use Rattle.rup_check.specs.Chains.{units_of, HintedVerdict};
-ghost use Rattle.rup_check.specs.Searches.{HintsSay};
+ghost use Rattle.rup_check.specs.Searches.{Covers, HintsSay};
 ghost use Rattle.rup_check.specs.Verdicts.{VerdictSays};
 
 use crate::following::follows;
-use crate::searching::find_hints;
+use crate::searching::{find_hints, hint_all};
 use crate::steps::check_steps;
 use clause_core::{Clauses, Lit, Log, is_within};
 use hinted_log::Hinted;
@@ -44,6 +46,8 @@ impl Model for Checker {
 
     ghost view = { λ c. length c.values.items };
 
+    ghost use Rattle.clause_core.specs.Derivations.{AllStepsBelow, Derives};
+    ghost use Rattle.hinted_log.specs.Hints.{IsHinted, Refutes};
     ghost use Rattle.rup_check.specs.Chains.{IsClear};
 
     ghost invariant = { λ c. IsClear c.values.items };
@@ -109,6 +113,51 @@ impl Checker {
         let found = find_hints(alloc, &mut self.values, clauses, units, log);
         self.values.fill(0);
         found
+    }
+
+    /// Hints for the steps of a log that follow one after another from the clauses, whatever the last one is. Steps with a
+    /// literal and its negation are left out. More clauses than the greatest `usize` count as want of memory.
+    pub fn hint_steps(
+        &mut self,
+        alloc: Global,
+        clauses: &Clauses,
+        log: &Log,
+    ) -> Result<Hinted, AllocError>
+        requires clauses { All (Within self.old) clauses.now }
+        requires follow { AllStepsBelow self.old clauses.now log.now (length log.now) }
+        ensures vars { self.new ≡ self.old }
+        ensures says { IfOk result (λ h. IsHinted self.old clauses.now h) }
+        ensures covers { IfOk result (λ h. Covers h.steps log.now) }
+    {
+        let found = hint_all(alloc, &mut self.values, clauses, &[], log);
+        self.values.fill(0);
+        match found? {
+            Hints::Found(hinted) => Ok(hinted),
+            // Cannot come, as each step follows.
+            Hints::No { .. } => Err(AllocError),
+        }
+    }
+
+    /// Hints for a log that derives the empty clause from the clauses and the units behind them. More clauses than the
+    /// greatest `usize` count as want of memory.
+    pub fn hint_refutation(
+        &mut self,
+        alloc: Global,
+        clauses: &Clauses,
+        units: &[Lit],
+        log: &Log,
+    ) -> Result<Hinted, AllocError>
+        requires clauses { All (Within self.old) clauses.now }
+        requires units { Within self.old units.now }
+        requires derives { Derives self.old (clauses.now ++ units_of units.now) log.now }
+        ensures vars { self.new ≡ self.old }
+        ensures says { IfOk result (λ h. Refutes self.old (clauses.now ++ units_of units.now) h) }
+    {
+        match self.hints(alloc, clauses, units, log)? {
+            Hints::Found(hinted) => Ok(hinted),
+            // Cannot come, as the log derives the empty clause.
+            Hints::No { .. } => Err(AllocError),
+        }
     }
 
     /// The same as `check_hinted` from the clauses with a clause of one literal for each of the units behind them, numbered

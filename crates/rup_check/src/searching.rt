@@ -4,7 +4,7 @@ ghost use Rattle.clause_core.specs.Propagation.{Follows};
 ghost use Rattle.clause_core.specs.Values.{Grows, unset};
 ghost use Rattle.hinted_log.specs.Hints.{FollowsBy, IsOpen};
 ghost use Rattle.rup_check.specs.Chains.{before, units_of, IsClear};
-ghost use Rattle.rup_check.specs.Searches.{SearchSays, FoundSays, NextSays, HintsSay};
+ghost use Rattle.rup_check.specs.Searches.{SearchSays, FoundSays, NextSays, AllHintsSay, HintsSay};
 
 use crate::chains::{assume_open, clause_at, follows_by};
 use crate::checking::Hints;
@@ -142,8 +142,8 @@ fn hint_next(
     Ok(true)
 }
 
-// The hints of all steps of the log.
-pub(crate) fn find_hints(
+// The hints of all steps of the log, whatever the last one is.
+pub(crate) fn hint_all(
     alloc: Global,
     values: &mut [u8],
     clauses: &Clauses,
@@ -152,7 +152,7 @@ pub(crate) fn find_hints(
 ) -> Result<Hints, AllocError>
     requires in_clauses { All (Within (length values.old)) clauses.now }
     requires in_units { Within (length values.old) units.now }
-    ensures { IfOk result (HintsSay (length values.old) (clauses.now ++ units_of units.now) log.now) }
+    ensures { IfOk result (AllHintsSay (length values.old) (clauses.now ++ units_of units.now) log.now) }
 {
     let n = log.len();
     let mut hinted = Hinted::new(alloc);
@@ -177,11 +177,32 @@ pub(crate) fn find_hints(
             return Ok(Hints::No { step: k });
         }
     }
-    if n == 0 {
-        return Ok(Hints::No { step: 0 });
-    }
-    if log.get(n - 1).len() != 0 {
-        return Ok(Hints::No { step: n });
-    }
     Ok(Hints::Found(hinted))
+}
+
+// The hints of all steps of the log, of which the last is to be empty.
+pub(crate) fn find_hints(
+    alloc: Global,
+    values: &mut [u8],
+    clauses: &Clauses,
+    units: &[Lit],
+    log: &Log,
+) -> Result<Hints, AllocError>
+    requires in_clauses { All (Within (length values.old)) clauses.now }
+    requires in_units { Within (length values.old) units.now }
+    ensures { IfOk result (HintsSay (length values.old) (clauses.now ++ units_of units.now) log.now) }
+{
+    let n = log.len();
+    match hint_all(alloc, values, clauses, units, log)? {
+        Hints::No { step } => Ok(Hints::No { step }),
+        Hints::Found(hinted) => {
+            if n == 0 {
+                return Ok(Hints::No { step: 0 });
+            }
+            if log.get(n - 1).len() != 0 {
+                return Ok(Hints::No { step: n });
+            }
+            Ok(Hints::Found(hinted))
+        }
+    }
 }

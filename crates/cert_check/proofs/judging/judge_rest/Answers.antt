@@ -1,10 +1,9 @@
-use Rattle.std.proofs.Common.{◌≡◌, ◌≤◌, ◌++◌, ℕ, ◌∙◌, ap, sym, subst, List, arith}
+use Rattle.std.proofs.Common.{◌≡◌, ◌++◌, ℕ, ◌∙◌, ap, sym, subst, List}
 use Rattle.std.specs.List.{All}
-use Rattle.std.proofs.lemmas.List.Elements.{All-append}
 use Rattle.clause_core.specs.declared.literal.Lit.{Lit}
 use Rattle.clause_core.specs.Literals.{Within}
 use Rattle.cert_core.specs.Certificates.{shared_steps}
-use Rattle.cert_check.proofs.Verdicts.{kept_within, first_near, within_more}
+use Rattle.cert_check.proofs.Verdicts.{kept_within}
 use Rattle.cert_check.proofs.judging.judge_rest.Goals as goal
 
 pub judge_kept-requires-clause-given_in : goal.judge_kept-requires-clause-given_in

@@ -8,7 +8,7 @@ use Rattle.cert_check.proofs.parts.judge_first.Goals as goal
 
 pub shows-requires-clause-units : goal.shows-requires-clause-units
 shows-requires-clause-units c =
-    let e : c.deref-in-loop-k.result.now ≡ negated c.get-c.result.now = c.deref-in-loop-k.ensures.value ∙ c.in_ok-units.ensures in
+    let e : c.deref.result.now ≡ negated c.get-c.result.now = c.deref.ensures.value ∙ c.in_ok-units.ensures in
     let le : c.state_bits-state_bits.result ≤ c.loop-k.checker = omega (arith, c.loop-k.invariant.vars, c.requires, c.state_bits-state_bits.ensures.room) in
     let P : List Lit → Type 0 = Within c.loop-k.checker in
     subst P (sym e) (negated_within c.state_bits-state_bits.result c.loop-k.checker c.get-c.result.now le (c.is_within.ensures.0 c.if-not-is_within.false))

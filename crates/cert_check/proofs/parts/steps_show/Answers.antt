@@ -4,7 +4,7 @@ use Rattle.clause_core.specs.declared.literal.Lit.{Lit}
 use Rattle.clause_core.specs.Literals.{Within}
 use Rattle.cert_core.specs.Certificates.{unit_clauses}
 use Rattle.cert_check.proofs.Verdicts.{given_within, shows_plain, shows_not}
-use Rattle.cert_check.proofs.parts.shows.Goals as goal
+use Rattle.cert_check.proofs.parts.steps_show.Goals as goal
 
 pub check-requires : goal.check-requires
 check-requires c =

@@ -3,8 +3,8 @@ use Rattle.std.specs.List.{All, Contains}
 use Rattle.clause_core.specs.Derivations.{AllStepsBelow, EndsEmpty}
 use Rattle.hinted_log.specs.Hints.{IsHinted}
 use Rattle.rup_check.specs.Chains.{units_of}
-use Rattle.rup_check.proofs.Keeping.{Keeps}
-use Rattle.rup_check.proofs.searching.find_hints.Given as goal
+use Rattle.rup_check.specs.Searches.{Keeps}
+use Rattle.rup_check.proofs.searching.hint_all.Given as goal
 
 abbrev pub invariant-loop-k : goal.invariant-loop-k
 invariant-loop-k l =

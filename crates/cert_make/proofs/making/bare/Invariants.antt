@@ -1,0 +1,11 @@
+use Rattle.std.proofs.Common.{◌≡◌, None, take}
+use Rattle.cert_core.specs.declared.form.Form.TheVariants.{Hinted}
+use Rattle.cert_make.proofs.making.bare.Given as goal
+
+abbrev pub invariant-loop-k : goal.invariant-loop-k
+invariant-loop-k l = record {
+  form : l.bare.form ≡ Hinted;
+  counter : l.bare.counter ≡ None;
+  clauses : l.bare.clauses ≡ take l.k l.clauses;
+  shared : l.bare.shared ≡ None;
+}

@@ -1,0 +1,5 @@
+pub mod Lines
+pub mod Open
+pub mod Printed
+pub mod Reading
+pub mod Tokens

@@ -1,0 +1,38 @@
+/// A word of a certificate's line.
+#[derive(Clone, Copy, PartialEq, Eq, Debug)]
+pub enum Token {
+    /// `--%`, with which each line begins.
+    Mark,
+    /// `cert`
+    Cert,
+    /// `spec`
+    Spec,
+    /// `counter`
+    Counter,
+    /// `none`
+    NoCounter,
+    /// `sound`
+    Sound,
+    /// `clause`
+    Clause,
+    /// `part`
+    Part,
+    /// `item`
+    Item,
+    /// `shared`
+    Shared,
+    /// `first`
+    First,
+    /// `kept`
+    Kept,
+    /// `safe`
+    Safe,
+    /// `step`
+    Step,
+    /// `end`
+    End,
+    /// A number; one that is greater than any `usize` counts as the greatest.
+    Number(usize),
+    /// A number other than 0 behind a minus sign.
+    Negative(usize),
+}
