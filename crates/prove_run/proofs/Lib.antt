@@ -1,0 +1,11 @@
+pub mod Answered
+pub mod Blocking
+pub mod Claimed
+pub mod Finished
+pub mod Going
+pub mod Invariant
+pub mod Joining
+pub mod Outcomes
+pub mod Paid
+pub mod Results
+pub mod Turned

@@ -1,0 +1,106 @@
+-- What is asked for a claim, and what is answered.
+use Rattle.std.specs.Prelude.{◌≡◌, ℕ, ◌+◌, ◌-◌, ◌<◌, Bool, true, false, List, length, All}
+use Rattle.clause_core.specs.declared.literal.Lit.{Lit}
+use Rattle.clause_core.specs.Assignments.{ClauseTrue, assignment_of}
+use Rattle.clause_core.specs.Systems.{FirstBits, NextIs}
+use Rattle.frame_core.specs.Facts.{FoundStep, ProvedClause, IsPart}
+use Rattle.frame_core.specs.Law.{FrameState, system_at, lemma_at, obligation_at, InFrame, AllStand}
+use Rattle.frame_history.specs.declared.entries.Subject.{Subject}
+use Rattle.frame_history.specs.declared.entries.Subject.TheVariants.{Bad, Block, Push}
+use Rattle.frame_history.specs.History.{asked_level, asked_system}
+use Rattle.frame_query.specs.Findings.{SolverView}
+use Rattle.frame_query.specs.Paying.{Question, AskedQuery, Pays, AllDiffer}
+use Rattle.frame_query.specs.Stepping.{IsStepOut}
+use Rattle.frame_book.specs.declared.claim.Outcome.{Outcome}
+use Rattle.frame_book.specs.declared.claim.Outcome.TheVariants.{Proved, Step, Found, Clear, Spent}
+use Rattle.frame_book.specs.Claims.{ClaimView}
+use Rattle.frame_book.specs.Outcomes.{IsOutcomeOf}
+use Rattle.prove_run.specs.Paying.{MayAsk}
+
+-- the question may be asked, no two are equal, and they were paid for
+abbrev pub PaysFor : SolverView → SolverView → List ℕ → List ℕ → (Question → Type 0) → Type 0
+PaysFor old new before after May =
+    (log : List AskedQuery)
+    × Pays old.systems old.lemmas old.known new.known before after log
+    × AllDiffer log
+    × All (λ (a : AskedQuery). May a.question) log
+
+-- bad states of system j in a frame
+abbrev pub AnswersBad : SolverView → ℕ → ℕ → Bool → Outcome → Type 0
+AnswersBad v j level over (Found f) =
+    (f.system ≡ system_at v.systems j) × (f.is_step ≡ false) × InFrame (system_at v.systems j) v.lemmas level (assignment_of f.values)
+AnswersBad v j level over (Clear c) = (c.system ≡ system_at v.systems j) × (c.level ≡ level) × AllStand v.lemmas level c.parents
+AnswersBad v j level over (Spent d b) = over ≡ true
+AnswersBad v j level over o = ⊥
+
+-- a state that is to be left out of a frame: a clause that it does not meet, or a step to it from the frame below
+abbrev pub AnswersBlock : SolverView → List Bool → ℕ → Bool → Outcome → Type 0
+AnswersBlock v values level over (Proved p) =
+    (p.system ≡ system_at v.systems 0) × (p.level ≡ level) × (ClauseTrue (assignment_of values) p.clause → ⊥) × AllStand v.lemmas (level - 1) p.parents
+AnswersBlock v values level over (Found f) =
+    (f.system ≡ system_at v.systems 0) × (f.is_step ≡ true)
+    × NextIs (system_at v.systems 0).state_bits (assignment_of f.values) (assignment_of values)
+    × InFrame (system_at v.systems 0) v.lemmas (level - 1) (assignment_of f.values)
+AnswersBlock v values level over (Spent d b) = over ≡ true
+AnswersBlock v values level over o = ⊥
+
+-- a proof of a part of the clause, by lemmas that stand
+abbrev pub IsSmaller : SolverView → ProvedClause → Outcome → Type 0
+IsSmaller v p (Proved r) =
+    (r.system ≡ p.system) × (r.level ≡ p.level) × IsPart r.clause p.clause × AllStand v.lemmas (p.level - 1) r.parents
+IsSmaller v p o = ⊥
+
+-- the state that the step leads from
+abbrev pub IsBefore : FoundStep → Bool → Outcome → Type 0
+IsBefore s over (Found f) = f ≡ record { system = s.system; values = s.values; is_step = true; first = f.first }
+IsBefore s over (Spent d b) = over ≡ true
+IsBefore s over o = ⊥
+
+-- a lemma that is to be pushed to a level: it holds there, or a step from the frame below leaves it
+abbrev pub AnswersPush : SolverView → ℕ → ℕ → Bool → Outcome → Type 0
+AnswersPush v n level over (Proved p) =
+    (p.system ≡ system_at v.systems 0) × (p.level ≡ level) × (p.clause ≡ (lemma_at v.lemmas n).clause) × AllStand v.lemmas (level - 1) p.parents
+AnswersPush v n level over (Step s) =
+    (s.system ≡ system_at v.systems 0) × IsStepOut (system_at v.systems 0) v.lemmas level (lemma_at v.lemmas n).clause s.values
+AnswersPush v n level over (Spent d b) = over ≡ true
+AnswersPush v n level over o = ⊥
+
+-- the outcome is of the frames as they are
+abbrev pub IsTimely : FrameState → ClaimView → Outcome → Type 0
+IsTimely f v (Proved p) = AllStand f.lemmas (v.level - 1) p.parents
+IsTimely f v (Step s) = InFrame (system_at f.systems 0) f.lemmas (v.level - 1) (assignment_of s.values)
+IsTimely f v (Found g) =
+    InFrame (system_at f.systems (asked_system f v.subject)) f.lemmas (asked_level v.subject v.level) (assignment_of g.values)
+IsTimely f v (Clear c) = AllStand f.lemmas v.level c.parents
+IsTimely f v (Spent d b) = Unit {0}
+
+-- that the purse was spent is said only where it was
+abbrev pub IsSpentBy : Bool → Outcome → Type 0
+IsSpentBy over (Spent d b) = over ≡ true
+IsSpentBy over (Proved p) = Unit {0}
+IsSpentBy over (Step s) = Unit {0}
+IsSpentBy over (Found f) = Unit {0}
+IsSpentBy over (Clear c) = Unit {0}
+
+-- what the claim asks is there: its system; the state of its obligation, which is no initial one; the clause of its lemma, one level below
+abbrev pub MayBeAsked : FrameState → ClaimView → Subject → Type 0
+MayBeAsked f v (Bad j) = j < length f.systems
+MayBeAsked f v (Block o) =
+    (o < length f.obligations) × (v.values ≡ (obligation_at f.obligations o).values) × (0 < v.level)
+    × (FirstBits (system_at f.systems 0) (assignment_of v.values) → ⊥)
+MayBeAsked f v (Push n) =
+    (n < length f.lemmas) × (v.level ≡ (lemma_at f.lemmas n).level + 1) × (v.clause ≡ (lemma_at f.lemmas n).clause)
+
+-- the outcome is of this claim, of the frames as they are, and says that the purse was spent only where it was
+pub record IsAsked (f : FrameState) (v : ClaimView) (over : Bool) (o : Outcome) : Type 0 where
+  pub of : IsOutcomeOf f.systems v v.subject o
+  pub timely : IsTimely f v o
+  pub spent : IsSpentBy over o
+
+-- queries over the frames, of questions that this claim may ask, no two of which are equal, were paid for
+abbrev pub PaysClaim : FrameState → ClaimView → List (List Lit) → List (List Lit) → List ℕ → List ℕ → Type 0
+PaysClaim f v old new before after =
+    (log : List AskedQuery)
+    × Pays f.systems f.lemmas old new before after log
+    × AllDiffer log
+    × All (λ (a : AskedQuery). MayAsk f v.subject v.level a.question) log

@@ -1,0 +1,86 @@
+//! The calls: systems in, answers out.
+
+ghost use Rattle.std.specs.Prelude.{◌≡◌, ◌<◌, ◌+◌, ◌^◌, ◌∷◌, [], length, IfOk};
+ghost use Rattle.frame_core.specs.Law.{AreAlike};
+ghost use Rattle.prove_run.specs.Answers.{IsDone};
+
+use crate::answering::answers;
+use crate::answers::{Done, Work};
+use crate::effort::Effort;
+use crate::playing::play;
+use clause_core::System;
+use effort_purse::PlainPurse;
+use frame_book::{Book, Parts};
+use frame_core::Frames;
+use frame_history::Limits;
+use frame_query::FrameSolver;
+use std::alloc::{AllocError, Global};
+use std::marker::Brand;
+use std::slice::from_ref;
+use std::sync::ledger::{Blank, Ledger};
+
+/// Whether each of these systems reaches a bad state, over one pool of lemmas.
+///
+/// An answer is an inductive invariant without bad states, a run to one, or the cause why neither is known: the tickets of
+/// the effort were drawn, each for a query of a claim of the history or for a clause that it learned, and no two queries are
+/// equal; or the frames went up to the limit. The only error is want of memory.
+pub fn prove_all(alloc: Global, systems: &[System], effort: &Effort) -> Result<Done, AllocError>
+    requires alike { AreAlike systems.now }
+    requires limit { effort.now.frames + 1 < 2 ^ 32 }
+    ensures { IfOk result (λ d. IsDone systems.now effort.now d.work.history.items d.answers.items) }
+{
+    if systems.is_empty() {
+        return Ok(Done {
+            answers: Vec::new(alloc),
+            work: Work {
+                history: Vec::new(alloc),
+            },
+        });
+    }
+    prove_by::<Brand>(alloc, Blank::new(1), systems, effort)
+}
+
+/// The same of one system.
+pub fn prove_invariant(alloc: Global, system: &System, effort: &Effort) -> Result<Done, AllocError>
+    requires limit { effort.now.frames + 1 < 2 ^ 32 }
+    ensures { IfOk result (λ d. IsDone (system.now ∷ []) effort.now d.work.history.items d.answers.items) }
+{
+    prove_all(alloc, from_ref(system), effort)
+}
+
+// The same of some systems, with a ledger of settlements that one share has.
+fn prove_by<'a, L: Ledger>(
+    alloc: Global,
+    blank: Blank,
+    systems: &'a [System],
+    effort: &Effort,
+) -> Result<Done, AllocError>
+    requires name { blank.name ≡ L.name }
+    requires parts { blank.parts ≡ L.parts }
+    requires one_part { blank.parts ≡ 1 }
+    requires some { 0 < length systems.now }
+    requires alike { AreAlike systems.now }
+    requires limit { effort.now.frames + 1 < 2 ^ 32 }
+    ensures { IfOk result (λ d. IsDone systems.now effort.now d.work.history.items d.answers.items) }
+{
+    let (ledger, mut share) = blank.open::<L>();
+    let frames = Frames::new(alloc, systems)?;
+    let limits = Limits {
+        frames: effort.frames,
+    };
+    let mut book = Book::new(alloc, frames, limits, ledger)?;
+    let mut solver = FrameSolver::new(alloc, systems)?;
+    let mut purse = PlainPurse::new(effort.conflicts);
+    book.holds();
+    play(alloc, &mut book, &mut share, &mut solver, &mut purse)?;
+    let answers = answers(alloc, book.frames(), purse.seen_spent(), effort)?;
+    let Parts {
+        frames: _,
+        history,
+        ledger: _,
+    } = book.into_parts();
+    Ok(Done {
+        answers,
+        work: Work { history },
+    })
+}
