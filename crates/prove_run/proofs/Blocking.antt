@@ -1,10 +1,10 @@
 -- What is asked to block a state.
-use Rattle.std.proofs.Common.{◌≡◌, ◌≢◌, ℕ, zero, suc, ◌+◌, ◌-◌, ◌<◌, ◌≤◌, ◌⊎◌, Bool, true, false, not, List, length, refl, sym, subst, ap, ◌∙◌, inl, inr, arith}
+use Rattle.std.proofs.Common.{◌≡◌, ◌≢◌, ℕ, zero, suc, ◌+◌, ◌-◌, ◌<◌, ◌≤◌, ◌⊎◌, Bool, true, false, not, List, refl, sym, subst, ap, ◌∙◌, inl, inr, arith}
 use Rattle.std.specs.Prelude.{All, Contains}
-use Rattle.std.proofs.lemmas.Bool.{cases_Bool, cases_lt, cases_eq}
+use Rattle.std.proofs.lemmas.Bool.{cases_eq}
 use Rattle.std.proofs.lemmas.List.Elements.{All-weaker, All-contains}
 use Rattle.clause_core.specs.declared.literal.Lit.{Lit}
-use Rattle.clause_core.specs.Assignments.{ClauseTrue, Agrees, assignment_of}
+use Rattle.clause_core.specs.Assignments.{ClauseTrue, assignment_of}
 use Rattle.clause_core.specs.Systems.{TransitionSystem, FirstBits, NextIs}
 use Rattle.frame_core.specs.declared.parts.Lemma.{Lemma}
 use Rattle.frame_core.specs.Facts.{FoundStep, FoundState, ProvedClause, IsPart}
@@ -13,7 +13,7 @@ use Rattle.frame_core.proofs.Changing.{ClauseTrue-part}
 use Rattle.frame_query.specs.Firsts.{AllFirstsMeet, negation_of}
 use Rattle.frame_query.specs.Findings.{SolverView}
 use Rattle.frame_query.specs.Stepping.{IsStepOut}
-use Rattle.frame_query.specs.Paying.{Question, Steps, Firsts, Bads, AskedQuery, Pays, PaysOne, AllDiffer}
+use Rattle.frame_query.specs.Paying.{Question, Steps, Firsts, AskedQuery, PaysOne}
 use Rattle.frame_query.specs.Dropping.{PaysParts, IsProperPart, AsksOf, AsksOfSome}
 use Rattle.frame_query.proofs.Negated.{negation_has, negation_false}
 use Rattle.frame_book.specs.declared.claim.Outcome.{Outcome}
@@ -93,8 +93,7 @@ before_answers v values level over s (Found f) system out h =
     let is_values : f.values ≡ s.values = ap (λ (z : FoundState). z.values) h in
     let sys : TransitionSystem = system_at v.systems 0 in
     let P : List Bool → Type 0 = λ z. NextIs sys.state_bits (assignment_of z) (assignment_of values) in
-    let Q : List Bool → Type 0 = λ z. InFrame sys v.lemmas (level - 1) (assignment_of z) in
-    (
+    let Q : List Bool → Type 0 = λ z. InFrame sys v.lemmas (level - 1) (assignment_of z) in (
       is_system ∙ system,
       ap (λ (z : FoundState). z.is_step) h,
       subst P (sym is_values) (ends_in sys values s.values out.out),
@@ -124,7 +123,7 @@ part_asked values bits level i given a d at clause proper asks =
     let q : Question = Steps level (negation_of values bits) in
     let May : Question → Type 0 = MayAskBlock values level in
     let other : d ≡ negation_of values bits → ⊥ = λ e.
-      proper.1.2 (subst (λ (c : List Lit). Contains c proper.1.0) (clause ∙ sym e) proper.1.1) in
+    proper.1.2 (subst (λ (c : List Lit). Contains c proper.1.0) (clause ∙ sym e) proper.1.1) in
     elim asks [
       | inl e ↦
           (subst May (sym e) tt, λ is. firsts_no_steps d (negation_of values bits) level (sym e ∙ is))
@@ -161,7 +160,10 @@ pub one_paid : (u v : SolverView) (values : List Bool) (level : ℕ) (x y : List
     PaysOne u.systems u.lemmas u.known v.known x y (Steps level (negation_of values (system_at u.systems 0).state_bits)) →
     PaysFor u v x y (MayAskBlock values level)
 one_paid u v values level x y f =
-    let q : Question = Steps level (negation_of values (system_at u.systems 0).state_bits) in
-    (f.0, f.1, alone f.0 f.2,
-    All-weaker (λ (a : AskedQuery). a.question ≡ q) (λ (a : AskedQuery). MayAskBlock values level a.question)
-    (λ a e. subst (MayAskBlock values level) (sym e) (may_first values (system_at u.systems 0).state_bits level)) f.0 f.3)
+    let q : Question = Steps level (negation_of values (system_at u.systems 0).state_bits) in (
+      f.0,
+      f.1,
+      alone f.0 f.2,
+      All-weaker (λ (a : AskedQuery). a.question ≡ q) (λ (a : AskedQuery). MayAskBlock values level a.question)
+          (λ a e. subst (MayAskBlock values level) (sym e) (may_first values (system_at u.systems 0).state_bits level)) f.0 f.3,
+    )

@@ -1,6 +1,6 @@
 -- Claims of a history, and the queries that were asked for them.
-use Rattle.std.proofs.Common.{◌≡◌, ◌≢◌, ℕ, zero, suc, ◌+◌, ◌-◌, ◌<◌, ◌≤◌, ◌⊎◌, Bool, true, false, List, [], ◌∷◌, ◌++◌, length, take, set, refl, sym, subst, ap, ◌∙◌, inl, inr, arith, length-set, length-append, get_or, get_or-set_same, get_or-set_other}
-use Rattle.std.specs.Prelude.{Option, Some, None, slice_get, map, All, AllPairs, Contains}
+use Rattle.std.proofs.Common.{◌≡◌, ℕ, zero, suc, ◌+◌, ◌<◌, Bool, true, false, List, [], ◌∷◌, ◌++◌, length, take, set, refl, sym, subst, ap, ◌∙◌, inl, inr, arith, length-set, length-append, get_or-set_same, get_or-set_other}
+use Rattle.std.specs.Prelude.{Option, Some, None, slice_get}
 use Rattle.std.proofs.Math.ListN.{get_or-append}
 use Rattle.std.proofs.Math.Seq.{get_or-append_seam}
 use Rattle.std.proofs.lemmas.Bool.{cases_eq, cases_lt}
@@ -12,7 +12,7 @@ use Rattle.frame_history.specs.declared.entries.Change.TheVariants.{Add, Raise, 
 use Rattle.frame_history.specs.declared.entries.Entry.{Entry}
 use Rattle.frame_history.specs.declared.entries.Entry.TheVariants.{Claim, Settle, Back}
 use Rattle.frame_history.specs.History.{BookState, changed, all_changed, after, replay, claim_at, ended, is_behind}
-use Rattle.frame_history.proofs.Tracking.{none_is_some, some_same}
+use Rattle.frame_history.proofs.Tracking.{none_is_some}
 
 -- ---- A claim stays what it is
 
@@ -128,20 +128,24 @@ made_by s (e ∷ es) zero worker subject level is =
     let here : claim_at (after s e).claims (length s.claims) ≡ Some d =
     subst (λ (z : Entry). claim_at (after s z).claims (length s.claims) ≡ Some d) (sym at) last in
     let later = still_in (after s e) es (length s.claims) d here in
-    let zero_more : length s.claims + 0 ≡ length s.claims = omega arith in
-    (later.0, record {
-      there = subst (λ (k : ℕ). claim_at (replay (after s e) es).claims k ≡ Some later.0) (sym zero_more) later.1;
-      subject_is = later.2.subject;
-      level_is = later.2.level;
-      growth_is = later.2.growth;
-    })
+    let zero_more : length s.claims + 0 ≡ length s.claims = omega arith in (
+      later.0,
+      record {
+        there = subst (λ (k : ℕ). claim_at (replay (after s e) es).claims k ≡ Some later.0) (sym zero_more) later.1;
+        subject_is = later.2.subject;
+        level_is = later.2.level;
+        growth_is = later.2.growth;
+      },
+    )
 made_by s (e ∷ es) (suc m) worker subject level is =
     let rest = made_by (after s e) es m worker subject level is in
     let more = one_more s e in
-    let at : length (after s e).claims + m ≡ length s.claims + suc m = omega arith in
-    (rest.0, record {
-      there = subst (λ (k : ℕ). claim_at (replay (after s e) es).claims k ≡ Some rest.0) at rest.1.there;
-      subject_is = rest.1.subject_is;
-      level_is = rest.1.level_is;
-      growth_is = rest.1.growth_is;
-    })
+    let at : length (after s e).claims + m ≡ length s.claims + suc m = omega arith in (
+      rest.0,
+      record {
+        there = subst (λ (k : ℕ). claim_at (replay (after s e) es).claims k ≡ Some rest.0) at rest.1.there;
+        subject_is = rest.1.subject_is;
+        level_is = rest.1.level_is;
+        growth_is = rest.1.growth_is;
+      },
+    )

@@ -1,32 +1,28 @@
 -- The book before the first turn, and after the last.
-use Rattle.std.proofs.Common.{◌≡◌, ℕ, zero, suc, ◌+◌, ◌<◌, ◌≤◌, ◌⊎◌, Bool, true, false, List, [], ◌∷◌, ◌++◌, length, refl, sym, subst, ap, ◌∙◌, inl, inr, arith, length-append}
-use Rattle.std.specs.Prelude.{All, AllPairs, Contains, Option, Some, None, slice_get, slice_index_or}
+use Rattle.std.proofs.Common.{◌≡◌, ℕ, zero, suc, ◌<◌, Bool, true, false, List, [], ◌∷◌, length, refl, sym, subst, ap, ◌∙◌, inl, inr, arith, length-append}
+use Rattle.std.specs.Prelude.{Contains, Some, None, slice_index_or}
 use Rattle.std.proofs.lemmas.List.{get_or_past}
 use Rattle.std.proofs.lemmas.List.Elements.{All-nil}
 use Rattle.std.proofs.lemmas.Option.{slice_get_within}
-use Rattle.clause_core.specs.declared.literal.Lit.{Lit}
 use Rattle.clause_core.specs.Systems.{TransitionSystem}
 use Rattle.cert_core.specs.Certificates.{IsInvariant}
 use Rattle.effort_purse.specs.Drawing.{numbers_below}
-use Rattle.sat_core.specs.Paying.{tickets_in}
 use Rattle.sat_core.proofs.Payments.{log_none}
 use Rattle.frame_core.specs.declared.parts.Lemma.{Lemma}
-use Rattle.frame_core.specs.Law.{FrameState, system_at}
+use Rattle.frame_core.specs.Law.{system_at}
 use Rattle.frame_core.specs.Runs.{IsBadRun}
 use Rattle.frame_history.specs.declared.entries.Limits.{Limits}
-use Rattle.frame_history.specs.declared.entries.Made.{Made}
-use Rattle.frame_history.specs.History.{BookState, start, replay, claim_at, IsClosed, HasVerdict, IsLawful, AreCarried}
+use Rattle.frame_history.specs.History.{BookState, start, replay, IsClosed, HasVerdict, IsLawful, AreCarried}
 use Rattle.frame_history.proofs.Limiting.{limit_reached}
 use Rattle.frame_history.proofs.Tracking.{none_is_some}
 use Rattle.frame_query.specs.Findings.{SolverView}
 use Rattle.frame_book.specs.Book.{BookView, IsBook, opened}
 use Rattle.prove_run.specs.declared.answers.Answer.{Answer}
 use Rattle.prove_run.specs.declared.answers.Answer.TheVariants.{True, False, Unknown}
-use Rattle.prove_run.specs.declared.answers.Cause.{Cause}
 use Rattle.prove_run.specs.declared.effort.Effort.{Effort}
-use Rattle.prove_run.specs.Answers.{limits_of, first_of, IsSpent, IsCause, IsRight, IsDone, Answers, AnswersAt, cause_of}
+use Rattle.prove_run.specs.Answers.{limits_of, IsCause, IsRight, IsDone, Answers, AnswersAt, cause_of}
 use Rattle.frame_history.specs.Limits.{WasAtLimit, IsSafeWithin}
-use Rattle.prove_run.specs.Paying.{ClaimQuery, IsOfClaim, IsPaidRun}
+use Rattle.prove_run.specs.Paying.{IsOfClaim, IsPaidRun}
 use Rattle.prove_run.specs.Playing.{IsPlayed}
 use Rattle.prove_run.proofs.Going.{book_systems}
 

@@ -1,14 +1,13 @@
 -- One turn of the worker: the task that it took is settled, and the book is played on.
-use Rattle.std.proofs.Common.{◌≡◌, ℕ, ◌+◌, ◌<◌, ◌≤◌, ◌⊎◌, Bool, true, false, List, [], ◌∷◌, ◌++◌, length, set, refl, sym, subst, ap, ◌∙◌, inl, inr, arith}
+use Rattle.std.proofs.Common.{◌≡◌, ℕ, ◌<◌, Bool, true, false, List, [], ◌∷◌, ◌++◌, length, set, refl, sym, subst, ap, ◌∙◌, inl, inr, arith}
 use Rattle.std.specs.Prelude.{Option, Some, None, All, map}
 use Rattle.std.proofs.Math.Seq.{get_or-append_seam}
 use Rattle.std.proofs.lemmas.List.{append_assoc}
-use Rattle.clause_core.specs.declared.literal.Lit.{Lit}
 use Rattle.clause_core.specs.Assignments.{assignment_of}
-use Rattle.clause_core.specs.Systems.{TransitionSystem, FirstBits}
+use Rattle.clause_core.specs.Systems.{FirstBits}
 use Rattle.frame_core.specs.declared.parts.Lemma.{Lemma}
 use Rattle.frame_core.specs.declared.outcomes.Verdict.TheVariants.{Reached}
-use Rattle.frame_core.specs.Law.{FrameState, FramesHold, system_at, lemma_at, obligation_at}
+use Rattle.frame_core.specs.Law.{FramesHold, system_at, obligation_at}
 use Rattle.frame_core.proofs.States.{first_same}
 use Rattle.frame_history.specs.declared.entries.Limits.{Limits}
 use Rattle.frame_history.specs.declared.entries.Subject.{Subject}
@@ -23,16 +22,15 @@ use Rattle.frame_history.proofs.Waiting.{holds_all, some_is_out}
 use Rattle.frame_query.specs.Findings.{SolverView, IsOlder}
 use Rattle.frame_query.specs.Paying.{AskedQuery, Pays}
 use Rattle.frame_book.specs.declared.claim.Outcome.{Outcome}
-use Rattle.frame_book.specs.declared.claim.Claiming.TheVariants.{Task, Idle, Closed}
-use Rattle.frame_book.specs.Claims.{ClaimView, IsOfSubject, IsClaimOf, IsOutHere}
-use Rattle.frame_book.specs.Outcomes.{IsOutcomeOf, ComesOf}
-use Rattle.frame_book.specs.Book.{BookView, IsBook, Claims, SettlesBy, entered}
+use Rattle.frame_book.specs.Claims.{ClaimView, IsOfSubject, IsOutHere}
+use Rattle.frame_book.specs.Outcomes.{IsOutcomeOf}
+use Rattle.frame_book.specs.Book.{BookView, IsBook, SettlesBy, entered}
 use Rattle.prove_run.specs.Asking.{IsAsked, MayBeAsked, PaysClaim}
-use Rattle.prove_run.specs.Paying.{ClaimQuery, MayAsk, IsPaidRun}
+use Rattle.prove_run.specs.Paying.{MayAsk, IsPaidRun}
 use Rattle.prove_run.specs.Playing.{IsPlayed, IsTaken, IsSettled}
 use Rattle.prove_run.proofs.Claimed.{claims_each, changes_claims}
 use Rattle.prove_run.proofs.Paid.{paid_claim, by_claim}
-use Rattle.prove_run.proofs.Turned.{older_itself, older_then, older_all, not_behind, spent_all, all_ended}
+use Rattle.prove_run.proofs.Turned.{older_all, not_behind, spent_all, all_ended}
 
 -- ---- What the book keeps
 
@@ -75,8 +73,15 @@ first_decided : (s : BookState) (o : ℕ) → FramesHold s.frames → o < length
 first_decided s o holds lt first =
     let x = obligation_at s.frames.obligations o in
     let there = (holds.obligations o lt).of in
-    inl (Reached o, (lt, refl, first_same false (system_at s.frames.systems 0) (system_at s.frames.systems x.system) (holds.alike x.system there)
-    (assignment_of x.values) first))
+    inl (
+      Reached o,
+      (
+        lt,
+        refl,
+        first_same false (system_at s.frames.systems 0) (system_at s.frames.systems x.system) (holds.alike x.system there)
+            (assignment_of x.values) first,
+      ),
+    )
 
 asked_by : (limits : Limits) (s : BookState) (c : ClaimView) (u : Subject) → FramesHold s.frames → IsOpenTask limits s u c.level →
     IsOfSubject s.frames u c.values c.clause → MayBeAsked s.frames c u

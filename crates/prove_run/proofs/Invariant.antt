@@ -1,14 +1,12 @@
 -- The lemmas above an empty level, as an invariant.
-use Rattle.std.proofs.Common.{◌≡◌, ◌≢◌, ℕ, zero, suc, ◌+◌, ◌<◌, ◌≤◌, Bool, true, false, List, [], ◌∷◌, length, refl, sym, subst, ap, ◌∙◌, inl, inr, arith}
-use Rattle.std.specs.Prelude.{All, ◌&&◌, nat_lt, map, filter, Option, Some, None}
+use Rattle.std.proofs.Common.{◌≡◌, ℕ, zero, suc, ◌+◌, ◌<◌, Bool, true, false, List, [], ◌∷◌, length, refl, sym, subst, ap, ◌∙◌, inl, inr, arith}
+use Rattle.std.specs.Prelude.{All, ◌&&◌, nat_lt, map, filter, Some, None}
 use Rattle.std.proofs.lemmas.Bool.{cases_Bool, cases_lt, lt-ltb, le-ltb}
 use Rattle.std.proofs.lemmas.List.Elements.{All-nil, All-cons, All-head, All-tail}
-use Rattle.clause_core.specs.declared.literal.Lit.{Lit}
 use Rattle.clause_core.specs.Assignments.{ClauseTrue}
-use Rattle.clause_core.specs.Systems.{TransitionSystem, BadBits}
+use Rattle.clause_core.specs.Systems.{TransitionSystem}
 use Rattle.cert_core.specs.Certificates.{IsInvariant}
 use Rattle.frame_core.specs.declared.parts.Lemma.{Lemma}
-use Rattle.frame_core.specs.declared.outcomes.Verdict.{Verdict}
 use Rattle.frame_core.specs.declared.outcomes.Verdict.TheVariants.{Invariant, Reached}
 use Rattle.frame_core.specs.Law.{FrameState, FramesHold, LemmasHold, MeetsFrom, lemma_at, system_at}
 use Rattle.frame_core.specs.Law.{IsInvariant as IsFrameInvariant}

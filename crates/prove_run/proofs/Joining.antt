@@ -1,13 +1,13 @@
 -- Two logs of queries, one behind the other.
-use Rattle.std.proofs.Common.{◌≡◌, ◌≢◌, ℕ, ◌+◌, ◌-◌, ◌<◌, ◌≤◌, ◌⊎◌, List, [], ◌∷◌, ◌++◌, length, refl, sym, subst, ap, ◌∙◌, inl, inr, arith, length-append, get_or}
-use Rattle.std.specs.Prelude.{All, AllPairs, Contains, map}
+use Rattle.std.proofs.Common.{◌≡◌, ◌≢◌, ℕ, ◌-◌, ◌≤◌, List, ◌++◌, length, refl, sym, subst, ◌∙◌, inl, inr, arith, length-append, get_or}
+use Rattle.std.specs.Prelude.{All, AllPairs, Contains}
 use Rattle.std.proofs.lemmas.Bool.{cases_lt}
 use Rattle.std.proofs.Math.ListN.{get_or-append}
 use Rattle.std.proofs.lemmas.List.{get_or-append_right, map-append}
 use Rattle.std.proofs.lemmas.List.Elements.{All-append, All-weaker, All-contains, Contains-get_or}
 use Rattle.clause_core.specs.declared.literal.Lit.{Lit}
 use Rattle.clause_core.specs.Systems.{TransitionSystem}
-use Rattle.sat_core.specs.Paying.{Query, IsPaidLog}
+use Rattle.sat_core.specs.Paying.{IsPaidLog}
 use Rattle.sat_core.proofs.Payments.{log_join}
 use Rattle.frame_core.specs.declared.parts.Lemma.{Lemma}
 use Rattle.frame_query.specs.Paying.{Question, AskedQuery, IsQueryOf, Pays, AllDiffer, queries_of}
@@ -31,7 +31,7 @@ pairs_join {X = X} R ps qs f s across i j d lt below =
             | inl first ↦
                 let P : X → Type 0 = λ x. R x (get_or qs (j - length ps) d) in
                 let one = across (get_or ps i d) (get_or qs (j - length ps) d) (Contains-get_or ps i d first)
-                    (Contains-get_or qs (j - length ps) d (omega arith)) in
+                (Contains-get_or qs (j - length ps) d (omega arith)) in
                 subst Q (sym there) (subst P (sym (get_or-append ps qs d i first)) one)
             | inr second ↦
                 let P : X → Type 0 = λ x. R x (get_or qs (j - length ps) d) in
@@ -62,14 +62,13 @@ pub pays_more : (u v w : SolverView) (x y z : List ℕ) (May : Question → Type
 pays_more u v w x y z May question ps qs systems lemmas f few is may s apart others =
     let s' : Pays u.systems u.lemmas v.known w.known y z qs =
     subst (λ (t : List TransitionSystem). Pays t u.lemmas v.known w.known y z qs) systems
-    (subst (λ (l : List Lemma). Pays v.systems l v.known w.known y z qs) lemmas s) in
-    (
+    (subst (λ (l : List Lemma). Pays v.systems l v.known w.known y z qs) lemmas s) in (
       ps ++ qs,
       pays_join u.systems u.lemmas u.known v.known w.known x y z ps qs f s',
       pairs_join (λ (p q : AskedQuery). p.question ≢ q.question) ps qs (alone ps few) apart (λ p q here there e.
-      let at : p.question ≡ question = All-contains (λ (a : AskedQuery). a.question ≡ question) ps p is here in
-      let ne = All-contains (λ (a : AskedQuery). May a.question × (a.question ≢ question)) qs q others there in
-      ne.1 (sym e ∙ at)),
+          let at : p.question ≡ question = All-contains (λ (a : AskedQuery). a.question ≡ question) ps p is here in
+          let ne = All-contains (λ (a : AskedQuery). May a.question × (a.question ≢ question)) qs q others there in
+          ne.1 (sym e ∙ at)),
       All-append (λ (a : AskedQuery). May a.question) ps qs
           (All-weaker (λ (a : AskedQuery). a.question ≡ question) (λ (a : AskedQuery). May a.question) (λ a e. subst May (sym e) may) ps is)
           (All-weaker (λ (a : AskedQuery). May a.question × (a.question ≢ question)) (λ (a : AskedQuery). May a.question) (λ a h. h.0) qs others),

@@ -1,14 +1,13 @@
 -- What was asked gives outcomes of the claim.
-use Rattle.std.proofs.Common.{◌≡◌, ℕ, ◌+◌, ◌-◌, ◌<◌, Bool, true, false, List, length, refl, sym, subst, ap, ◌∙◌, arith}
-use Rattle.clause_core.specs.Assignments.{ClauseTrue, assignment_of}
-use Rattle.clause_core.specs.Systems.{TransitionSystem, FirstBits, NextIs}
+use Rattle.std.proofs.Common.{◌≡◌, ℕ, ◌-◌, ◌<◌, Bool, true, false, List, length, refl, sym, subst, ap, ◌∙◌}
+use Rattle.clause_core.specs.Assignments.{assignment_of}
+use Rattle.clause_core.specs.Systems.{TransitionSystem, NextIs}
 use Rattle.frame_core.specs.declared.parts.Lemma.{Lemma}
 use Rattle.frame_core.specs.Differences.{IsSameSystem}
-use Rattle.frame_core.specs.Facts.{FoundState, ProvedClause, ClearLevel}
 use Rattle.frame_core.specs.Law.{FrameState, FramesHold, system_at, lemma_at, obligation_at, InFrame, AllStand}
 use Rattle.frame_core.proofs.States.{first_same}
 use Rattle.frame_history.specs.declared.entries.Subject.{Subject}
-use Rattle.frame_history.specs.declared.entries.Subject.TheVariants.{Bad, Block, Push}
+use Rattle.frame_history.specs.declared.entries.Subject.TheVariants.{Bad, Block}
 use Rattle.frame_history.specs.History.{asked_level, asked_system}
 use Rattle.frame_query.specs.Firsts.{AllFirstsMeet}
 use Rattle.frame_query.specs.Findings.{SolverView}
@@ -16,7 +15,7 @@ use Rattle.frame_book.specs.declared.claim.Outcome.{Outcome}
 use Rattle.frame_book.specs.declared.claim.Outcome.TheVariants.{Proved, Step, Found, Clear, Spent}
 use Rattle.frame_book.specs.Claims.{ClaimView}
 use Rattle.frame_book.specs.Outcomes.{IsOutcomeOf}
-use Rattle.prove_run.specs.Asking.{AnswersBad, AnswersBlock, IsAsked, IsTimely, MayBeAsked}
+use Rattle.prove_run.specs.Asking.{AnswersBad, AnswersBlock, IsAsked, MayBeAsked}
 
 same_of : (w : Bool) (a b : TransitionSystem) → b ≡ a → IsSameSystem w a b
 same_of w a b e =

@@ -1,6 +1,6 @@
 -- The log of the queries of a history, as the history goes on.
-use Rattle.std.proofs.Common.{◌≡◌, ◌≢◌, ℕ, ◌+◌, ◌<◌, ◌≤◌, Bool, true, false, List, [], ◌∷◌, ◌++◌, length, take, refl, sym, subst, ap, ◌∙◌, inl, inr, arith, length-append, get_or}
-use Rattle.std.specs.Prelude.{Option, Some, None, slice_get, map, All, AllPairs, Contains}
+use Rattle.std.proofs.Common.{◌≡◌, ℕ, ◌+◌, ◌<◌, ◌≤◌, true, false, List, [], ◌∷◌, ◌++◌, length, refl, sym, subst, ap, ◌∙◌, arith, length-append, get_or}
+use Rattle.std.specs.Prelude.{Some, slice_get, map, All, AllPairs, Contains}
 use Rattle.std.proofs.Math.Seq.{get_or-append_seam, take-append_seam}
 use Rattle.std.proofs.Math.ListN.{get_or-append}
 use Rattle.std.proofs.lemmas.Option.{slice_get_within, slice_get_read, get_or_from_slice_get}
@@ -11,17 +11,16 @@ use Rattle.std.proofs.lemmas.List.Elements.{All-append, All-weaker, All-contains
 use Rattle.clause_core.specs.declared.literal.Lit.{Lit}
 use Rattle.sat_core.specs.Paying.{Query, IsPaidLog}
 use Rattle.sat_core.proofs.Payments.{log_join}
-use Rattle.frame_core.specs.Law.{FrameState}
 use Rattle.frame_history.specs.declared.entries.Subject.{Subject}
 use Rattle.frame_history.specs.declared.entries.Made.{Made}
 use Rattle.frame_history.specs.declared.entries.Entry.{Entry}
 use Rattle.frame_history.specs.declared.entries.Entry.TheVariants.{Claim}
 use Rattle.frame_history.specs.History.{BookState, replay, claim_at, IsNew}
-use Rattle.frame_query.specs.Paying.{Question, AskedQuery, IsQueryOf, Pays, AllDiffer, queries_of}
+use Rattle.frame_query.specs.Paying.{AskedQuery, IsQueryOf, Pays, AllDiffer, queries_of}
 use Rattle.prove_run.specs.Paying.{ClaimQuery, Key, MayAsk, HasKey, IsOfClaim, DifferInKey, IsPaidRun, queries_in}
 use Rattle.prove_run.specs.Paying.{before as state_before}
 use Rattle.prove_run.proofs.Joining.{pairs_join}
-use Rattle.prove_run.proofs.Claimed.{IsMadeBy, made_by, claims_each, no_entry}
+use Rattle.prove_run.proofs.Claimed.{made_by, claims_each}
 
 -- ---- A history with more entries
 

@@ -1,18 +1,17 @@
 -- What a settlement by the one worker leads to.
-use Rattle.std.proofs.Common.{◌≡◌, ◌≢◌, ℕ, zero, suc, ◌+◌, ◌-◌, ◌<◌, ◌≤◌, ◌⊎◌, Bool, true, false, List, [], ◌∷◌, ◌++◌, length, set, refl, sym, subst, ap, ◌∙◌, inl, inr, arith, length-set, length-append, get_or-set_same, get_or-set_other}
-use Rattle.std.specs.Prelude.{Option, Some, None, Contains, All, slice_index_or}
+use Rattle.std.proofs.Common.{◌≡◌, ℕ, ◌-◌, ◌<◌, ◌≤◌, ◌⊎◌, Bool, true, false, List, [], ◌∷◌, ◌++◌, length, set, refl, sym, subst, ap, ◌∙◌, inl, inr, arith, length-set, length-append, get_or-set_same, get_or-set_other}
+use Rattle.std.specs.Prelude.{Option, Some, None, Contains}
 use Rattle.std.proofs.Math.ListN.{get_or-append}
 use Rattle.std.proofs.Math.Seq.{get_or-append_seam}
-use Rattle.std.proofs.lemmas.Bool.{cases_Bool, cases_eq, cases_lt}
+use Rattle.std.proofs.lemmas.Bool.{cases_eq, cases_lt}
 use Rattle.std.proofs.lemmas.List.{get_or_past}
 use Rattle.std.proofs.lemmas.List.Elements.{All-contains}
 use Rattle.clause_core.specs.Assignments.{assignment_of}
-use Rattle.clause_core.specs.Systems.{TransitionSystem}
 use Rattle.frame_core.specs.declared.parts.Lemma.{Lemma}
 use Rattle.frame_core.specs.declared.parts.Parent.{Parent}
 use Rattle.frame_core.specs.Facts.{ProvedClause, ClearLevel, FoundStep}
 use Rattle.frame_core.specs.Law.{FrameState, InFrame, AllStand, Stands, IsAsHigh, system_at, lemma_at, no_lemma, raised_at, retired_at}
-use Rattle.frame_core.specs.Looking.{IsKeptLevel, IsHere}
+use Rattle.frame_core.specs.Looking.{IsKeptLevel}
 use Rattle.frame_core.proofs.Changing.{Extends, Extends-added, Extends-raised, retired_lemma}
 use Rattle.frame_history.specs.declared.entries.Limits.{Limits}
 use Rattle.frame_history.specs.declared.entries.Subject.{Subject}
@@ -23,7 +22,7 @@ use Rattle.frame_history.specs.declared.entries.Lag.TheVariants as lag
 use Rattle.frame_history.specs.declared.entries.Change.{Change}
 use Rattle.frame_history.specs.declared.entries.Change.TheVariants.{Add, Raise, Held, Retire, Behind, Dropped, Note, Open, PushFailed, Limit}
 use Rattle.frame_history.specs.declared.entries.Change.TheVariants as change
-use Rattle.frame_history.specs.History.{BookState, changed, all_changed, claim_at, ended, is_behind, asked_level, asked_system, LagsBy, Accepts, AcceptsNext, AcceptsEach, AcceptsAll}
+use Rattle.frame_history.specs.History.{BookState, changed, all_changed, claim_at, ended, is_behind, asked_level, asked_system, LagsBy, Accepts, AcceptsEach, AcceptsAll}
 use Rattle.frame_history.proofs.Tracking.{same_but_live, as_long, none_is_some, some_same}
 use Rattle.frame_query.specs.Findings.{IsOlder}
 use Rattle.frame_book.specs.declared.claim.Outcome.{Outcome}

@@ -2,9 +2,7 @@
 use Rattle.std.specs.Prelude.{◌≡◌, ℕ, ⊤, Bool, List, [], map, take, slice_get, All, AllPairs, Some}
 use Rattle.clause_core.specs.declared.literal.Lit.{Lit}
 use Rattle.clause_core.specs.Assignments.{ClauseTrue, assignment_of}
-use Rattle.clause_core.specs.Systems.{TransitionSystem}
 use Rattle.sat_core.specs.Paying.{Query, IsPaidLog}
-use Rattle.frame_core.specs.declared.parts.Lemma.{Lemma}
 use Rattle.frame_core.specs.Law.{FrameState, lemma_at, obligation_at}
 use Rattle.frame_history.specs.declared.entries.Subject.{Subject}
 use Rattle.frame_history.specs.declared.entries.Subject.TheVariants.{Bad, Block, Push}

@@ -1,3 +1,5 @@
+//! What is known of systems, and the work that led to it.
+
 use clause_core::Clauses;
 use frame_core::BitRun;
 use frame_history::Entry;

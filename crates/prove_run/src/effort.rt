@@ -1,3 +1,5 @@
+//! How much is done.
+
 /// How much is done before an answer is given up.
 #[derive(Clone, Copy, Debug)]
 pub struct Effort {

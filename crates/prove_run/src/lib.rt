@@ -2,13 +2,13 @@
 //! to one, or says why neither is known.
 #![tactic(auto)]
 
-pub mod answers;
 mod answering;
+pub mod answers;
 mod asking;
 mod claims;
+pub mod effort;
 mod playing;
 mod proving;
-pub mod effort;
 
 pub use answers::{Answer, Cause, Done, Work};
 pub use effort::Effort;

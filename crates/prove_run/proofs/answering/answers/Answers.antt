@@ -1,4 +1,4 @@
-use Rattle.std.proofs.Common.{◌≡◌, ◌<◌, ◌+◌, ℕ, Bool, List, [], ◌∷◌, ◌++◌, length, sym, subst, ap, ◌∙◌, arith, length-append}
+use Rattle.std.proofs.Common.{◌≡◌, ◌<◌, ℕ, Bool, List, [], ◌∷◌, ◌++◌, length, sym, subst, ap, arith, length-append}
 use Rattle.prove_run.specs.declared.answers.Answer.{Answer}
 use Rattle.prove_run.specs.Answers.{Answers, AnswersAt}
 use Rattle.prove_run.proofs.Answered.{more_answers}

@@ -1,4 +1,4 @@
-use Rattle.std.proofs.Common.{◌≡◌, ◌<◌, ◌≤◌, ℕ, length}
+use Rattle.std.proofs.Common.{◌≡◌, ◌<◌, ℕ, length}
 use Rattle.prove_run.specs.Answers.{AnswersAt}
 use Rattle.prove_run.proofs.answering.answers.Given as goal
 

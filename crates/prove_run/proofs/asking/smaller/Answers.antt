@@ -1,6 +1,6 @@
-use Rattle.std.proofs.Common.{◌≡◌, ◌-◌, ℕ, List, refl, sym, subst, ap}
+use Rattle.std.proofs.Common.{refl, sym, subst}
 use Rattle.std.proofs.lemmas.List.Elements.{All-contains_itself}
-use Rattle.frame_core.specs.Facts.{ProvedClause, IsPart}
+use Rattle.frame_core.specs.Facts.{ProvedClause}
 use Rattle.frame_book.specs.declared.claim.Outcome.TheVariants.{Proved}
 use Rattle.prove_run.specs.Asking.{IsSmaller}
 use Rattle.prove_run.proofs.asking.smaller.Goals as goal

@@ -1,13 +1,12 @@
-use Rattle.std.proofs.Common.{◌≡◌, ℕ, Bool, List, sym, subst, ap, ◌∙◌}
-use Rattle.std.specs.Prelude.{IfOk}
+use Rattle.std.proofs.Common.{ℕ, Bool, List, sym, subst, ◌∙◌}
 use Rattle.std.proofs.lemmas.Result.{IfOk-weaker}
 use Rattle.clause_core.specs.Assignments.{assignment_of}
 use Rattle.clause_core.specs.Systems.{TransitionSystem, FirstBits}
 use Rattle.frame_core.specs.declared.parts.Lemma.{Lemma}
-use Rattle.frame_core.specs.Law.{FramesHold, system_at, lemma_at}
-use Rattle.frame_history.specs.declared.entries.Subject.TheVariants.{Bad, Block, Push}
+use Rattle.frame_core.specs.Law.{system_at, lemma_at}
+use Rattle.frame_history.specs.declared.entries.Subject.TheVariants.{Block, Push}
 use Rattle.frame_query.specs.Firsts.{AllFirstsMeet}
-use Rattle.prove_run.specs.Asking.{AnswersBad, AnswersBlock, IsAsked, MayBeAsked}
+use Rattle.prove_run.specs.Asking.{AnswersBad, AnswersBlock, IsAsked}
 use Rattle.prove_run.proofs.Outcomes.{IsUpToDate, asked_of, bad_asked, block_asked, lemma_first}
 use Rattle.prove_run.proofs.claims.ask.Goals as goal
 
@@ -18,9 +17,9 @@ ask_block-requires-clause-later g c =
     let may = asked_of f v (Block c.in-Block.field-0) c.in-Block.ensures c.requires.asked in
     let systems = c.follow.ensures.systems ∙ c.requires.systems in
     λ first.
-        (let x = c.values.result.now in
-        let P : List TransitionSystem → Type 0 = λ z. FirstBits (system_at z 0) (assignment_of x) in
-        may.3 (subst (λ (y : List Bool). FirstBits (system_at f.systems 0) (assignment_of y)) c.values.ensures (subst P systems first)))
+    (let x = c.values.result.now in
+    let P : List TransitionSystem → Type 0 = λ z. FirstBits (system_at z 0) (assignment_of x) in
+    may.3 (subst (λ (y : List Bool). FirstBits (system_at f.systems 0) (assignment_of y)) c.values.ensures (subst P systems first)))
 
 pub ask_push-requires-clause-first : goal.ask_push-requires-clause-first
 ask_push-requires-clause-first g c =

@@ -1,11 +1,9 @@
-use Rattle.std.proofs.Common.{◌≡◌, ℕ, Bool, List, sym, subst, ap, ◌∙◌}
-use Rattle.std.specs.Prelude.{IfOk, OnOk}
+use Rattle.std.proofs.Common.{ℕ, Bool, List, sym, subst, ap, ◌∙◌}
 use Rattle.prove_run.proofs.Results.{on_ok_both}
 use Rattle.clause_core.specs.Systems.{TransitionSystem}
 use Rattle.frame_core.specs.Law.{FrameState}
 use Rattle.frame_book.specs.Book.{IsBook}
 use Rattle.frame_book.specs.Outcomes.{IsOutcomeOf}
-use Rattle.frame_book.specs.declared.claim.Outcome.{Outcome}
 use Rattle.prove_run.specs.Asking.{IsAsked, MayBeAsked, PaysClaim}
 use Rattle.prove_run.specs.Playing.{IsPlayed, IsSettled}
 use Rattle.prove_run.proofs.Going.{taken_asks, taken_out, taken_same, taken_systems, went_on}
