@@ -1,9 +1,12 @@
-//! Text that contracts see as plain data: the list of its bytes.
+//! Text that contracts see as plain data: the list of its bytes. Also the numbers that texts write.
 #![tactic(auto)]
 
 ghost use Rattle.std.specs.Prelude.{◌≡◌, IfOk, IsTrue, ◌↔◌, Some, bytes_eq};
 ghost use Rattle.std.specs.Str.{IsAscii};
 
+mod decimals;
+
+pub use decimals::number_up_to;
 use std::alloc::{AllocError, Global};
 use std::fmt;
 use std::marker::Model;

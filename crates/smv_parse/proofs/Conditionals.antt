@@ -6,10 +6,10 @@ use Rattle.smv_tree.specs.declared.token.TokenKind.TheVariants as kind
 use Rattle.smv_tree.specs.declared.tree.Expr.{Expr}
 use Rattle.smv_tree.specs.Kinds.{is_kind}
 use Rattle.smv_parse.specs.declared.expressions.Rank.TheVariants as rank
-use Rattle.smv_parse.specs.Names.{just, opening}
+use Rattle.smv_phrases.specs.Names.{just, opening}
 use Rattle.smv_parse.specs.Expressions.{disjunction, chosen_by, branches, conditional, conditional_of, is_zero, expression_within}
 use Rattle.smv_parse.specs.Ranks.{under, phrase_within}
-use Rattle.smv_parse.proofs.OfNames.{begins_same}
+use Rattle.smv_phrases.proofs.OfNames.{begins_same}
 use Rattle.smv_parse.proofs.Levels.{bind_bind, opening_same, under_expression, under_conditional}
 
 -- What stands behind "?": the readings of an expression, of ":" and of a conditional, one after the other.

@@ -8,7 +8,7 @@ use Rattle.smv_tree.specs.declared.token.TokenKind.TheVariants as kind
 use Rattle.smv_tree.specs.declared.tree.Expr.{Expr}
 use Rattle.smv_tree.specs.declared.tree.Expr.TheVariants as expr
 use Rattle.smv_tree.specs.Kinds.{is_kind}
-use Rattle.smv_parse.specs.Names.{just, name}
+use Rattle.smv_phrases.specs.Names.{just, name}
 use Rattle.smv_parse.specs.Expressions.{Phrases, is_constant, constant_of, begins_operand, is_equality, is_conjunction, is_disjunction, is_equivalence, goes_on_operand, goes_on_equality, goes_on_conjunction, goes_on_disjunction, goes_on_conditional, goes_on_equivalence, goes_on_expression, chain, chain_of, parenthesised, primary, operand, equality, conjunction, disjunction, branches, conditional, equivalence, implication, known, over, beyond, phrases, Denied, begins_expression, is_step_operator, is_timed_operator, is_connection, goes_on_connection, bounds, denied, equations, temporal, timed, connection}
 
 pub record AllAlike (q r : Phrases) : Type 0 where

@@ -10,10 +10,10 @@ use Rattle.smv_value.specs.declared.operator.Operator.TheVariants as operator
 use Rattle.smv_tree.specs.declared.tree.Expr.TheVariants as expr
 use Rattle.smv_tree.specs.Kinds.{is_kind}
 use Rattle.smv_parse.specs.declared.expressions.Rank.TheVariants as rank
-use Rattle.smv_parse.specs.Names.{just, opening}
+use Rattle.smv_phrases.specs.Names.{just, opening}
 use Rattle.smv_parse.specs.Expressions.{parenthesised, denied, temporal, timed, operand, conditional, equivalence, implication, implication_of, is_zero, phrases, expression_within}
 use Rattle.smv_parse.specs.Ranks.{under, phrase_within}
-use Rattle.smv_parse.proofs.OfNames.{begins_same}
+use Rattle.smv_phrases.proofs.OfNames.{begins_same}
 
 pub bind_bind : {A B C : Type 0} (r : Read Token A) (f : A × List Token → Read Token B) (g : B × List Token → Read Token C) → ((r >>= f) >>= g) ≡ (r >>= λ x. f x >>= g)
 bind_bind (Ok x) f g = refl

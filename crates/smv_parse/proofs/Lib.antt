@@ -1,6 +1,3 @@
-pub mod KindNumbers
-pub mod EachKind
-pub mod OfNames
 pub mod Reaching
 pub mod Temporals
 pub mod OfExpressions

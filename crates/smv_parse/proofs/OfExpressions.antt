@@ -17,12 +17,12 @@ use Rattle.phrase_forms.proofs.OfAfter.{Bounded, after_lawful, pure_lawful}
 use Rattle.smv_tree.specs.declared.token.Token.{Token}
 use Rattle.smv_tree.specs.declared.token.TokenKind.TheVariants as kind
 use Rattle.smv_tree.specs.declared.tree.Expr.{Expr}
-use Rattle.smv_parse.specs.Names.{just, opening, member, name}
+use Rattle.smv_phrases.specs.Names.{just, opening, member, name}
 use Rattle.smv_parse.specs.Expressions.{Phrases, is_constant, constant_of, begins_operand, is_equality, is_conjunction, is_disjunction, is_equivalence, goes_on_operand, goes_on_equality, goes_on_conjunction, goes_on_disjunction, goes_on_conditional, goes_on_equivalence, goes_on_expression, chain, parenthesised, primary, operand, equality, conjunction, disjunction, branches, conditional, equivalence, implication, known, over, is_zero, beyond, phrases, expression_within, Denied, begins_expression, begins_timed, is_step_operator, is_timed_operator, is_connection, goes_on_connection, bounds, denied, denied_again, stepped, timed_of, equations, temporal, timed, connection, deepest}
-use Rattle.smv_parse.proofs.EachKind.{token_at, apart, within}
+use Rattle.smv_phrases.proofs.EachKind.{token_at, apart, within}
 use Rattle.smv_tree.specs.Kinds.{is_kind}
 use Rattle.smv_parse.proofs.Reaching.{Deep, more_of, head_nothing, then_reach, to_reach, or_left, or_right}
-use Rattle.smv_parse.proofs.OfNames.{just_lawful, opening_lawful, name_lawful}
+use Rattle.smv_phrases.proofs.OfNames.{just_lawful, opening_lawful, name_lawful}
 use Rattle.smv_parse.proofs.ExpressionsAlike.{phrases_alike}
 
 or_false : (b : Bool) → (b || false) ≡ b

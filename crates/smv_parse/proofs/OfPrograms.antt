@@ -16,11 +16,11 @@ use Rattle.smv_tree.specs.declared.tree.AssignmentKind.{AssignmentKind}
 use Rattle.smv_tree.specs.declared.tree.AssignmentKind.TheVariants as side
 use Rattle.smv_tree.specs.declared.tree.TypeExpr.TheVariants as type
 use Rattle.smv_tree.specs.Kinds.{is_kind, is_identifier}
-use Rattle.smv_parse.specs.Names.{just, identifier, member, name}
+use Rattle.smv_phrases.specs.Names.{just, identifier, member, name}
 use Rattle.smv_parse.specs.Expressions.{expression_within, most_levels}
 use Rattle.smv_parse.specs.Programs.{expression, further, listed, or_none, maybe_listed, bracketed, under_one, instance_type, written_type, declaration, declares, variables, definition, definitions, sided, left_side, assignment, assignments, formula, constrains, constraint, given_name, claims, specification, section_form, parameter_of, module_form, program}
-use Rattle.smv_parse.proofs.EachKind.{token_at, apart}
-use Rattle.smv_parse.proofs.OfNames.{just_lawful, identifier_lawful, name_lawful}
+use Rattle.smv_phrases.proofs.EachKind.{token_at, apart}
+use Rattle.smv_phrases.proofs.OfNames.{just_lawful, identifier_lawful, name_lawful}
 use Rattle.smv_parse.proofs.OfExpressions.{expression_lawful, expression_alike}
 
 -- a and then b, for the value of one

@@ -2,14 +2,14 @@
 use Rattle.std.proofs.Common.{◌≡◌, ℕ, true, false, refl}
 use Rattle.phrase_forms.proofs.Lawful.{Lawful}
 use Rattle.phrase_forms.proofs.OfTo.{to_lawful}
-use Rattle.phrase_forms.proofs.OfNamed.{Fine, named_lawful}
+use Rattle.phrase_forms.proofs.OfNamed.{Fine}
 use Rattle.smv_tree.specs.declared.token.Token.{Token}
 use Rattle.smv_tree.specs.declared.token.TokenKind.TheVariants as kind
 use Rattle.smv_parse.specs.declared.expressions.Rank.{Rank}
 use Rattle.smv_parse.specs.declared.expressions.Rank.TheVariants as rank
 use Rattle.smv_parse.specs.Expressions.{is_zero, phrases}
-use Rattle.smv_parse.specs.Ranks.{is_operator_of, begins_operand_of, goes_on_operand_of, operand_within, under, link_within}
-use Rattle.smv_parse.proofs.EachKind.{token_at, apart}
+use Rattle.smv_parse.specs.Ranks.{is_operator_of, begins_operand_of, goes_on_operand_of, operand_within, link_within}
+use Rattle.smv_phrases.proofs.EachKind.{token_at, apart}
 use Rattle.smv_parse.proofs.OfExpressions.{Keeps, keeps, phrases_sound, operand_fine, temporal_fine, connection_fine, conjunction_fine, conditional_fine, link_lawful, link_apart}
 
 module _ (room : ℕ) where

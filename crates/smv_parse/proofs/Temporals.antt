@@ -1,6 +1,6 @@
 -- How an operand of temporal operators is read: what may be denied, and then equations where it is plain.
-use Rattle.std.proofs.Common.{◌≡◌, ℕ, Bool, true, false, cond, List, length, map, Ok, Err, refl, ap}
-use Rattle.phrase_forms.specs.Forms.{Form, Read, many, to, ◌>>=◌}
+use Rattle.std.proofs.Common.{◌≡◌, ℕ, true, false, cond, List, length, Ok, Err, refl, ap}
+use Rattle.phrase_forms.specs.Forms.{Form, Read, many, ◌>>=◌}
 use Rattle.smv_tree.specs.declared.place.Place.{Place}
 use Rattle.smv_tree.specs.declared.token.Token.{Token}
 use Rattle.smv_value.specs.declared.operator.Operator.{Operator}

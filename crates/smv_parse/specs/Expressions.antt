@@ -1,5 +1,6 @@
 -- The expressions of the language (NuSMV 2.6 User Manual, 2.2). The levels of precedence are an own choice of this project.
-use Rattle.std.specs.Prelude.{ℕ, zero, suc, ◌+◌, ◌-◌, ◌*◌, min, Bool, true, false, ◌||◌, List, [], ◌∷◌, fold, map, Option, None, Some}
+use Rattle.std.specs.Prelude.{ℕ, zero, suc, Bool, true, false, ◌||◌, List, [], ◌∷◌, map, Option, unwrap_or, None, Some}
+use Rattle.plain_text.specs.Decimals.{number_up_to}
 use Rattle.phrase_forms.specs.Forms.{Form, token, or, maybe, many, to, named, ◌⨾◌, ◌▹◌, ◌◃◌}
 use Rattle.phrase_forms.specs.Depending.{pure, after}
 use Rattle.smv_tree.specs.declared.place.Place.{Place}
@@ -16,7 +17,7 @@ use Rattle.smv_value.specs.declared.operator.Bounded.TheVariants as bounded
 use Rattle.smv_tree.specs.declared.tree.Expr.{Expr}
 use Rattle.smv_tree.specs.declared.tree.Expr.TheVariants as expr
 use Rattle.smv_tree.specs.Kinds.{is_kind}
-use Rattle.smv_parse.specs.Names.{just, opening, begins_name, name}
+use Rattle.smv_phrases.specs.Names.{just, opening, begins_name, name}
 
 -- the bounds of a temporal operator, if it has some, and its operand
 abbrev pub Timed : Type 0
@@ -169,18 +170,13 @@ operand closed under = or (to not_of (opening closed kind.Not ⨾ under.operand)
 unfoldable pub equality : Bool → Phrases → Form Token Expr
 equality closed under = chain is_equality begins_operand goes_on_operand (operand closed under)
 
--- The number that an integer token writes, up to the greatest of such tokens.
+-- the greatest number that an integer token writes
 abbrev pub greatest_number : ℕ
 greatest_number = 2147483647
 
-abbrev pub with_digit : ℕ → ℕ → ℕ
-with_digit n digit = min (n * 10 + (digit - 48)) greatest_number
-
-unfoldable pub number_in : List ℕ → ℕ
-number_in digits = fold with_digit 0 digits
-
+-- the number that an integer token writes; where its text writes none up to the greatest, the greatest
 abbrev pub number_of : Token → ℕ
-number_of t = number_in t.text
+number_of t = unwrap_or (number_up_to greatest_number t.text) greatest_number
 
 -- "[" integer "," integer "]"
 unfoldable pub bounds : Bool → Form Token (ℕ × ℕ)

@@ -26,7 +26,7 @@ use Rattle.smv_tree.specs.declared.tree.SpecificationKind.TheVariants as claim
 use Rattle.smv_tree.specs.declared.tree.Expr.{Expr}
 use Rattle.smv_tree.specs.declared.tree.Expr.TheVariants as expr
 use Rattle.smv_tree.specs.Kinds.{is_kind}
-use Rattle.smv_parse.specs.Names.{just, identifier, name, place_of}
+use Rattle.smv_phrases.specs.Names.{just, identifier, name, place_of}
 use Rattle.smv_parse.specs.Expressions.{expression_within, most_levels}
 
 -- the expressions of a section: all levels may be opened in them, and then `past` that are too many

@@ -4,18 +4,17 @@ ghost use Rattle.std.specs.Prelude.{◌≡◌, [], ◌∷◌, IfOk, false};
 ghost use Rattle.phrase_forms.specs.Forms.{token, to, head, ◌⨾◌};
 ghost use Rattle.smv_tree.specs.declared.tree.Expr.TheVariants as expr;
 ghost use Rattle.smv_tree.specs.declared.token.TokenKind.TheVariants as kind;
-ghost use Rattle.smv_parse.specs.Names.{name, opening};
+ghost use Rattle.smv_phrases.specs.Names.{name, opening};
 ghost use Rattle.smv_parse.specs.Expressions.{is_constant, constant_of, begins_operand, begins_expression, is_step_operator, is_timed_operator, operator_of, parenthesised, group_of, primary, operand, denied_again, stepped, timed_of, denied, temporal, timed, chosen_by, branches, conditional, is_zero, expression_within};
 ghost use Rattle.smv_parse.specs.Ranks.{is_operator_of, operand_within, phrase_within, under, link_within, links_within};
-ghost use Rattle.smv_parse.specs.Reading.{Gives};
+ghost use Rattle.smv_phrases.specs.Reading.{Gives};
 
-use crate::names::{begins_name, name};
-use crate::reading::{Stop, begins, is_kind, just, opening};
 use crate::temporal::{
     below, is_step_operator, is_timed_operator, maybe_bounds, step_operator, step_token, timed_by,
     timed_token,
 };
 use phrase_forms::Fault;
+use smv_phrases::{Stop, begins, begins_name, is_kind, just, name, opening};
 use smv_tree::{Expr, Place, Token, TokenKind};
 use smv_value::{Logic, Operator, Temporal};
 use sqlite_items::{Boxed, Items};
@@ -175,7 +174,7 @@ fn group<'a>(
 
 /// `TRUE`, `FALSE`, a name, `(` expression `)`, or `next` `(` expression `)`.
 #[cycle(expressions)]
-#[tactic(auto, unfolding(crate::specs::Expressions::primary, crate::specs::Names::name))]
+#[tactic(auto, unfolding(crate::specs::Expressions::primary, smv_phrases::specs::Names::name))]
 fn primary<'a>(
     alloc: Global,
     room: usize,

@@ -3,10 +3,8 @@
 
 mod expressions;
 mod laws;
-mod names;
 mod parsing;
 mod programs;
-mod reading;
 mod temporal;
 mod types;
 mod unsupported;

@@ -3,14 +3,14 @@
 ghost use Rattle.std.specs.Prelude.{◌≡◌, IfOk, IfErr};
 ghost use Rattle.phrase_forms.specs.Language.{read_all};
 ghost use Rattle.smv_parse.specs.Programs.{program};
-ghost use Rattle.smv_parse.specs.Reading.{Gives};
+ghost use Rattle.smv_phrases.specs.Reading.{Gives};
 ghost use Rattle.smv_parse.specs.Spelling.{IsSpelling, first_place, first_text, fault_refusal, unsupported_refusal, IsParseStop};
 
 use crate::programs::program;
-use crate::reading::Stop;
 use crate::unsupported::first_unsupported;
 use phrase_forms::Fault;
 use plain_text::Text;
+use smv_phrases::Stop;
 use smv_tree::{Place, Program, Refusal, Rule, TextStop, Token, Tokens};
 use std::alloc::{AllocError, Global};
 

@@ -3,15 +3,16 @@
 ghost use Rattle.std.specs.Prelude.{◌≡◌, false, IfOk};
 ghost use Rattle.phrase_forms.specs.Forms.{token, many, maybe, to, head};
 ghost use Rattle.std.specs.Option.{option_copied};
-ghost use Rattle.smv_parse.specs.Names.{identifier};
+ghost use Rattle.smv_phrases.specs.Names.{identifier};
 ghost use Rattle.smv_parse.specs.Programs.{expression, further, listed, maybe_listed, bracketed, definition, definitions, sided, left_side, assignment, assignments, formula, constrains, kind_asked, constraint, claims, kind_claimed, given_name, specification, section_form, parameter_of, module_form, program};
-ghost use Rattle.smv_parse.specs.Reading.{Gives};
+ghost use Rattle.smv_phrases.specs.Reading.{Gives};
 
 use crate::expressions;
-use crate::names::{begins_name, name, place_of};
-use crate::reading::{Stop, begins, identifier, is_identifier, is_kind, just};
 use crate::types::{declares, variables};
 use phrase_forms::Fault;
+use smv_phrases::{
+    Stop, begins, begins_name, identifier, is_identifier, is_kind, just, name, place_of,
+};
 use smv_tree::{
     Assignment, AssignmentKind, Constraint, ConstraintKind, Definition, Expr, Module, Parameter,
     Place, Program, Section, Specification, SpecificationKind, Token, TokenKind,
@@ -104,7 +105,7 @@ fn sided<'a>(
 }
 
 /// Name, `init` `(` name `)`, or `next` `(` name `)`.
-#[tactic(auto, unfolding(crate::specs::Programs::left_side, crate::specs::Names::name))]
+#[tactic(auto, unfolding(crate::specs::Programs::left_side, smv_phrases::specs::Names::name))]
 fn left_side<'a>(alloc: Global, tokens: &'a [Token]) -> Result<(Left, &'a [Token]), Stop<'a>>
     ensures { Gives (λ x. (x.0, x.1.now)) result (left_side.parse tokens.now) }
 {
@@ -140,7 +141,7 @@ fn assignment<'a>(alloc: Global, tokens: &'a [Token]) -> Result<(Assignment, &'a
 }
 
 /// Whether an assignment begins here.
-#[tactic(auto, unfolding(crate::specs::Programs::assignment, crate::specs::Programs::left_side, crate::specs::Names::name))]
+#[tactic(auto, unfolding(crate::specs::Programs::assignment, crate::specs::Programs::left_side, smv_phrases::specs::Names::name))]
 fn begins_assignment(tokens: &[Token]) -> bool
     ensures { result ≡ head (assignment 0).first tokens.now }
 {

@@ -1,13 +1,14 @@
 //! Temporal operators and their bounds (NuSMV 2.6 User Manual, 2.4.3, LTL Specifications).
 
-ghost use Rattle.std.specs.Prelude.{◌≡◌, ◌<◌, ◌≤◌, [], ◌∷◌, IfOk};
+ghost use Rattle.std.specs.Prelude.{◌≡◌, [], ◌∷◌, IfOk};
 ghost use Rattle.std.specs.Option.{option_copied};
 ghost use Rattle.phrase_forms.specs.Forms.{token, maybe};
-ghost use Rattle.smv_parse.specs.Expressions.{is_step_operator, is_timed_operator, step_operator, timed_operator, bounded_operator, timed_by, with_digit, number_in, number_of, greatest_number, bounds, below};
-ghost use Rattle.smv_parse.specs.Reading.{Gives};
+ghost use Rattle.smv_parse.specs.Expressions.{is_step_operator, is_timed_operator, step_operator, timed_operator, bounded_operator, timed_by, number_of, bounds, below};
+ghost use Rattle.smv_phrases.specs.Reading.{Gives};
 
-use crate::reading::{Stop, begins, is_kind, just, opening};
 use phrase_forms::Fault;
+use plain_text::number_up_to;
+use smv_phrases::{Stop, begins, is_kind, just, opening};
 use smv_tree::{Expr, Place, Token, TokenKind};
 use smv_value::{Bounded, Operator, Temporal};
 use sqlite_items::Items;
@@ -104,31 +105,14 @@ pub fn timed_by(kind: TokenKind, bounds: Option<(u32, u32)>) -> Operator
     }
 }
 
-// The number with one digit more, at most the greatest.
-fn with_digit(n: u64, digit: u8) -> u64
-    requires { n ≤ GREATEST }
-    ensures value { result ≡ with_digit n digit }
-    ensures small { result ≤ GREATEST }
-{
-    (n * 10 + digit.saturating_sub(48) as u64).min(GREATEST)
-}
-
-// The number that digits write, at most the greatest.
-#[tactic(auto, unfolding(crate::specs::Expressions::number_in))]
-fn number_in(digits: &[u8]) -> u32
-    ensures { result ≡ number_in digits.now }
-{
-    let mut n = 0;
-    for digit in digits {
-        n = with_digit(n, *digit);
-    }
-    n as u32
-}
-
+// The number that an integer token writes, at most the greatest.
 fn number_of(token: &Token) -> u32
     ensures { result ≡ number_of token.now }
 {
-    number_in(token.text.as_str().as_bytes())
+    match number_up_to(GREATEST, token.text.as_str().as_bytes()) {
+        Some(number) => number as u32,
+        None => GREATEST as u32,
+    }
 }
 
 /// `[` integer `,` integer `]`

@@ -4,11 +4,11 @@ ghost use Rattle.std.specs.Prelude.{◌≡◌, false};
 ghost use Rattle.phrase_forms.specs.Forms.{token, many, head};
 ghost use Rattle.smv_parse.specs.Expressions.{expression_within};
 ghost use Rattle.smv_parse.specs.Programs.{further, listed, maybe_listed, bracketed, under_one, instance_type, written_type, declaration, declares, kind_declared, variables};
-ghost use Rattle.smv_parse.specs.Reading.{Gives};
+ghost use Rattle.smv_phrases.specs.Reading.{Gives};
 
 use crate::expressions::{begins_expression, expression};
-use crate::reading::{Stop, begins, identifier, is_identifier, is_kind, just};
 use phrase_forms::Fault;
+use smv_phrases::{Stop, begins, identifier, is_identifier, is_kind, just};
 use smv_tree::{Expr, Section, Token, TokenKind, TypeExpr, Variable, VariableKind};
 use sqlite_items::Items;
 use std::alloc::Global;

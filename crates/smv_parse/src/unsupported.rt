@@ -4,7 +4,7 @@ ghost use Rattle.std.specs.Prelude.{◌≡◌};
 ghost use Rattle.std.specs.Option.{option_copied};
 ghost use Rattle.smv_parse.specs.Spelling.{is_in_use, names_function, is_unsupported, first_unsupported};
 
-use crate::reading::{begins, is_kind};
+use smv_phrases::{begins, is_kind};
 use smv_tree::{Token, TokenKind};
 
 /// Whether tokens of this kind have a place in the language.

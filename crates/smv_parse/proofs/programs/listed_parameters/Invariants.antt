@@ -1,8 +1,8 @@
 use Rattle.std.proofs.Common.{length}
 use Rattle.phrase_forms.specs.Forms.{to}
-use Rattle.smv_parse.specs.Names.{identifier}
+use Rattle.smv_phrases.specs.Names.{identifier}
 use Rattle.smv_parse.specs.Programs.{further, listed, parameter_of}
-use Rattle.smv_parse.proofs.OfLoops.{Totals}
+use Rattle.smv_phrases.proofs.Repeats.{Totals}
 use Rattle.smv_parse.proofs.programs.listed_parameters.Given as goal
 
 abbrev pub invariant-phrases : goal.invariant-phrases

@@ -1,7 +1,8 @@
 use Rattle.std.proofs.Common.{sym, ◌∙◌}
 use Rattle.std.proofs.lemmas.Result.{err_from_is_err_and}
 use Rattle.smv_parse.specs.Programs.{definition}
-use Rattle.smv_parse.proofs.OfLoops.{definitions, loop_on, loop_ends, loop_stops, loop_shortens}
+use Rattle.smv_phrases.proofs.Repeats.{loop_on, loop_ends, loop_stops, loop_shortens}
+use Rattle.smv_parse.proofs.OfLoops.{definitions}
 use Rattle.smv_parse.proofs.programs.many_definitions.Goals as goal
 
 pub returns-in_err-one : goal.returns-in_err-one

@@ -1,7 +1,7 @@
 use Rattle.std.proofs.Common.{length}
 use Rattle.phrase_forms.specs.Forms.{many}
 use Rattle.smv_parse.specs.Programs.{section_form}
-use Rattle.smv_parse.proofs.OfLoops.{Totals}
+use Rattle.smv_phrases.proofs.Repeats.{Totals}
 use Rattle.smv_parse.proofs.programs.sections.Given as goal
 
 abbrev pub invariant-phrases : goal.invariant-phrases

@@ -1,7 +1,7 @@
 use Rattle.std.proofs.Common.{length}
 use Rattle.phrase_forms.specs.Forms.{many}
 use Rattle.smv_parse.specs.Programs.{declaration}
-use Rattle.smv_parse.proofs.OfLoops.{Totals}
+use Rattle.smv_phrases.proofs.Repeats.{Totals}
 use Rattle.smv_parse.proofs.types.declarations.Given as goal
 
 abbrev pub invariant-phrases : goal.invariant-phrases

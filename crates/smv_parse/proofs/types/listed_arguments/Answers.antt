@@ -4,8 +4,9 @@ use Rattle.smv_tree.specs.declared.token.TokenKind.TheVariants as kind
 use Rattle.smv_tree.specs.Kinds.{is_kind}
 use Rattle.smv_parse.specs.Expressions.{expression_within}
 use Rattle.smv_parse.specs.Programs.{further, under_one}
-use Rattle.smv_parse.proofs.OfNames.{begins_same}
-use Rattle.smv_parse.proofs.OfLoops.{arguments, listed_begins, loop_on, loop_ends, loop_stops, loop_shortens}
+use Rattle.smv_phrases.proofs.OfNames.{begins_same}
+use Rattle.smv_phrases.proofs.Repeats.{loop_on, loop_ends, loop_stops, loop_shortens}
+use Rattle.smv_parse.proofs.OfLoops.{arguments, listed_begins}
 use Rattle.smv_parse.proofs.types.listed_arguments.Goals as goal
 
 pub phrases-init : goal.phrases-init

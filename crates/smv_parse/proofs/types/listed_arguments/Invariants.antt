@@ -1,7 +1,7 @@
 use Rattle.std.proofs.Common.{length}
 use Rattle.smv_parse.specs.Expressions.{expression_within}
 use Rattle.smv_parse.specs.Programs.{further, listed, under_one}
-use Rattle.smv_parse.proofs.OfLoops.{Totals}
+use Rattle.smv_phrases.proofs.Repeats.{Totals}
 use Rattle.smv_parse.proofs.types.listed_arguments.Given as goal
 
 abbrev pub invariant-phrases : goal.invariant-phrases

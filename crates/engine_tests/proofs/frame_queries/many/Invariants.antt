@@ -1,5 +1,0 @@
-use Rattle.std.proofs.Common.{◌≡◌}
-use Rattle.engine_tests.proofs.frame_queries.many.Given as goal
-
-abbrev pub invariant-queries : goal.invariant-queries
-invariant-queries l = l.solver.systems ≡ l.fn.solver.systems

@@ -1,5 +1,0 @@
-use Rattle.std.proofs.Common.{◌≡◌, length}
-use Rattle.engine_tests.proofs.propagators.add_all.Given as goal
-
-abbrev pub invariant-loop-letter : goal.invariant-loop-letter
-invariant-loop-letter g l = length (g.P.Propagator.trail l.p).starts.items ≡ 0

@@ -1,0 +1,737 @@
+ghost use Rattle.std.specs.Prelude.{◌≡◌, ◌<◌, ◌≤◌, [], ◌∷◌, true, false, Some, None, IfOk, IsTrue, map, length};
+ghost use Rattle.clause_core.specs.Literals.{Within};
+ghost use Rattle.frame_tests.specs.ThreeBits.{three_bits, latch, register, low, either_low, low_parent, last_values, middle_values, first_values, last, middle, register_frames};
+ghost use Rattle.frame_core.specs.Changes.{IsCovered};
+ghost use Rattle.frame_core.specs.Facts.{IsFound};
+
+use clause_core::{Bits, Clause, Clauses, Lit, System, is_within};
+use frame_core::laws::{
+    a_level_without_live_lemmas_is_an_invariant, lemmas_hold_in_reached_states,
+};
+use frame_core::{
+    BitRun, Clear, Found, Frames, Insertion, Lemmas, Noting, Opening, Parent, Place, Proved,
+    Raising, Verdict, first_unlike, is_part_of,
+};
+use std::alloc::{AllocError, Global};
+use std::test::Fail;
+
+// A clause for each pair.
+fn pairs(alloc: Global, pairs: &[(Lit, Lit)]) -> Result<Clauses, AllocError>
+    ensures { IfOk result (λ c. c ≡ map (λ p. p.0 ∷ p.1 ∷ []) pairs.now) }
+{
+    let mut clauses = Clauses::new(alloc);
+    'pairs: for p in pairs {
+        clauses.push(&[p.0, p.1])?;
+    }
+    Ok(clauses)
+}
+
+fn yes(var: usize) -> Lit
+    ensures { result ≡ record { var = var; positive = true } }
+{
+    Lit::new(var, true)
+}
+
+fn no(var: usize) -> Lit
+    ensures { result ≡ record { var = var; positive = false } }
+{
+    Lit::new(var, false)
+}
+
+// A clause for each literal.
+fn units(alloc: Global, lits: &[Lit]) -> Result<Clauses, AllocError>
+    ensures { IfOk result (λ c. c ≡ map (λ l. l ∷ []) lits.now) }
+{
+    let mut clauses = Clauses::new(alloc);
+    'lits: for l in lits {
+        clauses.push(&[*l])?;
+    }
+    Ok(clauses)
+}
+
+// The system of three bits with these clauses, whose bad states are those in which these literals are true.
+fn plain(alloc: Global, init: Clauses, step: Clauses, bad: &[Lit]) -> Result<System, Fail>
+    ensures { IfOk result (λ s. s ≡ three_bits init step bad.now) }
+{
+    if init.is_within(6) && step.is_within(6) && is_within(bad, 3) {
+        let system = System::plain(alloc, 3, 6, init, step, bad)?;
+        Ok(system)
+    } else {
+        Err(Fail::new("a literal is past the bits"))
+    }
+}
+
+// The latch with these bad states.
+fn latch_with(alloc: Global, bad: &[Lit]) -> Result<System, Fail>
+    ensures { IfOk result (λ s. s ≡ three_bits ((record { var = 0; positive = false } ∷ []) ∷ []) ((record { var = 3; positive = false } ∷ record { var = 0; positive = true } ∷ []) ∷ []) bad.now) }
+{
+    let init = units(alloc, &[no(0)])?;
+    let step = pairs(alloc, &[(no(3), yes(0))])?;
+    let system = plain(alloc, init, step, bad)?;
+    Ok(system)
+}
+
+fn latch_system(alloc: Global) -> Result<System, Fail>
+    ensures { IfOk result (λ s. s ≡ latch) }
+{
+    let system = latch_with(alloc, &[yes(0), yes(1), yes(2)])?;
+    Ok(system)
+}
+
+fn register_system(alloc: Global) -> Result<System, Fail>
+    ensures { IfOk result (λ s. s ≡ register) }
+{
+    let init = units(alloc, &[no(1), no(2)])?;
+    let step = pairs(
+        alloc,
+        &[
+            (no(4), yes(0)),
+            (yes(4), no(0)),
+            (no(5), yes(1)),
+            (yes(5), no(1)),
+        ],
+    )?;
+    let system = plain(alloc, init, step, &[yes(0), yes(1), yes(2)])?;
+    Ok(system)
+}
+
+// Bit 0 is false.
+fn low_clause(alloc: Global) -> Result<Clause, AllocError>
+    ensures { IfOk result (λ c. c ≡ low) }
+{
+    Clause::from_slice(alloc, &[no(0)])
+}
+
+// Bit 0 or bit 1 is false.
+fn either_clause(alloc: Global) -> Result<Clause, AllocError>
+    ensures { IfOk result (λ c. c ≡ either_low) }
+{
+    Clause::from_slice(alloc, &[no(0), no(1)])
+}
+
+// That bit 0 of the latch is false.
+fn low_proof<'a>(
+    alloc: Global,
+    system: &'a System,
+    level: u32,
+    parents: Vec<Parent>,
+) -> Result<Proved<'a>, AllocError>
+    requires system { system.now ≡ latch }
+    requires level { 0 < level }
+{
+    let clause = low_clause(alloc)?;
+    let part = low_clause(alloc)?;
+    Ok(Proved::new(system, clause, part, level, parents))
+}
+
+// The same over lemma 0, which says it too.
+fn over_itself<'a>(alloc: Global, system: &'a System, level: u32) -> Result<Proved<'a>, AllocError>
+    requires system { system.now ≡ latch }
+    requires level { 0 < level }
+{
+    let parents = low_parents(alloc)?;
+    low_proof(alloc, system, level, parents)
+}
+
+// That bit 0 or bit 1 of the latch is false, at level 1.
+fn either_proof<'a>(alloc: Global, system: &'a System) -> Result<Proved<'a>, AllocError>
+    requires { system.now ≡ latch }
+{
+    let clause = either_clause(alloc)?;
+    let part = either_clause(alloc)?;
+    Ok(Proved::new(system, clause, part, 1, Vec::new(alloc)))
+}
+
+// Lemma 0, which says that bit 0 is false, as the only parent.
+fn low_parents(alloc: Global) -> Result<Vec<Parent>, AllocError>
+    ensures { IfOk result (λ v. v.items ≡ low_parent ∷ []) }
+{
+    let clause = low_clause(alloc)?;
+    let mut parents = Vec::new(alloc);
+    parents.push(Parent { number: 0, clause })?;
+    Ok(parents)
+}
+
+// That a level of the latch has no bad state.
+fn clear<'a>(alloc: Global, system: &'a System, level: u32) -> Result<Clear<'a>, AllocError>
+    requires { system.now ≡ latch }
+{
+    let parents = low_parents(alloc)?;
+    Ok(Clear::new(system, level, parents))
+}
+
+// Whether the insertion has this answer.
+fn inserts(frames: &mut Frames, proof: Proved, wanted: Insertion) -> Result<bool, AllocError> {
+    let answer = frames.insert(proof)?;
+    Ok(answer == wanted)
+}
+
+// The latch's frames with one lemma, at this level.
+fn one_lemma<'a>(alloc: Global, system: &'a System, level: u32) -> Result<Frames<'a>, AllocError>
+    requires system { system.now ≡ latch }
+    requires level { 0 < level }
+{
+    let mut frames = Frames::of_one(alloc, system)?;
+    let proof = low_proof(alloc, system, level, Vec::new(alloc))?;
+    inserts(&mut frames, proof, Insertion::Added(0))?;
+    Ok(frames)
+}
+
+// Below, each answer is as worked by hand.
+
+fn held_by_a_shorter_lemma(alloc: Global, system: &System) -> Result<bool, AllocError>
+    requires { system.now ≡ latch }
+{
+    let mut frames = one_lemma(alloc, system, 1)?;
+    let proof = either_proof(alloc, system)?;
+    inserts(&mut frames, proof, Insertion::Held(0))
+}
+
+fn behind_where_the_parent_is_no_lemma(alloc: Global, system: &System) -> Result<bool, AllocError>
+    requires { system.now ≡ latch }
+{
+    let mut frames = Frames::of_one(alloc, system)?;
+    let proof = over_itself(alloc, system, 2)?;
+    let behind = Insertion::Behind {
+        parent: 0,
+        level: 0,
+    };
+    inserts(&mut frames, proof, behind)
+}
+
+fn not_added_to_another_system(
+    alloc: Global,
+    system: &System,
+    other: &System,
+) -> Result<bool, AllocError>
+    requires { system.now ≡ latch }
+{
+    let mut frames = Frames::of_one(alloc, other)?;
+    let proof = over_itself(alloc, system, 1)?;
+    let place = Place::Init(0);
+    inserts(&mut frames, proof, Insertion::OtherSystem { place })
+}
+
+// Whether lemma 1 is live, has a part of the literals of lemma 0, and at least its level.
+fn is_covered(frames: &Frames) -> bool
+    ensures in_range { IsTrue result → 0 < length frames.now.lemmas }
+    ensures covered { IsTrue result → IsCovered frames.now 0 }
+{
+    if frames.lemmas() < 2 {
+        return false;
+    }
+    let lemma = frames.lemma(0);
+    let other = frames.lemma(1);
+    if !other.live {
+        return false;
+    }
+    if lemma.level > other.level {
+        return false;
+    }
+    is_part_of(other.clause.as_slice(), lemma.clause.as_slice())
+}
+
+// Whether the lemmas have these levels and are live or not as given here.
+fn has(lemmas: &Lemmas, wanted: &[(u32, bool)]) -> bool {
+    if lemmas.len() != wanted.len() {
+        return false;
+    }
+    for n in 0..lemmas.len() {
+        let lemma = lemmas.lemma(n);
+        if lemma.level != wanted[n].0 || lemma.live != wanted[n].1 {
+            return false;
+        }
+    }
+    true
+}
+
+// Whether the copy, brought up to date, has these levels and is live or not as given here.
+fn follows(
+    copy: &mut Lemmas,
+    frames: &Frames,
+    changed: &[usize],
+    wanted: &[(u32, bool)],
+) -> Result<bool, AllocError> {
+    copy.follow(frames.all_lemmas(), changed)?;
+    Ok(has(copy, wanted) && has(frames.all_lemmas(), wanted))
+}
+
+// Retires lemma 0, which lemma 1 covers; a copy from before is brought up to date.
+fn retires(alloc: Global, frames: &mut Frames) -> Result<bool, AllocError> {
+    if !is_covered(frames) {
+        return Ok(false);
+    }
+    let mut copy = Lemmas::new(alloc);
+    let before = follows(&mut copy, frames, &[], &[(1, true), (2, true)])?;
+    frames.retire(0);
+    let after = follows(&mut copy, frames, &[0], &[(1, false), (2, true)])?;
+    Ok(before && after)
+}
+
+fn retired_where_another_covers(alloc: Global, system: &System) -> Result<bool, AllocError>
+    requires { system.now ≡ latch }
+{
+    let mut frames = one_lemma(alloc, system, 1)?;
+    let proof = over_itself(alloc, system, 2)?;
+    let added = inserts(&mut frames, proof, Insertion::Added(1))?;
+    let retired = retires(alloc, &mut frames)?;
+    Ok(added && retired)
+}
+
+fn is_same_clause(a: &[Lit], b: &[Lit]) -> bool
+    ensures { IsTrue result → a.now ≡ b.now }
+{
+    a == b
+}
+
+// What becomes of lemma 0 with this proof of it.
+fn raise(frames: &mut Frames, proof: Proved) -> Option<Raising> {
+    if frames.lemmas() == 0 || !is_same_clause(proof.clause(), frames.lemma(0).clause.as_slice()) {
+        return None;
+    }
+    Some(frames.raise(0, proof))
+}
+
+// What becomes of the lemma of level 1 with a proof of this level over itself.
+fn raising(alloc: Global, system: &System, level: u32) -> Result<Option<Raising>, AllocError>
+    requires system { system.now ≡ latch }
+    requires level { 0 < level }
+{
+    let mut frames = one_lemma(alloc, system, 1)?;
+    let proof = over_itself(alloc, system, level)?;
+    Ok(raise(&mut frames, proof))
+}
+
+fn raised_by_a_proof_alone(alloc: Global, system: &System) -> Result<bool, AllocError>
+    requires { system.now ≡ latch }
+{
+    let same = raising(alloc, system, 1)?;
+    let next = raising(alloc, system, 2)?;
+    let far = raising(alloc, system, 3)?;
+    let behind = Raising::Behind {
+        parent: 0,
+        level: 1,
+    };
+    Ok(same == Some(Raising::Dropped) && next == Some(Raising::Raised) && far == Some(behind))
+}
+
+// Whether the top is opened with this answer, by a proof of this level.
+fn opens(
+    alloc: Global,
+    frames: &mut Frames,
+    system: &System,
+    level: u32,
+    wanted: Opening,
+) -> Result<bool, AllocError>
+    requires { system.now ≡ latch }
+{
+    if frames.systems().is_empty() || frames.top(0) > 9 {
+        return Ok(false);
+    }
+    let proof = clear(alloc, system, level)?;
+    let opening = frames.open(0, proof)?;
+    Ok(opening == wanted)
+}
+
+// Opens the top twice; before, a proof of the next level is dropped.
+fn opens_twice(alloc: Global, frames: &mut Frames, system: &System) -> Result<bool, AllocError>
+    requires { system.now ≡ latch }
+{
+    let early = opens(alloc, frames, system, 1, Opening::Dropped)?;
+    let first = opens(alloc, frames, system, 0, Opening::Opened)?;
+    let second = opens(alloc, frames, system, 1, Opening::Opened)?;
+    Ok(early && first && second)
+}
+
+// The verdict of the only system.
+fn verdict(frames: &Frames) -> Option<Verdict> {
+    if frames.systems().is_empty() {
+        return None;
+    }
+    frames.verdict(0)
+}
+
+fn an_invariant_where_a_level_is_left(alloc: Global, system: &System) -> Result<bool, AllocError>
+    requires { system.now ≡ latch }
+{
+    let mut frames = one_lemma(alloc, system, 2)?;
+    let before = verdict(&frames);
+    let opened = opens_twice(alloc, &mut frames, system)?;
+    Ok(opened && before.is_none() && verdict(&frames) == Some(Verdict::Invariant(1)))
+}
+
+fn not_opened_without_its_parents(alloc: Global, system: &System) -> Result<bool, AllocError>
+    requires { system.now ≡ latch }
+{
+    let mut frames = Frames::of_one(alloc, system)?;
+    let opened = opens(alloc, &mut frames, system, 0, Opening::Opened)?;
+    let behind = Opening::Behind {
+        parent: 0,
+        level: 0,
+    };
+    Ok(opened && opens(alloc, &mut frames, system, 1, behind)?)
+}
+
+// The latch with more bad states.
+fn other_bad(alloc: Global) -> Result<System, Fail> {
+    let system = latch_with(alloc, &[yes(0), yes(1)])?;
+    Ok(system)
+}
+
+fn not_opened_in(alloc: Global, system: &System, other: &System) -> Result<bool, Fail>
+    requires { system.now ≡ latch }
+{
+    let mut frames = Frames::of_one(alloc, other)?;
+    let place = Place::Bad(2);
+    let wanted = Opening::OtherSystem { place };
+    let refused = opens(alloc, &mut frames, system, 0, wanted)?;
+    Ok(refused)
+}
+
+fn not_opened_with_other_bad_states(alloc: Global, system: &System) -> Result<bool, Fail>
+    requires { system.now ≡ latch }
+{
+    let other = other_bad(alloc)?;
+    not_opened_in(alloc, system, &other)
+}
+
+// The lemma that a longer clause is covered by, and the lemmas that the shorter one covers.
+fn covered_by_a_shorter_clause(alloc: Global, system: &System) -> Result<bool, AllocError>
+    requires { system.now ≡ latch }
+{
+    let mut frames = Frames::of_one(alloc, system)?;
+    let proof = either_proof(alloc, system)?;
+    let added = inserts(&mut frames, proof, Insertion::Added(0))?;
+    let low = low_clause(alloc)?;
+    let same = frames.all_lemmas().covered_by(low.as_slice(), 1)?;
+    let lower = frames.all_lemmas().covered_by(low.as_slice(), 0)?;
+    Ok(added && same.as_slice() == [0usize].as_slice() && lower.is_empty())
+}
+
+// The lemma of the latch, carried to the same latch.
+fn carried(alloc: Global, system: &System) -> Result<bool, AllocError>
+    requires { system.now ≡ latch }
+{
+    let mut frames = one_lemma(alloc, system, 2)?;
+    let opened = opens(alloc, &mut frames, system, 0, Opening::Opened)?;
+    let same = frames.systems();
+    let later = frames.carry(same);
+    if later.systems().is_empty() || later.lemmas() != 1 {
+        return Ok(false);
+    }
+    Ok(opened && later.top(0) == 0 && later.lemma(0).level == 2)
+}
+
+fn found<'a>(
+    alloc: Global,
+    system: &'a System,
+    values: &[bool],
+    is_step: bool,
+    first: bool,
+) -> Result<Found<'a>, AllocError>
+    requires { IsFound record { system = system.now; values = values.now; is_step = is_step; first = first } }
+    ensures { IfOk result (λ f. f ≡ record { system = system.now; values = values.now; is_step = is_step; first = first }) }
+{
+    let values = Bits::from_slice(alloc, values)?;
+    Ok(Found::new(system, values, is_step, first))
+}
+
+// The bad state with all bits true.
+fn last_state<'a>(alloc: Global, system: &'a System) -> Result<Found<'a>, AllocError>
+    requires { system.now ≡ register }
+    ensures { IfOk result (λ f. f ≡ record { system = register; values = last_values; is_step = false; first = false }) }
+{
+    let state = found(
+        alloc,
+        system,
+        &[true, true, true, false, false, false],
+        false,
+        false,
+    )?;
+    Ok(state)
+}
+
+fn middle_state<'a>(alloc: Global, system: &'a System) -> Result<Found<'a>, AllocError>
+    requires { system.now ≡ register }
+    ensures { IfOk result (λ f. f ≡ record { system = register; values = middle_values; is_step = true; first = false }) }
+{
+    let state = found(
+        alloc,
+        system,
+        &[true, true, false, true, true, true],
+        true,
+        false,
+    )?;
+    Ok(state)
+}
+
+fn first_state<'a>(alloc: Global, system: &'a System) -> Result<Found<'a>, AllocError>
+    requires { system.now ≡ register }
+    ensures { IfOk result (λ f. f ≡ record { system = register; values = first_values; is_step = true; first = true }) }
+{
+    let state = found(
+        alloc,
+        system,
+        &[true, false, false, true, true, false],
+        true,
+        true,
+    )?;
+    Ok(state)
+}
+
+// The register's frames with the bad state as obligation 0.
+fn with_last<'a>(alloc: Global, system: &'a System) -> Result<Frames<'a>, Fail>
+    requires { system.now ≡ register }
+    ensures { IfOk result (λ f. f ≡ register_frames (last ∷ [])) }
+{
+    let mut frames = Frames::of_one(alloc, system)?;
+    let found = last_state(alloc, system)?;
+    match frames.add_obligation(0, found, None)? {
+        Noting::Noted(_) => Ok(frames),
+        Noting::OtherSystem { .. } => Err(Fail::new("not noted")),
+    }
+}
+
+// And the state before it as obligation 1.
+fn with_middle<'a>(alloc: Global, system: &'a System) -> Result<Frames<'a>, Fail>
+    requires { system.now ≡ register }
+    ensures { IfOk result (λ f. f ≡ register_frames (last ∷ middle ∷ [])) }
+{
+    let mut frames = with_last(alloc, system)?;
+    let found = middle_state(alloc, system)?;
+    match frames.add_obligation(0, found, Some(0))? {
+        Noting::Noted(_) => Ok(frames),
+        Noting::OtherSystem { .. } => Err(Fail::new("not noted")),
+    }
+}
+
+// And the first state before that as obligation 2.
+fn with_first<'a>(alloc: Global, system: &'a System) -> Result<Frames<'a>, Fail>
+    requires { system.now ≡ register }
+{
+    let mut frames = with_middle(alloc, system)?;
+    let found = first_state(alloc, system)?;
+    match frames.add_obligation(0, found, Some(1))? {
+        Noting::Noted(_) => Ok(frames),
+        Noting::OtherSystem { .. } => Err(Fail::new("not noted")),
+    }
+}
+
+// Whether the run has these rows.
+fn has_rows(run: &BitRun, rows: &[[bool; 6]]) -> bool {
+    if run.len() != rows.len() {
+        return false;
+    }
+    for k in 0..rows.len() {
+        if run.row(k).as_slice() != rows[k].as_slice() {
+            return false;
+        }
+    }
+    true
+}
+
+fn is_expected(run: &BitRun) -> bool {
+    let rows = [
+        [true, false, false, true, true, false],
+        [true, true, false, true, true, true],
+        [true, true, true, false, false, false],
+    ];
+    has_rows(run, &rows)
+}
+
+// The run from the first state that the verdict names.
+fn run_of_verdict(alloc: Global, frames: &Frames) -> Result<Option<BitRun>, AllocError> {
+    if frames.systems().is_empty() {
+        return Ok(None);
+    }
+    let Some(Verdict::Reached(n)) = frames.verdict(0) else {
+        return Ok(None);
+    };
+    let run = frames.run_of(alloc, n)?;
+    Ok(Some(run))
+}
+
+fn a_run_from_its_first_state_to_the_bad_one(alloc: Global, system: &System) -> Result<bool, Fail>
+    requires { system.now ≡ register }
+{
+    let frames = with_first(alloc, system)?;
+    match run_of_verdict(alloc, &frames)? {
+        Some(run) => Ok(is_expected(&run)),
+        None => Ok(false),
+    }
+}
+
+fn not_noted_in_another_system(
+    alloc: Global,
+    system: &System,
+    other: &System,
+) -> Result<bool, AllocError>
+    requires { system.now ≡ register }
+{
+    let mut frames = Frames::of_one(alloc, other)?;
+    let state = last_state(alloc, system)?;
+    let answer = frames.add_obligation(0, state, None)?;
+    let place = Place::Init(0);
+    Ok(answer == Noting::OtherSystem { place })
+}
+
+fn lemmas_of(alloc: Global, system: &System) -> Result<bool, Fail>
+    requires { system.now ≡ latch }
+{
+    let held = held_by_a_shorter_lemma(alloc, system)?;
+    let behind = behind_where_the_parent_is_no_lemma(alloc, system)?;
+    let covered = covered_by_a_shorter_clause(alloc, system)?;
+    let carried = carried(alloc, system)?;
+    let retired = retired_where_another_covers(alloc, system)?;
+    let raised = raised_by_a_proof_alone(alloc, system)?;
+    Ok(held && behind && covered && carried && retired && raised)
+}
+
+fn lemmas(alloc: Global) -> Result<bool, Fail> {
+    let system = latch_system(alloc)?;
+    lemmas_of(alloc, &system)
+}
+
+fn top_of(alloc: Global, system: &System) -> Result<bool, Fail>
+    requires { system.now ≡ latch }
+{
+    let invariant = an_invariant_where_a_level_is_left(alloc, system)?;
+    let behind = not_opened_without_its_parents(alloc, system)?;
+    let refused = not_opened_with_other_bad_states(alloc, system)?;
+    Ok(invariant && behind && refused)
+}
+
+fn top(alloc: Global) -> Result<bool, Fail> {
+    let system = latch_system(alloc)?;
+    top_of(alloc, &system)
+}
+
+fn run(alloc: Global) -> Result<bool, Fail> {
+    let system = register_system(alloc)?;
+    a_run_from_its_first_state_to_the_bad_one(alloc, &system)
+}
+
+fn refused_of(alloc: Global, system: &System, other: &System) -> Result<bool, Fail>
+    requires latch { system.now ≡ latch }
+    requires register { other.now ≡ register }
+{
+    let added = not_added_to_another_system(alloc, system, other)?;
+    let noted = not_noted_in_another_system(alloc, other, system)?;
+    Ok(added && noted)
+}
+
+fn refused_by_the_register(alloc: Global, system: &System) -> Result<bool, Fail>
+    requires { system.now ≡ latch }
+{
+    let other = register_system(alloc)?;
+    refused_of(alloc, system, &other)
+}
+
+// One system is made here and the other in the call: a function that owns both has a long proof.
+fn refused(alloc: Global) -> Result<bool, Fail> {
+    let system = latch_system(alloc)?;
+    refused_by_the_register(alloc, &system)
+}
+
+// Two systems in a list.
+fn pair(alloc: Global, first: System, second: System) -> Result<Vec<System>, AllocError> {
+    let mut systems = Vec::new(alloc);
+    systems.push(first)?;
+    systems.push(second)?;
+    Ok(systems)
+}
+
+// Whether the first top is 2, with an invariant below it, and the second is 0.
+fn are_apart(frames: &Frames) -> bool {
+    if frames.systems().len() < 2 {
+        return false;
+    }
+    frames.top(0) == 2
+        && frames.top(1) == 0
+        && frames.verdict(0) == Some(Verdict::Invariant(1))
+        && frames.verdict(1).is_none()
+}
+
+// Whether the second top is not opened by a proof of the first system.
+fn is_refused_by_second(
+    alloc: Global,
+    frames: &mut Frames,
+    system: &System,
+) -> Result<bool, AllocError>
+    requires { system.now ≡ latch }
+{
+    if frames.systems().len() < 2 || frames.top(1) > 9 {
+        return Ok(false);
+    }
+    let proof = clear(alloc, system, 0)?;
+    let opening = frames.open(1, proof)?;
+    let place = Place::Bad(2);
+    Ok(opening == Opening::OtherSystem { place })
+}
+
+// One lemma for two systems, and a top for each.
+fn tops_of_two(alloc: Global, system: &System, systems: &[System]) -> Result<bool, Fail>
+    requires { system.now ≡ latch }
+{
+    if systems.is_empty() {
+        return Ok(false);
+    }
+    if let Some(_) = first_unlike(systems) {
+        return Ok(false);
+    }
+    let mut frames = Frames::new(alloc, systems)?;
+    let proof = low_proof(alloc, system, 2, Vec::new(alloc))?;
+    let added = inserts(&mut frames, proof, Insertion::Added(0))?;
+    let refused = is_refused_by_second(alloc, &mut frames, system)?;
+    let opened = opens_twice(alloc, &mut frames, system)?;
+    Ok(added && refused && opened && are_apart(&frames))
+}
+
+fn latches(alloc: Global) -> Result<Vec<System>, Fail> {
+    let first = latch_system(alloc)?;
+    let second = other_bad(alloc)?;
+    let systems = pair(alloc, first, second)?;
+    Ok(systems)
+}
+
+fn two(alloc: Global) -> Result<bool, Fail> {
+    let systems = latches(alloc)?;
+    let system = latch_system(alloc)?;
+    tops_of_two(alloc, &system, &systems)
+}
+
+// Whether the latch and the register differ at their first clause of a first state.
+fn is_unlike_register(alloc: Global) -> Result<bool, Fail> {
+    let first = latch_system(alloc)?;
+    let second = register_system(alloc)?;
+    let systems = pair(alloc, first, second)?;
+    Ok(first_unlike(&systems) == Some((1, Place::Init(0))))
+}
+
+#[test]
+fn lemmas_are_added_raised_and_retired(rt: HostRuntime) -> Result<(), Fail> {
+    assert!(rt; lemmas(rt.alloc())?);
+    Ok(())
+}
+
+#[test]
+fn the_top_is_opened_up_to_an_invariant(rt: HostRuntime) -> Result<(), Fail> {
+    assert!(rt; top(rt.alloc())?);
+    assert!(rt; two(rt.alloc())?);
+    assert!(rt; is_unlike_register(rt.alloc())?);
+    Ok(())
+}
+
+#[test]
+fn a_state_that_is_reached_has_its_run(rt: HostRuntime) -> Result<(), Fail> {
+    assert!(rt; run(rt.alloc())?);
+    Ok(())
+}
+
+#[test]
+fn facts_of_another_system_are_refused(rt: HostRuntime) -> Result<(), Fail> {
+    assert!(rt; refused(rt.alloc())?);
+    lemmas_hold_in_reached_states();
+    a_level_without_live_lemmas_is_an_invariant();
+    Ok(())
+}

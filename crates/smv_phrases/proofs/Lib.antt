@@ -1,0 +1,4 @@
+pub mod KindNumbers
+pub mod EachKind
+pub mod OfNames
+pub mod Repeats
