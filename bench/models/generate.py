@@ -549,14 +549,18 @@ def as_smv(model):
         else:
             text = f"({parts[0]} ? {parts[1]} : {parts[2]})"
         if node.kind in ("and", "xor", "choose") and (uses.get(id(node), 0) > 1 or height > 12):
-            name = f"d{len(defines)}"
+            name = f"part{len(defines)}"
             defines.append(f"  {name} := {text};\n")
             text, height = name, 1
         texts[id(node)], heights[id(node)] = text, height
+    # An invariant reads no input in SMV: an input that it reads is a variable that nothing is asked of.
+    read = {id(node) for node in below([model.invariant])}
+    inputs = [name for name, signal in model.inputs if id(signal) not in read]
+    free = [name for name, signal in model.inputs if id(signal) in read]
     lines = ["MODULE main\n"]
-    if model.inputs:
-        lines.append("IVAR\n" + "".join(f"  {name} : boolean;\n" for name, _ in model.inputs))
-    lines.append("VAR\n" + "".join(f"  {entry[0]} : boolean;\n" for entry in model.latches))
+    if inputs:
+        lines.append("IVAR\n" + "".join(f"  {name} : boolean;\n" for name in inputs))
+    lines.append("VAR\n" + "".join(f"  {name} : boolean;\n" for name in free + [entry[0] for entry in model.latches]))
     if defines:
         lines.append("DEFINE\n" + "".join(defines))
     lines.append("ASSIGN\n")
