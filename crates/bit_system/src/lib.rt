@@ -16,4 +16,4 @@ mod widths;
 pub use building::build;
 pub use coding::Built;
 pub use laws::{is_coding, what_stands_agrees};
-pub use widths::{BuildStop, Layout};
+pub use widths::{BuildStop, Layout, is_narrow};

@@ -1,6 +1,6 @@
 //! Where the bits of states and inputs stand among the variables.
 
-ghost use Rattle.std.specs.Prelude.{◌≡◌, ◌+◌, ◌<◌, ◌≤◌, ◌^◌, map, IfOk, IfErr};
+ghost use Rattle.std.specs.Prelude.{◌≡◌, ◌+◌, ◌<◌, ◌≤◌, ◌^◌, false, map, true, IfOk, IfErr};
 ghost use Rattle.std.specs.List.{range_with_len};
 ghost use Rattle.bit_system.specs.Building.{IsBuildStop, bit_limit, bits_of};
 ghost use Rattle.bit_system.specs.declared.widths.BuildStop.TheVariants.{NoMemory};
@@ -57,6 +57,17 @@ pub fn input_width(alloc: Global, typed: &Typed) -> Result<usize, AllocError>
 {
     let slots = input_slots(alloc, &typed.scope)?;
     Ok(slots.len())
+}
+
+/// Whether a state and the inputs of a step have at most 65536 bits together. It is just then that `build` does not answer
+/// `TooManyBits`; nothing is built here. Time and memory grow with the slots; the only error is want of memory.
+pub fn is_narrow(alloc: Global, typed: &Typed) -> Result<bool, AllocError>
+    ensures yes { IfOk result (λ narrow. narrow ≡ true → bits_of typed.now.scope.program ≤ bit_limit) }
+    ensures no { IfOk result (λ narrow. narrow ≡ false → bit_limit < bits_of typed.now.scope.program) }
+{
+    let width = state_width(alloc, typed)?;
+    let given = input_width(alloc, typed)?;
+    Ok(width <= MOST && given <= MOST - width)
 }
 
 // The numbers from `start` on.

@@ -1,32 +1,82 @@
 -- Every command line says a command.
-use Rattle.std.proofs.Common.{◌≡◌, ◌||◌, ℕ, zero, suc, Bool, true, false, cond, if◌then◌else◌, List, [], ◌∷◌, ◌++◌, length, Option, Some, None, refl, sym, subst, ◌∙◌}
-use Rattle.std.specs.Prelude.{find, fold, is_some, option_map, option_and_then, slice_get}
+use Rattle.std.proofs.Common.{◌≡◌, ◌||◌, ℕ, zero, suc, Bool, true, false, cond, if◌then◌else◌, List, [], ◌∷◌, ◌++◌, length, Option, Some, None, refl, sym, ap, arith, subst, ◌∙◌}
+use Rattle.std.proofs.lemmas.Slice.Eq.{bytes_eq-Decides}
+use Rattle.std.proofs.lemmas.Bool.{eqb-true}
+use Rattle.std.specs.Prelude.{◌==◌, find, fold, is_some, map, option_map, option_and_then, slice_get}
 use Rattle.std.specs.Option.{option_map_or}
 use Rattle.std.specs.Str.{bytes_eq, chars}
 use Rattle.std.specs.Str.Parse.{digits_value, without_leading_plus}
 use Rattle.clap.specs.Lexer.{long_of, short_of}
-use Rattle.clap.specs.ValueTests.{is_unsigned_in}
-use Rattle.clap.specs.Kinds.{Kinds, or_else, range_kinds}
-use Rattle.clap.specs.Walk.{Held, Outcome, Row, Rule, Step, Text, Waiting, Walk, done, waits, plain, refused, idle, option, positional, next, trailing, subcommand, value, after_flag, after_step, arg_by_id, arg_by_long, bundle, bundle_met, bundle_step, finished, first_of, has_row, long_met, long_or_other, more_values, nothing_held, option_met, option_word, plain_word, reading_by, settled, settled_rows, short_or_plain, subcommand_met, subcommand_or_other, used, used_by_id, walk, walk_from, walked, walked_from, with_default, with_values, without, word_met}
+use Rattle.clap.specs.ValueTests.{accepts}
+use Rattle.clap.specs.Values.{read_as, refused_kind}
+use Rattle.clap.specs.Kinds.{Kinds, or_else, range_kinds, value_kinds, values_kinds}
+use Rattle.clap.specs.Walk.{Held, Outcome, Row, Rule, one_of, reacted, row_text, Step, Text, Waiting, Walk, done, waits, plain, refused, idle, option, positional, next, trailing, subcommand, value, after_flag, after_step, arg_by_id, arg_by_long, bundle, bundle_met, bundle_step, finished, first_of, has_row, long_met, long_or_other, more_values, nothing_held, option_word, plain_word, reading_by, settled, settled_rows, short_or_plain, subcommand_met, subcommand_or_other, used, used_by_id, walk, walk_from, walked, walked_from, with_default, with_values, without, word_met}
 use Rattle.clap.specs.Simple.{App, Shape, built, entered, filled, names_of, rows_at}
-use Rattle.clap.specs.Faults.{check_fault, defaults_fault, entered_fault, flag_word_fault, level_fault, long_fault, option_fault, other_fault, repeat_fault, settle_fault, step_fault, turn_fault, use_fault, values_fault, walk_fault, word_fault}
+use Rattle.clap.specs.Faults.{check_fault, defaults_fault, entered_fault, flag_word_fault, level_fault, long_fault, other_fault, react_fault, repeat_fault, set_fault, settle_fault, step_fault, turn_fault, use_fault, walk_fault, word_fault}
+use Rattle.clap.specs.declared.builder.value_parser.ValueParser.{ValueParser}
+use Rattle.clap.specs.declared.builder.value_parser.ValueParser.TheVariants as parser
 use Rattle.clap.specs.declared.builder.value_parser.ValueParser.TheVariants.{Unsigned}
 use Rattle.clap.specs.declared.builder.value_parser.Reading.{Reading}
+use Rattle.clap.specs.declared.builder.value_parser.Reading.TheVariants.{AsWritten}
 use Rattle.clap.specs.declared.error.kind.ErrorKind.{ErrorKind}
-use Rattle.clap.specs.declared.error.kind.ErrorKind.TheVariants.{ValueValidation}
+use Rattle.clap.specs.declared.error.kind.ErrorKind.TheVariants.{WrongNumberOfValues}
 use Rattle.clap.specs.declared.parser.matches.ValueSource.{ValueSource}
 use Rattle.clap.specs.declared.parser.matches.ValueSource.TheVariants.{DefaultValue, CommandLine}
 use Rattle.clap.proofs.ValueTestLemmas.{accepts-Accepts}
 use Rattle.command_words.specs.declared.command.Command.{Command}
 use Rattle.command_words.specs.declared.command.Command.TheVariants.{Check, Flat}
-use Rattle.command_words.specs.Grammar.{OptionRow, conflicts_option, bound_option, option_rule, program, HasNumber, Tells, Says, IsCommandLine}
+use Rattle.command_words.specs.Grammar.{OptionRow, conflicts_option, bound_option, frames_option, together_flag, option_rule, flag_rule, flag_text, program, HasEffort, HasFlag, HasNumber, Tells, Says, IsCommandLine}
 
--- the rule of an option as a parse has it
-abbrev ready : OptionRow → Rule
-ready row = filled (option_rule row)
+-- an option that takes a number, or a flag
+data Entry : Type 0 where
+  number : OptionRow → Entry
+  flag : Text → Entry
+
+-- each entry of the list is so
+abbrev Each : (Entry → Type 0) → List Entry → Type 0
+Each P [] = Unit {0}
+Each P (e ∷ es) = P e × Each P es
+
+each_map : {P Q : Entry → Type 0} → ((e : Entry) → P e → Q e) → (es : List Entry) → Each P es → Each Q es
+each_map f [] all = tt
+each_map f (e ∷ es) (here, all) = (f e here, each_map f es all)
+
+abbrev word_of : Entry → Text
+word_of (number row) = row.word
+word_of (flag word) = word
+
+-- what its values are read by
+abbrev parser_of : Entry → ValueParser
+parser_of (number row) = Unsigned row.least row.greatest
+parser_of (flag word) = parser.Bool
+
+-- what stands for its value where it is left out
+abbrev default_of : Entry → Text
+default_of (number row) = row.default
+default_of (flag word) = flag_text false
+
+-- its rule as a parse has it
+abbrev ready : Entry → Rule
+ready (number row) = filled (option_rule row)
+ready (flag word) = filled (flag_rule word)
+
+abbrev conflicts : Entry
+conflicts = number conflicts_option
+
+abbrev bound : Entry
+bound = number bound_option
+
+abbrev frames : Entry
+frames = number frames_option
+
+abbrev together : Entry
+together = flag together_flag
+
+abbrev entries : List Entry
+entries = conflicts ∷ bound ∷ frames ∷ together ∷ []
 
 abbrev rules : List Rule
-rules = ready conflicts_option ∷ ready bound_option ∷ []
+rules = map ready entries
 
 -- the program as a parse has it
 abbrev app : App
@@ -51,23 +101,27 @@ second_shape (s ∷ ss) = first_shape ss
 abbrev flat_shape : Shape
 flat_shape = second_shape check_shapes
 
--- the word is a number that the option takes
-abbrev Reads : OptionRow → Text → Type 0
-Reads row v = is_unsigned_in row.least row.greatest v ≡ true
+-- the text is one that the entry takes
+abbrev Reads : Entry → Text → Type 0
+Reads e v = accepts false (parser_of e) v ≡ true
 
--- the first of the values is such a number
-abbrev Fits : OptionRow → List Text → Type 0
-Fits row [] = ⊥
-Fits row (v ∷ vs) = Reads row v
+-- the first of the values is such a text
+abbrev HasFirst : Entry → List Text → Type 0
+HasFirst e [] = ⊥
+HasFirst e (v ∷ vs) = Reads e v
 
--- each row of the option fits
-abbrev Keeps : OptionRow → List Row → Type 0
-Keeps row [] = Unit {0}
-Keeps row (r ∷ rs) = (bytes_eq r.id row.word ≡ true → Fits row r.values) × Keeps row rs
+-- and the values are read as they are written
+abbrev Fits : Entry → Row → Type 0
+Fits e r = HasFirst e r.values × (r.reading ≡ AsWritten)
 
--- where the words of two options are the same, what one takes the other takes
-abbrev Agrees : OptionRow → OptionRow → Type 0
-Agrees from to = bytes_eq from.word to.word ≡ true → (v : Text) → Reads from v → Reads to v
+-- each row of the entry fits
+abbrev Keeps : Entry → List Row → Type 0
+Keeps e [] = Unit {0}
+Keeps e (r ∷ rs) = (bytes_eq r.id (word_of e) ≡ true → Fits e r) × Keeps e rs
+
+-- where the words of two entries are the same, what one takes the other takes
+abbrev Agrees : Entry → Entry → Type 0
+Agrees to from = bytes_eq (word_of from) (word_of to) ≡ true → (v : Text) → Reads from v → Reads to v
 
 first : (a b : Kinds) → or_else a b ≡ [] → a ≡ []
 first [] b e = refl
@@ -81,50 +135,67 @@ accepted : (b : Bool) (k : ErrorKind) → (if b then [] else k ∷ []) ≡ [] �
 accepted true k e = refl
 accepted false k e = cc
 
-fits_more : (row : OptionRow) (vs ws : List Text) → Fits row vs → Fits row (vs ++ ws)
-fits_more row [] ws h = absurd h
-fits_more row (v ∷ vs) ws h = h
+fits_more : (e : Entry) (vs ws : List Text) → HasFirst e vs → HasFirst e (vs ++ ws)
+fits_more e [] ws h = absurd h
+fits_more e (v ∷ vs) ws h = h
 
-keeps_without : (row : OptionRow) (id : Text) (rows : List Row) → Keeps row rows → Keeps row (without id rows)
-keeps_without row id [] k = k
-keeps_without row id (r ∷ rs) (h, k) = elim (bytes_eq r.id id) as (λ b. Keeps row (if b then [] ++ rs else r ∷ without id rs)) [ true ↦ k | false ↦ (h, keeps_without row id rs k) ]
+as_written : (e : Entry) → reading_by (ready e) ≡ AsWritten
+as_written (number row) = refl
+as_written (flag word) = refl
 
-keeps_with : (row : OptionRow) (id : Text) (how : Reading) (s : ValueSource) (v : Text) (vs : List Text) (rows : List Row) → (bytes_eq id row.word ≡ true → Reads row v) → Keeps row rows → Keeps row (with_values id how s (v ∷ vs) rows)
-keeps_with row id how s v vs [] h k = (h, tt)
-keeps_with row id how s v vs (r ∷ rs) h (g, k) =
-    elim (bytes_eq r.id id) as (λ b. Keeps row (if b then more_values s (v ∷ vs) r ++ rs else r ∷ with_values id how s (v ∷ vs) rs))
-    [ true ↦ ((λ e. fits_more row r.values (v ∷ vs) (g e)), k) | false ↦ (g, keeps_with row id how s v vs rs h k) ]
+keeps_without : (e : Entry) (id : Text) (rows : List Row) → Keeps e rows → Keeps e (without id rows)
+keeps_without e id [] k = k
+keeps_without e id (r ∷ rs) (h, k) = elim (bytes_eq r.id id) as (λ b. Keeps e (if b then [] ++ rs else r ∷ without id rs)) [ true ↦ k | false ↦ (h, keeps_without e id rs k) ]
 
-use_reads : (row : OptionRow) (v : Text) (vs : List Text) (rows : List Row) → use_fault false (ready row) (v ∷ vs) rows ≡ [] → Reads row v
-use_reads row v vs rows e =
-    let counted = range_kinds 1 1 (length (v ∷ vs)) in
-    let again = repeat_fault false row.word rows in
-    let values = values_fault (ready row) (v ∷ vs) in
-    let here = if is_unsigned_in row.least row.greatest v then [] else ValueValidation ∷ [] in
-    accepted (is_unsigned_in row.least row.greatest v) ValueValidation (first here (values_fault (ready row) vs) (second again values (second counted (or_else again values) e)))
+keeps_with : (e : Entry) (id : Text) (how : Reading) (s : ValueSource) (v : Text) (vs : List Text) (rows : List Row) → how ≡ AsWritten → (bytes_eq id (word_of e) ≡ true → Reads e v) → Keeps e rows
+    → Keeps e (with_values id how s (v ∷ vs) rows)
+keeps_with e id how s v vs [] w h k = ((λ same. (h same, w)), tt)
+keeps_with e id how s v vs (r ∷ rs) w h (g, k) =
+    elim (bytes_eq r.id id) as (λ b. Keeps e (if b then more_values s (v ∷ vs) r ++ rs else r ∷ with_values id how s (v ∷ vs) rs))
+    [ true ↦ ((λ same. (fits_more e r.values (v ∷ vs) (g same).0, (g same).1)), k) | false ↦ (g, keeps_with e id how s v vs rs w h k) ]
 
-no_values : (row : OptionRow) (rows : List Row) → use_fault false (ready row) [] rows ≡ [] → ⊥
+-- the first of the values that were checked is taken
+value_reads : (again : Bool) (id : Text) (p : ValueParser) (v : Text) (vs : List Text) (rows : List Row) → or_else (repeat_fault again id rows) (values_kinds false p (v ∷ vs)) ≡ [] → accepts false p v ≡ true
+value_reads again id p v vs rows e =
+    let values = second (repeat_fault again id rows) (values_kinds false p (v ∷ vs)) e in
+    accepted (accepts false p v) (refused_kind p) (first (value_kinds false p v) (values_kinds false p vs) values)
+
+-- a use of an option has a value
+no_values : (row : OptionRow) (rows : List Row) → use_fault false (ready (number row)) [] rows ≡ [] → ⊥
 no_values row rows e = cc
 
-keeps_used : (row from : OptionRow) → Agrees from row → (values : List Text) (rows : List Row) → use_fault false (ready from) values rows ≡ [] → Keeps row rows → Keeps row (used (ready from) values rows)
-keeps_used row from agrees [] rows e k = absurd (no_values from rows e)
-keeps_used row from agrees (v ∷ vs) rows e k =
-    keeps_with row from.word (reading_by (ready from)) CommandLine v vs (without from.word rows) (λ same. agrees same v (use_reads from v vs rows e)) (keeps_without row from.word rows k)
+-- and one of a flag has none
+some_values : (word v : Text) (vs : List Text) (rows : List Row) → use_fault false (ready (flag word)) (v ∷ vs) rows ≡ [] → ⊥
+some_values word v vs rows e =
+    let counted = first (range_kinds 0 0 (length (v ∷ vs))) (set_fault false (ready (flag word)) (v ∷ vs) rows) e in
+    let none : 0 ≡ length (v ∷ vs) = eqb-true 0 (length (v ∷ vs)) (accepted (0 == length (v ∷ vs)) WrongNumberOfValues counted) in
+    absurd (omega arith)
 
--- what an option is found by
-by_id : (P : Option Rule → Type 0) → P None → P (Some (ready conflicts_option)) → P (Some (ready bound_option)) → (id : Text) → P (arg_by_id rules id)
-by_id P none first_option second_option id =
-    elim (bytes_eq conflicts_option.word id) as (λ x. P (cond x (Some (ready conflicts_option)) (find (λ (a : Rule). bytes_eq a.id id) (ready bound_option ∷ [])))) [
-      | true ↦ first_option
-      | false ↦ elim (bytes_eq bound_option.word id) as (λ x. P (cond x (Some (ready bound_option)) None)) [ true ↦ second_option | false ↦ none ]
-    ]
+keeps_used : (to from : Entry) → Agrees to from → (values : List Text) (rows : List Row) → use_fault false (ready from) values rows ≡ [] → Keeps to rows → Keeps to (used (ready from) values rows)
+keeps_used to (number row) agrees [] rows e k = absurd (no_values row rows e)
+keeps_used to (number row) agrees (v ∷ vs) rows e k =
+    let counted = range_kinds 1 1 (length (v ∷ vs)) in
+    let checked = set_fault false (ready (number row)) (v ∷ vs) rows in
+    let reads = value_reads false row.word (Unsigned row.least row.greatest) v vs rows (second counted checked e) in
+    keeps_with to row.word (reading_by (ready (number row))) CommandLine v vs (without row.word rows) refl (λ same. agrees same v reads) (keeps_without to row.word rows k)
+keeps_used to (flag word) agrees [] rows e k =
+    keeps_with to word (reading_by (ready (flag word))) CommandLine (flag_text true) [] (without word rows) refl (λ same. agrees same (flag_text true) refl) (keeps_without to word rows k)
+keeps_used to (flag word) agrees (v ∷ vs) rows e k = absurd (some_values word v vs rows e)
 
-by_long : (P : Option Rule → Type 0) → P None → P (Some (ready conflicts_option)) → P (Some (ready bound_option)) → (name : Text) → P (arg_by_long rules name)
-by_long P none first_option second_option name =
-    elim (bytes_eq conflicts_option.word name) as (λ x. P (cond (x || false) (Some (ready conflicts_option)) (arg_by_long (ready bound_option ∷ []) name))) [
-      | true ↦ first_option
-      | false ↦ elim (bytes_eq bound_option.word name) as (λ x. P (cond (x || false) (Some (ready bound_option)) None)) [ true ↦ second_option | false ↦ none ]
-    ]
+-- what an entry is found by
+found_by_id : (P : Option Rule → Type 0) (id : Text) → P None → (es : List Entry) → Each (λ (e : Entry). P (Some (ready e))) es → P (arg_by_id (map ready es) id)
+found_by_id P id none [] all = none
+found_by_id P id none (number row ∷ es) (here, all) =
+    elim (bytes_eq row.word id) as (λ x. P (cond x (Some (ready (number row))) (arg_by_id (map ready es) id))) [ true ↦ here | false ↦ found_by_id P id none es all ]
+found_by_id P id none (flag word ∷ es) (here, all) =
+    elim (bytes_eq word id) as (λ x. P (cond x (Some (ready (flag word))) (arg_by_id (map ready es) id))) [ true ↦ here | false ↦ found_by_id P id none es all ]
+
+found_by_long : (P : Option Rule → Type 0) (name : Text) → P None → (es : List Entry) → Each (λ (e : Entry). P (Some (ready e))) es → P (arg_by_long (map ready es) name)
+found_by_long P name none [] all = none
+found_by_long P name none (number row ∷ es) (here, all) =
+    elim (bytes_eq row.word name) as (λ x. P (cond (x || false) (Some (ready (number row))) (arg_by_long (map ready es) name))) [ true ↦ here | false ↦ found_by_long P name none es all ]
+found_by_long P name none (flag word ∷ es) (here, all) =
+    elim (bytes_eq word name) as (λ x. P (cond (x || false) (Some (ready (flag word))) (arg_by_long (map ready es) name))) [ true ↦ here | false ↦ found_by_long P name none es all ]
 
 -- ---- what a word that is no option leaves
 
@@ -170,60 +241,65 @@ no_subcommand idle word = refl
 no_subcommand (option id) word = refl
 no_subcommand positional word = refl
 
--- ---- each row keeps its number, whatever word comes
+-- ---- each row keeps its value, whatever word comes
 
-module _ (row : OptionRow) (of_conflicts : Agrees conflicts_option row) (of_bound : Agrees bound_option row) where
+module _ (to : Entry) (agree : Each (Agrees to) entries) where
   keeps_pending : (p : Option (Text × List Text)) (rows : List Row) → option_map_or (λ (q : Text × List Text). option_map_or (λ (a : Rule). use_fault false a q.1 rows) (arg_by_id rules q.0) []) p [] ≡ []
-      → Keeps row rows → Keeps row (settled_rows rules p rows)
+      → Keeps to rows → Keeps to (settled_rows rules p rows)
   keeps_pending None rows e k = k
-  keeps_pending (Some p) rows e k = by_id
-      (λ (found : Option Rule). option_map_or (λ (a : Rule). use_fault false a p.1 rows) found [] ≡ [] → Keeps row (used_by_id found p.1 rows))
-      (λ _. k) (λ fault. keeps_used row conflicts_option of_conflicts p.1 rows fault k) (λ fault. keeps_used row bound_option of_bound p.1 rows fault k) p.0 e
+  keeps_pending (Some p) rows e k = found_by_id
+      (λ (found : Option Rule). option_map_or (λ (a : Rule). use_fault false a p.1 rows) found [] ≡ [] → Keeps to (used_by_id found p.1 rows))
+      p.0 (λ _. k) entries (each_map {P = Agrees to} {Q = λ from. use_fault false (ready from) p.1 rows ≡ [] → Keeps to (used (ready from) p.1 rows)} (λ from agrees fault. keeps_used to from agrees p.1 rows fault k) entries agree) e
 
-  keeps_settled : (h : Held) → settle_fault rules false h ≡ [] → Keeps row h.rows → Keeps row (settled rules h).rows
+  keeps_settled : (h : Held) → settle_fault rules false h ≡ [] → Keeps to h.rows → Keeps to (settled rules h).rows
   keeps_settled h e k = keeps_pending h.pending h.rows e k
 
-  keeps_option : (from : OptionRow) → Agrees from row → (v : Option Text) (h : Held) → option_fault rules false (ready from) v h ≡ [] → Keeps row h.rows → Keeps row (option_met rules (ready from) v h).0.rows
-  keeps_option from agrees None h e k = keeps_settled h e k
-  keeps_option from agrees (Some v) h e k =
+  keeps_reacted : (from : Entry) → Agrees to from → (values : List Text) (h : Held) → react_fault rules false (ready from) values h ≡ [] → Keeps to h.rows → Keeps to (reacted rules (ready from) values h).rows
+  keeps_reacted from agrees values h e k =
       let before = settle_fault rules false h in
-      let using_it = use_fault false (ready from) (v ∷ []) (settled rules h).rows in
-      keeps_used row from agrees (v ∷ []) (settled rules h).rows (second before using_it e) (keeps_settled h (first before using_it e) k)
+      let using_it = use_fault false (ready from) values (settled rules h).rows in
+      keeps_used to from agrees values (settled rules h).rows (second before using_it e) (keeps_settled h (first before using_it e) k)
 
-  keeps_long : (name : Text) (v : Option Text) (h : Held) → long_fault rules false (arg_by_long rules name) v h ≡ [] → Keeps row h.rows → Keeps row (long_met rules (arg_by_long rules name) v h).0.rows
-  keeps_long name v h e k = by_long
-      (λ (found : Option Rule). long_fault rules false found v h ≡ [] → Keeps row (long_met rules found v h).0.rows)
-      (λ _. k) (λ fault. keeps_option conflicts_option of_conflicts v h fault k) (λ fault. keeps_option bound_option of_bound v h fault k) name e
+  keeps_long : (from : Entry) → Agrees to from → (v : Option Text) (h : Held) → long_fault rules false (Some (ready from)) v h ≡ [] → Keeps to h.rows → Keeps to (long_met rules (Some (ready from)) v h).0.rows
+  keeps_long (number row) agrees None h e k = keeps_settled h e k
+  keeps_long (number row) agrees (Some v) h e k = keeps_reacted (number row) agrees (v ∷ []) h e k
+  keeps_long (flag word) agrees None h e k = keeps_reacted (flag word) agrees [] h e k
+  keeps_long (flag word) agrees (Some v) h e k = k
 
-  keeps_flag : (flag : Option (Text × Option Text)) (waiting : Waiting) (word : Text) (h : Held) → flag_word_fault rules false flag word h ≡ [] → Keeps row h.rows → Keeps row (long_or_other rules waiting word flag h).0.rows
-  keeps_flag None waiting word h e k = subst (Keeps row) (sym (short_rows (short_of word) waiting word h)) k
+  keeps_named : (name : Text) (v : Option Text) (h : Held) → long_fault rules false (arg_by_long rules name) v h ≡ [] → Keeps to h.rows → Keeps to (long_met rules (arg_by_long rules name) v h).0.rows
+  keeps_named name v h e k = found_by_long
+      (λ (found : Option Rule). long_fault rules false found v h ≡ [] → Keeps to (long_met rules found v h).0.rows)
+      name (λ _. k) entries (each_map {P = Agrees to} {Q = λ from. long_fault rules false (Some (ready from)) v h ≡ [] → Keeps to (long_met rules (Some (ready from)) v h).0.rows} (λ from agrees fault. keeps_long from agrees v h fault k) entries agree) e
+
+  keeps_flag : (found : Option (Text × Option Text)) (waiting : Waiting) (word : Text) (h : Held) → flag_word_fault rules false found word h ≡ [] → Keeps to h.rows → Keeps to (long_or_other rules waiting word found h).0.rows
+  keeps_flag None waiting word h e k = subst (Keeps to) (sym (short_rows (short_of word) waiting word h)) k
   keeps_flag (Some p) waiting word h e k =
       let met = long_met rules (arg_by_long rules p.0) p.1 h in
-      subst (Keeps row) (sym (after_flag_rows waiting word met.0 met.1)) (keeps_long p.0 p.1 h e k)
+      subst (Keeps to) (sym (after_flag_rows waiting word met.0 met.1)) (keeps_named p.0 p.1 h e k)
 
-  keeps_other : (waiting : Waiting) (position : ℕ) (word : Text) (h : Held) → other_fault check_shape None word h ≡ [] → Keeps row h.rows → Keeps row (subcommand_or_other rules None waiting position word h).0.rows
+  keeps_other : (waiting : Waiting) (position : ℕ) (word : Text) (h : Held) → other_fault check_shape None word h ≡ [] → Keeps to h.rows → Keeps to (subcommand_or_other rules None waiting position word h).0.rows
   keeps_other waiting position word h e k =
       elim (bytes_eq word (45 ∷ 45 ∷ [])) as (λ x. (if x then [] else flag_word_fault rules false (long_of word) word h) ≡ []
-      → Keeps row (if x then (h, trailing position) else long_or_other rules waiting word (long_of word) h).0.rows)
+      → Keeps to (if x then (h, trailing position) else long_or_other rules waiting word (long_of word) h).0.rows)
       [ true ↦ λ _. k | false ↦ λ fault. keeps_flag (long_of word) waiting word h fault k ] e
 
-  keeps_met : (is_trailing : Bool) (waiting : Waiting) (position : ℕ) (word : Text) (h : Held) → word_fault check_shape [] is_trailing waiting word h ≡ [] → Keeps row h.rows → Keeps row (word_met rules [] is_trailing waiting position word h).0.rows
+  keeps_met : (is_trailing : Bool) (waiting : Waiting) (position : ℕ) (word : Text) (h : Held) → word_fault check_shape [] is_trailing waiting word h ≡ [] → Keeps to h.rows → Keeps to (word_met rules [] is_trailing waiting position word h).0.rows
   keeps_met true waiting position word h e k = k
   keeps_met false waiting position word h e k =
-      subst (λ (m : Option Text). other_fault check_shape m word h ≡ [] → Keeps row (subcommand_or_other rules m waiting position word h).0.rows)
+      subst (λ (m : Option Text). other_fault check_shape m word h ≡ [] → Keeps to (subcommand_or_other rules m waiting position word h).0.rows)
       (sym (no_subcommand waiting word)) (λ fault. keeps_other waiting position word h fault k) e
 
   keeps_turn : (stopped : Option (Text × List Text)) (w : Walk) (word : Text)
       → (let met = word_met rules [] w.is_trailing w.waiting w.position word w.held in
       (if is_some stopped then [] else or_else (word_fault check_shape [] w.is_trailing w.waiting word w.held) (step_fault check_shape w.position met.0 met.1)) ≡ [])
-      → Keeps row w.held.rows → Keeps row (walked_from rules [] stopped w word).held.rows
+      → Keeps to w.held.rows → Keeps to (walked_from rules [] stopped w word).held.rows
   keeps_turn (Some p) w word e k = k
   keeps_turn None w word e k =
       let met = word_met rules [] w.is_trailing w.waiting w.position word w.held in
       let fault = first (word_fault check_shape [] w.is_trailing w.waiting word w.held) (step_fault check_shape w.position met.0 met.1) e in
-      subst (Keeps row) (sym (step_rows word w met.0 met.1)) (keeps_met w.is_trailing w.waiting w.position word w.held fault k)
+      subst (Keeps to) (sym (step_rows word w met.0 met.1)) (keeps_met w.is_trailing w.waiting w.position word w.held fault k)
 
-  keeps_walk : (w : Walk) (words : List Text) → walk_fault check_shape [] w words ≡ [] → Keeps row w.held.rows → Keeps row (fold (walked rules []) w words).held.rows
+  keeps_walk : (w : Walk) (words : List Text) → walk_fault check_shape [] w words ≡ [] → Keeps to w.held.rows → Keeps to (fold (walked rules []) w words).held.rows
   unfolding walk_fault walked
   keeps_walk w [] e k = k
   keeps_walk w (word ∷ rest) e k =
@@ -231,12 +307,23 @@ module _ (row : OptionRow) (of_conflicts : Agrees conflicts_option row) (of_boun
       let later = walk_fault check_shape [] (walked rules [] w word) rest in
       keeps_walk (walked rules [] w word) rest (second turn later e) (keeps_turn w.stopped w word (first turn later e) k)
 
-  keeps_default : (from : OptionRow) → Agrees from row → Reads from from.default → (rows : List Row) → Keeps row rows → Keeps row (with_default rows (ready from))
-  keeps_default from agrees reads rows k =
-      elim (has_row from.word rows) as (λ x. Keeps row (if x then rows else with_values from.word (reading_by (ready from)) DefaultValue (from.default ∷ []) rows))
-      [ true ↦ k | false ↦ keeps_with row from.word (reading_by (ready from)) DefaultValue from.default [] rows (λ same. agrees same from.default reads) k ]
+-- ---- and where it is left out it has its default
 
--- ---- each option has a row in the end
+abbrev default_row : Entry → List Row → List Row
+default_row e rows = if has_row (word_of e) rows then rows else with_values (word_of e) (reading_by (ready e)) DefaultValue (default_of e ∷ []) rows
+
+default_is : (e : Entry) (rows : List Row) → with_default rows (ready e) ≡ default_row e rows
+default_is (number row) rows = refl
+default_is (flag word) rows = refl
+
+keeps_default : (to from : Entry) → Agrees to from → Reads from (default_of from) → (rows : List Row) → Keeps to rows → Keeps to (with_default rows (ready from))
+keeps_default to from agrees reads rows k = subst (Keeps to) (sym (default_is from rows)) (
+    elim (has_row (word_of from) rows) as (λ x. Keeps to (if x then rows else with_values (word_of from) (reading_by (ready from)) DefaultValue (default_of from ∷ []) rows))
+    [ true ↦ k | false ↦ keeps_with to (word_of from) (reading_by (ready from)) DefaultValue (default_of from) [] rows (as_written from) (λ same. agrees same (default_of from) reads) k ])
+
+keeps_defaults : (to : Entry) (es : List Entry) → Each (λ (from : Entry). Agrees to from × Reads from (default_of from)) es → (rows : List Row) → Keeps to rows → Keeps to (fold with_default rows (map ready es))
+keeps_defaults to [] all rows k = k
+keeps_defaults to (e ∷ es) (here, all) rows k = keeps_defaults to es all (with_default rows (ready e)) (keeps_default to e here.0 here.1 rows k)
 
 has_with : (id : Text) (how : Reading) (s : ValueSource) (values : List Text) (rows : List Row) → bytes_eq id id ≡ true → has_row id (with_values id how s values rows) ≡ true
 has_with id how s values [] same = rw same refl
@@ -253,70 +340,111 @@ still_has other id how s values (r ∷ rs) h =
           [ true ↦ λ _. refl | false ↦ λ later. still_has other id how s values rs later ] h
     ]
 
-has_default : (from : OptionRow) (rows : List Row) → bytes_eq from.word from.word ≡ true → has_row from.word (with_default rows (ready from)) ≡ true
-has_default from rows same =
-    elim (has_row from.word rows) as (λ x. has_row from.word rows ≡ x → has_row from.word (if x then rows else with_values from.word (reading_by (ready from)) DefaultValue (from.default ∷ []) rows) ≡ true)
-    [ true ↦ λ e. e | false ↦ λ _. has_with from.word (reading_by (ready from)) DefaultValue (from.default ∷ []) rows same ] refl
+has_default : (e : Entry) (rows : List Row) → bytes_eq (word_of e) (word_of e) ≡ true → has_row (word_of e) (with_default rows (ready e)) ≡ true
+has_default e rows same = subst (λ (r : List Row). has_row (word_of e) r ≡ true) (sym (default_is e rows)) (
+    elim (has_row (word_of e) rows) as (λ x. has_row (word_of e) rows ≡ x → has_row (word_of e) (if x then rows else with_values (word_of e) (reading_by (ready e)) DefaultValue (default_of e ∷ []) rows) ≡ true)
+    [ true ↦ λ is. is | false ↦ λ _. has_with (word_of e) (reading_by (ready e)) DefaultValue (default_of e ∷ []) rows same ] refl)
 
-keeps_having : (other : Text) (from : OptionRow) (rows : List Row) → has_row other rows ≡ true → has_row other (with_default rows (ready from)) ≡ true
-keeps_having other from rows h =
-    elim (has_row from.word rows) as (λ x. has_row other (if x then rows else with_values from.word (reading_by (ready from)) DefaultValue (from.default ∷ []) rows) ≡ true)
-    [ true ↦ h | false ↦ still_has other from.word (reading_by (ready from)) DefaultValue (from.default ∷ []) rows h ]
+keeps_having : (other : Text) (e : Entry) (rows : List Row) → has_row other rows ≡ true → has_row other (with_default rows (ready e)) ≡ true
+keeps_having other e rows h = subst (λ (r : List Row). has_row other r ≡ true) (sym (default_is e rows)) (
+    elim (has_row (word_of e) rows) as (λ x. has_row other (if x then rows else with_values (word_of e) (reading_by (ready e)) DefaultValue (default_of e ∷ []) rows) ≡ true)
+    [ true ↦ h | false ↦ still_has other (word_of e) (reading_by (ready e)) DefaultValue (default_of e ∷ []) rows h ])
 
--- ---- its number
+having_all : (other : Text) (es : List Entry) (rows : List Row) → has_row other rows ≡ true → has_row other (fold with_default rows (map ready es)) ≡ true
+having_all other [] rows h = h
+having_all other (e ∷ es) rows h = having_all other es (with_default rows (ready e)) (keeps_having other e rows h)
 
-first_value : (row : OptionRow) (vs : List Text) → Fits row vs → (v : Text) × (slice_get vs 0 ≡ Some v) × Reads row v
-first_value row [] h = absurd h
-first_value row (v ∷ vs) h = (v, refl, h)
+-- the entry of this list that the number counts, from 0, has a row in the end
+has_each : (es : List Entry) (rows : List Row) → Each (λ (e : Entry). bytes_eq (word_of e) (word_of e) ≡ true) es → Each (λ (e : Entry). has_row (word_of e) (fold with_default rows (map ready es)) ≡ true) es
+has_each [] rows all = tt
+has_each (e ∷ es) rows (here, all) =
+    (having_all (word_of e) es (with_default rows (ready e)) (has_default e rows here), has_each es (with_default rows (ready e)) all)
 
-first_reads : (row : OptionRow) (rows : List Row) → Keeps row rows → has_row row.word rows ≡ true → (v : Text) × (first_of row.word rows ≡ Some v) × Reads row v
-first_reads row [] k h = cc
-first_reads row (r ∷ rs) (fits, k) h =
-    elim (bytes_eq r.id row.word) as (λ x. (x ≡ true → Fits row r.values) → (x || has_row row.word rs) ≡ true
-    → (v : Text) × (option_and_then (λ (q : Row). slice_get q.values 0) (cond x (Some r) (find (λ (q : Row). bytes_eq q.id row.word) rs)) ≡ Some v) × Reads row v)
-    [ true ↦ λ g _. first_value row r.values (g refl) | false ↦ λ _ later. first_reads row rs k later ] fits h
+-- ---- its value
 
-number : (row : OptionRow) (rows : List Row) → Keeps row rows → has_row row.word rows ≡ true → (n : ℕ) × HasNumber rows row.word row.greatest n
-number row rows k h =
-    let found = first_reads row rows k h in
-    let taken = accepts-Accepts false (Unsigned row.least row.greatest) found.0 found.2 in
+first_value : (e : Entry) (r : Row) → Fits e r → (v : Text) × (slice_get r.values 0 ≡ Some v) × (row_text r ≡ Some v) × Reads e v
+first_value e r h = go r.values r.reading h.0 h.1 where
+  go : (vs : List Text) (how : Reading) → HasFirst e vs → how ≡ AsWritten → (v : Text) × (slice_get vs 0 ≡ Some v) × (option_map (read_as how) (slice_get vs 0) ≡ Some v) × Reads e v
+  go [] how has w = absurd has
+  go (v ∷ vs) how has w = (v, refl, rw w refl, has)
+
+first_reads : (e : Entry) (rows : List Row) → Keeps e rows → has_row (word_of e) rows ≡ true → (v : Text) × (first_of (word_of e) rows ≡ Some v) × (one_of (word_of e) rows ≡ Some v) × Reads e v
+first_reads e [] k h = cc
+first_reads e (r ∷ rs) (fits, k) h =
+    elim (bytes_eq r.id (word_of e)) as (λ x. (x ≡ true → Fits e r) → (x || has_row (word_of e) rs) ≡ true
+    → (v : Text) × (option_and_then (λ (q : Row). slice_get q.values 0) (cond x (Some r) (find (λ (q : Row). bytes_eq q.id (word_of e)) rs)) ≡ Some v)
+    × (option_and_then row_text (cond x (Some r) (find (λ (q : Row). bytes_eq q.id (word_of e)) rs)) ≡ Some v) × Reads e v)
+    [ true ↦ λ g _. first_value e r (g refl) | false ↦ λ _ later. first_reads e rs k later ] fits h
+
+number_in : (row : OptionRow) (rows : List Row) → Keeps (number row) rows → has_row row.word rows ≡ true → (n : ℕ) × HasNumber rows row.word row.greatest n
+number_in row rows k h =
+    let found = first_reads (number row) rows k h in
+    let taken = accepts-Accepts false (Unsigned row.least row.greatest) found.0 found.3 in
     (digits_value 10 (without_leading_plus found.0), record { text = found.0; given = found.1; read = ((taken.0, taken.1), refl); within = taken.3 })
+
+bytes_are : (a b : Text) → bytes_eq a b ≡ true → a ≡ b
+bytes_are a b is = (bytes_eq-Decides a b).0 is
+
+flag_in : (word : Text) (rows : List Row) → Keeps (flag word) rows → has_row word rows ≡ true → (is_there : Bool) × HasFlag rows word is_there
+flag_in word rows k h =
+    let found = first_reads (flag word) rows k h in
+    let one_is = found.2 in
+    let reads : (bytes_eq found.0 (flag_text true) || bytes_eq found.0 (flag_text false)) ≡ true = found.3 in
+    elim (bytes_eq found.0 (flag_text true)) as (λ x. bytes_eq found.0 (flag_text true) ≡ x → (x || bytes_eq found.0 (flag_text false)) ≡ true → (is_there : Bool) × HasFlag rows word is_there) [
+      | true ↦ λ is _. (true, one_is ∙ ap Some (bytes_are _ _ is))
+      | false ↦ λ _ is. (false, one_is ∙ ap Some (bytes_are _ _ is))
+    ] refl reads
 
 -- ---- the command
 
-conflicts_agree : Agrees conflicts_option bound_option
-conflicts_agree e v h = cc
+-- entries of different words agree
+apart : (to from : Entry) → bytes_eq (word_of from) (word_of to) ≡ false → Agrees to from
+apart to from e same = let no : true ≡ false = sym same ∙ e in cc
 
-bound_agrees : Agrees bound_option conflicts_option
-bound_agrees e v h = cc
+itself : (e : Entry) → Agrees e e
+itself e same v h = h
 
-abbrev rows_settled : List Text → List Row
-rows_settled words = (settled rules (walk rules [] nothing_held words).held).rows
+agree_conflicts : Each (Agrees conflicts) entries
+agree_conflicts = (itself conflicts, (apart conflicts bound refl, (apart conflicts frames refl, (apart conflicts together refl, tt))))
+
+agree_bound : Each (Agrees bound) entries
+agree_bound = (apart bound conflicts refl, (itself bound, (apart bound frames refl, (apart bound together refl, tt))))
+
+agree_frames : Each (Agrees frames) entries
+agree_frames = (apart frames conflicts refl, (apart frames bound refl, (itself frames, (apart frames together refl, tt))))
+
+agree_together : Each (Agrees together) entries
+agree_together = (apart together conflicts refl, (apart together bound refl, (apart together frames refl, (itself together, tt))))
+
+-- each default is taken
+with_reads : (to : Entry) → Each (Agrees to) entries → Each (λ (from : Entry). Agrees to from × Reads from (default_of from)) entries
+with_reads to (a, (b, (c, (d, _)))) = ((a, refl), ((b, refl), ((c, refl), ((d, refl), tt))))
 
 abbrev rows_found : List Text → List Row
-rows_found words = with_default (with_default (rows_settled words) (ready conflicts_option)) (ready bound_option)
+rows_found words = fold with_default (settled rules (walk rules [] nothing_held words).held).rows rules
 
-kept : (row : OptionRow) → Agrees conflicts_option row → Agrees bound_option row → (words : List Text) → level_fault check_shape [] nothing_held words false [] ≡ [] → Keeps row (rows_found words)
-kept row of_conflicts of_bound words e =
+kept : (to : Entry) → Each (Agrees to) entries → (words : List Text) → level_fault check_shape [] nothing_held words false [] ≡ [] → Keeps to (rows_found words)
+kept to agree words e =
     let end = (walk rules [] nothing_held words).held in
     let walking = walk_fault check_shape [] (walk_from nothing_held) words in
     let settling = settle_fault rules false end in
     let late = or_else (defaults_fault (settled rules end).rows rules) (check_fault check_shape (finished rules end) false) in
     let walked_well = first walking (or_else settling late) e in
     let settled_well = first settling late (second walking (or_else settling late) e) in
-    let walked_rows = keeps_walk row of_conflicts of_bound (walk_from nothing_held) words walked_well tt in
-    let settled_rows = keeps_settled row of_conflicts of_bound end settled_well walked_rows in
-    keeps_default row of_conflicts of_bound bound_option of_bound refl (with_default (rows_settled words) (ready conflicts_option))
-    (keeps_default row of_conflicts of_bound conflicts_option of_conflicts refl (rows_settled words) settled_rows)
+    let walked_rows = keeps_walk to agree (walk_from nothing_held) words walked_well tt in
+    keeps_defaults to entries (with_reads to agree) (settled rules end).rows (keeps_settled to agree end settled_well walked_rows)
 
 told : (words : List Text) → level_fault check_shape [] nothing_held words false [] ≡ [] → (command : Command) × Tells (Some (rows_at check_shape words)) command
 told words e =
-    let early = with_default (rows_settled words) (ready conflicts_option) in
-    let has_conflicts = keeps_having conflicts_option.word bound_option early (has_default conflicts_option (rows_settled words) refl) in
-    let has_bound = has_default bound_option early refl in
-    let conflicts = number conflicts_option (rows_found words) (kept conflicts_option (λ _ v h. h) bound_agrees words e) has_conflicts in
-    let bound = number bound_option (rows_found words) (kept bound_option conflicts_agree (λ _ v h. h) words e) has_bound in
-    (Check (record { conflicts = conflicts.0; bound = bound.0 }), (refl, record { conflicts = conflicts.1; bound = bound.1 }))
+    let rows = rows_found words in
+    let has = has_each entries (settled rules (walk rules [] nothing_held words).held).rows (refl, (refl, (refl, (refl, tt)))) in
+    let budget = number_in conflicts_option rows (kept conflicts agree_conflicts words e) has.0 in
+    let steps = number_in bound_option rows (kept bound agree_bound words e) has.1.0 in
+    let level = number_in frames_option rows (kept frames agree_frames words e) has.1.1.0 in
+    let shared = flag_in together_flag rows (kept together agree_together words e) has.1.1.1.0 in
+    let has_effort : HasEffort rows (record { conflicts = budget.0; bound = steps.0; frames = level.0; together = shared.0 }) =
+    record { conflicts = budget.1; bound = steps.1; frames = level.1; together = shared.1 } in
+    (Check (record { conflicts = budget.0; bound = steps.0; frames = level.0; together = shared.0 }), (refl, has_effort))
 
 -- the shape of `flat`, if it is named
 abbrev of_flat : Text → Option Shape

@@ -1,20 +1,34 @@
 -- Words say one command.
-use Rattle.std.proofs.Common.{◌≡◌, ℕ, List, Option, Some, None, refl, sym, ap, ap₂, ◌∙◌}
+use Rattle.std.proofs.Common.{◌≡◌, ℕ, Bool, true, false, List, Option, Some, None, refl, sym, ap, ap₂, ◌∙◌, codes}
 use Rattle.std.specs.Str.Parse.{digits_value, without_leading_plus}
 use Rattle.clap.specs.Words.{Row, Text, subcommand_of}
 use Rattle.command_words.specs.declared.command.Command.{Command}
 use Rattle.command_words.specs.declared.command.Command.TheVariants.{Check, Flat}
-use Rattle.command_words.specs.Grammar.{HasNumber, Tells, Says, program}
+use Rattle.command_words.specs.declared.command.Effort.{Effort}
+use Rattle.command_words.specs.Grammar.{HasEffort, HasFlag, HasNumber, Tells, Says, program}
 
 same_number : (rows : List Row) (word : Text) (most n m : ℕ) → HasNumber rows word most n → HasNumber rows word most m → n ≡ m
 same_number rows word most n m a b =
     let same : a.text ≡ b.text = cc in
     a.read.1 ∙ ap (λ (t : Text). digits_value 10 (without_leading_plus t)) same ∙ sym b.read.1
 
+same_flag : (rows : List Row) (word : Text) (a b : Bool) → HasFlag rows word a → HasFlag rows word b → a ≡ b
+same_flag rows word true true x y = refl
+same_flag rows word false false x y = refl
+same_flag rows word true false x y = let e : Some (codes "true") ≡ Some (codes "false") = sym x ∙ y in cc
+same_flag rows word false true x y = let e : Some (codes "false") ≡ Some (codes "true") = sym x ∙ y in cc
+
+abbrev effort_with : ℕ → ℕ → ℕ → Bool → Effort
+effort_with conflicts bound frames together = record { conflicts = conflicts; bound = bound; frames = frames; together = together }
+
+same_effort : (rows : List Row) (a b : Effort) → HasEffort rows a → HasEffort rows b → a ≡ b
+same_effort rows a b h k =
+    ap₂ (λ (n m : ℕ). effort_with n m a.frames a.together) (same_number rows _ _ a.conflicts b.conflicts h.conflicts k.conflicts) (same_number rows _ _ a.bound b.bound h.bound k.bound)
+    ∙ ap₂ (λ (n : ℕ) (t : Bool). effort_with b.conflicts b.bound n t) (same_number rows _ _ a.frames b.frames h.frames k.frames) (same_flag rows _ a.together b.together h.together k.together)
+
 same_command : (found : Option (Text × List Row)) (a b : Command) → Tells found a → Tells found b → a ≡ b
 same_command None a b h k = absurd h
-same_command (Some found) (Check a) (Check b) (e, h) (f, k) =
-    ap₂ (λ (n m : ℕ). Check (record { conflicts = n; bound = m })) (same_number found.1 _ _ a.conflicts b.conflicts h.conflicts k.conflicts) (same_number found.1 _ _ a.bound b.bound h.bound k.bound)
+same_command (Some found) (Check a) (Check b) (e, h) (f, k) = ap Check (same_effort found.1 a b h k)
 same_command (Some found) Flat Flat e f = refl
 same_command (Some found) (Check a) Flat (e, h) f = cc
 same_command (Some found) Flat (Check a) f (e, h) = cc

@@ -1,10 +1,11 @@
--- The command lines that the program takes: a table of commands and of their options. What words such a table takes is
--- the grammar of simple commands of `clap`.
-use Rattle.std.specs.Prelude.{◌≡◌, ℕ, ◌≤◌, List, [], ◌∷◌, map, fold, codes, Option, Some, None, true, Result, Ok}
+-- The command lines that the program takes: a table of commands, and of their options and flags. What words such a table
+-- takes is the grammar of simple commands of `clap`.
+use Rattle.std.specs.Prelude.{◌≡◌, ℕ, ◌≤◌, Bool, List, [], ◌∷◌, ◌++◌, map, fold, codes, Option, Some, None, true, false, Result, Ok}
 use Rattle.std.specs.Str.Parse.{ParsesUnsigned}
-use Rattle.clap.specs.Walk.{Row, Rule, Text, first_of}
+use Rattle.clap.specs.Walk.{Row, Rule, Text, first_of, one_of}
 use Rattle.clap.specs.Simple.{App, Shape, new_app, new_rule, on_top, subcommand_of, with_rule, with_subcommand}
 use Rattle.clap.specs.Faults.{fault_of}
+use Rattle.clap.specs.declared.builder.action.ArgAction.TheVariants.{SetTrue}
 use Rattle.clap.specs.declared.builder.value_parser.ValueParser.TheVariants as parser
 use Rattle.command_words.specs.declared.command.Command.{Command}
 use Rattle.command_words.specs.declared.command.Command.TheVariants.{Check, Flat}
@@ -18,10 +19,11 @@ pub record OptionRow : Type 0 where
   pub greatest : ℕ
   pub default : Text
 
--- a row of a command: its word, and its options
+-- a row of a command: its word, its options, and the words of its flags
 pub record CommandRow : Type 0 where
   pub word : Text
   pub options : List OptionRow
+  pub flags : List Text
 
 -- how many tickets a specification may cost
 abbrev pub conflicts_option : OptionRow
@@ -31,13 +33,21 @@ conflicts_option = record { word = codes "conflicts"; least = 0; greatest = 1099
 abbrev pub bound_option : OptionRow
 bound_option = record { word = codes "bound"; least = 0; greatest = 10000; default = codes "30" }
 
+-- up to which level frames are looked at
+abbrev pub frames_option : OptionRow
+frames_option = record { word = codes "frames"; least = 0; greatest = 100000; default = codes "1000" }
+
+-- whether invariants are proved over one pool of lemmas
+abbrev pub together_flag : Text
+together_flag = codes "together"
+
 -- specifications are decided
 abbrev pub check_row : CommandRow
-check_row = record { word = codes "check"; options = conflicts_option ∷ bound_option ∷ [] }
+check_row = record { word = codes "check"; options = conflicts_option ∷ bound_option ∷ frames_option ∷ []; flags = together_flag ∷ [] }
 
 -- slots and items are listed
 abbrev pub flat_row : CommandRow
-flat_row = record { word = codes "flat"; options = [] }
+flat_row = record { word = codes "flat"; options = []; flags = [] }
 
 -- the table
 abbrev pub commands : List CommandRow
@@ -55,9 +65,13 @@ number_rule word least greatest default = record (new_rule word) {
 abbrev pub option_rule : OptionRow → Rule
 option_rule row = number_rule row.word row.least row.greatest row.default
 
--- a command with the rules of its options
+-- `--WORD`, which takes no value
+abbrev pub flag_rule : Text → Rule
+flag_rule word = record (new_rule word) { long = Some word; action = Some SetTrue }
+
+-- a command with the rules of its options and then of its flags
 abbrev pub command_app : CommandRow → App
-command_app row = fold with_rule (new_app row.word) (map option_rule row.options)
+command_app row = fold with_rule (new_app row.word) (map option_rule row.options ++ map flag_rule row.flags)
 
 -- a program that wants a command, and has no help of its own
 abbrev pub bare_program : App
@@ -83,10 +97,21 @@ pub record HasNumber (rows : List Row) (word : Text) (greatest n : ℕ) : Type 0
   pub read : (let number : Result ℕ ℕ = Ok n in ParsesUnsigned 64 10 text number)
   pub within : n ≤ greatest
 
--- the options of `check` have these numbers
+-- how `clap` writes whether a flag is there
+abbrev pub flag_text : Bool → Text
+flag_text true = codes "true"
+flag_text false = codes "false"
+
+-- the flag of this word is on the command line, or is not
+abbrev pub HasFlag : List Row → Text → Bool → Type 0
+HasFlag rows word is_there = one_of word rows ≡ Some (flag_text is_there)
+
+-- the options of `check` have these numbers, and its flag is there or not
 pub record HasEffort (rows : List Row) (effort : Effort) : Type 0 where
   pub conflicts : HasNumber rows conflicts_option.word conflicts_option.greatest effort.conflicts
   pub bound : HasNumber rows bound_option.word bound_option.greatest effort.bound
+  pub frames : HasNumber rows frames_option.word frames_option.greatest effort.frames
+  pub together : HasFlag rows together_flag effort.together
 
 -- the command that was found, with its options, is this one
 abbrev pub Tells : Option (Text × List Row) → Command → Type 0

@@ -14,6 +14,10 @@ pub enum Command {
 pub struct Effort {
     /// How many tickets: one for each query to the solver, and one for each clause that it learns.
     pub conflicts: u64,
-    /// How many steps the runs have at most that are looked for.
+    /// How many steps the lassos have at most that are looked for.
     pub bound: usize,
+    /// The greatest level of the frames at which states that break an invariant are looked for.
+    pub frames: u32,
+    /// Whether all invariants are decided over one pool of lemmas, at the cost of one specification.
+    pub together: bool,
 }

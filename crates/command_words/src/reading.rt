@@ -1,13 +1,13 @@
 //! Reads the words of a command line.
 
-ghost use Rattle.std.specs.Prelude.{◌≡◌, ◌≤◌, ℕ, map, IfOk, IsErrOf};
+ghost use Rattle.std.specs.Prelude.{◌≡◌, ◌≤◌, ℕ, Bool, map, IfOk, IsErrOf};
 ghost use Rattle.clap.specs.Words.{found_of, rows_of, subcommand_rows_of};
 ghost use Rattle.command_words.specs.declared.command.Command.{Command as CommandOf};
 ghost use Rattle.command_words.specs.declared.command.Effort.{Effort as EffortOf};
-ghost use Rattle.command_words.specs.Grammar.{HasEffort, HasNumber, IsCommandLine, Says, Tells, bound_option, conflicts_option};
+ghost use Rattle.command_words.specs.Grammar.{HasEffort, HasFlag, HasNumber, IsCommandLine, Says, Tells, bound_option, conflicts_option, frames_option, together_flag};
 
 use crate::command::{Command, Effort};
-use crate::table::{BOUND, CHECK, CONFLICTS, FLAT, program};
+use crate::table::{BOUND, CHECK, CONFLICTS, FLAT, FRAMES, TOGETHER, program};
 use clap::ArgMatches;
 use clap::error::ErrorKind;
 use std::alloc::Global;
@@ -35,16 +35,27 @@ fn number_of(found: &ArgMatches<'_>, word: &str, greatest: u64) -> u64
     }
 }
 
-// The effort that the options of `check` give.
+// Whether a flag is there.
+fn flag_of(found: &ArgMatches<'_>, word: &str) -> bool
+    requires { (is_there : Bool) × HasFlag (rows_of (found_of found.now)) word.now is_there }
+    ensures { HasFlag (rows_of (found_of found.now)) word.now result }
+{
+    found.get_flag(word)
+}
+
+// The effort that the options and the flag of `check` give.
 fn effort_of(found: &ArgMatches<'_>) -> Effort
     requires { (effort : EffortOf) × HasEffort (rows_of (found_of found.now)) effort }
     ensures { HasEffort (rows_of (found_of found.now)) result }
 {
     let conflicts = number_of(found, CONFLICTS, 1_099_511_627_776);
     let bound = number_of(found, BOUND, 10_000);
+    let frames = number_of(found, FRAMES, 100_000);
     Effort {
         conflicts,
         bound: bound as usize,
+        frames: frames as u32,
+        together: flag_of(found, TOGETHER),
     }
 }
 

@@ -3,10 +3,10 @@
 ghost use Rattle.std.specs.Prelude.{◌≡◌, false, IfOk};
 ghost use Rattle.clap.specs.Words.{app_of, rule_of};
 ghost use Rattle.clap.specs.declared.Command.TheViews.{out-Command};
-ghost use Rattle.command_words.specs.Grammar.{bound_option, check_row, command_app, conflicts_option, flat_row, number_rule, option_rule, program};
+ghost use Rattle.command_words.specs.Grammar.{bound_option, check_row, command_app, conflicts_option, flag_rule, flat_row, frames_option, number_rule, option_rule, program, together_flag};
 
 use clap::builder::ValueParser;
-use clap::{Arg, Command};
+use clap::{Arg, ArgAction, Command};
 use std::alloc::{AllocError, Global};
 
 /// The word of the command that decides specifications.
@@ -18,8 +18,14 @@ pub const FLAT: &str = "flat";
 /// The word of the option that says how many tickets a specification may cost.
 pub const CONFLICTS: &str = "conflicts";
 
-/// The word of the option that says how many steps runs have at most.
+/// The word of the option that says how many steps lassos have at most.
 pub const BOUND: &str = "bound";
+
+/// The word of the option that says up to which level frames are looked at.
+pub const FRAMES: &str = "frames";
+
+/// The word of the flag that has all invariants decided over one pool of lemmas.
+pub const TOGETHER: &str = "together";
 
 // An option that takes a number from `least` to `greatest`.
 fn number_option<'a>(
@@ -52,13 +58,35 @@ fn bound_option<'a>(alloc: Global) -> Arg<'a>
     number_option(alloc, BOUND, 0, 10_000, "30")
 }
 
+fn frames_option<'a>(alloc: Global) -> Arg<'a>
+    ensures rule { rule_of result ≡ option_rule frames_option }
+    ensures local { result.global ≡ false }
+{
+    number_option(alloc, FRAMES, 0, 100_000, "1000")
+}
+
+// A word that is there or is not.
+fn flag<'a>(alloc: Global, word: &'a str) -> Arg<'a>
+    ensures rule { rule_of result ≡ flag_rule word.now }
+    ensures local { result.global ≡ false }
+{
+    Arg::new(alloc, word).long(word).action(ArgAction::SetTrue)
+}
+
 fn check_command<'a>(alloc: Global) -> Result<Command<'a>, AllocError>
     ensures app { IfOk result (λ c. app_of c ≡ command_app check_row) }
     ensures local { IfOk result (λ c. (out-Command c).has_globals ≡ false) }
 {
-    let conflicts = conflicts_option(alloc);
-    let bound = bound_option(alloc);
-    Command::new(alloc, CHECK).arg(conflicts)?.arg(bound)
+    let (conflicts, bound, frames) = (
+        conflicts_option(alloc),
+        bound_option(alloc),
+        frames_option(alloc),
+    );
+    Command::new(alloc, CHECK)
+        .arg(conflicts)?
+        .arg(bound)?
+        .arg(frames)?
+        .arg(flag(alloc, TOGETHER))
 }
 
 fn flat_command<'a>(alloc: Global) -> Command<'a>

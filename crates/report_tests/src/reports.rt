@@ -57,7 +57,7 @@ const BROKEN: &str =
 
 const SPENT: &str = "-- spec 1 INVARSPEC is unknown: conflicts 0 of 0\n";
 
-const SHORT: &str = "-- spec 1 INVARSPEC is unknown: bound 0\n";
+const OPEN: &str = "-- spec 1 INVARSPEC is unknown: frames 0\n";
 
 const LISTED: &str =
     "-- slot 0 state x : boolean\n-- item 0 init at 3:8 of main\n-- item 1 next at 3:26 of main\n";
@@ -113,12 +113,39 @@ fn first_wrong<R: Threads + Wait + Sync>(
 const TWO: &str =
     "MODULE main\nVAR a : boolean; b : boolean;\nASSIGN init(a) := FALSE; init(b) := FALSE; next(a) := b; next(b) := FALSE;\nINVARSPEC !a\n";
 
-const CASES: [Case; 47] = [
+const BOTH: &str =
+    "MODULE main\nVAR x : boolean;\nASSIGN init(x) := FALSE; next(x) := !x;\nINVARSPEC !x\nINVARSPEC x | !x\n";
+
+const BOTH_JUDGED: &str =
+    "-- spec 1 INVARSPEC is false\n--@ spec 1\n--@ state 0: x = FALSE\n--@ state 1: x = TRUE\n-- spec 2 INVARSPEC is true\n";
+
+const BOTH_SPENT: &str =
+    "-- spec 1 INVARSPEC is unknown: conflicts 0 of 0\n-- spec 2 INVARSPEC is unknown: conflicts 0 of 0\n";
+
+const CASES: [Case; 65] = [
     // Command lines.
     ("check", STANDING, TRUE, 0),
     ("check", TOGGLING, BROKEN, 1),
     ("check --conflicts 0", TOGGLING, SPENT, 2),
-    ("check --bound=0", TOGGLING, SHORT, 2),
+    ("check --bound=0", TOGGLING, BROKEN, 1),
+    ("check --frames=0", TOGGLING, OPEN, 2),
+    ("check --frames 1", TOGGLING, BROKEN, 1),
+    ("check --frames 100000", STANDING, TRUE, 0),
+    ("check --frames 100001", STANDING, USAGE, 4),
+    ("check --frames", STANDING, USAGE, 4),
+    ("check --frames=1 --frames=1", STANDING, USAGE, 4),
+    ("check --together", TOGGLING, BROKEN, 1),
+    (
+        "check --together --frames 3 --bound 2 --conflicts 100",
+        STANDING,
+        TRUE,
+        0,
+    ),
+    ("check --together --together", STANDING, USAGE, 4),
+    ("check --together=true", STANDING, USAGE, 4),
+    ("check --together true", STANDING, USAGE, 4),
+    ("check together", STANDING, USAGE, 4),
+    ("flat --together", STANDING, USAGE, 4),
     ("check --bound 1 --conflicts=+100", TOGGLING, BROKEN, 1),
     ("", STANDING, USAGE, 4),
     ("check check", STANDING, USAGE, 4),
@@ -166,24 +193,15 @@ const CASES: [Case; 47] = [
     ("flat x", STANDING, USAGE, 4),
     // Verdicts.
     // a is TRUE in no state that is reached, and one step from where b is TRUE would break it.
-    (
-        "check",
-        TWO,
-        "-- spec 1 INVARSPEC is unknown: bound 30\n",
-        2,
-    ),
-    (
-        "check --bound 0",
-        TWO,
-        "-- spec 1 INVARSPEC is unknown: bound 0\n",
-        2,
-    ),
-    (
-        "check --bound 1",
-        TWO,
-        "-- spec 1 INVARSPEC is unknown: bound 1\n",
-        2,
-    ),
+    ("check", TWO, TRUE, 0),
+    ("check --frames 0", TWO, OPEN, 2),
+    ("check --frames 0 --conflicts 0", TWO, SPENT, 2),
+    // Invariants apart and together: with no ticket nothing is known of either.
+    ("check", BOTH, BOTH_JUDGED, 1),
+    ("check --together", BOTH, BOTH_JUDGED, 1),
+    ("check --conflicts 0", BOTH, BOTH_SPENT, 2),
+    ("check --together --conflicts 0", BOTH, BOTH_SPENT, 2),
+    ("check --together", "MODULE main\nVAR x : boolean;\n", "", 0),
     // There is no first state.
     (
         "check",

@@ -6,37 +6,26 @@ use Rattle.std.specs.Prelude.{if◌then◌else◌}
 use Rattle.std.specs.declared.option.Option.{Option}
 use Rattle.std.specs.List.{flat_map}
 use Rattle.std.proofs.Math.Seq.{take-append-add}
-use Rattle.std.proofs.KnownBytes.{Appends-trans}
+use Rattle.std.proofs.KnownBytes.{Appends-nil, Appends-trans}
 use Rattle.std.specs.Io.KnownBytes.{Appends}
 use Rattle.command_words.specs.declared.command.Effort.{Effort}
-use Rattle.effort_purse.specs.declared.plain.PlainPurse.{PlainPurse}
-use Rattle.effort_purse.specs.Plain.{plain_budget, plain_spent}
 use Rattle.smv_tree.specs.declared.tree.Program.{Program}
 use Rattle.smv_tree.specs.declared.tree.SpecificationKind.{SpecificationKind}
 use Rattle.smv_resolve.specs.declared.item.ItemKind.{ItemKind}
 use Rattle.smv_resolve.specs.declared.item.ItemKind.TheVariants as item
 use Rattle.smv_resolve.specs.Items.{ResolvedItem}
 use Rattle.smv_meaning.specs.Runs.{is_claim}
-use Rattle.invariant_queries.specs.Deciding.{IsCause}
 use Rattle.smv_cli.specs.declared.record.Verdict.{Verdict}
 use Rattle.smv_cli.specs.declared.record.Verdict.TheVariants.{True, False, Unknown}
 use Rattle.smv_cli.specs.declared.record.Record.{Record}
 use Rattle.smv_cli.specs.Streams.{AppendsFront}
 use Rattle.smv_cli.specs.Records.{IsRight, RightFrom, is_false, is_unknown, status_of}
 use Rattle.smv_cli.specs.Texts.{record_text}
-use Rattle.smv_cli.specs.Written.{IsVerdict, Recorded, RecordedPart, status_with}
+use Rattle.smv_cli.specs.Written.{Recorded, RecordedPart, status_with}
 
 -- a right record of the specification of this number
 abbrev pub IsRecordOf : Program → Effort → ℕ → ResolvedItem → Record → Type 0
 IsRecordOf p effort number spec r = (r.number ≡ number) × (spec.kind ≡ item.Specification r.kind) × IsRight p effort spec r.verdict
-
--- what a purse of the effort's budget paid for is right
-pub paid : (p : Program) (effort : Effort) (spec : ResolvedItem) (fresh used : PlainPurse) (v : Verdict) → plain_budget fresh ≡ effort.conflicts → plain_budget used ≡ plain_budget fresh
-    → IsVerdict p spec (plain_budget fresh) effort.bound (plain_spent used) v → IsRight p effort spec v
-paid p effort spec fresh used True made same right = right
-paid p effort spec fresh used (False trace) made same right = right
-paid p effort spec fresh used (Unknown cause) made same right =
-    (used, same ∙ made, subst (λ (budget : ℕ). IsCause p spec budget effort.bound (plain_spent used) cause) made right)
 
 -- what is a claim is a specification
 pub claimed : (kind : ItemKind) → is_claim kind ≡ true → (k : SpecificationKind) × (kind ≡ item.Specification k)
@@ -121,6 +110,10 @@ module _ (p : Program) (effort : Effort) (specs : List ResolvedItem) (i : ℕ) w
     right = right-whole so_far.records so_far.right;
     took = AppendsFront-whole old new (flat_map record_text so_far.records) so_far.took;
   }
+
+-- nothing is written
+pub RecordedPart-none : (p : Program) (effort : Effort) (specs : List ResolvedItem) (old : Option (List ℕ)) → RecordedPart p effort specs old old
+RecordedPart-none p effort specs old = record { records = []; right = tt; took = (0, Appends-nil old) }
 
 pub RecordedPart-push : (p : Program) (effort : Effort) (specs : List ResolvedItem) (i : ℕ) (spec : ResolvedItem) (r : Record) (old mid new : Option (List ℕ)) (status : ℕ) → i < length specs
     → IsRecordOf p effort (i + 1) (get_or specs i spec) r → Recorded p effort (take i specs) old mid status → AppendsFront mid new (record_text r)

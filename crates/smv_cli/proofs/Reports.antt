@@ -15,7 +15,7 @@ use Rattle.smv_tree.specs.declared.refusal.Refusal.{Refusal}
 use Rattle.smv_tree.specs.declared.tree.Program.{Program}
 use Rattle.smv_tree.specs.Texts.{refusal_text}
 use Rattle.smv_text.specs.Texts.{IsBrokenAt, IsBrokenFirst}
-use Rattle.smv_front.specs.Sources.{IsModel, IsRefusedBy, in_text, in_grammar, in_types, in_assignments}
+use Rattle.smv_front.specs.Sources.{IsModel, IsRefusedBy, in_text, in_grammar, in_types, in_assignments, in_bits}
 use Rattle.smv_meaning.specs.Runs.{specifications_of}
 use Rattle.smv_cli.specs.declared.record.Record.{Record}
 use Rattle.smv_cli.specs.Streams.{AppendsFront, ReadsFirst}
@@ -89,6 +89,7 @@ refused-whole text all r e (in_text h) = in_text (record { broken = flawed-whole
 refused-whole text all r e (in_grammar tokens t h) = same_bytes (λ b. IsRefusedBy b r) text all e t.0 (in_grammar tokens t h)
 refused-whole text all r e (in_types tokens p s h) = same_bytes (λ b. IsRefusedBy b r) text all e s.text.0 (in_types tokens p s h)
 refused-whole text all r e (in_assignments tokens p s n h) = same_bytes (λ b. IsRefusedBy b r) text all e s.text.0 (in_assignments tokens p s n h)
+refused-whole text all r e (in_bits tokens p s n a w h) = same_bytes (λ b. IsRefusedBy b r) text all e s.text.0 (in_bits tokens p s n a w h)
 
 -- what the source held, as far as it tells, else what was read
 unfoldable held : Option (List ℕ) → List ℕ → List ℕ

@@ -2,11 +2,17 @@
 use Rattle.std.specs.Prelude.{ℕ, List, ◌++◌, codes}
 use Rattle.std.specs.Fmt.{decimal}
 use Rattle.smv_tree.specs.Texts.{kind_text, line_end}
-use Rattle.invariant_queries.specs.Texts.{cause_text}
+use Rattle.prove_run.specs.declared.answers.Cause.{Cause}
+use Rattle.prove_run.specs.declared.answers.Cause.TheVariants.{Conflicts, Frames}
 use Rattle.trace_replay.specs.Lines.{trace_text}
 use Rattle.smv_cli.specs.declared.record.Verdict.{Verdict}
 use Rattle.smv_cli.specs.declared.record.Verdict.TheVariants.{True, False, Unknown}
 use Rattle.smv_cli.specs.declared.record.Record.{Record}
+
+-- what follows `unknown: `
+abbrev pub cause_text : Cause → List ℕ
+cause_text (Conflicts drawn budget) = codes "conflicts " ++ decimal drawn ++ codes " of " ++ decimal budget
+cause_text (Frames frames) = codes "frames " ++ decimal frames
 
 -- what follows `-- spec I KIND is `
 abbrev pub verdict_text : ℕ → Verdict → List ℕ

@@ -1,26 +1,66 @@
 -- What the calls below the top call have written.
-use Rattle.std.specs.Prelude.{◌≡◌, ℕ, ◌==◌, Bool, if◌then◌else◌, List, length, Option, Some}
+use Rattle.std.specs.Prelude.{◌≡◌, ⊤, ℕ, ◌≤◌, ◌==◌, true, false, if◌then◌else◌, List, length, Option, None, Some}
 use Rattle.std.specs.List.{flat_map}
 use Rattle.std.specs.Io.KnownBytes.{Appends}
 use Rattle.command_words.specs.declared.command.Command.{Command}
+use Rattle.clause_core.specs.Systems.{TransitionSystem}
+use Rattle.command_words.specs.declared.command.Command.TheVariants.{Check, Flat}
 use Rattle.command_words.specs.declared.command.Effort.{Effort}
+use Rattle.command_words.specs.Grammar.{frames_option}
 use Rattle.smv_tree.specs.declared.tree.Program.{Program}
-use Rattle.smv_resolve.specs.Items.{ResolvedItem}
-use Rattle.invariant_queries.specs.Deciding.{IsCause, IsUnbroken}
-use Rattle.trace_replay.specs.Tests.{ShowsBroken}
+use Rattle.smv_resolve.specs.declared.item.Item.{Item}
+use Rattle.smv_resolve.specs.Items.{ResolvedItem, item_by}
+use Rattle.smv_meaning.specs.Runs.{specifications_of}
+use Rattle.frame_core.specs.Runs.{IsBadRun}
+use Rattle.bit_system.specs.Building.{IsBuilt}
+use Rattle.bit_runs.specs.Running.{IsUnbroken}
+use Rattle.prove_run.specs.declared.answers.Answer.{Answer}
+use Rattle.prove_run.specs.declared.answers.Answer.TheVariants as answer
+use Rattle.prove_run.specs.declared.answers.Done.{Done}
+use Rattle.prove_run.specs.Answers.{IsDone}
+use Rattle.smv_cli.specs.declared.checking.Checking.{Checking}
 use Rattle.smv_cli.specs.declared.record.Verdict.{Verdict}
 use Rattle.smv_cli.specs.declared.record.Verdict.TheVariants.{True, False, Unknown}
 use Rattle.smv_cli.specs.declared.record.Record.{Record}
-use Rattle.smv_cli.specs.Records.{RightFrom, status_of}
+use Rattle.smv_cli.specs.Records.{IsLeftOpen, RightFrom, invariants_of, prover_effort, status_of}
 use Rattle.smv_cli.specs.Report.{CommandStage}
 use Rattle.smv_cli.specs.Streams.{AppendsFront}
 use Rattle.smv_cli.specs.Texts.{record_text}
 
--- what is said of a specification is right, where a purse of this budget paid and was spent or not
-abbrev pub IsVerdict : Program → ResolvedItem → ℕ → ℕ → Bool → Verdict → Type 0
-IsVerdict p spec budget bound over True = IsUnbroken p spec
-IsVerdict p spec budget bound over (False trace) = ShowsBroken p spec trace
-IsVerdict p spec budget bound over (Unknown cause) = IsCause p spec budget bound over cause
+-- what was answered of a specification, whose system this is, is right
+abbrev pub IsAnswered : Program → Effort → TransitionSystem → ResolvedItem → Answer → Type 0
+IsAnswered p effort sys spec (answer.True proof) = IsUnbroken p spec
+IsAnswered p effort sys spec (answer.False run) = IsBadRun sys run
+IsAnswered p effort sys spec (answer.Unknown cause) = IsLeftOpen p effort spec cause
+
+-- what was done for all specifications at once, where the effort says so: they are INVARSPECs, and there is a right answer for
+-- each of their systems
+abbrev pub IsAskedBefore : Program → List TransitionSystem → Effort → Option Done → Type 0
+IsAskedBefore p systems effort None = effort.together ≡ false
+IsAskedBefore p systems effort (Some done) =
+    (effort.together ≡ true) × (invariants_of p ≡ specifications_of p) × IsDone systems (prover_effort effort) done.work.history.items done.answers.items
+
+-- the greatest level that the words of a command line can say
+abbrev pub IsInRange : Effort → Type 0
+IsInRange effort = effort.frames ≤ frames_option.greatest
+
+-- and so for the effort of a command
+abbrev pub IsCommandInRange : Command → Type 0
+IsCommandInRange (Check effort) = IsInRange effort
+IsCommandInRange Flat = ⊤
+
+-- the program of a model that is checked
+abbrev pub program_in : Checking → Program
+program_in model = model.flat.typed.scope.program
+
+-- an item of it
+abbrev pub item_in : Checking → Item → ResolvedItem
+item_in model spec = item_by model.flat.typed.nodes spec
+
+-- the systems are those of the program, and the effort is one that words can say
+pub record IsReady (model : Checking) : Type 0 where
+  pub built : IsBuilt (program_in model) model.built
+  pub range : IsInRange model.effort
 
 -- the status after one more verdict
 abbrev pub status_with : ℕ → Verdict → ℕ

@@ -1,47 +1,106 @@
-//! What is said of a specification: it is decided by queries to a solver, and a run that breaks it is replayed.
+//! What is said of a specification: its system is proved to reach no bad state, or a run that breaks it is replayed.
 
-ghost use Rattle.std.specs.Prelude.{◌≡◌, ◌<◌, Contains, IfOk, Some};
+ghost use Rattle.std.specs.Prelude.{◌≡◌, ◌<◌, ◌-◌, All, IfOk, Some, false, length, map, slice_get, true};
 ghost use Rattle.smv_resolve.specs.Items.{item_by};
 ghost use Rattle.smv_resolve.specs.declared.item.ItemKind.TheVariants as item;
-ghost use Rattle.smv_tree.specs.declared.tree.SpecificationKind.TheVariants as claim;
 ghost use Rattle.smv_meaning.specs.Runs.{Breaks, specifications_of};
 ghost use Rattle.trace_replay.specs.Tests.{ShowsBroken, specification_at};
-ghost use Rattle.smv_cli.specs.Records.{IsRight};
-ghost use Rattle.smv_cli.specs.Written.{IsVerdict};
+ghost use Rattle.bit_system.specs.Building.{system_of};
+ghost use Rattle.smv_cli.specs.Records.{IsRight, is_invariant, prover_effort};
+ghost use Rattle.smv_cli.specs.Written.{IsAnswered, IsAskedBefore, IsReady, item_in, program_in};
 
+use crate::checking::Checking;
 use crate::record::{Record, Verdict};
+use bit_runs::{run_of, what_is_built_is_alike};
 use command_words::Effort;
-use effort_purse::{PlainPurse, Purse};
-use invariant_queries::{Decision, decide};
+use prove_run::{Answer, Done, prove_all, prove_invariant};
 use smv_meaning::{Inputs, State, Typed};
-use smv_resolve::Item;
+use smv_resolve::{Item, ItemKind};
 use smv_tree::SpecificationKind;
 use std::alloc::{AllocError, Global};
 use trace_replay::{Replayed, Trace, replay};
 
-/// The record of the specification of this number, as far as a purse of this effort pays and runs of so many steps show.
+// How much the prover may do.
+fn prover_effort(effort: &Effort) -> prove_run::Effort
+    ensures { result ≡ prover_effort effort.now }
+{
+    prove_run::Effort {
+        conflicts: effort.conflicts,
+        frames: effort.frames,
+    }
+}
+
+fn is_invariant(kind: ItemKind) -> bool
+    ensures { result ≡ is_invariant kind }
+{
+    match kind {
+        ItemKind::Specification(SpecificationKind::Invariant) => true,
+        ItemKind::Specification(SpecificationKind::Temporal) => false,
+        ItemKind::Constraint(_) | ItemKind::Assignment(_) => false,
+    }
+}
+
+fn are_invariants(specs: &[Item]) -> bool
+    ensures { result ≡ true → All (λ spec. is_invariant spec.kind ≡ true) specs.now }
+{
+    for spec in specs {
+        if !is_invariant(spec.kind) {
+            return false;
+        }
+    }
+    true
+}
+
+/// What is answered of all specifications at once, where the effort says so.
+pub fn ask_together(
+    alloc: Global,
+    model: &Checking,
+    specs: &[Item],
+) -> Result<Option<Done>, AllocError>
+    requires ready { IsReady model.now }
+    requires listed { map (item_in model.now) specs.now ≡ specifications_of (program_in model.now) }
+    ensures { IfOk result (IsAskedBefore (program_in model.now) model.now.built.systems model.now.effort) }
+{
+    if !model.effort.together {
+        return Ok(None);
+    }
+    // No text has another specification as long as its words go beyond the language.
+    if !are_invariants(specs) {
+        return Err(AllocError);
+    }
+    what_is_built_is_alike();
+    let done = prove_all(alloc, model.built.systems(), &prover_effort(&model.effort))?;
+    Ok(Some(done))
+}
+
+/// The record of the specification of this number, by what was answered of all at once, or else by an answer of its own.
 pub fn judge(
     alloc: Global,
-    typed: &Typed,
+    model: &Checking,
     number: usize,
     kind: SpecificationKind,
     spec: &Item,
-    effort: &Effort,
+    together: &Option<Done>,
 ) -> Result<Record, AllocError>
-    requires claim { Contains (specifications_of typed.now.scope.program) (item_by typed.now.nodes spec.now) }
-    requires kind { spec.now.kind ≡ item.Specification kind }
+    requires ready { IsReady model.now }
     requires first { 0 < number }
-    requires numbered { specification_at typed.now.scope.program number ≡ Some (item_by typed.now.nodes spec.now) }
+    requires numbered { specification_at (program_in model.now) number ≡ Some (item_in model.now spec.now) }
+    requires together { IsAskedBefore (program_in model.now) model.now.built.systems model.now.effort together.now }
     ensures number { IfOk result (λ r. r.number ≡ number) }
     ensures kind { IfOk result (λ r. r.kind ≡ kind) }
-    ensures right { IfOk result (λ r. IsRight typed.now.scope.program effort.now (item_by typed.now.nodes spec.now) r.verdict) }
+    ensures right { IfOk result (λ r. IsRight (program_in model.now) model.now.effort (item_in model.now spec.now) r.verdict) }
 {
     // No text has such a specification as long as its words go beyond the language.
     if kind == SpecificationKind::Temporal {
         return Err(AllocError);
     }
-    let mut purse = PlainPurse::new(effort.conflicts);
-    let verdict = verdict_of(alloc, typed, number, spec, effort.bound, &mut purse)?;
+    let verdict = match together {
+        Some(done) => {
+            let answer = answer_at(&done.answers, number - 1);
+            verdict_of(alloc, model, number, spec, answer)?
+        }
+        None => judge_alone(alloc, model, number, spec)?,
+    };
     Ok(Record {
         number,
         kind,
@@ -49,32 +108,56 @@ pub fn judge(
     })
 }
 
-// What is said of a specification, as far as this purse pays and runs of so many steps show.
-fn verdict_of<Q: Purse>(
+// What was answered of the system of this number.
+fn answer_at(answers: &[Answer], number: usize) -> &Answer
+    requires { number < length answers.now }
+    ensures { slice_get answers.now number ≡ Some result.now }
+{
+    &answers[number]
+}
+
+// What is said of a specification that is asked alone.
+fn judge_alone(
     alloc: Global,
-    typed: &Typed,
+    model: &Checking,
     number: usize,
     spec: &Item,
-    bound: usize,
-    purse: &mut Q,
 ) -> Result<Verdict, AllocError>
-    requires claim { Contains (specifications_of typed.now.scope.program) (item_by typed.now.nodes spec.now) }
-    requires invariant { spec.now.kind ≡ item.Specification claim.Invariant }
+    requires ready { IsReady model.now }
+    requires alone { model.now.effort.together ≡ false }
     requires first { 0 < number }
-    requires numbered { specification_at typed.now.scope.program number ≡ Some (item_by typed.now.nodes spec.now) }
-    requires ready { Q.ready purse.old }
-    ensures right { IfOk result (IsVerdict typed.now.scope.program (item_by typed.now.nodes spec.now) (Q.budget purse.old) bound (Q.spent purse.new)) }
-    ensures ready { Q.ready purse.new }
-    ensures budget { Q.budget purse.new ≡ Q.budget purse.old }
+    requires numbered { specification_at (program_in model.now) number ≡ Some (item_in model.now spec.now) }
+    ensures { IfOk result (IsRight (program_in model.now) model.now.effort (item_in model.now spec.now)) }
 {
-    match decide(alloc, typed, spec, bound, purse)? {
-        Decision::True => Ok(Verdict::True),
-        Decision::False { states, inputs } => {
-            let (states, inputs) = (states.as_slice(), inputs.as_slice());
-            let trace = replayed(alloc, typed, number, spec, states, inputs)?;
+    let system = model.built.system_of(number - 1);
+    let done = prove_invariant(alloc, system, &prover_effort(&model.effort))?;
+    let answer = answer_at(&done.answers, 0);
+    verdict_of(alloc, model, number, spec, answer)
+}
+
+// What is said of a specification of whose system this was answered.
+fn verdict_of(
+    alloc: Global,
+    model: &Checking,
+    number: usize,
+    spec: &Item,
+    answer: &Answer,
+) -> Result<Verdict, AllocError>
+    requires ready { IsReady model.now }
+    requires first { 0 < number }
+    requires numbered { specification_at (program_in model.now) number ≡ Some (item_in model.now spec.now) }
+    requires answered { IsAnswered (program_in model.now) model.now.effort (system_of model.now.built (number - 1)) (item_in model.now spec.now) answer.now }
+    ensures { IfOk result (IsRight (program_in model.now) model.now.effort (item_in model.now spec.now)) }
+{
+    match answer {
+        Answer::True(_) => Ok(Verdict::True),
+        Answer::False(run) => {
+            let run = run_of(alloc, &model.built, run)?;
+            let (states, inputs) = (run.states.as_slice(), run.inputs.as_slice());
+            let trace = replayed(alloc, &model.flat.typed, number, spec, states, inputs)?;
             Ok(Verdict::False(trace))
         }
-        Decision::Unknown(cause) => Ok(Verdict::Unknown(cause)),
+        Answer::Unknown(cause) => Ok(Verdict::Unknown(*cause)),
     }
 }
 

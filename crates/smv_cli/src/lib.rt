@@ -1,6 +1,7 @@
 //! The command `smvcheck`: its words, its reading of a model, its report and its status.
 #![tactic(auto)]
 
+mod checking;
 mod judging;
 mod listing;
 mod print;

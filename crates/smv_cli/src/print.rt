@@ -2,17 +2,16 @@
 ghost use Rattle.std.specs.Prelude.{◌≡◌, ◌≤◌, true, map, All, IfSome, IfOk, OnOk, IsErrOf};
 ghost use Rattle.std.specs.Io.KnownBytes.{Appends};
 ghost use Rattle.outside.specs.Causes.{Rose};
-ghost use Rattle.smv_resolve.specs.Items.{item_by};
 ghost use Rattle.smv_meaning.specs.Runs.{is_claim, specifications_of};
 ghost use Rattle.smv_cli.specs.Streams.{AppendsFront};
-ghost use Rattle.smv_cli.specs.Written.{Recorded, RecordedPart, status_with};
+ghost use Rattle.smv_cli.specs.Written.{IsAskedBefore, IsReady, Recorded, RecordedPart, item_in, program_in, status_with};
 
+use crate::checking::Checking;
 use crate::judging::judge;
 use crate::record::Verdict;
 use crate::streams::write_all;
-use command_words::Effort;
 use outside::{Sink, Stop};
-use smv_meaning::Typed;
+use prove_run::Done;
 use smv_resolve::{Item, ItemKind};
 use std::alloc::Global;
 use std::fmt;
@@ -44,20 +43,22 @@ fn status_with(status: u8, verdict: &Verdict) -> u8
     }
 }
 
-/// Writes the record of each specification of a program, one by one, each when it is made. The answer is 1 where one
-/// is false, else 2 where one is unknown, else 0.
+/// Writes the record of each specification of a program, one by one, each when it is made: by what was answered of all at once,
+/// or else by an answer of its own. The answer is 1 where one is false, else 2 where one is unknown, else 0.
 pub fn put_records<K: Sink>(
     alloc: Global,
     sink: &mut K,
-    typed: &Typed,
+    model: &Checking,
     specs: &[Item],
-    effort: &Effort,
+    together: &Option<Done>,
 ) -> Result<u8, Stop>
+    requires ready { IsReady model.now }
     requires claims { All (λ spec. is_claim spec.kind ≡ true) specs.now }
-    requires listed { map (item_by typed.now.nodes) specs.now ≡ specifications_of typed.now.scope.program }
-    ensures ok { IfOk result (λ status. Recorded typed.now.scope.program effort.now (map (item_by typed.now.nodes) specs.now) (K.taken sink.old) (K.taken sink.new) status) }
+    requires listed { map (item_in model.now) specs.now ≡ specifications_of (program_in model.now) }
+    requires together { IsAskedBefore (program_in model.now) model.now.built.systems model.now.effort together.now }
+    ensures ok { IfOk result (λ status. Recorded (program_in model.now) model.now.effort (map (item_in model.now) specs.now) (K.taken sink.old) (K.taken sink.new) status) }
     ensures small { IfOk result (λ status. status ≤ 2) }
-    ensures part { RecordedPart typed.now.scope.program effort.now (map (item_by typed.now.nodes) specs.now) (K.taken sink.old) (K.taken sink.new) }
+    ensures part { RecordedPart (program_in model.now) model.now.effort (map (item_in model.now) specs.now) (K.taken sink.old) (K.taken sink.new) }
     ensures kept { OnOk result (K.faults sink.new ≡ K.faults sink.old) }
     ensures failed { IsErrOf result Stop.Failed → Rose (K.faults sink.old) (K.faults sink.new) }
     ensures no_memory { IsErrOf result Stop.NoMemory → K.faults sink.new ≡ K.faults sink.old }
@@ -67,7 +68,7 @@ pub fn put_records<K: Sink>(
         let ItemKind::Specification(kind) = spec.kind else {
             unreachable!()
         };
-        let Ok(made) = judge(alloc, typed, i + 1, kind, spec, effort) else {
+        let Ok(made) = judge(alloc, model, i + 1, kind, spec, together) else {
             return Err(Stop::NoMemory);
         };
         put(alloc, sink, &made)?;

@@ -3,7 +3,7 @@
 ghost use Rattle.std.specs.Prelude.{Some};
 ghost use Rattle.smv_cli.specs.Texts.{record_text};
 
-use invariant_queries::Cause;
+use prove_run::Cause;
 use smv_tree::SpecificationKind;
 use std::fmt;
 use trace_replay::{Trace, TraceLines};
@@ -39,7 +39,10 @@ impl fmt::Display for Record {
                 let lines = TraceLines { number, trace };
                 write!(f, "false\n{lines}")
             }
-            Verdict::Unknown(cause) => writeln!(f, "unknown: {cause}"),
+            Verdict::Unknown(Cause::Conflicts { drawn, budget }) => {
+                writeln!(f, "unknown: conflicts {drawn} of {budget}")
+            }
+            Verdict::Unknown(Cause::Frames { frames }) => writeln!(f, "unknown: frames {frames}"),
         }
     }
 }

@@ -9,15 +9,16 @@ ghost use Rattle.smv_cli.specs.Listing.{listing_text};
 ghost use Rattle.smv_cli.specs.Report.{Answered, Begun, CommandStage, IsSomeModel, Stage};
 ghost use Rattle.smv_cli.specs.Streams.{AppendsFront};
 ghost use Rattle.smv_cli.specs.Texts.{usage_text};
-ghost use Rattle.smv_cli.specs.Written.{CommandDone, CommandPart, Recorded, RecordedPart};
+ghost use Rattle.smv_cli.specs.Written.{CommandDone, CommandPart, IsCommandInRange, IsInRange, IsReady, Recorded, RecordedPart, program_in};
 
+use crate::checking::{Checking, begin};
+use crate::judging::ask_together;
 use crate::listing::listing;
 use crate::print::{put, put_records};
 use crate::streams::{SourceStop, read_all, write_all};
 use command_words::{Command, Effort, WordsStop, read_words};
-use effort_purse::PlainPurse;
 use outside::{Gate, OpenGate, Sink, Source, Stop, SureSink, SureSource};
-use smv_front::{prepare, read_model};
+use smv_front::read_model;
 use smv_meaning::{Typed, specifications};
 use smv_tree::{Refusal, TextStop};
 use std::alloc::Global;
@@ -42,23 +43,22 @@ fn refuse<K: Sink>(alloc: Global, sink: &mut K, refusal: &Refusal) -> Result<u8,
 }
 
 // Writes the records of a model.
-fn report_model<K: Sink>(
-    alloc: Global,
-    sink: &mut K,
-    typed: &Typed,
-    effort: &Effort,
-) -> Result<u8, Stop>
-    ensures ok { IfOk result (λ status. Recorded typed.now.scope.program effort.now (specifications_of typed.now.scope.program) (K.taken sink.old) (K.taken sink.new) status) }
+fn report_model<K: Sink>(alloc: Global, sink: &mut K, model: &Checking) -> Result<u8, Stop>
+    requires ready { IsReady model.now }
+    ensures ok { IfOk result (λ status. Recorded (program_in model.now) model.now.effort (specifications_of (program_in model.now)) (K.taken sink.old) (K.taken sink.new) status) }
     ensures small { IfOk result (λ status. status ≤ 2) }
-    ensures part { RecordedPart typed.now.scope.program effort.now (specifications_of typed.now.scope.program) (K.taken sink.old) (K.taken sink.new) }
+    ensures part { RecordedPart (program_in model.now) model.now.effort (specifications_of (program_in model.now)) (K.taken sink.old) (K.taken sink.new) }
     ensures kept { OnOk result (K.faults sink.new ≡ K.faults sink.old) }
     ensures failed { IsErrOf result Stop.Failed → Rose (K.faults sink.old) (K.faults sink.new) }
     ensures no_memory { IsErrOf result Stop.NoMemory → K.faults sink.new ≡ K.faults sink.old }
 {
-    let Ok(specs) = specifications(alloc, typed) else {
+    let Ok(specs) = specifications(alloc, &model.flat.typed) else {
         return Err(Stop::NoMemory);
     };
-    put_records(alloc, sink, typed, specs.as_slice(), effort)
+    let Ok(together) = ask_together(alloc, model, specs.as_slice()) else {
+        return Err(Stop::NoMemory);
+    };
+    put_records(alloc, sink, model, specs.as_slice(), &together)
 }
 
 // Writes the slots and items of a model, with status 0.
@@ -78,6 +78,7 @@ fn report_listing<K: Sink>(alloc: Global, sink: &mut K, typed: &Typed) -> Result
 
 // Decides the specifications of the model that a text is.
 fn check<K: Sink>(alloc: Global, sink: &mut K, text: &[u8], effort: &Effort) -> Result<u8, Stop>
+    requires range { IsInRange effort.now }
     ensures ok { IfOk result (λ status. CommandDone (Command.Check effort.now) text.now (K.taken sink.old) (K.taken sink.new) status) }
     ensures small { IfOk result (λ status. status ≤ 3) }
     ensures part { CommandPart (Command.Check effort.now) text.now (K.taken sink.old) (K.taken sink.new) }
@@ -85,9 +86,8 @@ fn check<K: Sink>(alloc: Global, sink: &mut K, text: &[u8], effort: &Effort) -> 
     ensures failed { IsErrOf result Stop.Failed → Rose (K.faults sink.old) (K.faults sink.new) }
     ensures no_memory { IsErrOf result Stop.NoMemory → K.faults sink.new ≡ K.faults sink.old }
 {
-    let mut purse = PlainPurse::new(effort.conflicts);
-    match prepare(alloc, text, &mut purse) {
-        Ok(flat) => report_model(alloc, sink, &flat.typed, effort),
+    match begin(alloc, text, effort) {
+        Ok(model) => report_model(alloc, sink, &model),
         Err(TextStop::Refused(refusal)) => refuse(alloc, sink, &refusal),
         Err(TextStop::NoMemory) => Err(Stop::NoMemory),
     }
@@ -111,6 +111,7 @@ fn list<K: Sink>(alloc: Global, sink: &mut K, text: &[u8]) -> Result<u8, Stop>
 
 // Reports on a text what the command asks for, and gives the status.
 fn report<K: Sink>(alloc: Global, sink: &mut K, text: &[u8], command: &Command) -> Result<u8, Stop>
+    requires range { IsCommandInRange command.now }
     ensures ok { IfOk result (λ status. CommandDone command.now text.now (K.taken sink.old) (K.taken sink.new) status) }
     ensures small { IfOk result (λ status. status ≤ 3) }
     ensures part { CommandPart command.now text.now (K.taken sink.old) (K.taken sink.new) }
@@ -126,6 +127,7 @@ fn report<K: Sink>(alloc: Global, sink: &mut K, text: &[u8], command: &Command) 
 
 // Reads a model, and reports what the command asks for.
 fn answer<S: Source, K: Sink>(alloc: Global, source: &mut S, sink: &mut K, command: &Command) -> u8
+    requires range { IsCommandInRange command.now }
     ensures answered { result ≤ 4 → Answered (CommandStage command.now) (S.left source.old) (K.taken sink.old) (K.taken sink.new) result }
     ensures begun { 4 < result → Begun (CommandStage command.now) (S.left source.old) (K.taken sink.old) (K.taken sink.new) }
     ensures named { (result ≢ 4) × (result ≤ 7) }
@@ -191,6 +193,11 @@ fn perform<'a, S: Source, K: Sink>(
 }
 
 /// Does what the words of the command line say, and answers the status.
+///
+/// `check` decides each INVARSPEC by IC3 (Bradley 2011; Een, Mishchenko and Brayton 2011): by lemmas that are an inductive
+/// invariant, or by a run that is replayed before it is printed. Each has the whole effort of the words to itself, and its
+/// record is written as soon as it is made; with `--together` all share one pool of lemmas and one effort, and are decided
+/// before the first record. The time is that of as many solver queries and learned clauses as the effort has tickets.
 ///
 /// No worker runs yet, so the gate is entered by none: a gate that holds its workers holds no run.
 pub fn run<'a, R: Threads + Wait + Sync, S: Source, K: Sink, G: Gate + Sync>(

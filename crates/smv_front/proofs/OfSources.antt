@@ -1,9 +1,8 @@
 -- Bytes are a model of one program at most, and are not refused where they are one.
-use Rattle.std.proofs.Common.{◌≡◌, ◌⊎◌, inl, inr, ℕ, List, [], ◌∷◌, Option, None, Some, Result, Err, sym, subst, ap, ◌∙◌}
+use Rattle.std.proofs.Common.{◌≡◌, inl, inr, ℕ, List, [], ◌∷◌, Option, None, Some, Result, Err, sym, subst, ap, ◌∙◌, ◌≤◌, ◌<◌, arith}
 use Rattle.digraph.specs.Cycles.{Acyclic, IsRound}
 use Rattle.smv_tree.specs.declared.token.Tokens.{Tokens}
 use Rattle.smv_tree.specs.declared.refusal.Refusal.{Refusal}
-use Rattle.smv_tree.specs.declared.refusal.Rule.{Rule}
 use Rattle.smv_tree.specs.declared.refusal.Rule.TheVariants.{AssignCycle}
 use Rattle.smv_tree.specs.declared.refusal.TextStop.{TextStop}
 use Rattle.smv_tree.specs.declared.refusal.TextStop.TheVariants.{Refused, NoMemory}
@@ -18,7 +17,8 @@ use Rattle.smv_types.proofs.Once.{judged_once}
 use Rattle.smv_flat.specs.declared.time.Time.{Time}
 use Rattle.smv_flat.specs.declared.time.Time.TheVariants as when
 use Rattle.smv_flat.specs.Assignments.{TellsCycle, dependencies, AreAssignable, IsRefusedByAssignments, twice_assigned, first_cycle, next_cycle, IsAssignmentStop}
-use Rattle.smv_front.specs.Sources.{AreAlike, Spells, IsModel, IsRefusedBy, in_text, in_grammar, in_types, in_assignments, IsSourceStop}
+use Rattle.bit_system.specs.Building.{bit_limit, bits_of}
+use Rattle.smv_front.specs.Sources.{AreAlike, Spells, IsModel, IsRefusedBy, in_text, in_grammar, in_types, in_assignments, in_bits, IsSourceStop, IsWidthStop}
 
 -- the stops of each part are stops of the whole
 pub text_stop : (bytes : List ℕ) (stop : TextStop) → IsTextStop bytes stop → IsSourceStop bytes stop
@@ -38,9 +38,20 @@ pub assignments_stop : (bytes : List ℕ) (tokens : Tokens) (p q : Program) (sto
 assignments_stop bytes tokens p q (Refused r) t s n e h = in_assignments tokens p (record { text = t; spelled = s }) n (subst (λ (u : Program). IsRefusedByAssignments u r) e h)
 assignments_stop bytes tokens p q NoMemory t s n e h = h
 
-pub model_read : (bytes : List ℕ) (tokens : Tokens) (p q : Program) → IsText bytes tokens → IsSpelling tokens.items p → types_verdict p None → q ≡ p → AreAssignable q → IsModel bytes q
-model_read bytes tokens p q t s n e a =
-    subst (λ (u : Program). IsModel bytes u) (sym e) (record { tokens = tokens; spelled = record { text = t; spelled = s }; typed = n; assignable = subst AreAssignable e a })
+pub bits_stop : (bytes : List ℕ) (tokens : Tokens) (p q : Program) (stop : TextStop) → IsText bytes tokens → IsSpelling tokens.items p → types_verdict p None → q ≡ p → AreAssignable q
+    → IsWidthStop q stop → IsSourceStop bytes stop
+bits_stop bytes tokens p q (Refused r) t s n e a h =
+    in_bits tokens q (record { text = t; spelled = subst (IsSpelling tokens.items) (sym e) s }) (subst (λ (u : Program). types_verdict u None) (sym e) n) a h.0 h.1
+bits_stop bytes tokens p q NoMemory t s n e a h = h
+
+pub model_read : (bytes : List ℕ) (tokens : Tokens) (p q : Program) → IsText bytes tokens → IsSpelling tokens.items p → types_verdict p None → q ≡ p → AreAssignable q → bits_of q ≤ bit_limit → IsModel bytes q
+model_read bytes tokens p q t s n e a w = record {
+  tokens = tokens;
+  spelled = record { text = t; spelled = subst (IsSpelling tokens.items) (sym e) s };
+  typed = subst (λ (u : Program). types_verdict u None) (sym e) n;
+  assignable = a;
+  narrow = w;
+}
 
 -- a graph without cycles has no round
 round_apart : (g : List (List ℕ)) (round : List ℕ) → Acyclic g → IsRound g round → ⊥
@@ -74,6 +85,10 @@ never_both bytes p r m (in_types tokens q s h) =
     let e : None ≡ Some r = judged_once p None (Some r) m.typed same in cc
 never_both bytes p r m (in_assignments tokens q s n h) =
     assignable_apart p r m.assignable (subst (λ (v : Program). IsRefusedByAssignments v r) (spelled_once bytes tokens m.tokens q p s m.spelled) h)
+never_both bytes p r m (in_bits tokens q s n a above e) =
+    let narrow = m.narrow in
+    let wide : bit_limit < bits_of p = subst (λ (v : Program). bit_limit < bits_of v) (spelled_once bytes tokens m.tokens q p s m.spelled) above in
+    absurd (omega (arith, narrow, wide))
 
 -- what is refused by the grammar spells no program
 grammar_apart : (bytes : List ℕ) (t u : Tokens) (p : Program) (r : Refusal) → IsText bytes t → IsRefusedTokens t r → Spells bytes u p → ⊥
@@ -99,16 +114,22 @@ assignments_alike p a b (next_cycle n f t) (twice_assigned k) = absurd (none_som
 assignments_alike p a b (next_cycle n f t) (first_cycle m u) = inr (tells_rule p when.Next a t, tells_rule p when.First b u)
 assignments_alike p a b (next_cycle n f t) (next_cycle m g u) = inr (tells_rule p when.Next a t, tells_rule p when.Next b u)
 
+-- nor to the rule on bits
+bits_apart : (bytes : List ℕ) (t u : Tokens) (p q : Program) (r : Refusal) → Spells bytes t p → IsRefusedByAssignments p r → Spells bytes u q → AreAssignable q → ⊥
+bits_apart bytes t u p q r s v other a = assignable_apart p r (subst AreAssignable (spelled_once bytes u t q p other s) a) v
+
 -- two refusals of one source are alike
 pub refusal_alike : (bytes : List ℕ) (a b : Refusal) → IsRefusedBy bytes a → IsRefusedBy bytes b → AreAlike a b
 refusal_alike bytes a b (in_text x) (in_text y) = inl (text.one_refusal bytes a b x y)
 refusal_alike bytes a b (in_text x) (in_grammar u k h) = absurd (text.never_both bytes u a k x)
 refusal_alike bytes a b (in_text x) (in_types u q k w) = absurd (text.never_both bytes u a k.text x)
 refusal_alike bytes a b (in_text x) (in_assignments u q k n w) = absurd (text.never_both bytes u a k.text x)
+refusal_alike bytes a b (in_text x) (in_bits u q k n d w e) = absurd (text.never_both bytes u a k.text x)
 refusal_alike bytes a b (in_grammar t s g) (in_text y) = absurd (text.never_both bytes t b s y)
 refusal_alike bytes a b (in_grammar t s g) (in_grammar u k h) = inl (parse.refusal_once t a b g (subst (λ (v : Tokens). IsRefusedTokens v b) (text.one_text bytes u t k s) h))
 refusal_alike bytes a b (in_grammar t s g) (in_types u q k w) = absurd (grammar_apart bytes t u q a s g k)
 refusal_alike bytes a b (in_grammar t s g) (in_assignments u q k n w) = absurd (grammar_apart bytes t u q a s g k)
+refusal_alike bytes a b (in_grammar t s g) (in_bits u q k n d w e) = absurd (grammar_apart bytes t u q a s g k)
 refusal_alike bytes a b (in_types t p s v) (in_text y) = absurd (text.never_both bytes t b s.text y)
 refusal_alike bytes a b (in_types t p s v) (in_grammar u k h) = absurd (grammar_apart bytes u t p b k h s)
 refusal_alike bytes a b (in_types t p s v) (in_types u q k w) =
@@ -117,8 +138,15 @@ refusal_alike bytes a b (in_types t p s v) (in_types u q k w) =
     let same : a ≡ b = cc in
     inl same
 refusal_alike bytes a b (in_types t p s v) (in_assignments u q k n w) = absurd (types_apart bytes t u p q a s v k n)
+refusal_alike bytes a b (in_types t p s v) (in_bits u q k n d w e) = absurd (types_apart bytes t u p q a s v k n)
 refusal_alike bytes a b (in_assignments t p s n v) (in_text y) = absurd (text.never_both bytes t b s.text y)
 refusal_alike bytes a b (in_assignments t p s n v) (in_grammar u k h) = absurd (grammar_apart bytes u t p b k h s)
 refusal_alike bytes a b (in_assignments t p s n v) (in_types u q k w) = absurd (types_apart bytes u t q p b k w s n)
 refusal_alike bytes a b (in_assignments t p s n v) (in_assignments u q k m w) =
     assignments_alike p a b v (subst (λ (x : Program). IsRefusedByAssignments x b) (spelled_once bytes u t q p k s) w)
+refusal_alike bytes a b (in_assignments t p s n v) (in_bits u q k m d w e) = absurd (bits_apart bytes t u p q a s v k d)
+refusal_alike bytes a b (in_bits t p s n d w e) (in_text y) = absurd (text.never_both bytes t b s.text y)
+refusal_alike bytes a b (in_bits t p s n d w e) (in_grammar u k h) = absurd (grammar_apart bytes u t p b k h s)
+refusal_alike bytes a b (in_bits t p s n d w e) (in_types u q k v) = absurd (types_apart bytes u t q p b k v s n)
+refusal_alike bytes a b (in_bits t p s n d w e) (in_assignments u q k m v) = absurd (bits_apart bytes u t q p b k v s d)
+refusal_alike bytes a b (in_bits t p s n d w e) (in_bits u q k m f v g) = inl (e ∙ sym g)

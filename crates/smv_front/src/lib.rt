@@ -3,8 +3,6 @@
 
 mod laws;
 mod model;
-mod preparing;
 
 pub use laws::is_read_once;
 pub use model::read_model;
-pub use preparing::prepare;

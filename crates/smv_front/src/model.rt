@@ -1,21 +1,39 @@
 //! Reads a source.
 
-ghost use Rattle.std.specs.Prelude.{IfOk, IfErr};
-ghost use Rattle.smv_front.specs.Sources.{IsModel, IsSourceStop};
+ghost use Rattle.std.specs.Prelude.{◌≡◌, ◌≤◌, IfOk, IfErr};
+ghost use Rattle.bit_system.specs.Building.{bit_limit, bits_of};
+ghost use Rattle.smv_front.specs.Sources.{IsModel, IsSourceStop, IsWidthStop};
 
+use bit_system::is_narrow;
 use smv_flat::{Flat, flatten};
 use smv_parse::parse;
 use smv_text::tokens;
-use smv_tree::TextStop;
+use smv_tree::{Place, Refusal, Rule, TextStop};
 use smv_types::check;
 use std::alloc::Global;
+
+// The model, where a state and the inputs of a step have no more bits than they may have.
+fn narrow(alloc: Global, flat: Flat) -> Result<Flat, TextStop>
+    ensures same { IfOk result (λ r. r ≡ flat) }
+    ensures narrow { IfOk result (λ r. bits_of flat.typed.scope.program ≤ bit_limit) }
+    ensures refused { IfErr result (IsWidthStop flat.typed.scope.program) }
+{
+    if is_narrow(alloc, &flat.typed)? {
+        return Ok(flat);
+    }
+    Err(TextStop::Refused(Refusal {
+        rule: Rule::TooManyBits,
+        place: Place { line: 1, column: 1 },
+        detail: None,
+    }))
+}
 
 /// The model that the bytes of a source are (NuSMV 2.6 User Manual, chapter 2, as far as the language goes today).
 ///
 /// Bytes that are none are refused by the first rule that they break, at that rule's first place: by the rules of tokens
 /// (105, 101 to 104), of the grammar (203, then 201 and 202), of names and kinds (303, 301, 302, 305, 306, 308, 307, 311, 304, 309, 310, 401 of declarations, 312; then 411, 407, 406 and 401 of expressions, item by item) and of
-/// assignments (501, 502), in this order. Memory may be refused at any time.
-#[tactic(auto, using(crate::proofs::OfSources::text_stop, crate::proofs::OfSources::grammar_stop, crate::proofs::OfSources::types_stop, crate::proofs::OfSources::assignments_stop, crate::proofs::OfSources::model_read))]
+/// assignments (501, 502), and then by the limit of bits (511), in this order. Memory may be refused at any time.
+#[tactic(auto, using(crate::proofs::OfSources::text_stop, crate::proofs::OfSources::grammar_stop, crate::proofs::OfSources::types_stop, crate::proofs::OfSources::assignments_stop, crate::proofs::OfSources::bits_stop, crate::proofs::OfSources::model_read))]
 pub fn read_model(alloc: Global, text: &[u8]) -> Result<Flat, TextStop>
     ensures model { IfOk result (λ flat. IsModel text.now flat.typed.scope.program) }
     ensures refused { IfErr result (IsSourceStop text.now) }
@@ -23,5 +41,6 @@ pub fn read_model(alloc: Global, text: &[u8]) -> Result<Flat, TextStop>
     let tokens = tokens(alloc, text)?;
     let program = parse(alloc, &tokens)?;
     let typed = check(alloc, program)?;
-    flatten(alloc, typed)
+    let flat = flatten(alloc, typed)?;
+    narrow(alloc, flat)
 }

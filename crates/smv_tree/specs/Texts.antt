@@ -3,7 +3,7 @@ use Rattle.std.specs.Prelude.{ℕ, List, [], ◌∷◌, ◌++◌, codes, Option,
 use Rattle.std.specs.Fmt.{decimal}
 use Rattle.smv_tree.specs.declared.place.Place.{Place}
 use Rattle.smv_tree.specs.declared.refusal.Rule.{Rule}
-use Rattle.smv_tree.specs.declared.refusal.Rule.TheVariants.{SourceTooLarge, BadByte, OpenComment, BadWordConstant, IntTooLarge, Unexpected, TooDeep, Unsupported, NoMain, MainHasParameters, DuplicateModule, UnknownName, DuplicateName, UnknownModule, ArgumentCount, ModuleCycle, DefineCycle, UnfoldedDepth, TooManyInstances, TooManySlots, TypeMismatch, NextHere, InputHere, TemporalHere, NotAssignable, BadBound, AssignedTwice, AssignCycle, BadCertificate, BadTrace}
+use Rattle.smv_tree.specs.declared.refusal.Rule.TheVariants.{SourceTooLarge, BadByte, OpenComment, BadWordConstant, IntTooLarge, Unexpected, TooDeep, Unsupported, NoMain, MainHasParameters, DuplicateModule, UnknownName, DuplicateName, UnknownModule, ArgumentCount, ModuleCycle, DefineCycle, UnfoldedDepth, TooManyInstances, TooManySlots, TypeMismatch, NextHere, InputHere, TemporalHere, NotAssignable, BadBound, AssignedTwice, AssignCycle, TooManyBits, BadCertificate, BadTrace}
 use Rattle.smv_tree.specs.declared.refusal.Refusal.{Refusal}
 use Rattle.smv_tree.specs.declared.tree.SpecificationKind.{SpecificationKind}
 use Rattle.smv_tree.specs.declared.tree.SpecificationKind.TheVariants.{Invariant, Temporal}
@@ -44,6 +44,7 @@ rule_text NotAssignable = codes "411 NotAssignable"
 rule_text BadBound = codes "413 BadBound"
 rule_text AssignedTwice = codes "501 AssignedTwice"
 rule_text AssignCycle = codes "502 AssignCycle"
+rule_text TooManyBits = codes "511 TooManyBits"
 rule_text BadCertificate = codes "701 BadCertificate"
 rule_text BadTrace = codes "702 BadTrace"
 

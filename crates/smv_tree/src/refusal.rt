@@ -68,6 +68,8 @@ pub enum Rule {
     AssignedTwice,
     /// Assignments of one time depend on each other.
     AssignCycle,
+    /// The bits of a state and of the inputs are more than 65536.
+    TooManyBits,
     /// A line of a certificate is not as it should be.
     BadCertificate,
     /// A line of a trace is not as it should be.
@@ -132,6 +134,7 @@ impl fmt::Display for Rule {
             Rule::BadBound => write!(f, "413 BadBound"),
             Rule::AssignedTwice => write!(f, "501 AssignedTwice"),
             Rule::AssignCycle => write!(f, "502 AssignCycle"),
+            Rule::TooManyBits => write!(f, "511 TooManyBits"),
             Rule::BadCertificate => write!(f, "701 BadCertificate"),
             Rule::BadTrace => write!(f, "702 BadTrace"),
         }

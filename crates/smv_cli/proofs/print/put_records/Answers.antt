@@ -1,9 +1,7 @@
 -- One more record is written, or a part of it.
 use Rattle.std.proofs.Common.{◌≡◌, ◌∙◌, ◌+◌, ◌-◌, ◌<◌, ℕ, List, All, Some, map, length, get_or, slice_get, sym, subst, ap, true, arith}
-use Rattle.std.specs.Prelude.{Contains}
 use Rattle.std.proofs.lemmas.List.Elements.{All-get_or}
 use Rattle.std.proofs.lemmas.List.{length-map}
-use Rattle.std.proofs.lemmas.List.Elements.{Contains-get_or}
 use Rattle.std.proofs.lemmas.Option.{slice_get-get_or}
 use Rattle.std.proofs.Math.ListN.{get_or-map}
 use Rattle.command_words.specs.declared.command.Effort.{Effort}
@@ -17,6 +15,7 @@ use Rattle.smv_meaning.specs.Runs.{is_claim, specifications_of}
 use Rattle.trace_replay.specs.Tests.{specification_at}
 use Rattle.smv_cli.specs.declared.record.Record.{Record}
 use Rattle.smv_cli.specs.Records.{IsRight}
+use Rattle.smv_cli.specs.Written.{program_in}
 use Rattle.smv_cli.proofs.Recording.{IsRecordOf, claimed, Recorded-push, RecordedPart-push, RecordedPart-whole}
 use Rattle.smv_cli.proofs.print.put_records.Goals as goal
 
@@ -35,14 +34,6 @@ not_claimed specs i d h all never = let k = claimed (get_or specs i d).kind (All
 pub unreachable-requires : goal.unreachable-requires
 unreachable-requires g c = not_claimed c.args.specs.now c.specs.i _ (omega (arith, c.specs-test.true)) c.requires.claims c.in_default.not-Specification
 
-listed_claim : (p : Program) (nodes : List Node) (specs : List Item) (i : ℕ) (s : Item) → i < length specs → listed nodes specs ≡ specifications_of p →
-    Contains (specifications_of p) (item_by nodes (get_or specs i s))
-listed_claim p nodes specs i s within same =
-    let here : Contains (listed nodes specs) (get_or (listed nodes specs) i (item_by nodes s)) =
-    Contains-get_or (listed nodes specs) i (item_by nodes s) (omega (arith, within, length-map specs (item_by nodes))) in
-    subst (λ (x : ResolvedItem). Contains (specifications_of p) x) (get_or-map (item_by nodes) specs i s)
-    (subst (λ (xs : List ResolvedItem). Contains xs (get_or (listed nodes specs) i (item_by nodes s))) same here)
-
 numbered_claim : (p : Program) (nodes : List Node) (specs : List Item) (i : ℕ) (s : Item) → i < length specs → listed nodes specs ≡ specifications_of p → specification_at p (i + 1) ≡ Some (item_by nodes (get_or specs i s))
 numbered_claim p nodes specs i s within same =
     let back : i + 1 - 1 ≡ i = omega arith in
@@ -52,17 +43,14 @@ numbered_claim p nodes specs i s within same =
     ∙ ap (λ (x : ResolvedItem). Some x) (get_or-map (item_by nodes) specs i s)
 
 pub judge-requires-clause-numbered : goal.judge-requires-clause-numbered
-judge-requires-clause-numbered g c = numbered_claim c.args.typed.now.scope.program c.args.typed.now.nodes c.args.specs.now c.specs.i _ c.specs-test.true c.requires.listed
-
-pub judge-requires-clause-claim : goal.judge-requires-clause-claim
-judge-requires-clause-claim g c = listed_claim c.args.typed.now.scope.program c.args.typed.now.nodes c.args.specs.now c.specs.i _ c.specs-test.true c.requires.listed
+judge-requires-clause-numbered g c = numbered_claim (program_in c.args.model.now) c.args.model.now.flat.typed.nodes c.args.specs.now c.specs.i _ c.specs-test.true c.requires.listed
 
 pub specs-preserved : goal.specs-preserved
 specs-preserved g c =
     let taken = g.K.Sink.taken in
-    let p = c.args.typed.now.scope.program in
-    let nodes = c.args.typed.now.nodes in
-    let effort = c.args.effort.now in
+    let p = program_in c.args.model.now in
+    let nodes = c.args.model.now.flat.typed.nodes in
+    let effort = c.args.model.now.effort in
     let specs = c.args.specs.now in
     let i = c.specs.i in
     let made = c.in-Ok.made in
@@ -78,9 +66,9 @@ specs-preserved g c =
 pub returns-in_err-put-clause-part : goal.returns-in_err-put-clause-part
 returns-in_err-put-clause-part g c =
     let taken = g.K.Sink.taken in
-    let p = c.args.typed.now.scope.program in
-    let nodes = c.args.typed.now.nodes in
-    let effort = c.args.effort.now in
+    let p = program_in c.args.model.now in
+    let nodes = c.args.model.now.flat.typed.nodes in
+    let effort = c.args.model.now.effort in
     let specs = c.args.specs.now in
     let i = c.specs.i in
     let made = c.in-Ok.made in
@@ -92,9 +80,9 @@ returns-in_err-put-clause-part g c =
 pub returns-in_default-judge-clause-part : goal.returns-in_default-judge-clause-part
 returns-in_default-judge-clause-part g c =
     let taken = g.K.Sink.taken in
-    RecordedPart-whole c.args.typed.now.scope.program c.args.effort.now (listed c.args.typed.now.nodes c.args.specs.now) c.specs.i (taken c.args.sink.now) (taken c.specs.sink) c.specs.status c.specs.invariant.so_far
+    RecordedPart-whole (program_in c.args.model.now) c.args.model.now.effort (listed c.args.model.now.flat.typed.nodes c.args.specs.now) c.specs.i (taken c.args.sink.now) (taken c.specs.sink) c.specs.status c.specs.invariant.so_far
 
 pub returns-clause-part : goal.returns-clause-part
 returns-clause-part g c =
     let taken = g.K.Sink.taken in
-    RecordedPart-whole c.args.typed.now.scope.program c.args.effort.now (listed c.args.typed.now.nodes c.args.specs.now) c.specs.i (taken c.args.sink.now) (taken c.specs.sink) c.specs.status c.specs.invariant.so_far
+    RecordedPart-whole (program_in c.args.model.now) c.args.model.now.effort (listed c.args.model.now.flat.typed.nodes c.args.specs.now) c.specs.i (taken c.args.sink.now) (taken c.specs.sink) c.specs.status c.specs.invariant.so_far

@@ -1,6 +1,7 @@
 -- The report of what the words say.
 use Rattle.std.proofs.Common.{◌≡◌, ap, arith, map, Bor, List, ℕ, Err}
 use Rattle.command_words.specs.Grammar.{IsCommandLine}
+use Rattle.smv_cli.proofs.Ranges.{in_range}
 use Rattle.smv_cli.proofs.Reports.{said-answered, said-begun, unread-begun, usage-answered, usage-begun}
 use Rattle.smv_cli.proofs.top.perform.Goals as goal
 
@@ -29,3 +30,6 @@ returns-in-Err-Outside-clause-begun g c = λ _.
 
 pub returns-in-Err-NoMemory-clause-begun : goal.returns-in-Err-NoMemory-clause-begun
 returns-in-Err-NoMemory-clause-begun g c = λ _. unread-begun (map (λ (w : Bor (List ℕ)). w.now) c.args.words.now) (g.S.Source.left c.args.source.now) (g.K.Sink.taken c.args.sink.now)
+
+pub answer-requires : goal.answer-requires
+answer-requires g c = record { range = in_range (map (λ (w : Bor (List ℕ)). w.now) c.args.words.now) c.in-Ok.command c.in-Ok.ensures.said }

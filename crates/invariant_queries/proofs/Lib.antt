@@ -1,9 +1,0 @@
-pub mod MoreFrames
-pub mod OfStates
-pub mod OfRuns
-pub mod Encoding
-pub mod Answering
-pub mod Decoding
-pub mod BrokenRuns
-pub mod Queries
-pub mod InductionLaws

@@ -1,5 +1,0 @@
-pub mod Deciding
-pub mod Edges
-pub mod Frames
-pub mod Texts
-pub mod Unrolling

@@ -1,0 +1,38 @@
+-- What was answered of the specification alone is right.
+use Rattle.std.proofs.Common.{◌≡◌, ◌-◌, [], ◌∷◌, ap, arith, length, List, Some, subst}
+use Rattle.std.specs.Prelude.{slice_get}
+use Rattle.clause_core.specs.Systems.{TransitionSystem}
+use Rattle.bit_system.specs.Building.{system_of}
+use Rattle.prove_run.specs.declared.answers.Answer.{Answer}
+use Rattle.prove_run.specs.declared.effort.Effort.{Effort as ProverEffort}
+use Rattle.prove_run.specs.Answers.{IsDone}
+use Rattle.smv_cli.specs.Records.{prover_effort}
+use Rattle.smv_cli.specs.Written.{item_in, program_in}
+use Rattle.smv_cli.proofs.Asking.{answered_alone, has_system}
+use Rattle.smv_cli.proofs.judging.judge_alone.Goals as goal
+
+pub system_of-system-requires : goal.system_of-system-requires
+system_of-system-requires c =
+    let model = c.args.model.now in
+    has_system (program_in model) model.built c.args.number (item_in model c.args.spec.now) c.requires.ready.built c.requires.numbered
+
+pub answer_at-answer-requires : goal.answer_at-answer-requires
+answer_at-answer-requires c =
+    let as_many = c.in_ok-done.ensures.each_one in
+    omega (arith, as_many, ap length c.deref.ensures.value)
+
+pub verdict_of-requires-clause-answered : goal.verdict_of-requires-clause-answered
+verdict_of-requires-clause-answered c =
+    let model = c.args.model.now in
+    let p = program_in model in
+    let spec = item_in model c.args.spec.now in
+    let sys = system_of model.built (c.args.number - 1) in
+    let answer = c.answer_at-answer.result.now in
+    let history = c.in_ok-done.done.work.history.items in
+    let answers = c.in_ok-done.done.answers.items in
+    let there : slice_get answers 0 ≡ Some answer = subst (λ (xs : List Answer). slice_get xs 0 ≡ Some answer) c.deref.ensures.value c.answer_at-answer.ensures in
+    let by_effort : IsDone (c.system_of-system.result.now ∷ []) (prover_effort model.effort) history answers =
+    subst (λ (e : ProverEffort). IsDone (c.system_of-system.result.now ∷ []) e history answers) c.prover_effort.ensures c.in_ok-done.ensures in
+    let done : IsDone (sys ∷ []) (prover_effort model.effort) history answers =
+    subst (λ (s : TransitionSystem). IsDone (s ∷ []) (prover_effort model.effort) history answers) c.system_of-system.ensures by_effort in
+    answered_alone p model.effort spec sys history answers answer c.requires.alone (c.requires.ready.built.stands (c.args.number - 1) spec c.requires.numbered) done there

@@ -1,0 +1,18 @@
+-- The run to a bad state is a run that breaks the specification.
+use Rattle.std.proofs.Common.{◌-◌, List, subst, sym}
+use Rattle.smv_value.specs.declared.value.Value.{Value}
+use Rattle.smv_meaning.specs.Runs.{Breaks}
+use Rattle.bit_system.specs.Building.{system_of}
+use Rattle.smv_cli.specs.Written.{IsAnswered, item_in, program_in}
+use Rattle.smv_cli.proofs.judging.verdict_of.Goals as goal
+
+pub replayed-requires-clause-broken : goal.replayed-requires-clause-broken
+replayed-requires-clause-broken c =
+    let model = c.args.model.now in
+    let p = program_in model in
+    let spec = item_in model c.args.spec.now in
+    let run = c.in_ok-run-in-False.run' in
+    let bad = subst (IsAnswered p model.effort (system_of model.built (c.args.number - 1)) spec) c.in-False.is c.requires.answered in
+    let broken = c.in_ok-run-in-False.ensures.breaks p (c.args.number - 1) spec c.requires.ready.built c.requires.numbered bad in
+    subst (λ (s : List (List Value)). Breaks p spec s c.as_slice-inputs.result.now) (sym c.as_slice-states.ensures)
+    (subst (λ (u : List (List Value)). Breaks p spec run.states u) (sym c.as_slice-inputs.ensures) broken)
