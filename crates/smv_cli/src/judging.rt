@@ -18,7 +18,7 @@ use smv_meaning::{Inputs, State, Typed};
 use smv_resolve::{Item, ItemKind};
 use smv_tree::SpecificationKind;
 use std::alloc::{AllocError, Global};
-use trace_replay::{Replayed, Trace, replay};
+use trace_replay::{Replayed, Trace, replay_run};
 
 // How much the prover may do.
 fn prover_effort(effort: &Effort) -> prove_run::Effort
@@ -176,7 +176,7 @@ fn replayed(
     ensures { IfOk result (ShowsBroken typed.now.scope.program (item_by typed.now.nodes spec.now)) }
 {
     let trace = Trace::of_run(alloc, typed, states, inputs)?;
-    match replay(alloc, typed, number, &trace)? {
+    match replay_run(alloc, typed, number, &trace)? {
         Replayed::Accepted => Ok(trace),
         Replayed::Rejected { .. } => unreachable!(),
     }

@@ -199,6 +199,7 @@ module _ (p : Program) (spec : ResolvedItem) (states inputs : List (List Value))
       subst (λ (us : List (List Value)). goes_on p (states_told p t) us i ≡ true) (sym told_inputs)
       (subst (λ (ss : List (List Value)). goes_on p ss inputs i ≡ true) (sym told_states) (step_passes i))
   run_passes rule.Loop i = refl
+  run_passes rule.Fair i = refl
   run_passes rule.Spec i = subst (λ (ss : List (List Value)). ends p spec ss i ≡ true) (sym told_states) (spec_passes i)
 
 pub broken_passes : (p : Program) (spec : ResolvedItem) (t : Trace) → ShowsBroken p spec t → (r : ReplayRule) (i : ℕ) → passes p spec t r i ≡ true

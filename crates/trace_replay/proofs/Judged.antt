@@ -3,13 +3,18 @@ use Rattle.std.proofs.Common.{◌≡◌, ◌↔◌, ◌<◌, ℕ, List, length, 
 use Rattle.std.proofs.lemmas.Option.{slice_get-get_or}
 use Rattle.std.proofs.Math.ListN.{get_or-map}
 use Rattle.smv_tree.specs.declared.tree.Program.{Program}
+use Rattle.smv_tree.specs.declared.tree.SpecificationKind.TheVariants as claim
 use Rattle.smv_resolve.specs.declared.item.Item.{Item}
+use Rattle.smv_resolve.specs.declared.item.ItemKind.{ItemKind}
+use Rattle.smv_resolve.specs.declared.item.ItemKind.TheVariants as item
 use Rattle.smv_resolve.specs.Items.{ResolvedItem}
 use Rattle.trace_replay.specs.declared.rule.Replayed.{Replayed}
 use Rattle.trace_replay.specs.declared.rule.Replayed.TheVariants.{Accepted, Rejected}
 use Rattle.trace_replay.specs.declared.trace.Trace.{Trace}
+use Rattle.trace_replay.specs.Lassos.{IsReplayOf, Shows}
 use Rattle.trace_replay.specs.Tests.{IsReplay, ShowsBroken}
 use Rattle.trace_replay.proofs.Broken.{broken_passes}
+use Rattle.trace_replay.proofs.OfLassos.{violates}
 use Rattle.trace_replay.proofs.Shows.{shows}
 
 accepted : (p : Program) (spec : ResolvedItem) (t : Trace) (r : Replayed) → IsReplay p spec t r → (r ≡ Accepted) ↔ ShowsBroken p spec t
@@ -17,11 +22,13 @@ accepted p spec t Accepted h = (λ e. shows p spec t h, λ b. refl)
 accepted p spec t (Rejected rule n) h =
     (λ e. absurd (let never : ⊥ = cc in never), λ b. absurd (let e = sym h.fails ∙ broken_passes p spec t b rule n in let never : ⊥ = cc in never))
 
--- the same of a call
-accepted_if_ok : {E : Type 0} (p : Program) (o : Option ResolvedItem) (spec : ResolvedItem) (t : Trace) (r : Result Replayed E) → o ≡ Some spec
-    → IfOk r (IsReplay p spec t) → IfOk r (λ y. IfSome o (λ x. (y ≡ Accepted) ↔ ShowsBroken p x t))
-accepted_if_ok p o spec t (Ok y) is h = subst (λ (q : Option ResolvedItem). IfSome q (λ x. (y ≡ Accepted) ↔ ShowsBroken p x t)) (sym is) (accepted p spec t y h)
-accepted_if_ok p o spec t (Err e) is h = h
+-- the same of a specification of either kind
+shown : (kind : ItemKind) (p : Program) (spec : ResolvedItem) (t : Trace) (r : Replayed) → IsReplayOf kind p spec t r → Shows kind p spec t r
+shown (item.Specification claim.Temporal) p spec t Accepted h = λ e. violates p spec t h
+shown (item.Specification claim.Temporal) p spec t (Rejected rule n) h = λ e. absurd (let never : ⊥ = cc in never)
+shown (item.Specification claim.Invariant) p spec t r h = accepted p spec t r h
+shown (item.Assignment kind) p spec t r h = accepted p spec t r h
+shown (item.Constraint kind) p spec t r h = accepted p spec t r h
 
 -- the specification of a number
 at_number : (f : Item → ResolvedItem) (xs : List Item) (ys : List ResolvedItem) (k : ℕ) (d : Item) → map f xs ≡ ys → k < length ys → slice_get ys k ≡ Some (f (get_or xs k d))
@@ -30,6 +37,32 @@ at_number f xs ys k d same within =
     ∙ ap (λ (l : List ResolvedItem). Some (get_or l k (f d))) (sym same)
     ∙ ap (λ (y : ResolvedItem). Some y) (get_or-map f xs k d)
 
-pub accepted_at : {E : Type 0} (p : Program) (f : Item → ResolvedItem) (xs : List Item) (ys : List ResolvedItem) (k : ℕ) (d : Item) (t : Trace) (r : Result Replayed E) → map f xs ≡ ys → k < length ys
-    → IfOk r (IsReplay p (f (get_or xs k d)) t) → IfOk r (λ y. IfSome (slice_get ys k) (λ x. (y ≡ Accepted) ↔ ShowsBroken p x t))
-accepted_at p f xs ys k d t r same within h = accepted_if_ok p (slice_get ys k) (f (get_or xs k d)) t r (at_number f xs ys k d same within) h
+-- what a call says of it
+at_spec : {E : Type 0} (Q : ResolvedItem → Replayed → Type 0) (o : Option ResolvedItem) (x : ResolvedItem) (r : Result Replayed E) → o ≡ Some x → IfOk r (Q x) → IfOk r (λ y. IfSome o (λ z. Q z y))
+at_spec Q o x (Ok y) is h = subst (λ (q : Option ResolvedItem). IfSome q (λ z. Q z y)) (sym is) h
+at_spec Q o x (Err e) is h = h
+
+on_ok : {E : Type 0} (P Q : Replayed → Type 0) (r : Result Replayed E) → ((y : Replayed) → P y → Q y) → IfOk r P → IfOk r Q
+on_ok P Q (Ok y) f h = f y h
+on_ok P Q (Err e) f h = h
+
+module _ {E : Type 0} (p : Program) (f : Item → ResolvedItem) (xs : List Item) (ys : List ResolvedItem) (k : ℕ) (d : Item) (t : Trace) (r : Result Replayed E) (same : map f xs ≡ ys) (within : k < length ys) where
+  abbrev at : ResolvedItem
+  at = f (get_or xs k d)
+
+  pub judged_at : IfOk r (IsReplayOf at.kind p at t) → IfOk r (λ y. IfSome (slice_get ys k) (λ x. IsReplayOf x.kind p x t y))
+  judged_at h = at_spec (λ x y. IsReplayOf x.kind p x t y) (slice_get ys k) at r (at_number f xs ys k d same within) h
+
+  pub shown_at : IfOk r (IsReplayOf at.kind p at t) → IfOk r (λ y. IfSome (slice_get ys k) (λ x. Shows x.kind p x t y))
+  shown_at h =
+      at_spec (λ x y. Shows x.kind p x t y) (slice_get ys k) at r (at_number f xs ys k d same within)
+      (on_ok (IsReplayOf at.kind p at t) (Shows at.kind p at t) r (λ y. shown at.kind p at t y) h)
+
+  -- the same of the trace of a run
+  pub run_judged_at : IfOk r (IsReplay p at t) → IfOk r (λ y. IfSome (slice_get ys k) (λ x. IsReplay p x t y))
+  run_judged_at h = at_spec (λ x y. IsReplay p x t y) (slice_get ys k) at r (at_number f xs ys k d same within) h
+
+  pub run_shown_at : IfOk r (IsReplay p at t) → IfOk r (λ y. IfSome (slice_get ys k) (λ x. (y ≡ Accepted) ↔ ShowsBroken p x t))
+  run_shown_at h =
+      at_spec (λ x y. (y ≡ Accepted) ↔ ShowsBroken p x t) (slice_get ys k) at r (at_number f xs ys k d same within)
+      (on_ok (IsReplay p at t) (λ y. (y ≡ Accepted) ↔ ShowsBroken p at t) r (λ y. accepted p at t y) h)

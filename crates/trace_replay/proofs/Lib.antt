@@ -11,3 +11,4 @@ pub mod OfTexts
 pub mod OfReading
 pub mod LawsOfReading
 pub mod Readable
+pub mod OfLassos

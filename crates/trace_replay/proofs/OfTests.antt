@@ -60,6 +60,7 @@ module _ (p : Program) (spec : ResolvedItem) (t : Trace) where
   below_first a rule.Inv h = absurd (let no : ⊥ = omega (arith, h) in no)
   below_first a rule.Step h = absurd (let no : ⊥ = omega (arith, h) in no)
   below_first a rule.Loop h = absurd (let no : ⊥ = omega (arith, h) in no)
+  below_first a rule.Fair h = absurd (let no : ⊥ = omega (arith, h) in no)
   below_first a rule.Spec h = absurd (let no : ⊥ = omega (arith, h) in no)
 
   below_inv : Passed rule.Values → Passed rule.First → (s : ReplayRule) → rank s < 2 → Passed s
@@ -68,6 +69,7 @@ module _ (p : Program) (spec : ResolvedItem) (t : Trace) where
   below_inv a b rule.Inv h = absurd (let no : ⊥ = omega (arith, h) in no)
   below_inv a b rule.Step h = absurd (let no : ⊥ = omega (arith, h) in no)
   below_inv a b rule.Loop h = absurd (let no : ⊥ = omega (arith, h) in no)
+  below_inv a b rule.Fair h = absurd (let no : ⊥ = omega (arith, h) in no)
   below_inv a b rule.Spec h = absurd (let no : ⊥ = omega (arith, h) in no)
 
   below_step : Passed rule.Values → Passed rule.First → Passed rule.Inv → (s : ReplayRule) → rank s < 3 → Passed s
@@ -76,6 +78,7 @@ module _ (p : Program) (spec : ResolvedItem) (t : Trace) where
   below_step a b c rule.Inv h = c
   below_step a b c rule.Step h = absurd (let no : ⊥ = omega (arith, h) in no)
   below_step a b c rule.Loop h = absurd (let no : ⊥ = omega (arith, h) in no)
+  below_step a b c rule.Fair h = absurd (let no : ⊥ = omega (arith, h) in no)
   below_step a b c rule.Spec h = absurd (let no : ⊥ = omega (arith, h) in no)
 
   below_loop : Passed rule.Values → Passed rule.First → Passed rule.Inv → Passed rule.Step → (s : ReplayRule) → rank s < 4 → Passed s
@@ -84,14 +87,16 @@ module _ (p : Program) (spec : ResolvedItem) (t : Trace) where
   below_loop a b c d rule.Inv h = c
   below_loop a b c d rule.Step h = d
   below_loop a b c d rule.Loop h = absurd (let no : ⊥ = omega (arith, h) in no)
+  below_loop a b c d rule.Fair h = absurd (let no : ⊥ = omega (arith, h) in no)
   below_loop a b c d rule.Spec h = absurd (let no : ⊥ = omega (arith, h) in no)
 
-  below_spec : Passed rule.Values → Passed rule.First → Passed rule.Inv → Passed rule.Step → Passed rule.Loop → (s : ReplayRule) → rank s < 5 → Passed s
+  below_spec : Passed rule.Values → Passed rule.First → Passed rule.Inv → Passed rule.Step → Passed rule.Loop → (s : ReplayRule) → rank s < 6 → Passed s
   below_spec a b c d e rule.Values h = a
   below_spec a b c d e rule.First h = b
   below_spec a b c d e rule.Inv h = c
   below_spec a b c d e rule.Step h = d
   below_spec a b c d e rule.Loop h = e
+  below_spec a b c d e rule.Fair h = λ i. refl
   below_spec a b c d e rule.Spec h = absurd (let no : ⊥ = omega (arith, h) in no)
 
   pub first_first : Passed rule.Values → (n : ℕ) → FirstFailing (passes p spec t rule.First) n → FailsFirst p spec t rule.First n
@@ -124,6 +129,7 @@ module _ (p : Program) (spec : ResolvedItem) (t : Trace) where
   all_passed a b c d e f rule.Inv = c
   all_passed a b c d e f rule.Step = d
   all_passed a b c d e f rule.Loop = e
+  all_passed a b c d e f rule.Fair = λ i. refl
   all_passed a b c d e f rule.Spec = f
 
 at_read : (xs : List (List Value)) (i : ℕ) (x : List Value) → i < length xs → x ≡ get_or xs i x → x ≡ at_time xs i

@@ -1,9 +1,9 @@
 -- The lines of the trace of a run are in form, if the names of the slots are.
-use Rattle.std.proofs.Common.{◌≡◌, ℕ, zero, suc, ◌+◌, ◌<◌, ◌≤◌, ◌^◌, max, Bool, true, false, ◌&&◌, List, [], ◌∷◌, ◌++◌, length, map, slice_get, Option, None, Some, refl, sym, subst, ap, ◌∙◌, arith}
+use Rattle.std.proofs.Common.{◌≡◌, inl, inr, ℕ, zero, suc, ◌+◌, ◌-◌, ◌<◌, ◌≤◌, ◌^◌, max, Bool, true, false, ◌&&◌, List, [], ◌∷◌, ◌++◌, length, map, slice_get, Option, None, Some, refl, sym, subst, ap, ◌∙◌, arith}
 use lib.Dec.{eqb}
 use Rattle.std.specs.List.{flat_map, list_all, range_with_len, zip}
 use Rattle.std.specs.Option.{option_map}
-use Rattle.std.proofs.lemmas.Bool.{and_from, and_parts, lt-ltb}
+use Rattle.std.proofs.lemmas.Bool.{and_from, and_parts, cases_lt, lt-ltb}
 use Rattle.std.proofs.lemmas.List.{length-map}
 use Rattle.std.proofs.lemmas.List.Folds.{list_all-append}
 use Rattle.std.proofs.lemmas.Option.{get_or_from_slice_get, slice_get-map, slice_get_within}
@@ -15,10 +15,12 @@ use Rattle.smv_scope.specs.declared.slot.Slot.{Slot}
 use Rattle.smv_scope.specs.declared.slot.ValueType.{ValueType}
 use Rattle.smv_scope.specs.declared.slot.ValueType.TheVariants.{Boolean}
 use Rattle.smv_scope.specs.Slots.{slots_of}
+use Rattle.smv_meaning.specs.Lassos.{IsLasso, Lasso}
 use Rattle.smv_meaning.specs.Runs.{IsRun, are_inputs, at_time, fits, in_type, input_slots, is_state, state_slots}
 use Rattle.trace_replay.specs.declared.entry.Binding.{Binding}
 use Rattle.trace_replay.specs.Forms.{is_name, is_value}
-use Rattle.trace_replay.specs.Lines.{entries_of, input_entries, moment_entries, moments, state_entries}
+use Rattle.trace_replay.specs.Lassos.{lasso_trace}
+use Rattle.trace_replay.specs.Lines.{entries_of, input_entries, loop_entries, moment_entries, moments, state_entries}
 use Rattle.trace_replay.specs.Reading.{in_form, is_binding, is_small}
 use Rattle.trace_replay.specs.Rows.{bindings_of, column_of, given_rows, has_name, input_columns, run_trace, state_columns}
 use Rattle.trace_replay.proofs.Broken.{first_parts, step_parts}
@@ -124,3 +126,37 @@ module _ (p : Program) (states inputs : List (List Value)) (run : IsRun p states
       (input_line i (slice_get t.inputs i) i_small (λ bs e. inputs_formed p given_named inputs i bs given e))) in
       and_from (is_small number) (list_all in_form (moments t ++ [])) (lt-ltb number (2 ^ 64) small)
       (list_all-append in_form (moments t) [] ∙ and_from (list_all in_form (moments t)) true lines refl)
+
+module _ (p : Program) (w : Lasso) (is : IsLasso p w) where
+  lasso_each : (i : ℕ) → i < length w.states → is_state p (at_time w.states i) ≡ true
+  lasso_each zero below = (first_parts p (at_time w.states 0) is.first).0
+  lasso_each (suc i) below =
+      let parts = step_parts p (at_time w.states i) (at_time w.inputs i) (at_time w.states (i + 1)) (is.steps i (omega (arith, below))) in
+      subst (λ k. is_state p (at_time w.states k) ≡ true) (let n : i + 1 ≡ suc i = omega arith in n) parts.2
+
+  lasso_given : (i : ℕ) → i < length w.inputs → are_inputs p (at_time w.inputs i) ≡ true
+  lasso_given i below = elim (cases_lt (i + 1) (length w.states)) [
+    | inl b ↦ (step_parts p (at_time w.states i) (at_time w.inputs i) (at_time w.states (i + 1)) (is.steps i b)).1
+    | inr c ↦
+        let e : length w.states - 1 ≡ i = omega (arith, c, below, is.long) in
+        subst (λ k. are_inputs p (at_time w.inputs k) ≡ true) e
+        (step_parts p (at_time w.states (length w.states - 1)) (at_time w.inputs (length w.states - 1)) (at_time w.states w.start) is.back).1
+  ]
+
+  pub lasso_readable : (number : ℕ) → number < 2 ^ 64 → length w.states ≤ 2 ^ 64 → list_all has_name (state_columns p) ≡ true → list_all has_name (input_columns p) ≡ true
+      → list_all in_form (entries_of number (lasso_trace p w)) ≡ true
+  lasso_readable number small few held_named given_named =
+      let t = lasso_trace p w in
+      let counted = length-map w.states (bindings_of (state_columns p)) in
+      let given_few = inputs_few p w.inputs in
+      let lines : list_all in_form (moments t) ≡ true =
+      all_numbers (moment_entries t) in_form (max (length t.states) (length t.inputs)) (λ i below.
+      let i_small : is_small i ≡ true = lt-ltb i (2 ^ 64) (omega (arith, below, counted, given_few, few, is.long)) in
+      list_all-append in_form (state_entries i (slice_get t.states i)) (input_entries i (slice_get t.inputs i))
+      ∙ and_from (list_all in_form (state_entries i (slice_get t.states i))) (list_all in_form (input_entries i (slice_get t.inputs i)))
+      (state_line i (slice_get t.states i) i_small (λ bs e. states_formed p held_named w.states i bs lasso_each e))
+      (input_line i (slice_get t.inputs i) i_small (λ bs e. inputs_formed p given_named w.inputs i bs lasso_given e))) in
+      and_from (is_small number) (list_all in_form (moments t ++ loop_entries (Some w.start))) (lt-ltb number (2 ^ 64) small)
+      (list_all-append in_form (moments t) (loop_entries (Some w.start))
+      ∙ and_from (list_all in_form (moments t)) (list_all in_form (loop_entries (Some w.start))) lines
+      (and_from (is_small w.start) true (lt-ltb w.start (2 ^ 64) (omega (arith, is.inside, few))) refl))

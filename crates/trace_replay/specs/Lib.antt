@@ -1,4 +1,5 @@
 pub mod Forms
+pub mod Lassos
 pub mod Lines
 pub mod Reading
 pub mod Rows

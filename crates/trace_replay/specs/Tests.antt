@@ -24,6 +24,7 @@ rule_text rule.First = codes "first"
 rule_text rule.Inv = codes "inv"
 rule_text rule.Step = codes "step"
 rule_text rule.Loop = codes "loop"
+rule_text rule.Fair = codes "fair"
 rule_text rule.Spec = codes "spec"
 
 -- their order
@@ -33,7 +34,8 @@ rank rule.First = 1
 rank rule.Inv = 2
 rank rule.Step = 3
 rank rule.Loop = 4
-rank rule.Spec = 5
+rank rule.Fair = 5
+rank rule.Spec = 6
 
 -- how many lines of inputs there are beside so many states: one for each step; none without input slots
 abbrev pub due_beside : List Column → ℕ → ℕ
@@ -92,6 +94,7 @@ passes p spec t rule.First i = begins p (states_told p t) i
 passes p spec t rule.Inv i = stays p (states_told p t) i
 passes p spec t rule.Step i = goes_on p (states_told p t) (inputs_told p t) i
 passes p spec t rule.Loop i = not (starts_at t.start i)
+passes p spec t rule.Fair i = true
 passes p spec t rule.Spec i = ends p spec (states_told p t) i
 
 -- a test and its number come before another

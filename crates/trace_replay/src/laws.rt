@@ -5,9 +5,11 @@ ghost use Rattle.std.specs.List.{list_all};
 ghost use Rattle.smv_tree.specs.declared.refusal.Refusal.{Refusal};
 ghost use Rattle.smv_tree.specs.declared.tree.Program.{Program};
 ghost use Rattle.smv_value.specs.declared.value.Value.{Value};
+ghost use Rattle.smv_meaning.specs.Lassos.{IsLasso, Lasso};
 ghost use Rattle.smv_meaning.specs.Runs.{IsRun};
 ghost use Rattle.trace_replay.specs.declared.source.Line.{Line};
 ghost use Rattle.trace_replay.specs.declared.trace.Trace.{Trace};
+ghost use Rattle.trace_replay.specs.Lassos.{lasso_trace};
 ghost use Rattle.trace_replay.specs.Lines.{entries_of, entry_text};
 ghost use Rattle.trace_replay.specs.Reading.{Holds, IsRefusedAt, in_form, texts};
 ghost use Rattle.trace_replay.specs.Rows.{has_name, input_columns, run_trace, state_columns};
@@ -24,4 +26,10 @@ pub fn is_read_once()
 /// lines. So the trace of a run that breaks a specification is read back as it was printed.
 pub fn is_run_readable()
     ensures { (p : Program) (number : ℕ) (states inputs : List (List Value)) → IsRun p states inputs → number < 2 ^ 64 → length states ≤ 2 ^ 64 → list_all has_name (state_columns p) ≡ true → list_all has_name (input_columns p) ≡ true → list_all in_form (entries_of number (run_trace p states inputs)) ≡ true }
+{}
+
+/// The law of printed lassos: each line of the trace of a lasso is in form, if the names of the slots are such as may stand in
+/// lines. So the trace of a lasso that violates a specification is read back as it was printed.
+pub fn is_lasso_readable()
+    ensures { (p : Program) (number : ℕ) (w : Lasso) → IsLasso p w → number < 2 ^ 64 → length w.states ≤ 2 ^ 64 → list_all has_name (state_columns p) ≡ true → list_all has_name (input_columns p) ≡ true → list_all in_form (entries_of number (lasso_trace p w)) ≡ true }
 {}

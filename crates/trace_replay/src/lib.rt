@@ -1,9 +1,10 @@
-//! Traces of runs: their text, printed and read back, and their replay by the meaning of the program.
+//! Traces of runs and lassos: their text, printed and read back, and their replay by the meaning of the program.
 #![tactic(auto)]
 
 mod columns;
 mod entry;
 mod forms;
+mod lassos;
 mod laws;
 mod printing;
 mod reader;
@@ -17,10 +18,10 @@ mod trace;
 mod words;
 
 pub use entry::{Binding, Entry};
-pub use laws::{is_read_once, is_run_readable};
+pub use laws::{is_lasso_readable, is_read_once, is_run_readable};
 pub use printing::{TraceLines, print};
 pub use reader::read;
-pub use replaying::replay;
+pub use replaying::{replay, replay_run};
 pub use rule::{ReplayRule, Replayed};
 pub use source::Line;
 pub use trace::Trace;

@@ -5,24 +5,47 @@ ghost use Rattle.smv_resolve.specs.Items.{item_by};
 ghost use Rattle.smv_scope.specs.Slots.{slots_of};
 ghost use Rattle.smv_meaning.specs.Runs.{specifications_of};
 ghost use Rattle.smv_meaning.specs.Values.{outcome_in};
+ghost use Rattle.trace_replay.specs.Lassos.{IsReplayOf, Shows};
 ghost use Rattle.trace_replay.specs.Telling.{IsFirstFailing, IsTold};
 ghost use Rattle.trace_replay.specs.Tests.{IsReplay, ShowsBroken, begins, ends, goes_on, is_false, specification_at, stays};
 
+use crate::lassos::judge_lasso;
 use crate::telling::{Telling, Told, tell};
 use crate::{ReplayRule, Replayed, Trace};
 use smv_meaning::{
     Inputs, Outcome, State, Typed, meets_init, meets_inv, meets_step, outcomes, slots,
     specifications,
 };
-use smv_resolve::Item;
+use smv_resolve::{Item, ItemKind};
+use smv_tree::SpecificationKind;
 use smv_value::Value;
 use std::alloc::{AllocError, Global};
 
 /// What comes of the tests of a trace of the specification of this number, counted from 1: it is accepted, or rejected by the
-/// first test that fails. It is accepted just where it is the trace of a run that breaks the specification.
+/// first test that fails. The trace of an invariant is accepted just where it is that of a run that breaks the invariant; where that
+/// of a temporal specification is accepted, the lasso that it tells violates the specification.
 ///
-/// Memory may be refused. The time is that of the tests, each of them in the size of the model.
+/// Memory may be refused. The time is that of the tests, each of them in the size of the model; that of a temporal specification is
+/// that of its formula's table.
 pub fn replay(
+    alloc: Global,
+    typed: &Typed,
+    spec: usize,
+    trace: &Trace,
+) -> Result<Replayed, AllocError>
+    requires first { 0 < spec }
+    requires last { spec ≤ length (specifications_of typed.now.scope.program) }
+    ensures judged { IfOk result (λ r. IfSome (specification_at typed.now.scope.program spec) (λ x. IsReplayOf x.kind typed.now.scope.program x trace.now r)) }
+    ensures accepted { IfOk result (λ r. IfSome (specification_at typed.now.scope.program spec) (λ x. Shows x.kind typed.now.scope.program x trace.now r)) }
+{
+    let specs = specifications(alloc, typed)?;
+    let item = specs.as_slice()[spec - 1];
+    judge(alloc, typed, &item, trace)
+}
+
+/// The same of the trace of a run, where the specification of this number is taken as an invariant: it is accepted just where it is
+/// that of a run in whose last state the specification is FALSE.
+pub fn replay_run(
     alloc: Global,
     typed: &Typed,
     spec: usize,
@@ -35,11 +58,32 @@ pub fn replay(
 {
     let specs = specifications(alloc, typed)?;
     let item = specs.as_slice()[spec - 1];
-    judge(alloc, typed, &item, trace)
+    judge_run(alloc, typed, &item, trace)
 }
 
 // What comes of the tests of a trace of this specification.
 fn judge(alloc: Global, typed: &Typed, spec: &Item, trace: &Trace) -> Result<Replayed, AllocError>
+    ensures { IfOk result (IsReplayOf spec.now.kind typed.now.scope.program (item_by typed.now.nodes spec.now) trace.now) }
+{
+    match spec.kind {
+        ItemKind::Specification(SpecificationKind::Temporal) => {
+            judge_lasso(alloc, typed, spec, trace)
+        }
+        ItemKind::Specification(SpecificationKind::Invariant) => {
+            judge_run(alloc, typed, spec, trace)
+        }
+        ItemKind::Assignment(_) => judge_run(alloc, typed, spec, trace),
+        ItemKind::Constraint(_) => judge_run(alloc, typed, spec, trace),
+    }
+}
+
+// What comes of the tests of a trace of a run.
+fn judge_run(
+    alloc: Global,
+    typed: &Typed,
+    spec: &Item,
+    trace: &Trace,
+) -> Result<Replayed, AllocError>
     ensures { IfOk result (IsReplay typed.now.scope.program (item_by typed.now.nodes spec.now) trace.now) }
 {
     match tell(alloc, typed, trace)? {
@@ -81,14 +125,14 @@ fn judge_values(
     Ok(Replayed::Accepted)
 }
 
-fn rejected(rule: ReplayRule, number: usize) -> Replayed
+pub fn rejected(rule: ReplayRule, number: usize) -> Replayed
     ensures { result ≡ Replayed.Rejected rule number }
 {
     Replayed::Rejected { rule, number }
 }
 
 // Whether the first state is none of the program.
-fn failing_first(
+pub fn failing_first(
     alloc: Global,
     typed: &Typed,
     states: &[State],
@@ -103,7 +147,11 @@ fn failing_first(
 }
 
 // The first state that does not have what invariants ask.
-fn failing_inv(alloc: Global, typed: &Typed, states: &[State]) -> Result<Option<usize>, AllocError>
+pub fn failing_inv(
+    alloc: Global,
+    typed: &Typed,
+    states: &[State],
+) -> Result<Option<usize>, AllocError>
     ensures { IfOk result (IsFirstFailing (stays typed.now.scope.program states.now)) }
 {
     for (i, state) in states.iter().enumerate() {
@@ -115,7 +163,7 @@ fn failing_inv(alloc: Global, typed: &Typed, states: &[State]) -> Result<Option<
 }
 
 // The first state from which there is no step to the next.
-fn failing_step(
+pub fn failing_step(
     alloc: Global,
     typed: &Typed,
     states: &[State],
@@ -149,7 +197,7 @@ fn failing_spec(
 }
 
 // The outcome of the specification in a state.
-fn outcome_in(
+pub fn outcome_in(
     alloc: Global,
     typed: &Typed,
     spec: &Item,

@@ -16,9 +16,12 @@ pub enum ReplayRule {
     Inv,
     /// There is a step from a state to the next.
     Step,
-    /// The trace of an invariant has no loop.
+    /// The trace of an invariant has no loop; that of a temporal specification has one, and there is a step from the last state to the
+    /// one where it begins.
     Loop,
-    /// The specification is FALSE at the end.
+    /// A JUSTICE is TRUE in some state of the loop.
+    Fair,
+    /// The specification is FALSE: an invariant in the last state, a temporal one at the first time.
     Spec,
 }
 
@@ -41,6 +44,7 @@ impl fmt::Display for ReplayRule {
             ReplayRule::Inv => write!(f, "inv"),
             ReplayRule::Step => write!(f, "step"),
             ReplayRule::Loop => write!(f, "loop"),
+            ReplayRule::Fair => write!(f, "fair"),
             ReplayRule::Spec => write!(f, "spec"),
         }
     }

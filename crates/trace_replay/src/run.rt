@@ -1,6 +1,8 @@
-//! The trace of a run.
+//! The traces of runs and lassos.
 
 ghost use Rattle.std.specs.Prelude.{◌≡◌, map, IfOk};
+ghost use Rattle.smv_meaning.specs.Lassos.{Lasso};
+ghost use Rattle.trace_replay.specs.Lassos.{lasso_trace};
 ghost use Rattle.trace_replay.specs.Rows.{binding_of, bindings_of, given_rows, run_trace};
 
 use crate::columns::{Column, input_columns, state_columns};
@@ -30,6 +32,28 @@ impl Trace {
             states,
             inputs,
             start: None,
+        })
+    }
+
+    /// The trace of a lasso: that of its states and of the inputs of the step from each, with the number of the state at which the
+    /// last step goes on. Without input slots no inputs are told. Memory may be refused.
+    pub fn of_lasso(
+        alloc: Global,
+        typed: &Typed,
+        states: &[State],
+        inputs: &[Inputs],
+        start: usize,
+    ) -> Result<Trace, AllocError>
+        ensures { IfOk result (λ t. t ≡ lasso_trace typed.now.scope.program (record { states = states.now; inputs = inputs.now; start = start })) }
+    {
+        let held = state_columns(alloc, typed)?;
+        let given = input_columns(alloc, typed)?;
+        let states = rows_of(alloc, held.as_slice(), states)?;
+        let inputs = given_rows(alloc, given.as_slice(), inputs)?;
+        Ok(Trace {
+            states,
+            inputs,
+            start: Some(start),
         })
     }
 }

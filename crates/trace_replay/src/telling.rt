@@ -1,6 +1,7 @@
 //! The values that a trace tells, by the names and types of the slots.
 
 ghost use Rattle.std.specs.Prelude.{◌≡◌, slice_get, IfOk};
+ghost use Rattle.trace_replay.specs.Lassos.{AreEachInputs, IsLassoTelling, due_each};
 ghost use Rattle.trace_replay.specs.Rows.{cell_read, input_columns, line_read, row_read, state_columns, state_read, value_read};
 ghost use Rattle.trace_replay.specs.Telling.{AreInputs, IsTelling};
 ghost use Rattle.trace_replay.specs.Tests.{due_beside};
@@ -55,6 +56,34 @@ pub fn tell(alloc: Global, typed: &Typed, trace: &Trace) -> Result<Telling, Allo
     }))
 }
 
+/// The values that the trace of a lasso tells.
+pub fn tell_lasso(alloc: Global, typed: &Typed, trace: &Trace) -> Result<Telling, AllocError>
+    ensures { IfOk result (IsLassoTelling typed.now.scope.program trace.now) }
+{
+    let held = state_columns(alloc, typed)?;
+    let given = input_columns(alloc, typed)?;
+    let mut states = Vec::new(alloc);
+    let mut inputs = Vec::new(alloc);
+    let rows = trace.states.as_slice();
+    for i in 0..rows.len().max(1) {
+        let Some(state) = state_at(alloc, typed, held.as_slice(), trace, i)? else {
+            return Ok(Telling::Unfit(i));
+        };
+        let Some(given) = each_input_at(alloc, typed, given.as_slice(), trace, i)? else {
+            return Ok(Telling::Unfit(i));
+        };
+        states.push(state)?;
+        inputs.push(given)?;
+    }
+    if trace.inputs.len() > rows.len() {
+        return Ok(Telling::Unfit(rows.len()));
+    }
+    Ok(Telling::Fit(Told {
+        states: Items::from_vec(states),
+        inputs: Items::from_vec(inputs),
+    }))
+}
+
 // The values of the state of this number.
 fn state_at(
     alloc: Global,
@@ -92,6 +121,38 @@ fn inputs_at(
         Some(inputs) => Ok(Some(inputs)),
         None => Ok(Some(Items::new(alloc))),
     }
+}
+
+// The inputs of the step of this number, the last of which goes back; none are told where none are due.
+fn each_input_at(
+    alloc: Global,
+    typed: &Typed,
+    columns: &[Column],
+    trace: &Trace,
+    i: usize,
+) -> Result<Option<Inputs>, AllocError>
+    requires { columns.now ≡ input_columns typed.now.scope.program }
+    ensures { IfOk result (AreEachInputs typed.now.scope.program trace.now i) }
+{
+    let due = due_each(columns, trace.states.len());
+    let read = line_read(alloc, columns, trace.inputs.as_slice(), i)?;
+    if i < due {
+        return Ok(read);
+    }
+    if i == due && i < trace.inputs.len() {
+        return Ok(None);
+    }
+    match read {
+        Some(inputs) => Ok(Some(inputs)),
+        None => Ok(Some(Items::new(alloc))),
+    }
+}
+
+// How many lines of inputs there are beside so many states of a lasso.
+fn due_each(columns: &[Column], states: usize) -> usize
+    ensures { result ≡ due_each columns.now states }
+{
+    if columns.is_empty() { 0 } else { states }
 }
 
 // How many lines of inputs there are beside so many states.

@@ -1,0 +1,59 @@
+//! The formula of a specification.
+
+ghost use Rattle.std.specs.Prelude.{◌↔◌, ℕ, IfOk};
+ghost use Rattle.smv_resolve.specs.Items.{item_by};
+ghost use Rattle.smv_meaning.specs.Lassos.{Holds, Lasso};
+ghost use Rattle.ltl_meaning.specs.declared.word.Word.{Word};
+ghost use Rattle.ltl_meaning.specs.Lasso.{on};
+ghost use Rattle.ltl_meaning.specs.Temporal.{formula_of};
+ghost use Rattle.ltl_meaning.specs.Truth.{IsTrueAt};
+ghost use Rattle.smv_formulas.specs.Says.{Says, atom_parts};
+ghost use Rattle.smv_formulas.specs.Words.{IsWordOf};
+
+use crate::marks::marks_of;
+use crate::trees::tree;
+use ltl_meaning::formula::Formula;
+use smv_meaning::Typed;
+use smv_resolve::Item;
+use sqlite_items::Items;
+use std::alloc::{AllocError, Global};
+
+/// The formula of a specification, and its atoms, which are numbers of nodes of the program's list. An atom is true where the
+/// node's expression is TRUE, with the inputs of the step from the state.
+#[derive(Debug, Drop)]
+pub struct Specified {
+    pub formula: Formula,
+    pub atoms: Items<usize>,
+}
+
+/// The formula of a specification: its temporal operators and the propositions above and under them, over atoms, which are the
+/// largest parts without a temporal operator. On each lasso of values it is true at just the times at which the specification
+/// holds, and so it is on the word of the lasso.
+///
+/// The error is want of memory. Past operators that nest 2^32 deep count as such, and so do other bounds than `0 <= a <= b <=
+/// 255`, which no program that is read has. The time and the memory are those of the formula in which each name stands for what it
+/// leads to: a definition that has a temporal operator is there as often as it is used. Of an atom they are the number of
+/// atoms before it.
+pub fn formula_of(alloc: Global, typed: &Typed, spec: &Item) -> Result<Specified, AllocError>
+    ensures says { IfOk result (λ s. Says typed.now.scope.program (atom_parts typed.now.nodes s.atoms) (formula_of s.formula.root) (item_by typed.now.nodes spec.now).value) }
+    ensures words { IfOk result (λ s. (w : Lasso) (word : Word) → IsWordOf typed.now.scope.program (atom_parts typed.now.nodes s.atoms) w word → (t : ℕ) → IsTrueAt (on word) (formula_of s.formula.root) t ↔ Holds typed.now.scope.program w (item_by typed.now.nodes spec.now).value t) }
+{
+    let nodes = typed.nodes.as_slice();
+    let marks = marks_of(alloc, nodes)?;
+    let mut atoms = Vec::new(alloc);
+    let root = tree(
+        alloc,
+        nodes,
+        marks.as_slice(),
+        nodes.len(),
+        spec.value,
+        &mut atoms,
+    )?;
+    let Some(formula) = Formula::new(root) else {
+        return Err(AllocError)
+    };
+    Ok(Specified {
+        formula,
+        atoms: Items::from_vec(atoms),
+    })
+}
