@@ -1,2 +1,5 @@
+pub mod Models
+pub mod Paid
+pub mod Pairs
 pub mod Refuting
 pub mod Sharing

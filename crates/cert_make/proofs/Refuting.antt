@@ -35,7 +35,7 @@ Derives-wider vars bs cs log all d = (
   d.1,
 )
 
-Contains-map : {A B : Type 0} (f : A → B) (xs : List A) (x : A) → Contains xs x → Contains (map f xs) (f x)
+pub Contains-map : {A B : Type 0} (f : A → B) (xs : List A) (x : A) → Contains xs x → Contains (map f xs) (f x)
 Contains-map f xs x h = (h.0, simp length-map h.1, get_or-map f xs h.0 x (f x) h.1 ∙ ap f h.2)
 
 -- a clause of one literal for each of the core is one for each of the assumptions
@@ -55,13 +55,13 @@ refuted_by_core vars given log assumptions core all d =
     (units_in assumptions core all))) d
 
 -- clauses that stand among others
-here : (a : List (List Lit)) → All (Contains a) a
+pub here : (a : List (List Lit)) → All (Contains a) a
 here a = All-contains_itself a
 
-at_left : (a b c : List (List Lit)) → All (Contains a) c → All (Contains (a ++ b)) c
+pub at_left : (a b c : List (List Lit)) → All (Contains a) c → All (Contains (a ++ b)) c
 at_left a b c h = All-weaker (Contains a) (Contains (a ++ b)) (λ x y. Contains-append_left a b x y) c h
 
-at_right : (a b c : List (List Lit)) → All (Contains b) c → All (Contains (a ++ b)) c
+pub at_right : (a b c : List (List Lit)) → All (Contains b) c → All (Contains (a ++ b)) c
 at_right a b c h = All-weaker (Contains b) (Contains (a ++ b)) (λ x y. Contains-append_right a b x y) c h
 
 turned : (given us learned : List (List Lit)) → All (Contains ((given ++ learned) ++ us)) ((given ++ us) ++ learned)

@@ -4,13 +4,10 @@ use Rattle.clause_core.specs.declared.literal.Lit.{Lit}
 use Rattle.clause_core.specs.Propagation.{Follows}
 use Rattle.clause_core.specs.Derivations.{AllStepsBelow, Derives}
 use Rattle.clause_core.specs.Systems.{TransitionSystem}
-use Rattle.hinted_log.specs.Hints.{Refutes}
 use Rattle.cert_core.specs.declared.form.Form.TheVariants.{Hinted}
 use Rattle.cert_core.specs.Certificates.{unit_clauses, negated_next, shared_steps, first_clauses, Shows, SharedFollow, Certifies}
 use Rattle.cert_make.specs.declared.asking.Asked.{Asked}
 use Rattle.cert_make.specs.declared.asking.Asked.TheVariants as asked
-use Rattle.cert_make.specs.declared.parts.PartMade.{PartMade}
-use Rattle.cert_make.specs.declared.parts.PartMade.TheVariants as of_part
 use Rattle.cert_core.specs.Blocks.{Block, part_of}
 use Rattle.cert_core.specs.declared.form.Part.TheVariants.{First, Kept}
 use Rattle.cert_check.specs.Judgements.{EachBelow}
@@ -30,11 +27,6 @@ pub record IsSpent (budget : ℕ) (over : Bool) (drawn b : ℕ) : Type 0 where
 abbrev pub AskedSays : ℕ → List (List Lit) → List (List Lit) → List Lit → ℕ → Bool → Asked → Type 0
 AskedSays vars given learned assumptions budget over asked.Refuted = Derives vars (given ++ unit_clauses assumptions) (learned ++ [] ∷ [])
 AskedSays vars given learned assumptions budget over (asked.Spent drawn b) = IsSpent budget over drawn b
-
--- steps that derive the empty clause from these clauses by hints; or the purse was spent
-abbrev pub PartSays : ℕ → List (List Lit) → ℕ → Bool → PartMade → Type 0
-PartSays vars cs budget over (of_part.Steps h) = Refutes vars cs h
-PartSays vars cs budget over (of_part.Spent drawn b) = IsSpent budget over drawn b
 
 -- all questions are refuted, and this holds; or the purse was spent
 abbrev pub AllSay : Type 0 → ℕ → Bool → Asked → Type 0

@@ -1,7 +1,9 @@
 ghost use Rattle.std.specs.Prelude.{◌≡◌, IfOk};
 ghost use Rattle.clause_core.specs.Literals.{Within};
+ghost use Rattle.sat_core.specs.Paying.{PaysForOne};
 ghost use Rattle.sat_core.specs.Queries.{Learns, IsSound};
 ghost use Rattle.cert_make.specs.Making.{AskedSays};
+ghost use Rattle.cert_make.specs.Paying.{HasNoModel};
 
 use clause_core::Lit;
 use effort_purse::Purse;
@@ -20,7 +22,7 @@ pub enum Asked {
     Spent { drawn: u64, budget: u64 },
 }
 
-// Lets the solver show that its clauses and the assumptions can't all be true, where they can't.
+// Lets the solver show that its clauses and the assumptions can't all be true.
 pub fn ask<Q: Purse>(
     alloc: Global,
     solver: &mut Engine,
@@ -28,8 +30,10 @@ pub fn ask<Q: Purse>(
     purse: &mut Q,
 ) -> Result<Asked, AllocError>
     requires within { Within solver.old.vars assumptions.now }
+    requires no_model { HasNoModel solver.old.given assumptions.now }
     requires ready { Q.ready purse.old }
     ensures asked { IfOk result (AskedSays solver.old.vars solver.old.given solver.new.learned assumptions.now (Q.budget purse.old) (Q.spent purse.new)) }
+    ensures pays { PaysForOne solver.old assumptions.now solver.new (Q.tickets purse.old) (Q.tickets purse.new) }
     ensures learned { Learns assumptions.now solver.old solver.new }
     ensures sound { IsSound solver.new }
     ensures kept { Q.kept purse.old purse.new }
@@ -37,8 +41,7 @@ pub fn ask<Q: Purse>(
     ensures budget { Q.budget purse.new ≡ Q.budget purse.old }
 {
     match solver.solve(alloc, assumptions, purse)? {
-        // Cannot come where nothing makes all of it true.
-        Answer::Sat(_) => Err(AllocError),
+        Answer::Sat(_) => unreachable!(),
         Answer::Unsat { .. } => Ok(Asked::Refuted),
         Answer::Spent { drawn, budget } => Ok(Asked::Spent { drawn, budget }),
     }

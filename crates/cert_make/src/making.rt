@@ -1,17 +1,21 @@
-ghost use Rattle.std.specs.Prelude.{◌≡◌, ◌≤◌, ◌*◌, All, IfOk, None};
+ghost use Rattle.std.specs.Prelude.{◌≡◌, ◌+◌, ◌≤◌, ◌++◌, [], All, IfOk, None, length};
 ghost use Rattle.clause_core.specs.Literals.{Within};
 ghost use Rattle.cert_core.specs.declared.form.Form.TheVariants.{Hinted as Hints};
-ghost use Rattle.cert_core.specs.Certificates.{IsInvariant};
+ghost use Rattle.cert_core.specs.declared.form.Part.TheVariants.{Safe as OfSafe};
+ghost use Rattle.cert_core.specs.Certificates.{unit_clauses, IsInvariant};
+ghost use Rattle.cert_check.specs.Upgrades.{Puts};
 ghost use Rattle.cert_make.specs.Making.{AllSay, FirstPut, SharedAndKept, IsMade, MadeSays};
+ghost use Rattle.cert_make.specs.Paying.{PaysOn, PaysMaking};
 
-use crate::asking::Asked;
-use crate::parts::put_part;
+use crate::asking::{Asked, Engine};
+use crate::parts::{discard, put_part};
 use crate::shared::{Learned, learn, put_shared_and_kept};
 use cert_check::lists::{joined, negate_all};
 use cert_core::{Certificate, Form, MAX_VARS, Part};
 use clause_core::{Clauses, System};
 use effort_purse::Purse;
 use rup_check::Checker;
+use sat_core::Solver;
 use std::alloc::{AllocError, Global};
 
 /// What is made of an invariant.
@@ -38,36 +42,39 @@ fn bare(alloc: Global, clauses: &Clauses) -> Result<Certificate, AllocError>
     Ok(bare)
 }
 
-// Gives each clause's part `first` its steps.
-fn put_first<Q: Purse>(
+// Gives each clause's part `first` its steps, by a solver of the clauses of first states.
+fn put_first_with<Q: Purse>(
     alloc: Global,
+    solver: &mut Engine,
     checker: &mut Checker,
     system: &System,
     clauses: &Clauses,
     to: &mut Certificate,
     purse: &mut Q,
 ) -> Result<Asked, AllocError>
+    requires fresh { solver.old ≡ record { vars = system.now.all_bits; given = system.now.init; learned = [] } }
     requires vars { checker.old ≡ system.now.all_bits }
     requires room { system.now.all_bits ≤ MAX_VARS }
     requires within { All (Within system.now.state_bits) clauses.now }
+    requires invariant { IsInvariant system.now clauses.now }
     requires form { to.old.form ≡ Hints }
     requires clauses { to.old.clauses ≡ clauses.now }
     requires ready { Q.ready purse.old }
     ensures vars { checker.new ≡ checker.old }
     ensures says { IfOk result (AllSay (FirstPut system.now clauses.now to.old to.new) (Q.budget purse.old) (Q.spent purse.new)) }
+    ensures pays { IfOk result (PaysOn system.now clauses.now 0 (length clauses.now) [] [] (Q.tickets purse.old) (Q.tickets purse.new)) }
     ensures kept { Q.kept purse.old purse.new }
     ensures ready { Q.ready purse.new }
     ensures budget { Q.budget purse.new ≡ Q.budget purse.old }
 {
     system.law();
     to.law();
-    let vars = system.all_bits();
     for k in 0..clauses.len() {
         let units = negate_all(alloc, clauses.get(k))?;
         match put_part(
             alloc,
+            solver,
             checker,
-            vars,
             system.init(),
             &units,
             to,
@@ -79,6 +86,36 @@ fn put_first<Q: Purse>(
         }
     }
     Ok(Asked::Refuted)
+}
+
+// The same, by a solver that it makes.
+fn put_first<Q: Purse>(
+    alloc: Global,
+    checker: &mut Checker,
+    system: &System,
+    clauses: &Clauses,
+    to: &mut Certificate,
+    purse: &mut Q,
+) -> Result<Asked, AllocError>
+    requires vars { checker.old ≡ system.now.all_bits }
+    requires room { system.now.all_bits ≤ MAX_VARS }
+    requires within { All (Within system.now.state_bits) clauses.now }
+    requires invariant { IsInvariant system.now clauses.now }
+    requires form { to.old.form ≡ Hints }
+    requires clauses { to.old.clauses ≡ clauses.now }
+    requires ready { Q.ready purse.old }
+    ensures vars { checker.new ≡ checker.old }
+    ensures says { IfOk result (AllSay (FirstPut system.now clauses.now to.old to.new) (Q.budget purse.old) (Q.spent purse.new)) }
+    ensures pays { IfOk result (PaysOn system.now clauses.now 0 (length clauses.now) [] [] (Q.tickets purse.old) (Q.tickets purse.new)) }
+    ensures kept { Q.kept purse.old purse.new }
+    ensures ready { Q.ready purse.new }
+    ensures budget { Q.budget purse.new ≡ Q.budget purse.old }
+{
+    system.law();
+    let mut solver: Engine = Solver::with_clauses(alloc, system.all_bits(), system.init())?;
+    let asked = put_first_with(alloc, &mut solver, checker, system, clauses, to, purse);
+    discard(solver);
+    asked
 }
 
 // Gives the shared part its steps, and each clause's part `kept`.
@@ -94,26 +131,58 @@ fn put_kept<Q: Purse>(
     requires vars { checker.old ≡ system.now.all_bits }
     requires room { system.now.all_bits ≤ MAX_VARS }
     requires within { All (Within system.now.state_bits) clauses.now }
-    requires given { All (Within system.now.all_bits) given.now }
+    requires invariant { IsInvariant system.now clauses.now }
+    requires given { given.now ≡ clauses.now ++ system.now.step }
+    requires given_in { All (Within system.now.all_bits) given.now }
     requires form { to.old.form ≡ Hints }
     requires clauses { to.old.clauses ≡ clauses.now }
     requires none { to.old.shared ≡ None }
     requires ready { Q.ready purse.old }
     ensures vars { checker.new ≡ checker.old }
     ensures says { IfOk result (AllSay (SharedAndKept system.now.all_bits system.now.state_bits given.now clauses.now to.old to.new) (Q.budget purse.old) (Q.spent purse.new)) }
+    ensures pays { IfOk result (PaysOn system.now clauses.now (length clauses.now) (length clauses.now + length clauses.now) [] [] (Q.tickets purse.old) (Q.tickets purse.new)) }
     ensures kept { Q.kept purse.old purse.new }
     ensures ready { Q.ready purse.new }
     ensures budget { Q.budget purse.new ≡ Q.budget purse.old }
 {
-    let vars = system.all_bits();
     let state_bits = system.state_bits();
-    match learn(alloc, vars, state_bits, given, clauses, purse)? {
+    match learn(alloc, system, given, clauses, purse)? {
         Learned::Spent { drawn, budget } => Ok(Asked::Spent { drawn, budget }),
         Learned::Clauses(log) => {
             put_shared_and_kept(alloc, checker, given, &log, state_bits, clauses, to)?;
             Ok(Asked::Refuted)
         }
     }
+}
+
+// Gives the part `safe` its steps, where `bad` is what it follows from.
+fn put_safe<Q: Purse>(
+    alloc: Global,
+    checker: &mut Checker,
+    system: &System,
+    clauses: &Clauses,
+    bad: &Clauses,
+    to: &mut Certificate,
+    purse: &mut Q,
+) -> Result<Asked, AllocError>
+    requires vars { checker.old ≡ system.now.all_bits }
+    requires room { system.now.all_bits ≤ MAX_VARS }
+    requires invariant { IsInvariant system.now clauses.now }
+    requires bad { bad.now ≡ clauses.now ++ system.now.bad }
+    requires bad_in { All (Within system.now.all_bits) bad.now }
+    requires form { to.old.form ≡ Hints }
+    requires ready { Q.ready purse.old }
+    ensures says { IfOk result (AllSay (Puts system.now.all_bits (bad.now ++ unit_clauses []) OfSafe to.old to.new) (Q.budget purse.old) (Q.spent purse.new)) }
+    ensures pays { IfOk result (PaysOn system.now clauses.now (length clauses.now + length clauses.now) (length clauses.now + length clauses.now + 1) [] [] (Q.tickets purse.old) (Q.tickets purse.new)) }
+    ensures kept { Q.kept purse.old purse.new }
+    ensures ready { Q.ready purse.new }
+    ensures budget { Q.budget purse.new ≡ Q.budget purse.old }
+{
+    let _count = clauses.len();
+    let mut solver: Engine = Solver::with_clauses(alloc, system.all_bits(), bad)?;
+    let asked = put_part(alloc, &mut solver, checker, bad, &[], to, Part::Safe, purse);
+    discard(solver);
+    asked
 }
 
 // Gives all parts their steps.
@@ -128,12 +197,14 @@ fn put_all<Q: Purse>(
     requires vars { checker.old ≡ system.now.all_bits }
     requires room { system.now.all_bits ≤ MAX_VARS }
     requires within { All (Within system.now.state_bits) clauses.now }
+    requires invariant { IsInvariant system.now clauses.now }
     requires form { to.old.form ≡ Hints }
     requires counter { to.old.counter ≡ None }
     requires clauses { to.old.clauses ≡ clauses.now }
     requires none { to.old.shared ≡ None }
     requires ready { Q.ready purse.old }
     ensures says { IfOk result (AllSay (IsMade system.now clauses.now to.new) (Q.budget purse.old) (Q.spent purse.new)) }
+    ensures pays { IfOk result (PaysOn system.now clauses.now 0 (length clauses.now + length clauses.now + 1) [] [] (Q.tickets purse.old) (Q.tickets purse.new)) }
     ensures kept { Q.kept purse.old purse.new }
     ensures ready { Q.ready purse.new }
     ensures budget { Q.budget purse.new ≡ Q.budget purse.old }
@@ -149,16 +220,7 @@ fn put_all<Q: Purse>(
         Asked::Spent { drawn, budget } => return Ok(Asked::Spent { drawn, budget }),
         Asked::Refuted => {}
     }
-    match put_part(
-        alloc,
-        checker,
-        system.all_bits(),
-        &bad,
-        &[],
-        to,
-        Part::Safe,
-        purse,
-    )? {
+    match put_safe(alloc, checker, system, clauses, &bad, to, purse)? {
         Asked::Spent { drawn, budget } => Ok(Asked::Spent { drawn, budget }),
         Asked::Refuted => Ok(Asked::Refuted),
     }
@@ -166,11 +228,11 @@ fn put_all<Q: Purse>(
 
 /// Makes of clauses over state bits that are an invariant without bad states a certificate that certifies, judged by hints.
 ///
-/// A solver for all parts `kept` is asked each clause, negated, at the next state; what it learns follows from the clauses
-/// and the steps alone, and is the shared part, so that each part `kept` is one step. Each part `first`, and the part `safe`,
-/// has a solver of its own. Each question costs a ticket of the purse, and each clause that a solver learns another;
-/// `Spent` comes only where the purse refused one. The other error is want of memory; more variables than a text can
-/// number count as that.
+/// A solver for all parts `first` is asked each clause, negated; one for all parts `kept` each clause, negated, at the next
+/// state; and one for the part `safe` its own question. What the second one learns follows from the clauses and the steps
+/// alone, and is the shared part, so that each part `kept` is one step. Each question costs a ticket of the purse, and each
+/// clause that a solver learns another; `Spent` comes only where the purse refused one, and then some part is not answered.
+/// The other error is want of memory; more variables than a text can number count as that.
 pub fn make<Q: Purse>(
     alloc: Global,
     system: &System,
@@ -181,6 +243,7 @@ pub fn make<Q: Purse>(
     requires invariant { IsInvariant system.now clauses.now }
     requires ready { Q.ready purse.old }
     ensures made { IfOk result (MadeSays system.now clauses.now (Q.budget purse.old) (Q.spent purse.new)) }
+    ensures pays { IfOk result (PaysMaking system.now clauses.now (Q.tickets purse.old) (Q.tickets purse.new)) }
     ensures kept { Q.kept purse.old purse.new }
     ensures ready { Q.ready purse.new }
     ensures budget { Q.budget purse.new ≡ Q.budget purse.old }

@@ -1,19 +1,20 @@
-ghost use Rattle.std.specs.Prelude.{◌≡◌, ◌≤◌, ◌*◌, ◌++◌, [], ◌∷◌, All, IfOk, OnOk, None, length, slice_index_or};
+ghost use Rattle.std.specs.Prelude.{◌≡◌, ◌+◌, ◌≤◌, ◌*◌, ◌++◌, [], ◌∷◌, All, IfOk, OnOk, None, length, slice_index_or};
 ghost use Rattle.clause_core.specs.Literals.{Within};
 ghost use Rattle.clause_core.specs.Derivations.{AllStepsBelow, Derives};
 ghost use Rattle.cert_core.specs.declared.form.Form.TheVariants.{Hinted as Hints};
 ghost use Rattle.cert_core.specs.declared.form.Part.TheVariants.{Kept as OfKept};
 ghost use Rattle.cert_core.specs.Blocks.{part_of};
-ghost use Rattle.cert_core.specs.Certificates.{unit_clauses, negated_next, shared_steps, Shows};
+ghost use Rattle.cert_core.specs.Certificates.{unit_clauses, negated_next, shared_steps, Shows, IsInvariant};
 ghost use Rattle.cert_check.specs.Judgements.{EachBelow};
 ghost use Rattle.cert_make.specs.Making.{KeptFollows, LearnedSays, SharedPut, SharedAndKept};
+ghost use Rattle.cert_make.specs.Paying.{PaysOn, asked_of};
 
 use crate::asking::{Asked, Engine};
 use crate::parts::{discard, learn_kept};
 use cert_check::hinting::hint_part;
 use cert_check::lists::{append, negate_next};
 use cert_core::{Certificate, MAX_VARS, Part};
-use clause_core::Clauses;
+use clause_core::{Clauses, System};
 use effort_purse::Purse;
 use rup_check::Checker;
 use sat_core::Solver;
@@ -41,24 +42,25 @@ fn learned_of(alloc: Global, solver: &Engine) -> Result<Clauses, AllocError>
 fn learn_with<Q: Purse>(
     alloc: Global,
     solver: &mut Engine,
-    vars: usize,
-    state_bits: usize,
+    system: &System,
     given: &Clauses,
     clauses: &Clauses,
     purse: &mut Q,
 ) -> Result<Learned, AllocError>
-    requires fresh { solver.old ≡ record { vars = vars; given = given.now; learned = [] } }
-    requires room { 2 * state_bits ≤ vars }
-    requires fits { vars ≤ MAX_VARS }
-    requires within { All (Within state_bits) clauses.now }
+    requires fresh { solver.old ≡ record { vars = system.now.all_bits; given = given.now; learned = [] } }
+    requires given { given.now ≡ clauses.now ++ system.now.step }
+    requires fits { system.now.all_bits ≤ MAX_VARS }
+    requires within { All (Within system.now.state_bits) clauses.now }
+    requires invariant { IsInvariant system.now clauses.now }
     requires ready { Q.ready purse.old }
-    ensures says { IfOk result (LearnedSays vars state_bits given.now clauses.now (Q.budget purse.old) (Q.spent purse.new)) }
+    ensures says { IfOk result (LearnedSays system.now.all_bits system.now.state_bits given.now clauses.now (Q.budget purse.old) (Q.spent purse.new)) }
+    ensures pays { IfOk result (λ r. PaysOn system.now clauses.now (length clauses.now) (length clauses.now + length clauses.now) [] [] (Q.tickets purse.old) (Q.tickets purse.new) (asked_of r)) }
     ensures kept { Q.kept purse.old purse.new }
     ensures ready { Q.ready purse.new }
     ensures budget { Q.budget purse.new ≡ Q.budget purse.old }
 {
-    let _count = (vars, given.len());
-    match learn_kept(alloc, solver, state_bits, clauses, purse)? {
+    let _count = (system.all_bits(), given.len());
+    match learn_kept(alloc, solver, system, clauses, purse)? {
         Asked::Spent { drawn, budget } => Ok(Learned::Spent { drawn, budget }),
         Asked::Refuted => {
             let log = learned_of(alloc, solver)?;
@@ -70,24 +72,25 @@ fn learn_with<Q: Purse>(
 // What a solver learns of these clauses when it is asked of each clause whether it is kept.
 pub fn learn<Q: Purse>(
     alloc: Global,
-    vars: usize,
-    state_bits: usize,
+    system: &System,
     given: &Clauses,
     clauses: &Clauses,
     purse: &mut Q,
 ) -> Result<Learned, AllocError>
-    requires room { 2 * state_bits ≤ vars }
-    requires fits { vars ≤ MAX_VARS }
-    requires given { All (Within vars) given.now }
-    requires within { All (Within state_bits) clauses.now }
+    requires given { given.now ≡ clauses.now ++ system.now.step }
+    requires given_in { All (Within system.now.all_bits) given.now }
+    requires fits { system.now.all_bits ≤ MAX_VARS }
+    requires within { All (Within system.now.state_bits) clauses.now }
+    requires invariant { IsInvariant system.now clauses.now }
     requires ready { Q.ready purse.old }
-    ensures says { IfOk result (LearnedSays vars state_bits given.now clauses.now (Q.budget purse.old) (Q.spent purse.new)) }
+    ensures says { IfOk result (LearnedSays system.now.all_bits system.now.state_bits given.now clauses.now (Q.budget purse.old) (Q.spent purse.new)) }
+    ensures pays { IfOk result (λ r. PaysOn system.now clauses.now (length clauses.now) (length clauses.now + length clauses.now) [] [] (Q.tickets purse.old) (Q.tickets purse.new) (asked_of r)) }
     ensures kept { Q.kept purse.old purse.new }
     ensures ready { Q.ready purse.new }
     ensures budget { Q.budget purse.new ≡ Q.budget purse.old }
 {
-    let mut solver: Engine = Solver::with_clauses(alloc, vars, given)?;
-    let learned = learn_with(alloc, &mut solver, vars, state_bits, given, clauses, purse);
+    let mut solver: Engine = Solver::with_clauses(alloc, system.all_bits(), given)?;
+    let learned = learn_with(alloc, &mut solver, system, given, clauses, purse);
     discard(solver);
     learned
 }

@@ -3,6 +3,8 @@ use Rattle.std.proofs.Common.{◌≡◌, ℕ, zero, suc, ◌+◌, ◌<◌, Bool,
 use Rattle.std.specs.Prelude.{All, ◌&&◌, nat_lt, map, filter, Some, None}
 use Rattle.std.proofs.lemmas.Bool.{cases_Bool, cases_lt, lt-ltb, le-ltb}
 use Rattle.std.proofs.lemmas.List.Elements.{All-nil, All-cons, All-head, All-tail}
+use Rattle.clause_core.specs.declared.literal.Lit.{Lit}
+use Rattle.clause_core.specs.Literals.{Within}
 use Rattle.clause_core.specs.Assignments.{ClauseTrue}
 use Rattle.clause_core.specs.Systems.{TransitionSystem}
 use Rattle.cert_core.specs.Certificates.{IsInvariant}
@@ -13,7 +15,7 @@ use Rattle.frame_core.specs.Law.{IsInvariant as IsFrameInvariant}
 use Rattle.frame_core.specs.Changes.{VerdictSays}
 use Rattle.frame_core.proofs.Changing.{ClauseTrue-part}
 use Rattle.frame_history.specs.History.{HasVerdict}
-use Rattle.prove_run.specs.Answers.{clauses_above, is_above}
+use Rattle.prove_run.specs.Certifying.{clauses_above, is_above}
 
 no_way : false ≡ true → ⊥
 no_way e = let h : false ≡ true = e in cc
@@ -44,19 +46,19 @@ meets_each x i (l ∷ ls) h (suc n) lt on = elim (cases_Bool (is_above i l)) [
       meets_each x i ls (subst (All (ClauseTrue x)) e h) n (omega (arith, lt)) on
 ]
 
--- and the other way round
-all_met : (x : ℕ → Bool) (i : ℕ) (ls : List Lemma) →
-    ((n : ℕ) → n < length ls → is_above i (lemma_at ls n) ≡ true → ClauseTrue x (lemma_at ls n).clause) → All (ClauseTrue x) (clauses_above i ls)
-all_met x i [] h = All-nil (ClauseTrue x)
-all_met x i (l ∷ ls) h =
-    let rest : All (ClauseTrue x) (clauses_above i ls) = all_met x i ls (λ n lt on. h (suc n) (omega (arith, lt)) on) in
+-- what holds of each lemma that is above holds of each of the clauses
+pub all_above : (P : List Lit → Type 0) (i : ℕ) (ls : List Lemma) → ((n : ℕ) → n < length ls → is_above i (lemma_at ls n) ≡ true → P (lemma_at ls n).clause) →
+    All P (clauses_above i ls)
+all_above P i [] h = All-nil P
+all_above P i (l ∷ ls) h =
+    let rest : All P (clauses_above i ls) = all_above P i ls (λ n lt on. h (suc n) (omega (arith, lt)) on) in
     elim (cases_Bool (is_above i l)) [
       | inl here ↦
           let e : clauses_above i (l ∷ ls) ≡ l.clause ∷ clauses_above i ls = ap (λ (z : List Lemma). map (λ (m : Lemma). m.clause) z) (keeps (is_above i) l ls here) in
-          subst (All (ClauseTrue x)) (sym e) (All-cons (ClauseTrue x) l.clause (clauses_above i ls) (h 0 (omega arith) here) rest)
+          subst (All P) (sym e) (All-cons P l.clause (clauses_above i ls) (h 0 (omega arith) here) rest)
       | inr off ↦
           let e : clauses_above i (l ∷ ls) ≡ clauses_above i ls = ap (λ (z : List Lemma). map (λ (m : Lemma). m.clause) z) (drops (is_above i) l ls off) in
-          subst (All (ClauseTrue x)) (sym e) rest
+          subst (All P) (sym e) rest
     ]
 
 above_of : (i : ℕ) (l : Lemma) → l.live ≡ true → i < l.level → is_above i l ≡ true
@@ -83,7 +85,7 @@ meets_above sys ls i x h all n lt up = elim (cases_Bool (lemma_at ls n).live) [
 ]
 
 clauses_met : (ls : List Lemma) (i : ℕ) (x : ℕ → Bool) → MeetsFrom ls (i + 1) x → All (ClauseTrue x) (clauses_above i ls)
-clauses_met ls i x meets = all_met x i ls (λ n lt on. meets n lt (let up = level_of i (lemma_at ls n) on in omega (arith, up)))
+clauses_met ls i x meets = all_above (ClauseTrue x) i ls (λ n lt on. meets n lt (let up = level_of i (lemma_at ls n) on in omega (arith, up)))
 
 pub invariant_of : (f : FrameState) (j i : ℕ) → FramesHold f → j < length f.systems → VerdictSays f j (Some (Invariant i)) →
     IsInvariant (system_at f.systems j) (clauses_above i f.lemmas)
@@ -96,6 +98,10 @@ invariant_of f j i holds lt says =
       kept = λ x y all step. clauses_met f.lemmas i y (is.step x y (meets_above sys f.lemmas i x h all) step);
       safe = λ x all bad. is.safe x (meets_above sys f.lemmas i x h all) bad;
     }
+
+-- the clauses are over state bits
+pub above_within : (f : FrameState) (j i : ℕ) → FramesHold f → j < length f.systems → All (Within (system_at f.systems j).state_bits) (clauses_above i f.lemmas)
+above_within f j i holds lt = all_above (Within (system_at f.systems j).state_bits) i f.lemmas (λ n below on. (holds.lemmas j lt).within n below)
 
 pub no_verdict : (f : FrameState) (j : ℕ) → VerdictSays f j None → HasVerdict f j → ⊥
 no_verdict f j none (Invariant i, says) =

@@ -1,5 +1,6 @@
 pub mod Answered
 pub mod Blocking
+pub mod Certified
 pub mod Claimed
 pub mod Finished
 pub mod Going

@@ -6,7 +6,6 @@ use Rattle.std.proofs.Math.ListN.{get_or-append}
 use Rattle.std.proofs.lemmas.Option.{slice_get_within, slice_get_read, get_or_from_slice_get}
 use Rattle.std.proofs.lemmas.List.{map-append, take-append-le}
 use Rattle.std.proofs.Math.ListN.{length-map}
-use Rattle.std.proofs.lemmas.List.{get_or-map}
 use Rattle.std.proofs.lemmas.List.Elements.{All-append, All-weaker, All-contains, All-map}
 use Rattle.clause_core.specs.declared.literal.Lit.{Lit}
 use Rattle.sat_core.specs.Paying.{Query, IsPaidLog}
@@ -19,7 +18,7 @@ use Rattle.frame_history.specs.History.{BookState, replay, claim_at, IsNew}
 use Rattle.frame_query.specs.Paying.{AskedQuery, IsQueryOf, Pays, AllDiffer, queries_of}
 use Rattle.prove_run.specs.Paying.{ClaimQuery, Key, MayAsk, HasKey, IsOfClaim, DifferInKey, IsPaidRun, queries_in}
 use Rattle.prove_run.specs.Paying.{before as state_before}
-use Rattle.prove_run.proofs.Joining.{pairs_join}
+use Rattle.cert_make.proofs.Pairs.{pairs_join, pairs_map}
 use Rattle.prove_run.proofs.Claimed.{made_by, claims_each}
 
 -- ---- A history with more entries
@@ -73,16 +72,6 @@ still_apart first h es log each apart i j d lt below' k p q =
 abbrev pub by_claim : ℕ → AskedQuery → ClaimQuery
 by_claim n a = record { claim = n; asked = a }
 
-pairs_map : {X Y : Type 0} (R : Y → Y → Type 0) (f : X → Y) (xs : List X) → ((i j : ℕ) (d : X) → i < j → j < length xs → R (f (get_or xs i d)) (f (get_or xs j d))) →
-    (e : X) → AllPairs R (map f xs)
-pairs_map {X = X} {Y = Y} R f xs h e i j d lt below' =
-    let long = length-map xs f in
-    let one : get_or (map f xs) i d ≡ f (get_or xs i e) = get_or-map f xs i e d (omega arith) in
-    let two : get_or (map f xs) j d ≡ f (get_or xs j e) = get_or-map f xs j e d (omega arith) in
-    let P : Y → Type 0 = λ y. R y (get_or (map f xs) j d) in
-    let Q : Y → Type 0 = λ y. R (f (get_or xs i e)) y in
-    subst P (sym one) (subst Q (sym two) (h i j e lt (omega arith)))
-
 -- the entry of the claim
 its_entry : (h es : List Entry) (e : Entry) → slice_get (h ++ e ∷ es) (length h) ≡ Some e
 its_entry h es e =
@@ -123,11 +112,6 @@ map_map : (n : ℕ) (asked : List AskedQuery) → queries_in (map (by_claim n) a
 map_map n [] = refl
 map_map n (a ∷ asked) = ap (λ (qs : List Query). a.query ∷ qs) (map_map n asked)
 
-apart_all : (first : BookState) (h : List Entry) (n : ℕ) (asked : List AskedQuery) → ((d : AskedQuery) → AllPairs (DifferInKey first h) (map (by_claim n) asked)) →
-    AllPairs (DifferInKey first h) (map (by_claim n) asked)
-apart_all first h n [] some = λ i j d lt below'. absurd (omega (arith, below'))
-apart_all first h n (a ∷ asked) some = some a
-
 from_map : (P : ClaimQuery → Type 0) (n : ℕ) (asked : List AskedQuery) → ((a : AskedQuery) → P (by_claim n a)) → (q : ClaimQuery) →
     Contains (map (by_claim n) asked) q → P q
 from_map P n asked h q there =
@@ -160,12 +144,12 @@ paid_claim first h es worker u level known later before after log asked paid new
       may = subst (λ (z : BookState). MayAsk z.frames u level a.question) (sym same) (may i d lt);
       query = subst (λ (z : BookState). IsQueryOf z.frames.systems z.frames.lemmas a.question a.query) (sym same) (pays.each i d lt);
     }) in
-    let apart_new : (d : AskedQuery) → AllPairs (DifferInKey first H) added = pairs_map (DifferInKey first H) (by_claim n) asked
+    let apart_new : AllPairs (DifferInKey first H) added = pairs_map (DifferInKey first H) (by_claim n) asked
     (λ i j d lt below' k p q. differ i j d lt below' (sym p.question ∙ q.question)) in
     record {
       each = All-append (IsOfClaim first H) log added (All-weaker (IsOfClaim first h) (IsOfClaim first H) (λ q o. still_of first h rest q o) log paid.each)
           (All-map (IsOfClaim first H) (by_claim n) asked each_new);
-      apart = pairs_join (DifferInKey first H) log added (still_apart first h rest log paid.each paid.apart) (apart_all first H n asked apart_new)
+      apart = pairs_join (DifferInKey first H) log added (still_apart first h rest log paid.each paid.apart) apart_new
           (λ p q in_log in_new.
           let of : IsOfClaim first h p = All-contains (IsOfClaim first h) log p paid.each in_log in
           from_map (DifferInKey first H p) n asked (λ a. cross_apart first h es worker u level new none_void p of a) q in_new);

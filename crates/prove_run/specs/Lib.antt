@@ -1,4 +1,5 @@
 pub mod Answers
 pub mod Asking
+pub mod Certifying
 pub mod Paying
 pub mod Playing

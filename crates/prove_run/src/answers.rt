@@ -1,6 +1,6 @@
 //! What is known of systems, and the work that led to it.
 
-use clause_core::Clauses;
+use cert_core::Certificate;
 use frame_core::BitRun;
 use frame_history::Entry;
 
@@ -16,8 +16,8 @@ pub enum Cause {
 /// What is known of a system.
 #[derive(Drop)]
 pub enum Answer {
-    /// These clauses are an inductive invariant that excludes bad states.
-    True(Clauses),
+    /// No bad state is reached: this certificate certifies it.
+    True(Certificate),
     /// This run leads to a bad state.
     False(BitRun),
     /// It is not known, for this cause.

@@ -3,10 +3,7 @@ use Rattle.std.proofs.Common.{◌≡◌, ◌∙◌, ℕ, zero, suc, ◌-◌, ◌
 use Rattle.std.specs.Prelude.{filter, slice_get, Some}
 use Rattle.std.proofs.lemmas.List.Elements.{All-head, All-tail}
 use Rattle.std.proofs.lemmas.Option.{slice_get_within}
-use Rattle.clause_core.specs.declared.literal.Lit.{Lit}
-use Rattle.clause_core.specs.Assignments.{ClauseTrue}
-use Rattle.clause_core.specs.Systems.{TransitionSystem, ReachedWithin}
-use Rattle.cert_core.specs.Certificates.{IsInvariant}
+use Rattle.clause_core.specs.Systems.{TransitionSystem}
 use Rattle.command_words.specs.declared.command.Effort.{Effort}
 use Rattle.smv_tree.specs.declared.tree.Program.{Program}
 use Rattle.smv_resolve.specs.Items.{ResolvedItem}
@@ -18,8 +15,8 @@ use Rattle.bit_system.specs.Building.{BitProgram, IsBuilt, system_of}
 use Rattle.bit_system.specs.Standing.{StandsFor}
 use Rattle.bit_system.proofs.Agreeing.{agreeing}
 use Rattle.bit_system.proofs.Codes.{coding}
-use Rattle.bit_runs.specs.Running.{IsUnbroken, NeverBadWithin}
-use Rattle.bit_runs.proofs.Reaching.{unbroken, unbroken_within}
+use Rattle.bit_runs.specs.Running.{NeverBadWithin}
+use Rattle.bit_runs.proofs.Reaching.{unbroken_within}
 use Rattle.prove_run.specs.declared.answers.Answer.{Answer}
 use Rattle.prove_run.specs.declared.answers.Answer.TheVariants.{True, False, Unknown}
 use Rattle.prove_run.specs.declared.answers.Cause.{Cause}
@@ -28,28 +25,16 @@ use Rattle.prove_run.specs.Answers.{IsCause, IsDone, IsRight, first_of, limits_o
 use Rattle.smv_cli.specs.Records.{SaysOfRuns, StandForAll, asked_with, invariants_of, prover_effort}
 use Rattle.smv_cli.specs.Written.{IsAnswered}
 
--- what is reached meets the clauses of an inductive invariant
-reached : (sys : TransitionSystem) (cs : List (List Lit)) → IsInvariant sys cs → (n : ℕ) (x : ℕ → Bool) → ReachedWithin sys n x → All (ClauseTrue x) cs
-reached sys cs inv zero x r = inv.initial x r
-reached sys cs inv (suc n) x r = elim r [
-  | inl before ↦ reached sys cs inv n x before
-  | inr there ↦ inv.kept there.0 x (reached sys cs inv n there.0 there.1) there.2
-]
-
 module _ (p : Program) (spec : ResolvedItem) (sys : TransitionSystem) (stands : StandsFor p spec sys) where
-  -- where the prover answers true of the system, no run breaks the specification
-  true_is : (cs : List (List Lit)) → IsInvariant sys cs → IsUnbroken p spec
-  true_is cs inv = unbroken p spec sys (agreeing p spec sys stands) (coding p) (λ n x r bad. inv.safe x (reached sys cs inv n x r) bad)
-
-  -- and where no bad state is reached in so many steps, no run of so many steps breaks it
+  -- where no bad state is reached in so many steps, no run of so many steps breaks it
   cause_says : (effort : Effort) (systems : List TransitionSystem) (history : List Entry) (j : ℕ) → system_at systems j ≡ sys → (cause : Cause) → IsCause systems (prover_effort effort) history j cause → SaysOfRuns p spec cause
   cause_says effort systems history j same (Conflicts drawn budget) c = tt
-  cause_says effort systems history j same (Frames n) c = unbroken_within p spec sys (agreeing p spec sys stands) (coding p) n (subst (λ (s : TransitionSystem). NeverBadWithin s n) same c.2)
+  cause_says effort systems history j same (Frames n) c = unbroken_within p spec sys (agreeing p spec sys stands) (coding p) n (subst (λ (s : TransitionSystem). NeverBadWithin s n) same c.3)
 
 module _ (p : Program) (effort : Effort) (spec : ResolvedItem) (systems : List TransitionSystem) (history : List Entry) (j : ℕ) (stand : StandForAll p systems (asked_with effort p spec))
     (asked : slice_get (asked_with effort p spec) j ≡ Some spec) (lawful : IsLawful (limits_of (prover_effort effort)) (first_of systems (prover_effort effort)) history) where
   answered : (a : Answer) → IsRight systems (prover_effort effort) history j a → IsAnswered p effort (system_at systems j) spec a
-  answered (True proof) right = true_is p spec (system_at systems j) (stand.stands j spec asked) proof right
+  answered (True cert) right = right
   answered (False run) right = right
   answered (Unknown cause) right = record {
     systems = systems;

@@ -13,7 +13,7 @@ use Rattle.smv_resolve.specs.Items.{ResolvedItem, item_by}
 use Rattle.smv_meaning.specs.Runs.{specifications_of}
 use Rattle.frame_core.specs.Runs.{IsBadRun}
 use Rattle.bit_system.specs.Building.{IsBuilt}
-use Rattle.bit_runs.specs.Running.{IsUnbroken}
+use Rattle.cert_core.specs.Certificates.{Certifies}
 use Rattle.prove_run.specs.declared.answers.Answer.{Answer}
 use Rattle.prove_run.specs.declared.answers.Answer.TheVariants as answer
 use Rattle.prove_run.specs.declared.answers.Done.{Done}
@@ -29,7 +29,7 @@ use Rattle.smv_cli.specs.Texts.{record_text}
 
 -- what was answered of a specification, whose system this is, is right
 abbrev pub IsAnswered : Program → Effort → TransitionSystem → ResolvedItem → Answer → Type 0
-IsAnswered p effort sys spec (answer.True proof) = IsUnbroken p spec
+IsAnswered p effort sys spec (answer.True cert) = Certifies sys cert × (cert.counter ≡ None)
 IsAnswered p effort sys spec (answer.False run) = IsBadRun sys run
 IsAnswered p effort sys spec (answer.Unknown cause) = IsLeftOpen p effort spec cause
 

@@ -11,7 +11,8 @@ ghost use Rattle.smv_cli.specs.Written.{IsAnswered, IsAskedBefore, IsReady, item
 
 use crate::checking::Checking;
 use crate::record::{Record, Verdict};
-use bit_runs::{run_of, what_is_built_is_alike};
+use bit_runs::{run_of, what_is_built_is_alike, what_is_never_bad_is_unbroken};
+use cert_core::laws::no_run_reaches_bad;
 use command_words::Effort;
 use prove_run::{Answer, Done, prove_all, prove_invariant};
 use smv_meaning::{Inputs, State, Typed};
@@ -150,7 +151,11 @@ fn verdict_of(
     ensures { IfOk result (IsRight (program_in model.now) model.now.effort (item_in model.now spec.now)) }
 {
     match answer {
-        Answer::True(_) => Ok(Verdict::True),
+        Answer::True(_) => {
+            no_run_reaches_bad();
+            what_is_never_bad_is_unbroken();
+            Ok(Verdict::True)
+        }
         Answer::False(run) => {
             let run = run_of(alloc, &model.built, run)?;
             let (states, inputs) = (run.states.as_slice(), run.inputs.as_slice());

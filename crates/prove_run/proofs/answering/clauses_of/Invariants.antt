@@ -1,5 +1,5 @@
 use Rattle.std.proofs.Common.{take, ◌≡◌, ◌≤◌, length}
-use Rattle.prove_run.specs.Answers.{clauses_above}
+use Rattle.prove_run.specs.Certifying.{clauses_above}
 use Rattle.prove_run.proofs.answering.clauses_of.Given as goal
 
 abbrev pub invariant-lemmas : goal.invariant-lemmas

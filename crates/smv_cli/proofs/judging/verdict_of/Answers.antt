@@ -16,3 +16,13 @@ replayed-requires-clause-broken c =
     let broken = c.in_ok-run-in-False.ensures.breaks p (c.args.number - 1) spec c.requires.ready.built c.requires.numbered bad in
     subst (λ (s : List (List Value)). Breaks p spec s c.as_slice-inputs.result.now) (sym c.as_slice-states.ensures)
     (subst (λ (u : List (List Value)). Breaks p spec run.states u) (sym c.as_slice-inputs.ensures) broken)
+
+pub returns-in-True : goal.returns-in-True
+returns-in-True c =
+    let model = c.args.model.now in
+    let p = program_in model in
+    let spec = item_in model c.args.spec.now in
+    let sys = system_of model.built (c.args.number - 1) in
+    let shown = subst (IsAnswered p model.effort sys spec) c.in-True.is c.requires.answered in
+    c.what_is_never_bad_is_unbroken.ensures.all p spec sys (c.requires.ready.built.stands (c.args.number - 1) spec c.requires.numbered)
+    (λ n x reached bad. c.no_run_reaches_bad.ensures sys c.in-True.field-0 shown.0 n x reached bad)
