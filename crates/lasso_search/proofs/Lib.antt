@@ -1,10 +1,14 @@
 mod Each
 mod Places
-mod Meets
-mod FromModel
-mod ToModel
+mod Courses
+mod Closed
+mod Read
+mod Looping
+mod Told
 mod WithinVars
 mod Answers
+mod Loaded
+mod Paid
 mod Recorded
 mod Stretched
 mod OwnLassos

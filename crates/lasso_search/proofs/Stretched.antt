@@ -17,7 +17,7 @@ module _ (m : TransitionSystem) (xs : ℕ → ℕ → Bool) (n l : ℕ) (lasso :
   round i = xs (state_at n l i)
 
   -- a step at each time
-  around : (i : ℕ) → StepBits m (round i) (round (i + 1))
+  pub around : (i : ℕ) → StepBits m (round i) (round (i + 1))
   around i = elim (cases_lt (state_at n l i + 1) n) [
     | inl low ↦ subst (λ k. StepBits m (round i) (xs k)) (sym (state_stays n l lasso.inside i low)) (lasso.steps (state_at n l i) low)
     | inr high ↦

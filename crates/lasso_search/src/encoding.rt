@@ -1,98 +1,139 @@
-ghost use Rattle.std.specs.Prelude.{◌≡◌, ◌++◌, IfOk, OnOk};
-ghost use Rattle.lasso_search.specs.Unrolling.{back, meeting, moment, met_once, clauses_at, vars_at};
+ghost use Rattle.std.specs.Prelude.{◌≡◌, ◌++◌, length, IfOk, OnOk};
+ghost use Rattle.clause_core.specs.Literals.{at};
+ghost use Rattle.lasso_search.specs.Unrolling.{each, beginning, ending, seeing, unseen, opening, moment, closing_at};
 
 use crate::plan::{Plan, Turn, sum};
 use clause_core::{Clauses, Lit, System};
 use std::alloc::{AllocError, Global};
 
-// How many variables the query of a plan has.
-pub fn variables(plan: &Plan, system: &System) -> Result<usize, AllocError>
-    ensures { IfOk result (λ n. n ≡ vars_at plan.now system.now) }
-{
-    let sets = sum(plan.loop_kind()?, 1)?;
-    let kinds = sum(sets, system.fair().len())?;
-    let end = plan.spot(kinds, 0)?;
-    Ok(end)
-}
-
-// The clauses of the query of a plan.
-pub fn clauses(alloc: Global, plan: &Plan, system: &System) -> Result<Clauses, AllocError>
-    ensures { IfOk result (λ cs. cs ≡ clauses_at plan.now system.now) }
+// The clauses that speak of the first state alone.
+pub fn opening(alloc: Global, plan: &Plan, system: &System) -> Result<Clauses, AllocError>
+    ensures { IfOk result (λ cs. cs ≡ opening plan.now system.now) }
 {
     let mut all = Clauses::new(alloc);
     plan.copy(alloc, Turn::First, system.init(), &mut all)?;
-    for time in 0..plan.states {
-        add_moment(alloc, plan, system, time, &mut all)?;
-    }
-    for set in 0..system.fair().len() {
-        add_met_once(alloc, plan, set, &mut all)?;
-    }
     all.push(&[plan.begun(0)?.negated()])?;
-    all.push(&[plan.begun(plan.states)?])?;
+    for set in 0..system.fair().len() {
+        add_unseen(plan, set, &mut all)?;
+    }
     Ok(all)
 }
 
-// What is asked of a state and its step.
-fn add_moment(
+// No set was met before the first state.
+fn add_unseen(plan: &Plan, set: usize, out: &mut Clauses) -> Result<(), AllocError>
+    ensures { OnOk result (out.new ≡ out.old ++ unseen plan.now set) }
+{
+    out.push(&[plan.seen(set, 0)?.negated()])
+}
+
+// The clauses of a state, its step and the state after it.
+pub fn moment(
     alloc: Global,
+    plan: &Plan,
+    system: &System,
+    time: usize,
+) -> Result<Clauses, AllocError>
+    ensures { IfOk result (λ cs. cs ≡ moment plan.now system.now time) }
+{
+    let mut all = Clauses::new(alloc);
+    plan.copy(alloc, Turn::Step(time), system.step(), &mut all)?;
+    plan.copy(alloc, Turn::State(time), system.defs(), &mut all)?;
+    add_beginnings(plan, time, &mut all)?;
+    add_endings(plan, sum(time, 1)?, &mut all)?;
+    add_sightings(plan, system, time, &mut all)?;
+    Ok(all)
+}
+
+// Where the loop begins at this time, the state at which it begins is this one.
+fn add_beginnings(plan: &Plan, time: usize, out: &mut Clauses) -> Result<(), AllocError>
+    ensures { OnOk result (out.new ≡ out.old ++ each (beginning plan.now time) plan.now.bits) }
+{
+    for bit in 0..plan.bits {
+        add_beginning(plan, time, bit, out)?;
+    }
+    Ok(())
+}
+
+// The same of one bit.
+fn add_beginning(plan: &Plan, time: usize, bit: usize, out: &mut Clauses) -> Result<(), AllocError>
+    ensures { OnOk result (out.new ≡ out.old ++ beginning plan.now time bit) }
+{
+    let before = plan.begun(time)?;
+    let not_after = plan.begun(sum(time, 1)?)?.negated();
+    let start = Lit::new(bit, true);
+    let here = Lit::new(plan.spot(bit, time)?, true);
+    out.push(&[before, not_after, start, here.negated()])?;
+    out.push(&[before, not_after, start.negated(), here])?;
+    Ok(())
+}
+
+// Where the loop ends at this time, the state at which it begins is this one.
+fn add_endings(plan: &Plan, time: usize, out: &mut Clauses) -> Result<(), AllocError>
+    ensures { OnOk result (out.new ≡ out.old ++ each (ending plan.now time) plan.now.bits) }
+{
+    for bit in 0..plan.bits {
+        add_ending(plan, time, bit, out)?;
+    }
+    Ok(())
+}
+
+// The same of one bit.
+fn add_ending(plan: &Plan, time: usize, bit: usize, out: &mut Clauses) -> Result<(), AllocError>
+    ensures { OnOk result (out.new ≡ out.old ++ ending plan.now time bit) }
+{
+    let not_end = plan.ends(time)?.negated();
+    let start = Lit::new(bit, true);
+    let here = Lit::new(plan.spot(bit, time)?, true);
+    out.push(&[not_end, start, here.negated()])?;
+    out.push(&[not_end, start.negated(), here])?;
+    Ok(())
+}
+
+// Where a set was met before the next time, it was before this one, or is at this time, in the loop.
+fn add_sightings(
     plan: &Plan,
     system: &System,
     time: usize,
     out: &mut Clauses,
 ) -> Result<(), AllocError>
-    ensures { OnOk result (out.new ≡ out.old ++ moment plan.now system.now time) }
+    ensures { OnOk result (out.new ≡ out.old ++ each (λ j. seeing plan.now (at system.now.fair j) time j) (length system.now.fair)) }
 {
-    plan.copy(alloc, Turn::Step(time), system.step(), out)?;
-    plan.copy(alloc, Turn::State(time), system.defs(), out)?;
-    for bit in 0..plan.bits {
-        add_back(plan, time, bit, out)?;
-    }
     let fair = system.fair();
     for set in 0..fair.len() {
-        add_meeting(plan, fair[set], time, set, out)?;
+        add_seeing(plan, fair[set], time, set, out)?;
     }
     Ok(())
 }
 
-// Where the loop begins at this time, a bit of the state after the last is that of this state.
-fn add_back(plan: &Plan, time: usize, bit: usize, out: &mut Clauses) -> Result<(), AllocError>
-    ensures { OnOk result (out.new ≡ out.old ++ back plan.now time bit) }
-{
-    let before = plan.begun(time)?;
-    let not_after = plan.begun(sum(time, 1)?)?.negated();
-    let last = Lit::new(plan.spot(bit, plan.states)?, true);
-    let here = Lit::new(plan.spot(bit, time)?, true);
-    out.push(&[before, not_after, last, here.negated()])?;
-    out.push(&[before, not_after, last.negated(), here])?;
-    Ok(())
-}
-
-// Where a set is met at this time, the loop has begun, and the set's literal is true.
-fn add_meeting(
+// The same of one set.
+fn add_seeing(
     plan: &Plan,
     literal: Lit,
     time: usize,
     set: usize,
     out: &mut Clauses,
 ) -> Result<(), AllocError>
-    ensures { OnOk result (out.new ≡ out.old ++ meeting plan.now literal time set) }
+    ensures { OnOk result (out.new ≡ out.old ++ seeing plan.now literal time set) }
 {
-    let not_met = plan.met(set, time)?.negated();
-    let begun = plan.begun(sum(time, 1)?)?;
+    let next = sum(time, 1)?;
+    let not_after = plan.seen(set, next)?.negated();
+    let before = plan.seen(set, time)?;
+    let begun = plan.begun(next)?;
     let literal = plan.moved(Turn::State(time), literal)?;
-    out.push(&[not_met, begun])?;
-    out.push(&[not_met, literal])?;
+    out.push(&[not_after, before, begun])?;
+    out.push(&[not_after, before, literal])?;
     Ok(())
 }
 
-// A set is met at some time.
-fn add_met_once(alloc: Global, plan: &Plan, set: usize, out: &mut Clauses) -> Result<(), AllocError>
-    ensures { OnOk result (out.new ≡ out.old ++ met_once plan.now set) }
+// What is assumed for a lasso of so many states.
+pub fn closing(alloc: Global, plan: &Plan, states: usize) -> Result<Vec<Lit>, AllocError>
+    ensures { IfOk result (λ ls. ls.items ≡ closing_at plan.now states) }
 {
-    let mut times = Vec::new(alloc);
-    for time in 0..plan.states {
-        times.push(plan.met(set, time)?)?;
+    let mut literals = Vec::new(alloc);
+    literals.push(plan.begun(states)?)?;
+    literals.push(plan.ends(states)?)?;
+    for set in 0..plan.sets {
+        literals.push(plan.seen(set, states)?)?;
     }
-    out.push(&times)?;
-    Ok(())
+    Ok(literals)
 }

@@ -1,14 +1,17 @@
 //! What the search of a monitored system says of the lassos of the system itself, as contracts of
 //! functions that do nothing.
 
-ghost use Rattle.std.specs.Prelude.{◌+◌, ◌-◌, ◌*◌, ℕ, Bool, List};
+ghost use Rattle.std.specs.Prelude.{◌+◌, ◌-◌, ◌*◌, ◌≤◌, ◌↔◌, ℕ, Bool, List, All};
 ghost use Rattle.clause_core.specs.declared.literal.Lit.{Lit};
-ghost use Rattle.clause_core.specs.Systems.{TransitionSystem, Gives};
+ghost use Rattle.clause_core.specs.Assignments.{ClauseTrue};
+ghost use Rattle.clause_core.specs.Systems.{TransitionSystem, Gives, IsSystem};
 ghost use Rattle.ltl_meaning.specs.Ltl.{Ltl, past_height};
 ghost use Rattle.ltl_monitor.specs.FairLasso.{Violates};
 ghost use Rattle.ltl_monitor.specs.States.{Extends, justice_of, IsMonitor};
-ghost use Rattle.ltl_monitor.specs.Lassos.{IsLasso, word_of};
+ghost use Rattle.ltl_monitor.specs.Lassos.{IsLasso, IsFair, word_of};
 ghost use Rattle.lasso_search.specs.Lassos.{Lasso, state, KeepsSteps, IsFairLasso, IsOwnLasso, HasNoFairLasso};
+ghost use Rattle.lasso_search.specs.Unrolling.{plan_of, unrolled};
+ghost use Rattle.lasso_search.specs.Unrolled.{IsCourse, course_of, CanClose};
 
 /// A fair lasso of the monitored system is a lasso of the system that violates the formula.
 pub fn found_lassos()
@@ -25,4 +28,12 @@ pub fn no_lassos()
 /// bits with which the step clauses are met.
 pub fn own_lassos()
     ensures { (sys m : TransitionSystem) (f : Ltl) (atoms : List Lit) → IsMonitor sys f atoms m → Gives sys.state_bits sys.fair sys.defs → Gives m.state_bits m.fair m.defs → (n : ℕ) (r own : Lasso) → IsFairLasso m n r → IsOwnLasso sys m r own → KeepsSteps sys own × IsLasso sys (state own) n own.start }
+{}
+
+/// The clauses of an unrolling of so many steps say that the values are those of a run of so many steps, in which a
+/// loop may begin and end; and with what a query for n states assumes, they can be met exactly where there is a fair
+/// lasso of n states.
+pub fn unrolled_lassos()
+    ensures clauses { (m : TransitionSystem) (steps : ℕ) (a : ℕ → Bool) → All (ClauseTrue a) (unrolled m steps) ↔ IsCourse m steps (course_of (plan_of m) a) }
+    ensures lengths { (m : TransitionSystem) (steps n : ℕ) → IsSystem m → n ≤ steps → CanClose m steps n ↔ ((xs : ℕ → ℕ → Bool) × (l : ℕ) × IsLasso m xs n l × IsFair m xs n l) }
 {}

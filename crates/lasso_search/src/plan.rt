@@ -1,20 +1,20 @@
 ghost use Rattle.std.specs.Prelude.{◌≡◌, ◌+◌, ◌++◌, map, IfOk, OnOk};
-ghost use Rattle.lasso_search.specs.Unrolling.{spot, loop_kind, place, moved, all_moved, begun, met};
+ghost use Rattle.lasso_search.specs.Unrolling.{plan_of, stride, spot, loop_kind, place, moved, all_moved, begun, ends, seen, vars_at};
 
-use clause_core::{Clauses, Lit};
+use clause_core::{Clauses, Lit, System};
 use std::alloc::{AllocError, Global};
 
-// How the variables of a query for lassos of some length lie: those of one kind beside one another,
-// one for each state and one for the state after the last. The kinds are the system's variables,
-// those that only its steps have, one that tells where the loop begins, and one for each fairness set.
+// How the variables of an unrolling lie: first a copy of the state bits and what only the clauses of a first
+// state have, then those of one time after another, as many for each, by kinds: the system's variables, those
+// that only its steps have, two that tell of the loop, and one for each fairness set.
 #[derive(Clone, Copy, Drop)]
 pub struct Plan {
-    // How many states the lasso has.
-    pub states: usize,
     // How many state bits the system has.
     pub bits: usize,
     // How many variables the system has.
     pub all: usize,
+    // How many fairness sets it has.
+    pub sets: usize,
 }
 
 // A copy of the system's variables.
@@ -39,25 +39,51 @@ pub fn sum(a: usize, b: usize) -> Result<usize, AllocError>
 }
 
 impl Plan {
-    // The variable of a kind at a time.
-    pub fn spot(&self, kind: usize, time: usize) -> Result<usize, AllocError>
-        ensures { IfOk result (λ v. v ≡ spot self.now kind time) }
+    // How the variables lie for a system.
+    pub fn new(system: &System) -> Plan
+        ensures { result ≡ plan_of system.now }
     {
-        let times = sum(self.states, 1)?;
-        let Some(first) = kind.checked_mul(times) else {
-            return Err(AllocError);
-        };
-        let var = sum(first, time)?;
-        Ok(var)
+        Plan {
+            bits: system.state_bits(),
+            all: system.all_bits(),
+            sets: system.fair().len(),
+        }
     }
 
     // The kind of the variables that tell where the loop begins.
-    pub fn loop_kind(&self) -> Result<usize, AllocError>
+    fn loop_kind(&self) -> Result<usize, AllocError>
         ensures { IfOk result (λ k. k ≡ loop_kind self.now) }
     {
         let inner = self.all.saturating_sub(self.bits).saturating_sub(self.bits);
         let kind = sum(self.all, inner)?;
         Ok(kind)
+    }
+
+    // How many variables a time has.
+    fn stride(&self) -> Result<usize, AllocError>
+        ensures { IfOk result (λ n. n ≡ stride self.now) }
+    {
+        let kinds = sum(self.loop_kind()?, 2)?;
+        let stride = sum(kinds, self.sets)?;
+        Ok(stride)
+    }
+
+    // The variable of a kind at a time.
+    pub fn spot(&self, kind: usize, time: usize) -> Result<usize, AllocError>
+        ensures { IfOk result (λ v. v ≡ spot self.now kind time) }
+    {
+        let Some(first) = time.checked_mul(self.stride()?) else {
+            return Err(AllocError);
+        };
+        let var = sum(self.all, sum(first, kind)?)?;
+        Ok(var)
+    }
+
+    // How many variables there are for so many steps.
+    pub fn variables(&self, steps: usize) -> Result<usize, AllocError>
+        ensures { IfOk result (λ n. n ≡ vars_at self.now steps) }
+    {
+        self.spot(0, sum(steps, 1)?)
     }
 
     // Where a variable of the system goes.
@@ -77,7 +103,7 @@ impl Plan {
         if var < self.bits {
             self.spot(var, 0)
         } else {
-            self.spot(var, self.states)
+            Ok(var)
         }
     }
 
@@ -111,11 +137,20 @@ impl Plan {
         Ok(Lit::new(var, true))
     }
 
-    // That a fairness set is met at a time in the loop.
-    pub fn met(&self, set: usize, time: usize) -> Result<Lit, AllocError>
-        ensures { IfOk result (λ l. l ≡ met self.now set time) }
+    // That the state at a time is the one at which the loop begins.
+    pub fn ends(&self, time: usize) -> Result<Lit, AllocError>
+        ensures { IfOk result (λ l. l ≡ ends self.now time) }
     {
-        let first = sum(self.loop_kind()?, 1)?;
+        let kind = sum(self.loop_kind()?, 1)?;
+        let var = self.spot(kind, time)?;
+        Ok(Lit::new(var, true))
+    }
+
+    // That a fairness set was met in the loop before a time.
+    pub fn seen(&self, set: usize, time: usize) -> Result<Lit, AllocError>
+        ensures { IfOk result (λ l. l ≡ seen self.now set time) }
+    {
+        let first = sum(self.loop_kind()?, 2)?;
         let var = self.spot(sum(first, set)?, time)?;
         Ok(Lit::new(var, true))
     }

@@ -5,7 +5,7 @@ use crate::monitors::{beside, fair_system};
 use crate::tables::formula;
 use clause_core::{Clauses, Lit, System};
 use effort_purse::PlainPurse;
-use lasso_search::{BitLasso, LassoBook, Searched, search};
+use lasso_search::{BitLasso, LassoBook, LassoSolver, Searched};
 use ltl_monitor::Monitored;
 use std::alloc::{AllocError, Global};
 use std::test::Fail;
@@ -101,7 +101,8 @@ fn outcome(
     budget: u64,
 ) -> Result<Told, AllocError> {
     let mut purse = PlainPurse::new(budget);
-    let answer = search(alloc, monitored, n, &mut purse)?;
+    let mut solver = LassoSolver::new(&monitored.system);
+    let answer = solver.search(alloc, n, &mut purse)?;
     Ok(told_of(&answer))
 }
 
@@ -234,7 +235,8 @@ fn note(
     ensures { OnOk result (length book.new ≡ length book.old) }
 {
     let mut purse = PlainPurse::new(1000);
-    match search(alloc, monitored, n, &mut purse)? {
+    let mut solver = LassoSolver::new(&monitored.system);
+    match solver.search(alloc, n, &mut purse)? {
         Searched::Found(lasso) => book.record(n, Some(lasso)),
         Searched::None => book.record(n, None),
         Searched::Spent { .. } => {}
