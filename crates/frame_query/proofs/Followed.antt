@@ -103,9 +103,9 @@ clauses_prefix old new lemmas older is le =
     ∙ sym (get_or-take (length (clauses_of old)) (clauses_of new) k [] lt))
 
 -- what a solver of frames keeps when its copy of the lemmas follows
-pub kept_followed : (systems : List TransitionSystem) (old new lemmas : List Lemma) (steps states : Engine) → IsKept systems old steps states → IsOlder old lemmas →
-    All (λ (l : Lemma). Within (system_at systems 0).state_bits l.clause) lemmas → new ≡ take (length new) lemmas → length old ≤ length new → IsKept systems new steps states
-kept_followed systems old new lemmas steps states h older within is le =
+pub kept_followed : (systems : List TransitionSystem) (old new lemmas : List Lemma) (steps states : Engine) (known : TransitionSystem) → IsKept systems old steps states known → IsOlder old lemmas →
+    All (λ (l : Lemma). Within (system_at systems 0).state_bits l.clause) lemmas → new ≡ take (length new) lemmas → length old ≤ length new → IsKept systems new steps states known
+kept_followed systems old new lemmas steps states known h older within is le =
     let e = clauses_prefix old new lemmas older is le in
     let more : length (clauses_of old) ≤ length (clauses_of new) = omega (arith, clauses_count old, clauses_count new) in
     let W : List Lemma → Type 0 = All (λ (l : Lemma). Within (system_at systems 0).state_bits l.clause) in
@@ -115,6 +115,7 @@ kept_followed systems old new lemmas steps states h older within is le =
       within = subst W (sym is) (All-take (λ (l : Lemma). Within (system_at systems 0).state_bits l.clause) (length new) lemmas within);
       for_steps = loaded_followed (base (system_at systems 0)) (step_heads (system_at systems 0)) (clauses_of old) (clauses_of new) steps more e h.for_steps;
       for_states = loaded_followed (base (system_at systems 0)) (state_heads systems) (clauses_of old) (clauses_of new) states more e h.for_states;
+      of_first = h.of_first;
     }
 
 retired_record : (c : List Lit) (v : ℕ) (l : Lemma) → c ≡ l.clause → v ≡ l.level → l.live ≡ false → record { clause = c; level = v; live = false } ≡ l

@@ -10,6 +10,7 @@ pub mod Joined
 pub mod Loaded
 pub mod Negated
 pub mod Paid
+pub mod Recalled
 pub mod Renewed
 pub mod Stepped
 pub mod Tests

@@ -49,10 +49,11 @@ pub record KeepsLoading (old new : Engine) : Type 0 where
   pub vars : new.solver.vars ≡ old.solver.vars
   pub learned : new.solver.learned ≡ old.solver.learned
 
--- what a solver of frames keeps
-pub record IsKept (systems : List TransitionSystem) (lemmas : List Lemma) (steps states : Engine) : Type 0 where
+-- what a solver of frames keeps; what it knows is of the first system
+pub record IsKept (systems : List TransitionSystem) (lemmas : List Lemma) (steps states : Engine) (known : TransitionSystem) : Type 0 where
   pub some : 0 < length systems
   pub alike : AreAlike systems
   pub within : All (λ (l : Lemma). Within (system_at systems 0).state_bits l.clause) lemmas
   pub for_steps : IsLoaded (base (system_at systems 0)) (step_heads (system_at systems 0)) (clauses_of lemmas) steps
   pub for_states : IsLoaded (base (system_at systems 0)) (state_heads systems) (clauses_of lemmas) states
+  pub of_first : known ≡ system_at systems 0

@@ -8,5 +8,6 @@ pub mod Flags
 pub mod Groups
 pub mod Guards
 pub mod Paying
+pub mod Recalling
 pub mod Stepping
 pub mod Trying

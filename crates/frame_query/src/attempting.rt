@@ -12,6 +12,7 @@ ghost use Rattle.frame_query.specs.Trying.{proof_of, Tries, PaysFor, IsOthers, I
 use crate::loading::Engine;
 use crate::outcomes::Firsts;
 use crate::querying::{firsts_of, steps_of};
+use crate::recalling::Known;
 use crate::stepping::{Stepping, has};
 use crate::trying::{Draft, Trial};
 use clause_core::{Clause, Lit, System};
@@ -109,6 +110,7 @@ fn steps_or_draft<Q: Purse>(
     systems: &[System],
     lemmas: &[Lemma],
     steps: &mut Engine,
+    known: &mut Known,
     draft: &Draft,
     clause: &[Lit],
     met: Clause,
@@ -123,10 +125,12 @@ fn steps_or_draft<Q: Purse>(
     requires within { Within (system_at systems.now 0).state_bits clause.now }
     requires meets { AllFirstsMeet (system_at systems.now 0) met }
     requires met { IsPart met clause.now }
+    requires known { known.old ≡ system_at systems.now 0 }
     requires ready { Q.ready purse.old }
     ensures tried { IfOk result (Tries (system_at systems.now 0) lemmas.now level draft.now.parents.items clause.now (Q.budget purse.old) (Q.spent purse.new)) }
     ensures pays { PaysOne systems.now lemmas.now steps.old.solver.learned steps.new.solver.learned (Q.tickets purse.old) (Q.tickets purse.new) (Steps level clause.now) }
     ensures steps { IsLoaded (base_of (system_at systems.now 0)) (step_heads (system_at systems.now 0)) (clauses_of lemmas.now) steps.new }
+    ensures known { known.new ≡ known.old }
     ensures kept { Q.kept purse.old purse.new }
     ensures ready { Q.ready purse.new }
     ensures budget { Q.budget purse.new ≡ Q.budget purse.old }
@@ -136,7 +140,7 @@ fn steps_or_draft<Q: Purse>(
         let part = Vec::from_slice(alloc, &draft.part)?;
         return Ok(Trial::Holds { parents, part, met });
     }
-    match steps_of(alloc, systems, lemmas, steps, clause, level, purse)? {
+    match steps_of(alloc, systems, lemmas, steps, known, clause, level, purse)? {
         Stepping::Holds { parents, part } => Ok(Trial::Holds { parents, part, met }),
         Stepping::Leaves(_) => Ok(Trial::Fails),
         Stepping::Spent { drawn, budget } => Ok(Trial::Spent { drawn, budget }),
@@ -151,6 +155,7 @@ pub(crate) fn attempt<Q: Purse>(
     lemmas: &[Lemma],
     steps: &mut Engine,
     states: &mut Engine,
+    known: &mut Known,
     draft: &Draft,
     clause: &[Lit],
     level: u32,
@@ -164,20 +169,22 @@ pub(crate) fn attempt<Q: Purse>(
     requires draft { IsProved (proof_of (system_at systems.now 0) level draft.now) }
     requires part { IsPart clause.now draft.now.clause.items }
     requires within { Within (system_at systems.now 0).state_bits clause.now }
+    requires known { known.old ≡ system_at systems.now 0 }
     requires ready { Q.ready purse.old }
     ensures tried { IfOk result (Tries (system_at systems.now 0) lemmas.now level draft.now.parents.items clause.now (Q.budget purse.old) (Q.spent purse.new)) }
     ensures pays { PaysFor systems.now lemmas.now (known_of steps.old states.old) (known_of steps.new states.new) (Q.tickets purse.old) (Q.tickets purse.new) level clause.now }
     ensures steps { IsLoaded (base_of (system_at systems.now 0)) (step_heads (system_at systems.now 0)) (clauses_of lemmas.now) steps.new }
     ensures states { IsLoaded (base_of (system_at systems.now 0)) (state_heads systems.now) (clauses_of lemmas.now) states.new }
+    ensures known { known.new ≡ known.old }
     ensures kept { Q.kept purse.old purse.new }
     ensures ready { Q.ready purse.new }
     ensures budget { Q.budget purse.new ≡ Q.budget purse.old }
 {
-    match firsts_of(alloc, systems, lemmas, states, clause, purse)? {
+    match firsts_of(alloc, systems, lemmas, states, known, clause, purse)? {
         Firsts::First(_) => Ok(Trial::Fails),
         Firsts::Spent { drawn, budget } => Ok(Trial::Spent { drawn, budget }),
         Firsts::Meet(met) => steps_or_draft(
-            alloc, systems, lemmas, steps, draft, clause, met, level, purse,
+            alloc, systems, lemmas, steps, known, draft, clause, met, level, purse,
         ),
     }
 }

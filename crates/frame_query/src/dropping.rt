@@ -12,6 +12,7 @@ ghost use Rattle.frame_query.specs.Trying.{proof_of, Tries, PaysFor, IsUnderWay,
 use crate::attempting::{attempt, both, copy_parents, needed_of, ordered, others};
 use crate::loading::{Engine, system_of};
 use crate::outcomes::Generalised;
+use crate::recalling::Known;
 use crate::trying::{Draft, Ending, Trial, Turn, Walk};
 use clause_core::{Clause, Lit, System};
 use effort_purse::Purse;
@@ -72,6 +73,7 @@ fn turn<Q: Purse>(
     lemmas: &[Lemma],
     steps: &mut Engine,
     states: &mut Engine,
+    known: &mut Known,
     given: &Proved,
     walk: &mut Walk,
     l: Lit,
@@ -83,10 +85,12 @@ fn turn<Q: Purse>(
     requires steps { IsLoaded (base_of (system_at systems.now 0)) (step_heads (system_at systems.now 0)) (clauses_of lemmas.now) steps.old }
     requires states { IsLoaded (base_of (system_at systems.now 0)) (state_heads systems.now) (clauses_of lemmas.now) states.old }
     requires way { IsUnderWay (system_at systems.now 0) lemmas.now given.now walk.old.draft walk.old.kept.items (walk.old.rest.items ++ l ∷ []) }
+    requires known { known.old ≡ system_at systems.now 0 }
     requires ready { Q.ready purse.old }
     ensures pays { (d : List ALit) × IsCandidate walk.old.kept.items walk.old.rest.items l d × PaysFor systems.now lemmas.now (known_of steps.old states.old) (known_of steps.new states.new) (Q.tickets purse.old) (Q.tickets purse.new) given.now.level d × IfOk result (TurnSays (system_at systems.now 0) lemmas.now given.now walk.old walk.new l d (Q.budget purse.old) (Q.spent purse.new)) }
     ensures steps { IsLoaded (base_of (system_at systems.now 0)) (step_heads (system_at systems.now 0)) (clauses_of lemmas.now) steps.new }
     ensures states { IsLoaded (base_of (system_at systems.now 0)) (state_heads systems.now) (clauses_of lemmas.now) states.new }
+    ensures known { known.new ≡ known.old }
     ensures kept { Q.kept purse.old purse.new }
     ensures ready { Q.ready purse.new }
     ensures budget { Q.budget purse.new ≡ Q.budget purse.old }
@@ -100,6 +104,7 @@ fn turn<Q: Purse>(
         lemmas,
         steps,
         states,
+        known,
         &walk.draft,
         &candidate,
         level,
@@ -115,6 +120,7 @@ pub(crate) fn generalised<Q: Purse>(
     lemmas: &[Lemma],
     steps: &mut Engine,
     states: &mut Engine,
+    known: &mut Known,
     given: &Proved,
     purse: &mut Q,
 ) -> Result<Ending, AllocError>
@@ -124,11 +130,13 @@ pub(crate) fn generalised<Q: Purse>(
     requires steps { IsLoaded (base_of (system_at systems.now 0)) (step_heads (system_at systems.now 0)) (clauses_of lemmas.now) steps.old }
     requires states { IsLoaded (base_of (system_at systems.now 0)) (state_heads systems.now) (clauses_of lemmas.now) states.old }
     requires system { given.now.system ≡ system_at systems.now 0 }
+    requires known { known.old ≡ system_at systems.now 0 }
     requires ready { Q.ready purse.old }
     ensures ends { IfOk result (EndSays (system_at systems.now 0) lemmas.now given.now (Q.budget purse.old) (Q.spent purse.new)) }
     ensures pays { PaysParts systems.now lemmas.now (known_of steps.old states.old) (known_of steps.new states.new) (Q.tickets purse.old) (Q.tickets purse.new) given.now.level given.now.clause }
     ensures steps { IsLoaded (base_of (system_at systems.now 0)) (step_heads (system_at systems.now 0)) (clauses_of lemmas.now) steps.new }
     ensures states { IsLoaded (base_of (system_at systems.now 0)) (state_heads systems.now) (clauses_of lemmas.now) states.new }
+    ensures known { known.new ≡ known.old }
     ensures kept { Q.kept purse.old purse.new }
     ensures ready { Q.ready purse.new }
     ensures budget { Q.budget purse.new ≡ Q.budget purse.old }
@@ -143,7 +151,7 @@ pub(crate) fn generalised<Q: Purse>(
     };
     'literals: while let Some(l) = walk.rest.pop() {
         if let Turn::Spent { drawn, budget } = turn(
-            alloc, systems, lemmas, steps, states, given, &mut walk, l, purse,
+            alloc, systems, lemmas, steps, states, known, given, &mut walk, l, purse,
         )? {
             return Ok(Ending::Spent { drawn, budget });
         }
@@ -178,6 +186,7 @@ pub(crate) fn generalise_in<'a, Q: Purse>(
     lemmas: &[Lemma],
     steps: &mut Engine,
     states: &mut Engine,
+    known: &mut Known,
     given: Proved<'a>,
     purse: &mut Q,
 ) -> Generalised<'a>
@@ -187,17 +196,19 @@ pub(crate) fn generalise_in<'a, Q: Purse>(
     requires steps { IsLoaded (base_of (system_at systems.now 0)) (step_heads (system_at systems.now 0)) (clauses_of lemmas.now) steps.old }
     requires states { IsLoaded (base_of (system_at systems.now 0)) (state_heads systems.now) (clauses_of lemmas.now) states.old }
     requires system { given.system ≡ system_at systems.now 0 }
+    requires known { known.old ≡ system_at systems.now 0 }
     requires ready { Q.ready purse.old }
     ensures found { Generalises (system_at systems.now 0) lemmas.now given.entry (Q.budget purse.old) (Q.spent purse.new) result }
     ensures pays { PaysParts systems.now lemmas.now (known_of steps.old states.old) (known_of steps.new states.new) (Q.tickets purse.old) (Q.tickets purse.new) given.entry.level given.entry.clause }
     ensures steps { IsLoaded (base_of (system_at systems.now 0)) (step_heads (system_at systems.now 0)) (clauses_of lemmas.now) steps.new }
     ensures states { IsLoaded (base_of (system_at systems.now 0)) (state_heads systems.now) (clauses_of lemmas.now) states.new }
+    ensures known { known.new ≡ known.old }
     ensures kept { Q.kept purse.old purse.new }
     ensures ready { Q.ready purse.new }
     ensures budget { Q.budget purse.new ≡ Q.budget purse.old }
 {
     let level = given.level();
-    match generalised(alloc, systems, lemmas, steps, states, &given, purse) {
+    match generalised(alloc, systems, lemmas, steps, states, known, &given, purse) {
         Ok(ending) => match ending {
             Ending::Done(draft) => {
                 let system = system_of(systems, 0);

@@ -13,6 +13,7 @@ use crate::bad_states::BadStates;
 use crate::loading::{Engine, system_of};
 use crate::outcomes::{Bads, Noted, Relative};
 use crate::querying::{Flag, bads_of, flag_of, steps_of};
+use crate::recalling::Known;
 use crate::stepping::Stepping;
 use clause_core::{Bits, Clause, Lit, System};
 use effort_purse::Purse;
@@ -50,6 +51,7 @@ pub(crate) fn relative_of<'a, Q: Purse>(
     systems: &'a [System],
     lemmas: &[Lemma],
     engine: &mut Engine,
+    known: &mut Known,
     clause: &[Lit],
     level: u32,
     purse: &mut Q,
@@ -60,15 +62,17 @@ pub(crate) fn relative_of<'a, Q: Purse>(
     requires within { Within (system_at systems.now 0).state_bits clause.now }
     requires level { 0 < level }
     requires first { AllFirstsMeet (system_at systems.now 0) clause.now }
+    requires known { known.old ≡ system_at systems.now 0 }
     requires ready { Q.ready purse.old }
     ensures found { IfOk result (FindsRelative systems.now lemmas.now clause.now level (Q.budget purse.old) (Q.spent purse.new)) }
     ensures pays { PaysOne systems.now lemmas.now engine.old.solver.learned engine.new.solver.learned (Q.tickets purse.old) (Q.tickets purse.new) (Steps level clause.now) }
     ensures engine { IsLoaded (base_of (system_at systems.now 0)) (step_heads (system_at systems.now 0)) (clauses_of lemmas.now) engine.new }
+    ensures known { known.new ≡ known.old }
     ensures kept { Q.kept purse.old purse.new }
     ensures ready { Q.ready purse.new }
     ensures budget { Q.budget purse.new ≡ Q.budget purse.old }
 {
-    let found = steps_of(alloc, systems, lemmas, engine, clause, level, purse)?;
+    let found = steps_of(alloc, systems, lemmas, engine, known, clause, level, purse)?;
     step_outcome(alloc, system_of(systems, 0), clause, level, found)
 }
 
@@ -78,6 +82,7 @@ fn found_bad<'a, Q: Purse>(
     systems: &'a [System],
     lemmas: &[Lemma],
     engine: &mut Engine,
+    known: &mut Known,
     j: usize,
     top: u32,
     values: Bits,
@@ -88,11 +93,13 @@ fn found_bad<'a, Q: Purse>(
     requires lemmas { All (λ (l : ALemma). Within (system_at systems.now 0).state_bits l.clause) lemmas.now }
     requires engine { IsLoaded (base_of (system_at systems.now 0)) (state_heads systems.now) (clauses_of lemmas.now) engine.old }
     requires bad { IsBadIn (system_at systems.now j) lemmas.now top values }
+    requires known { known.old ≡ system_at systems.now 0 }
     requires ready { Q.ready purse.old }
     ensures found { IfOk result (FindsBad systems.now lemmas.now j top (Q.budget purse.old) (Q.spent purse.new)) }
     ensures state { IfOk result (IsTheState values) }
     ensures pays { PaysOne systems.now lemmas.now engine.old.solver.learned engine.new.solver.learned (Q.tickets purse.old) (Q.tickets purse.new) (AskFirsts (negation_of values (system_at systems.now 0).state_bits)) }
     ensures engine { IsLoaded (base_of (system_at systems.now 0)) (state_heads systems.now) (clauses_of lemmas.now) engine.new }
+    ensures known { known.new ≡ known.old }
     ensures kept { Q.kept purse.old purse.new }
     ensures ready { Q.ready purse.new }
     ensures budget { Q.budget purse.new ≡ Q.budget purse.old }
@@ -101,7 +108,7 @@ fn found_bad<'a, Q: Purse>(
     if top == 0 {
         return Ok(Bads::Found(Found::new(system, values, false, true)));
     }
-    match flag_of(alloc, systems, lemmas, engine, &values, purse)? {
+    match flag_of(alloc, systems, lemmas, engine, known, &values, purse)? {
         Flag::Known(first) => Ok(Bads::Found(Found::new(system, values, false, first))),
         Flag::Spent { drawn, budget } => Ok(Bads::Spent { drawn, budget }),
     }
@@ -113,6 +120,7 @@ pub(crate) fn bad_of<'a, Q: Purse>(
     systems: &'a [System],
     lemmas: &[Lemma],
     engine: &mut Engine,
+    known: &mut Known,
     j: usize,
     top: u32,
     purse: &mut Q,
@@ -121,10 +129,12 @@ pub(crate) fn bad_of<'a, Q: Purse>(
     requires alike { AreAlike systems.now }
     requires lemmas { All (λ (l : ALemma). Within (system_at systems.now 0).state_bits l.clause) lemmas.now }
     requires engine { IsLoaded (base_of (system_at systems.now 0)) (state_heads systems.now) (clauses_of lemmas.now) engine.old }
+    requires known { known.old ≡ system_at systems.now 0 }
     requires ready { Q.ready purse.old }
     ensures found { IfOk result (FindsBad systems.now lemmas.now j top (Q.budget purse.old) (Q.spent purse.new)) }
     ensures pays { PaysBad systems.now lemmas.now engine.old.solver.learned engine.new.solver.learned (Q.tickets purse.old) (Q.tickets purse.new) j top (λ values. IfOk result (IsTheState values)) }
     ensures engine { IsLoaded (base_of (system_at systems.now 0)) (state_heads systems.now) (clauses_of lemmas.now) engine.new }
+    ensures known { known.new ≡ known.old }
     ensures kept { Q.kept purse.old purse.new }
     ensures ready { Q.ready purse.new }
     ensures budget { Q.budget purse.new ≡ Q.budget purse.old }
@@ -135,7 +145,9 @@ pub(crate) fn bad_of<'a, Q: Purse>(
             Ok(Bads::Clear(Clear::new(system, top, parents)))
         }
         BadStates::Spent { drawn, budget } => Ok(Bads::Spent { drawn, budget }),
-        BadStates::Some(values) => found_bad(alloc, systems, lemmas, engine, j, top, values, purse),
+        BadStates::Some(values) => found_bad(
+            alloc, systems, lemmas, engine, known, j, top, values, purse,
+        ),
     }
 }
 
@@ -145,6 +157,7 @@ pub(crate) fn noted_of<'a, Q: Purse>(
     systems: &[System],
     lemmas: &[Lemma],
     engine: &mut Engine,
+    known: &mut Known,
     step: Step<'a>,
     purse: &mut Q,
 ) -> Result<Noted<'a>, AllocError>
@@ -153,16 +166,18 @@ pub(crate) fn noted_of<'a, Q: Purse>(
     requires lemmas { All (λ (l : ALemma). Within (system_at systems.now 0).state_bits l.clause) lemmas.now }
     requires engine { IsLoaded (base_of (system_at systems.now 0)) (state_heads systems.now) (clauses_of lemmas.now) engine.old }
     requires system { step.system ≡ system_at systems.now 0 }
+    requires known { known.old ≡ system_at systems.now 0 }
     requires ready { Q.ready purse.old }
     ensures found { IfOk result (FindsNoted step.entry (Q.budget purse.old) (Q.spent purse.new)) }
     ensures pays { PaysOne systems.now lemmas.now engine.old.solver.learned engine.new.solver.learned (Q.tickets purse.old) (Q.tickets purse.new) (AskFirsts (negation_of step.entry.values (system_at systems.now 0).state_bits)) }
     ensures engine { IsLoaded (base_of (system_at systems.now 0)) (state_heads systems.now) (clauses_of lemmas.now) engine.new }
+    ensures known { known.new ≡ known.old }
     ensures kept { Q.kept purse.old purse.new }
     ensures ready { Q.ready purse.new }
     ensures budget { Q.budget purse.new ≡ Q.budget purse.old }
 {
     let _system = step.system();
-    match flag_of(alloc, systems, lemmas, engine, step.values(), purse)? {
+    match flag_of(alloc, systems, lemmas, engine, known, step.values(), purse)? {
         Flag::Known(first) => Ok(Noted::Found(Found::of_step(step, first))),
         Flag::Spent { drawn, budget } => Ok(Noted::Spent { drawn, budget }),
     }

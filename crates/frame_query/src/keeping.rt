@@ -1,9 +1,10 @@
 use crate::dropping::generalise_in;
 use crate::finding::{bad_of, noted_of, relative_of};
 use crate::following::{follow_adds, follow_levels};
-use crate::loading::Engine;
+use crate::loading::{Engine, system_of};
 use crate::outcomes::{Bads, Firsts, Generalised, Noted, Relative};
 use crate::querying::firsts_of;
+use crate::recalling::Known;
 use crate::renewing::{fresh_states, fresh_steps};
 use clause_core::{Lit, System};
 use effort_purse::Purse;
@@ -15,14 +16,16 @@ use std::marker::Model;
 /// alone. They hold the systems' clauses and the lemmas', each behind an activation literal (Eén, Sörensson
 /// 2003), so that a query asks for just those that it wants. One has the steps; the other, a small one,
 /// answers questions about single states. They are made anew where activation literals run out, which no
-/// caller sees. Contracts see the systems, the copy of the lemmas, and learned clauses that later queries
-/// may use.
+/// caller sees. What queries found is kept too: values that all first states give to bits, a first state, and
+/// 128 steps at most, those that were found or used last; a question that these answer is not asked. Contracts
+/// see the systems, the copy of the lemmas, and learned clauses that later queries may use.
 #[derive(Drop)]
 pub struct FrameSolver<'a> {
     systems: &'a [System],
     lemmas: Lemmas,
     steps: Engine,
     states: Engine,
+    known: Known<'a>,
 }
 
 impl<'a> Model for FrameSolver<'a> {
@@ -33,7 +36,7 @@ impl<'a> Model for FrameSolver<'a> {
 
     ghost view = { λ s. record { systems = s.systems.now; lemmas = s.lemmas; known = known_of s.steps s.states } };
 
-    ghost invariant = { λ s. IsKept s.systems.now s.lemmas s.steps s.states };
+    ghost invariant = { λ s. IsKept s.systems.now s.lemmas s.steps s.states s.known };
 }
 
 impl<'a> FrameSolver<'a> {
@@ -55,11 +58,13 @@ impl<'a> FrameSolver<'a> {
     {
         let steps = fresh_steps(alloc, systems, 0)?;
         let states = fresh_states(alloc, systems, 0)?;
+        let known = Known::new(alloc, system_of(systems, 0))?;
         Ok(FrameSolver {
             systems,
             lemmas: Lemmas::new(alloc),
             steps,
             states,
+            known,
         })
     }
 
@@ -106,6 +111,7 @@ impl<'a> FrameSolver<'a> {
             self.systems,
             self.lemmas.as_slice(),
             &mut self.steps,
+            &mut self.known,
             clause,
             level,
             purse,
@@ -137,6 +143,7 @@ impl<'a> FrameSolver<'a> {
             self.systems,
             self.lemmas.as_slice(),
             &mut self.steps,
+            &mut self.known,
             pushed.clause.as_slice(),
             pushed.level + 1,
             purse,
@@ -170,6 +177,7 @@ impl<'a> FrameSolver<'a> {
             self.systems,
             self.lemmas.as_slice(),
             &mut self.states,
+            &mut self.known,
             j,
             top,
             purse,
@@ -201,6 +209,7 @@ impl<'a> FrameSolver<'a> {
             self.systems,
             self.lemmas.as_slice(),
             &mut self.states,
+            &mut self.known,
             step,
             purse,
         )
@@ -232,6 +241,7 @@ impl<'a> FrameSolver<'a> {
             self.systems,
             self.lemmas.as_slice(),
             &mut self.states,
+            &mut self.known,
             clause,
             purse,
         )
@@ -266,6 +276,7 @@ impl<'a> FrameSolver<'a> {
             self.lemmas.as_slice(),
             &mut self.steps,
             &mut self.states,
+            &mut self.known,
             proved,
             purse,
         )

@@ -25,6 +25,7 @@ literals-init g c =
       pays = paid_start c.args.systems.now c.args.lemmas.now _ _ given.level given.clause c.in_ok-draft.draft.clause.items c.new.result.items c.in_ok-rest.rest.items count;
       steps = c.requires.steps;
       states = c.requires.states;
+      known = c.requires.known;
       kept = g.met.Q.Purse.kept_refl c.args.purse.now;
       ready = c.requires.ready;
       budget = refl;
@@ -57,6 +58,7 @@ literals-preserved g c =
           (length c.literals.walk.rest.items) (omega (arith, count)) inv.pays said.2 _ c.turn.new.walk refl refl went.1 (omega (arith, went.2, count));
       steps = c.turn.ensures.steps;
       states = c.turn.ensures.states;
+      known = c.turn.ensures.known ∙ inv.known;
       kept = g.met.Q.Purse.kept_trans c.args.purse.now c.literals.purse c.turn.new.purse inv.kept c.turn.ensures.kept;
       ready = c.turn.ensures.ready;
       budget = c.turn.ensures.budget ∙ inv.budget;

@@ -12,6 +12,7 @@ invariant-literals g l = record {
       l.given.level l.given.clause l.walk.draft.clause.items l.walk.kept.items (length l.walk.rest.items);
   steps : IsLoaded (base (system_at l.systems 0)) (step_heads (system_at l.systems 0)) (clauses_of l.lemmas) l.steps;
   states : IsLoaded (base (system_at l.systems 0)) (state_heads l.systems) (clauses_of l.lemmas) l.states;
+  known : l.known ≡ system_at l.systems 0;
   kept : g.Q.Purse.kept l.initial.purse l.purse;
   ready : g.Q.Purse.ready l.purse;
   budget : g.Q.Purse.budget l.purse ≡ g.Q.Purse.budget l.initial.purse;
