@@ -14,4 +14,4 @@ mod words;
 pub use line::Head;
 pub use printing::{print, print_sound};
 pub use token::Token;
-pub use whole::{Certificates, read};
+pub use whole::{Certificates, lines, read};

@@ -1,6 +1,6 @@
 ghost use Rattle.std.specs.Prelude.{◌≡◌, IfOk, IfErr, MatchOption, IfNone, Ok, Err, map};
 ghost use Rattle.cert_text.specs.Reading as reading;
-ghost use Rattle.cert_text.specs.Reading.{nothing, read_from, read_text, refusal_at, IsStopped};
+ghost use Rattle.cert_text.specs.Reading.{lines_of, nothing, read_from, read_text, refusal_at, IsStopped};
 
 use crate::reading::Reading;
 use crate::scan::pieces;
@@ -15,6 +15,14 @@ pub struct Certificates {
     pub sound: Option<Sound>,
     /// The certificate of each specification that has one, one place for each specification.
     pub certificates: Vec<Option<Certificate>>,
+}
+
+/// The lines of a text, without the line feeds at which they end; what stands behind the last line feed is a line, too. Only
+/// want of memory is an error. Its time and memory are linear in the text.
+pub fn lines(alloc: Global, text: &[u8]) -> Result<Vec<&[u8]>, AllocError>
+    ensures { IfOk result (λ v. map (λ x. x.now) v.items ≡ lines_of text.now) }
+{
+    pieces(alloc, text, 10)
 }
 
 // Whether the line is one of a certificate.
@@ -92,7 +100,7 @@ pub fn read(
     let Some(all_items) = items.checked_add(specs) else {
         return Err(TextStop::NoMemory);
     };
-    let lines = pieces(alloc, text, 10)?;
+    let lines = lines(alloc, text)?;
     let mut reading = Reading::new(alloc, specs)?;
     match add_lines(&mut reading, alloc, all_items, &lines) {
         Err(e) => {

@@ -1,0 +1,26 @@
+-- The text is a model, and its lines are judged by its systems.
+use Rattle.std.proofs.Common.{◌≡◌, ◌∙◌, ℕ, ◌&&◌, cond, None, ap, length, sym}
+use lib.Dec.{ltb}
+use Rattle.std.proofs.lemmas.List.{length-map}
+use Rattle.smv_resolve.specs.Items.{item_by}
+use Rattle.smv_recheck.specs.Refusing.{spec_count}
+use Rattle.smv_recheck.proofs.checking.recheck.Goals as goal
+
+pub returns-clause-checked : goal.returns-clause-checked
+returns-clause-checked c =
+    let typed = c.in_ok-flat.flat.typed in
+    let p = typed.scope.program in
+    let beside = c.in_ok-beside.beside in
+    let count : c.len-count.result ≡ spec_count p = c.len-count.ensures ∙ sym (length-map c.in_ok-specs.specs (item_by typed.nodes)) ∙ ap length c.in_ok-specs.ensures.resolved in (
+      p,
+      record {
+        model = c.in_ok-flat.ensures.model;
+        built = c.in_ok-built.ensures;
+        traces = beside.traces;
+        sound = beside.sound;
+        certificates = beside.certificates.items;
+        held = c.in_ok-beside.ensures.held;
+        again = c.sound_again-sound.ensures ∙ ap (λ (n : ℕ). cond (c.args.upgrade && ltb 0 n) beside.sound None) count;
+        records = c.in_ok-records.ensures;
+      },
+    )

@@ -1,0 +1,38 @@
+//! What is shown holds.
+
+ghost use Rattle.std.specs.Prelude.{◌≡◌, ℕ, Bool, List, Some, slice_get, true};
+ghost use Rattle.clause_core.specs.Systems.{TransitionSystem};
+ghost use Rattle.hinted_log.specs.Hints.{HintedLog};
+ghost use Rattle.cert_core.specs.declared.form.Part.{Part};
+ghost use Rattle.cert_core.specs.Blocks.{Block};
+ghost use Rattle.cert_check.specs.Judgements.{FailsFirst};
+ghost use Rattle.smv_tree.specs.declared.tree.Program.{Program};
+ghost use Rattle.smv_resolve.specs.Items.{ResolvedItem};
+ghost use Rattle.smv_meaning.specs.Runs.{specifications_of};
+ghost use Rattle.bit_system.specs.Standing.{StandsFor};
+ghost use Rattle.smv_recheck.specs.declared.checking.Checked.{Checked};
+ghost use Rattle.smv_recheck.specs.declared.judgement.Record.{Record};
+ghost use Rattle.smv_recheck.specs.Checking.{IsChecked, is_shown_false, is_shown_true};
+ghost use Rattle.smv_recheck.specs.Claims.{IsBroken, IsUnbroken};
+ghost use Rattle.smv_recheck.specs.Full.{HasReason, IsFullPart};
+
+use cert_core::laws::no_run_reaches_bad;
+
+/// What is said of a text holds, from the text alone: no run of the model breaks a specification that is shown true, and some run
+/// breaks one that is shown false. It does nothing.
+pub fn what_is_shown_holds()
+    ensures shown_true { (p : Program) (text : List ℕ) (upgrade : Bool) (c : Checked) (j : ℕ) (spec : ResolvedItem) (r : Record) → IsChecked p text upgrade c
+        → slice_get (specifications_of p) j ≡ Some spec → slice_get c.records j ≡ Some r → is_shown_true r.judgement ≡ true → IsUnbroken p spec }
+    ensures shown_false { (p : Program) (text : List ℕ) (upgrade : Bool) (c : Checked) (j : ℕ) (spec : ResolvedItem) (r : Record) → IsChecked p text upgrade c
+        → slice_get (specifications_of p) j ≡ Some spec → slice_get c.records j ≡ Some r → is_shown_false r.judgement ≡ true → IsBroken p spec }
+{
+    no_run_reaches_bad();
+}
+
+/// A part of a certificate in the plain form that is full is rejected for a reason of the program alone: some step of it sets the bits to
+/// a first state, to a step, or to a state in which the specification is FALSE. So what numbers a version of the program gives to other
+/// bits does not matter. It does nothing.
+pub fn full_parts_are_rejected_for_a_reason()
+    ensures { (p : Program) (spec : ResolvedItem) (sys : TransitionSystem) (cert : Block) (part : Part) (log : HintedLog) (full : IsFullPart p cert part log)
+        → StandsFor p spec sys → FailsFirst sys cert part → HasReason p spec cert part log full }
+{}
