@@ -2,7 +2,7 @@
 use Rattle.std.proofs.Common.{◌≡◌, ◌||◌, ℕ, zero, suc, Bool, true, false, cond, if◌then◌else◌, List, [], ◌∷◌, ◌++◌, length, Option, Some, None, refl, sym, ap, arith, subst, ◌∙◌}
 use Rattle.std.proofs.lemmas.Slice.Eq.{bytes_eq-Decides}
 use Rattle.std.proofs.lemmas.Bool.{eqb-true}
-use Rattle.std.specs.Prelude.{◌==◌, find, fold, is_some, map, option_map, option_and_then, slice_get}
+use Rattle.std.specs.Prelude.{◌==◌, drop, encode_utf8, find, fold, is_some, map, option_map, option_and_then, slice_get}
 use Rattle.std.specs.Option.{option_map_or}
 use Rattle.std.specs.Str.{bytes_eq, chars}
 use Rattle.std.specs.Str.Parse.{digits_value, without_leading_plus}
@@ -10,7 +10,7 @@ use Rattle.clap.specs.Lexer.{long_of, short_of}
 use Rattle.clap.specs.ValueTests.{accepts}
 use Rattle.clap.specs.Values.{read_as, refused_kind}
 use Rattle.clap.specs.Kinds.{Kinds, or_else, range_kinds, value_kinds, values_kinds}
-use Rattle.clap.specs.Walk.{Held, Outcome, Row, Rule, one_of, reacted, row_text, Step, Text, Waiting, Walk, done, waits, plain, refused, idle, option, positional, next, trailing, subcommand, value, after_flag, after_step, arg_by_id, arg_by_long, bundle, bundle_met, bundle_step, finished, first_of, has_row, long_met, long_or_other, more_values, nothing_held, option_word, plain_word, reading_by, settled, settled_rows, short_or_plain, subcommand_met, subcommand_or_other, used, used_by_id, walk, walk_from, walked, walked_from, with_default, with_values, without, word_met}
+use Rattle.clap.specs.Walk.{Held, Outcome, Row, Rule, one_of, reacted, row_text, Step, Text, Waiting, Walk, done, waits, plain, refused, idle, option, positional, next, trailing, subcommand, value, after_flag, after_step, arg_by_id, arg_by_index, arg_by_long, arg_by_short, bundle, bundle_met, bundle_step, finished, first_of, has_row, long_met, long_or_other, more_values, nothing_held, option_word, plain_word, reading_by, settled, settled_rows, short_met, short_or_plain, subcommand_met, subcommand_or_other, to_positional, used, used_by_id, walk, walk_from, walked, walked_from, with_default, with_values, without, word_met}
 use Rattle.clap.specs.Simple.{App, Shape, built, entered, filled, names_of, rows_at}
 use Rattle.clap.specs.Faults.{check_fault, defaults_fault, entered_fault, flag_word_fault, level_fault, long_fault, other_fault, react_fault, repeat_fault, set_fault, settle_fault, step_fault, turn_fault, use_fault, walk_fault, word_fault}
 use Rattle.clap.specs.declared.builder.value_parser.ValueParser.{ValueParser}
@@ -24,8 +24,8 @@ use Rattle.clap.specs.declared.parser.matches.ValueSource.{ValueSource}
 use Rattle.clap.specs.declared.parser.matches.ValueSource.TheVariants.{DefaultValue, CommandLine}
 use Rattle.clap.proofs.ValueTestLemmas.{accepts-Accepts}
 use Rattle.command_words.specs.declared.command.Command.{Command}
-use Rattle.command_words.specs.declared.command.Command.TheVariants.{Check, Flat}
-use Rattle.command_words.specs.Grammar.{OptionRow, conflicts_option, bound_option, frames_option, together_flag, option_rule, flag_rule, flag_text, program, HasEffort, HasFlag, HasNumber, Tells, Says, IsCommandLine}
+use Rattle.command_words.specs.declared.command.Command.TheVariants.{Check, Recheck, Flat}
+use Rattle.command_words.specs.Grammar.{OptionRow, conflicts_option, bound_option, frames_option, together_flag, upgrade_flag, option_rule, flag_rule, flag_text, program, HasEffort, HasFlag, HasNumber, Tells, Says, IsCommandLine}
 
 -- an option that takes a number, or a flag
 data Entry : Type 0 where
@@ -72,11 +72,15 @@ frames = number frames_option
 abbrev together : Entry
 together = flag together_flag
 
-abbrev entries : List Entry
-entries = conflicts ∷ bound ∷ frames ∷ together ∷ []
+abbrev upgrade : Entry
+upgrade = flag upgrade_flag
 
-abbrev rules : List Rule
-rules = map ready entries
+-- those of `check`, and those of `recheck`
+abbrev check_entries : List Entry
+check_entries = conflicts ∷ bound ∷ frames ∷ together ∷ []
+
+abbrev recheck_entries : List Entry
+recheck_entries = upgrade ∷ []
 
 -- the program as a parse has it
 abbrev app : App
@@ -93,13 +97,21 @@ first_shape (s ∷ ss) = s
 abbrev check_shape : Shape
 check_shape = first_shape check_shapes
 
--- and `flat`
-abbrev second_shape : List Shape → Shape
-second_shape [] = app.top
-second_shape (s ∷ ss) = first_shape ss
+abbrev later_shapes : List Shape → List Shape
+later_shapes [] = []
+later_shapes (s ∷ ss) = ss
 
+-- and `recheck`
+abbrev recheck_shape : Shape
+recheck_shape = first_shape (later_shapes check_shapes)
+
+-- and `flat`
 abbrev flat_shape : Shape
-flat_shape = second_shape check_shapes
+flat_shape = first_shape (later_shapes (later_shapes check_shapes))
+
+-- a command of this name with these entries
+abbrev shape_with : Text → List Entry → Shape
+shape_with name es = record check_shape { name = name; rules = map ready es }
 
 -- the text is one that the entry takes
 abbrev Reads : Entry → Text → Type 0
@@ -199,42 +211,59 @@ found_by_long P name none (flag word ∷ es) (here, all) =
 
 -- ---- what a word that is no option leaves
 
-option_word_rows : (found : Option Rule) (id word : Text) (h : Held) → (option_word found id word h).0.rows ≡ h.rows
-option_word_rows None id word h = refl
-option_word_rows (Some a) id word h = refl
+-- no entry has a short name or a position
+no_short : (es : List Entry) (x : ℕ) → arg_by_short (map ready es) x ≡ None
+no_short [] x = refl
+no_short (number row ∷ es) x = no_short es x
+no_short (flag word ∷ es) x = no_short es x
 
-plain_rows : (waiting : Waiting) (word : Text) (h : Held) → (plain_word rules waiting word h).0.rows ≡ h.rows
-plain_rows idle word h = refl
-plain_rows (option id) word h = option_word_rows (arg_by_id rules id) id word h
-plain_rows positional word h = refl
+no_position : (es : List Entry) (i : ℕ) → arg_by_index (map ready es) i ≡ None
+no_position [] i = refl
+no_position (number row ∷ es) i = no_position es i
+no_position (flag word ∷ es) i = no_position es i
 
-after_flag_rows : (waiting : Waiting) (word : Text) (h : Held) (o : Outcome) → (after_flag rules waiting word h o).0.rows ≡ h.rows
-after_flag_rows waiting word h done = refl
-after_flag_rows waiting word h (waits id) = refl
-after_flag_rows waiting word h plain = plain_rows waiting word h
-after_flag_rows waiting word h refused = plain_rows waiting word h
+module _ (es : List Entry) where
+  abbrev entry_rules : List Rule
+  entry_rules = map ready es
 
-flag_rows : (x : Option ℕ) (flags : Text) (skip : ℕ) (so_far : Outcome) (h : Held) (more : Text → ℕ → Outcome → Held → Held × Outcome)
-    → ((f : Text) (n : ℕ) (o : Outcome) (g : Held) → (more f n o g).0.rows ≡ g.rows) → (bundle_step rules x flags skip so_far h more).0.rows ≡ h.rows
-flag_rows None flags skip so_far h more each = refl
-flag_rows (Some x) flags zero so_far h more each = refl
-flag_rows (Some x) flags (suc skip) so_far h more each = each _ skip so_far h
+  option_word_rows : (found : Option Rule) (id word : Text) (h : Held) → (option_word found id word h).0.rows ≡ h.rows
+  option_word_rows None id word h = refl
+  option_word_rows (Some a) id word h = refl
 
-bundle_rows : (k : ℕ) (flags : Text) (skip : ℕ) (so_far : Outcome) (h : Held) → (bundle_met rules k flags skip so_far h).0.rows ≡ h.rows
-unfolding bundle_met
-bundle_rows zero flags skip so_far h = refl
-bundle_rows (suc k) flags skip so_far h = flag_rows (slice_get (chars flags) 0) flags skip so_far h (bundle_met rules k) (λ f n o g. bundle_rows k f n o g)
+  plain_rows : (waiting : Waiting) (word : Text) (h : Held) → (plain_word entry_rules waiting word h).0.rows ≡ h.rows
+  plain_rows idle word h = refl
+  plain_rows (option id) word h = option_word_rows (arg_by_id entry_rules id) id word h
+  plain_rows positional word h = refl
 
-short_rows : (flags : Option Text) (waiting : Waiting) (word : Text) (h : Held) → (short_or_plain rules waiting word flags h).0.rows ≡ h.rows
-short_rows None waiting word h = plain_rows waiting word h
-short_rows (Some flags) waiting word h =
-    after_flag_rows waiting word (bundle rules flags h).0 (bundle rules flags h).1 ∙ bundle_rows (length flags) flags h.skip plain (record h { skip = 0 })
+  after_flag_rows : (waiting : Waiting) (word : Text) (h : Held) (o : Outcome) → (after_flag entry_rules waiting word h o).0.rows ≡ h.rows
+  after_flag_rows waiting word h done = refl
+  after_flag_rows waiting word h (waits id) = refl
+  after_flag_rows waiting word h plain = plain_rows waiting word h
+  after_flag_rows waiting word h refused = plain_rows waiting word h
 
-step_rows : (word : Text) (w : Walk) (h : Held) (step : Step) → (after_step rules word w h step).held.rows ≡ h.rows
-step_rows word w h (next waiting) = refl
-step_rows word w h (trailing position) = refl
-step_rows word w h (subcommand name) = refl
-step_rows word w h value = refl
+  flag_rows : (x : Option ℕ) (flags : Text) (skip : ℕ) (so_far : Outcome) (h : Held) (more : Text → ℕ → Outcome → Held → Held × Outcome)
+      → ((f : Text) (n : ℕ) (o : Outcome) (g : Held) → (more f n o g).0.rows ≡ g.rows) → (bundle_step entry_rules x flags skip so_far h more).0.rows ≡ h.rows
+  flag_rows None flags skip so_far h more each = refl
+  flag_rows (Some x) flags zero so_far h more each =
+      let rest = drop (length (encode_utf8 x)) flags in
+      subst (λ (a : Option Rule). (short_met entry_rules a rest h (more rest 0 done)).0.rows ≡ h.rows) (sym (no_short es x)) refl
+  flag_rows (Some x) flags (suc skip) so_far h more each = each _ skip so_far h
+
+  bundle_rows : (k : ℕ) (flags : Text) (skip : ℕ) (so_far : Outcome) (h : Held) → (bundle_met entry_rules k flags skip so_far h).0.rows ≡ h.rows
+  unfolding bundle_met
+  bundle_rows zero flags skip so_far h = refl
+  bundle_rows (suc k) flags skip so_far h = flag_rows (slice_get (chars flags) 0) flags skip so_far h (bundle_met entry_rules k) (λ f n o g. bundle_rows k f n o g)
+
+  short_rows : (flags : Option Text) (waiting : Waiting) (word : Text) (h : Held) → (short_or_plain entry_rules waiting word flags h).0.rows ≡ h.rows
+  short_rows None waiting word h = plain_rows waiting word h
+  short_rows (Some flags) waiting word h =
+      after_flag_rows waiting word (bundle entry_rules flags h).0 (bundle entry_rules flags h).1 ∙ bundle_rows (length flags) flags h.skip plain (record h { skip = 0 })
+
+  step_rows : (word : Text) (w : Walk) (h : Held) (step : Step) → (after_step entry_rules word w h step).held.rows ≡ h.rows
+  step_rows word w h (next waiting) = refl
+  step_rows word w h (trailing position) = refl
+  step_rows word w h (subcommand name) = refl
+  step_rows word w h value = subst (λ (a : Option Rule). (to_positional entry_rules a word w h).held.rows ≡ h.rows) (sym (no_position es w.position)) refl
 
 no_subcommand : (waiting : Waiting) (word : Text) → subcommand_met [] waiting word ≡ None
 no_subcommand idle word = refl
@@ -243,13 +272,19 @@ no_subcommand positional word = refl
 
 -- ---- each row keeps its value, whatever word comes
 
-module _ (to : Entry) (agree : Each (Agrees to) entries) where
+module _ (name : Text) (es : List Entry) (to : Entry) (agree : Each (Agrees to) es) where
+  abbrev rules : List Rule
+  rules = map ready es
+
+  abbrev shape : Shape
+  shape = shape_with name es
+
   keeps_pending : (p : Option (Text × List Text)) (rows : List Row) → option_map_or (λ (q : Text × List Text). option_map_or (λ (a : Rule). use_fault false a q.1 rows) (arg_by_id rules q.0) []) p [] ≡ []
       → Keeps to rows → Keeps to (settled_rows rules p rows)
   keeps_pending None rows e k = k
   keeps_pending (Some p) rows e k = found_by_id
       (λ (found : Option Rule). option_map_or (λ (a : Rule). use_fault false a p.1 rows) found [] ≡ [] → Keeps to (used_by_id found p.1 rows))
-      p.0 (λ _. k) entries (each_map {P = Agrees to} {Q = λ from. use_fault false (ready from) p.1 rows ≡ [] → Keeps to (used (ready from) p.1 rows)} (λ from agrees fault. keeps_used to from agrees p.1 rows fault k) entries agree) e
+      p.0 (λ _. k) es (each_map {P = Agrees to} {Q = λ from. use_fault false (ready from) p.1 rows ≡ [] → Keeps to (used (ready from) p.1 rows)} (λ from agrees fault. keeps_used to from agrees p.1 rows fault k) es agree) e
 
   keeps_settled : (h : Held) → settle_fault rules false h ≡ [] → Keeps to h.rows → Keeps to (settled rules h).rows
   keeps_settled h e k = keeps_pending h.pending h.rows e k
@@ -266,45 +301,45 @@ module _ (to : Entry) (agree : Each (Agrees to) entries) where
   keeps_long (flag word) agrees None h e k = keeps_reacted (flag word) agrees [] h e k
   keeps_long (flag word) agrees (Some v) h e k = k
 
-  keeps_named : (name : Text) (v : Option Text) (h : Held) → long_fault rules false (arg_by_long rules name) v h ≡ [] → Keeps to h.rows → Keeps to (long_met rules (arg_by_long rules name) v h).0.rows
-  keeps_named name v h e k = found_by_long
+  keeps_named : (word : Text) (v : Option Text) (h : Held) → long_fault rules false (arg_by_long rules word) v h ≡ [] → Keeps to h.rows → Keeps to (long_met rules (arg_by_long rules word) v h).0.rows
+  keeps_named word v h e k = found_by_long
       (λ (found : Option Rule). long_fault rules false found v h ≡ [] → Keeps to (long_met rules found v h).0.rows)
-      name (λ _. k) entries (each_map {P = Agrees to} {Q = λ from. long_fault rules false (Some (ready from)) v h ≡ [] → Keeps to (long_met rules (Some (ready from)) v h).0.rows} (λ from agrees fault. keeps_long from agrees v h fault k) entries agree) e
+      word (λ _. k) es (each_map {P = Agrees to} {Q = λ from. long_fault rules false (Some (ready from)) v h ≡ [] → Keeps to (long_met rules (Some (ready from)) v h).0.rows} (λ from agrees fault. keeps_long from agrees v h fault k) es agree) e
 
   keeps_flag : (found : Option (Text × Option Text)) (waiting : Waiting) (word : Text) (h : Held) → flag_word_fault rules false found word h ≡ [] → Keeps to h.rows → Keeps to (long_or_other rules waiting word found h).0.rows
-  keeps_flag None waiting word h e k = subst (Keeps to) (sym (short_rows (short_of word) waiting word h)) k
+  keeps_flag None waiting word h e k = subst (Keeps to) (sym (short_rows es (short_of word) waiting word h)) k
   keeps_flag (Some p) waiting word h e k =
       let met = long_met rules (arg_by_long rules p.0) p.1 h in
-      subst (Keeps to) (sym (after_flag_rows waiting word met.0 met.1)) (keeps_named p.0 p.1 h e k)
+      subst (Keeps to) (sym (after_flag_rows es waiting word met.0 met.1)) (keeps_named p.0 p.1 h e k)
 
-  keeps_other : (waiting : Waiting) (position : ℕ) (word : Text) (h : Held) → other_fault check_shape None word h ≡ [] → Keeps to h.rows → Keeps to (subcommand_or_other rules None waiting position word h).0.rows
+  keeps_other : (waiting : Waiting) (position : ℕ) (word : Text) (h : Held) → other_fault shape None word h ≡ [] → Keeps to h.rows → Keeps to (subcommand_or_other rules None waiting position word h).0.rows
   keeps_other waiting position word h e k =
       elim (bytes_eq word (45 ∷ 45 ∷ [])) as (λ x. (if x then [] else flag_word_fault rules false (long_of word) word h) ≡ []
       → Keeps to (if x then (h, trailing position) else long_or_other rules waiting word (long_of word) h).0.rows)
       [ true ↦ λ _. k | false ↦ λ fault. keeps_flag (long_of word) waiting word h fault k ] e
 
-  keeps_met : (is_trailing : Bool) (waiting : Waiting) (position : ℕ) (word : Text) (h : Held) → word_fault check_shape [] is_trailing waiting word h ≡ [] → Keeps to h.rows → Keeps to (word_met rules [] is_trailing waiting position word h).0.rows
+  keeps_met : (is_trailing : Bool) (waiting : Waiting) (position : ℕ) (word : Text) (h : Held) → word_fault shape [] is_trailing waiting word h ≡ [] → Keeps to h.rows → Keeps to (word_met rules [] is_trailing waiting position word h).0.rows
   keeps_met true waiting position word h e k = k
   keeps_met false waiting position word h e k =
-      subst (λ (m : Option Text). other_fault check_shape m word h ≡ [] → Keeps to (subcommand_or_other rules m waiting position word h).0.rows)
+      subst (λ (m : Option Text). other_fault shape m word h ≡ [] → Keeps to (subcommand_or_other rules m waiting position word h).0.rows)
       (sym (no_subcommand waiting word)) (λ fault. keeps_other waiting position word h fault k) e
 
   keeps_turn : (stopped : Option (Text × List Text)) (w : Walk) (word : Text)
       → (let met = word_met rules [] w.is_trailing w.waiting w.position word w.held in
-      (if is_some stopped then [] else or_else (word_fault check_shape [] w.is_trailing w.waiting word w.held) (step_fault check_shape w.position met.0 met.1)) ≡ [])
+      (if is_some stopped then [] else or_else (word_fault shape [] w.is_trailing w.waiting word w.held) (step_fault shape w.position met.0 met.1)) ≡ [])
       → Keeps to w.held.rows → Keeps to (walked_from rules [] stopped w word).held.rows
   keeps_turn (Some p) w word e k = k
   keeps_turn None w word e k =
       let met = word_met rules [] w.is_trailing w.waiting w.position word w.held in
-      let fault = first (word_fault check_shape [] w.is_trailing w.waiting word w.held) (step_fault check_shape w.position met.0 met.1) e in
-      subst (Keeps to) (sym (step_rows word w met.0 met.1)) (keeps_met w.is_trailing w.waiting w.position word w.held fault k)
+      let fault = first (word_fault shape [] w.is_trailing w.waiting word w.held) (step_fault shape w.position met.0 met.1) e in
+      subst (Keeps to) (sym (step_rows es word w met.0 met.1)) (keeps_met w.is_trailing w.waiting w.position word w.held fault k)
 
-  keeps_walk : (w : Walk) (words : List Text) → walk_fault check_shape [] w words ≡ [] → Keeps to w.held.rows → Keeps to (fold (walked rules []) w words).held.rows
+  keeps_walk : (w : Walk) (words : List Text) → walk_fault shape [] w words ≡ [] → Keeps to w.held.rows → Keeps to (fold (walked rules []) w words).held.rows
   unfolding walk_fault walked
   keeps_walk w [] e k = k
   keeps_walk w (word ∷ rest) e k =
-      let turn = turn_fault check_shape [] w word in
-      let later = walk_fault check_shape [] (walked rules [] w word) rest in
+      let turn = turn_fault shape [] w word in
+      let later = walk_fault shape [] (walked rules [] w word) rest in
       keeps_walk (walked rules [] w word) rest (second turn later e) (keeps_turn w.stopped w word (first turn later e) k)
 
 -- ---- and where it is left out it has its default
@@ -404,51 +439,89 @@ apart to from e same = let no : true ≡ false = sym same ∙ e in cc
 itself : (e : Entry) → Agrees e e
 itself e same v h = h
 
-agree_conflicts : Each (Agrees conflicts) entries
+agree_conflicts : Each (Agrees conflicts) check_entries
 agree_conflicts = (itself conflicts, (apart conflicts bound refl, (apart conflicts frames refl, (apart conflicts together refl, tt))))
 
-agree_bound : Each (Agrees bound) entries
+agree_bound : Each (Agrees bound) check_entries
 agree_bound = (apart bound conflicts refl, (itself bound, (apart bound frames refl, (apart bound together refl, tt))))
 
-agree_frames : Each (Agrees frames) entries
+agree_frames : Each (Agrees frames) check_entries
 agree_frames = (apart frames conflicts refl, (apart frames bound refl, (itself frames, (apart frames together refl, tt))))
 
-agree_together : Each (Agrees together) entries
+agree_together : Each (Agrees together) check_entries
 agree_together = (apart together conflicts refl, (apart together bound refl, (apart together frames refl, (itself together, tt))))
 
+agree_upgrade : Each (Agrees upgrade) recheck_entries
+agree_upgrade = (itself upgrade, tt)
+
+-- each default is one that its entry takes
+abbrev DefaultsRead : List Entry → Type 0
+DefaultsRead es = Each (λ (e : Entry). Reads e (default_of e)) es
+
+-- and each word is the same as itself
+abbrev WordsSame : List Entry → Type 0
+WordsSame es = Each (λ (e : Entry). bytes_eq (word_of e) (word_of e) ≡ true) es
+
 -- each default is taken
-with_reads : (to : Entry) → Each (Agrees to) entries → Each (λ (from : Entry). Agrees to from × Reads from (default_of from)) entries
-with_reads to (a, (b, (c, (d, _)))) = ((a, refl), ((b, refl), ((c, refl), ((d, refl), tt))))
+with_reads : (to : Entry) (es : List Entry) → Each (Agrees to) es → DefaultsRead es → Each (λ (from : Entry). Agrees to from × Reads from (default_of from)) es
+with_reads to [] agree reads = tt
+with_reads to (e ∷ es) (a, agree) (r, reads) = ((a, r), with_reads to es agree reads)
 
-abbrev rows_found : List Text → List Row
-rows_found words = fold with_default (settled rules (walk rules [] nothing_held words).held).rows rules
+module _ (name : Text) (es : List Entry) (reads : DefaultsRead es) (same : WordsSame es) where
+  abbrev rows_found : List Text → List Row
+  rows_found words = fold with_default (settled (map ready es) (walk (map ready es) [] nothing_held words).held).rows (map ready es)
 
-kept : (to : Entry) → Each (Agrees to) entries → (words : List Text) → level_fault check_shape [] nothing_held words false [] ≡ [] → Keeps to (rows_found words)
-kept to agree words e =
-    let end = (walk rules [] nothing_held words).held in
-    let walking = walk_fault check_shape [] (walk_from nothing_held) words in
-    let settling = settle_fault rules false end in
-    let late = or_else (defaults_fault (settled rules end).rows rules) (check_fault check_shape (finished rules end) false) in
-    let walked_well = first walking (or_else settling late) e in
-    let settled_well = first settling late (second walking (or_else settling late) e) in
-    let walked_rows = keeps_walk to agree (walk_from nothing_held) words walked_well tt in
-    keeps_defaults to entries (with_reads to agree) (settled rules end).rows (keeps_settled to agree end settled_well walked_rows)
+  kept : (to : Entry) → Each (Agrees to) es → (words : List Text) → level_fault (shape_with name es) [] nothing_held words false [] ≡ [] → Keeps to (rows_found words)
+  kept to agree words e =
+      let shape = shape_with name es in
+      let rules = map ready es in
+      let end = (walk rules [] nothing_held words).held in
+      let walking = walk_fault shape [] (walk_from nothing_held) words in
+      let settling = settle_fault rules false end in
+      let late = or_else (defaults_fault (settled rules end).rows rules) (check_fault shape (finished rules end) false) in
+      let walked_well = first walking (or_else settling late) e in
+      let settled_well = first settling late (second walking (or_else settling late) e) in
+      let walked_rows = keeps_walk name es to agree (walk_from nothing_held) words walked_well tt in
+      keeps_defaults to es (with_reads to es agree reads) (settled rules end).rows (keeps_settled name es to agree end settled_well walked_rows)
+
+  has_rows : (words : List Text) → Each (λ (e : Entry). has_row (word_of e) (rows_found words) ≡ true) es
+  has_rows words = has_each es (settled (map ready es) (walk (map ready es) [] nothing_held words).held).rows same
+
+check_reads : DefaultsRead check_entries
+check_reads = (refl, (refl, (refl, (refl, tt))))
+
+check_same : WordsSame check_entries
+check_same = (refl, (refl, (refl, (refl, tt))))
 
 told : (words : List Text) → level_fault check_shape [] nothing_held words false [] ≡ [] → (command : Command) × Tells (Some (rows_at check_shape words)) command
 told words e =
-    let rows = rows_found words in
-    let has = has_each entries (settled rules (walk rules [] nothing_held words).held).rows (refl, (refl, (refl, (refl, tt)))) in
-    let budget = number_in conflicts_option rows (kept conflicts agree_conflicts words e) has.0 in
-    let steps = number_in bound_option rows (kept bound agree_bound words e) has.1.0 in
-    let level = number_in frames_option rows (kept frames agree_frames words e) has.1.1.0 in
-    let shared = flag_in together_flag rows (kept together agree_together words e) has.1.1.1.0 in
+    let name = check_shape.name in
+    let rows = rows_found name check_entries check_reads check_same words in
+    let has = has_rows name check_entries check_reads check_same words in
+    let keeps : (to : Entry) → Each (Agrees to) check_entries → Keeps to rows = λ to agree. kept name check_entries check_reads check_same to agree words e in
+    let budget = number_in conflicts_option rows (keeps conflicts agree_conflicts) has.0 in
+    let steps = number_in bound_option rows (keeps bound agree_bound) has.1.0 in
+    let level = number_in frames_option rows (keeps frames agree_frames) has.1.1.0 in
+    let shared = flag_in together_flag rows (keeps together agree_together) has.1.1.1.0 in
     let has_effort : HasEffort rows (record { conflicts = budget.0; bound = steps.0; frames = level.0; together = shared.0 }) =
     record { conflicts = budget.1; bound = steps.1; frames = level.1; together = shared.1 } in
     (Check (record { conflicts = budget.0; bound = steps.0; frames = level.0; together = shared.0 }), (refl, has_effort))
 
+told_again : (words : List Text) → level_fault recheck_shape [] nothing_held words false [] ≡ [] → (command : Command) × Tells (Some (rows_at recheck_shape words)) command
+told_again words e =
+    let name = recheck_shape.name in
+    let rows = rows_found name recheck_entries (refl, tt) (refl, tt) words in
+    let has = has_rows name recheck_entries (refl, tt) (refl, tt) words in
+    let anew = flag_in upgrade_flag rows (kept name recheck_entries (refl, tt) (refl, tt) upgrade agree_upgrade words e) has.0 in
+    (Recheck anew.0, (refl, anew.1))
+
 -- the shape of `flat`, if it is named
 abbrev of_flat : Text → Option Shape
 of_flat word = cond (bytes_eq flat_shape.name word || false) (Some flat_shape) None
+
+-- the shape of `recheck` or of `flat`, if it is named
+abbrev of_later : Text → Option Shape
+of_later word = cond (bytes_eq recheck_shape.name word || false) (Some recheck_shape) (of_flat word)
 
 flat_told : (p : Text × List Text) → option_map_or (λ (s : Shape). level_fault s [] nothing_held p.1 false []) (of_flat p.0) [] ≡ []
     → is_some (option_map (λ (s : Shape). rows_at s p.1) (of_flat p.0)) ≡ true → (command : Command) × Tells (option_map (λ (s : Shape). rows_at s p.1) (of_flat p.0)) command
@@ -457,13 +530,21 @@ flat_told p e some =
     → (command : Command) × Tells (option_map (λ (s : Shape). rows_at s p.1) (cond (x || false) (Some flat_shape) None)) command)
     [ true ↦ λ _. (Flat, refl) | false ↦ λ none. cc ] some
 
+later_told : (p : Text × List Text) → option_map_or (λ (s : Shape). level_fault s [] nothing_held p.1 false []) (of_later p.0) [] ≡ []
+    → is_some (option_map (λ (s : Shape). rows_at s p.1) (of_later p.0)) ≡ true → (command : Command) × Tells (option_map (λ (s : Shape). rows_at s p.1) (of_later p.0)) command
+later_told p e some =
+    elim (bytes_eq recheck_shape.name p.0) as (λ x. option_map_or (λ (s : Shape). level_fault s [] nothing_held p.1 false []) (cond (x || false) (Some recheck_shape) (of_flat p.0)) [] ≡ []
+    → is_some (option_map (λ (s : Shape). rows_at s p.1) (cond (x || false) (Some recheck_shape) (of_flat p.0))) ≡ true
+    → (command : Command) × Tells (option_map (λ (s : Shape). rows_at s p.1) (cond (x || false) (Some recheck_shape) (of_flat p.0))) command)
+    [ true ↦ λ fault _. told_again p.1 fault | false ↦ flat_told p ] e some
+
 found_told : (stop : Option (Text × List Text)) → entered_fault app stop ≡ [] → is_some (entered app stop) ≡ true → (command : Command) × Tells (entered app stop) command
 found_told None e some = cc
 found_told (Some p) e some =
-    elim (bytes_eq check_shape.name p.0) as (λ x. option_map_or (λ (s : Shape). level_fault s [] nothing_held p.1 false []) (cond (x || false) (Some check_shape) (of_flat p.0)) [] ≡ []
-    → is_some (option_map (λ (s : Shape). rows_at s p.1) (cond (x || false) (Some check_shape) (of_flat p.0))) ≡ true
-    → (command : Command) × Tells (option_map (λ (s : Shape). rows_at s p.1) (cond (x || false) (Some check_shape) (of_flat p.0))) command)
-    [ true ↦ λ fault _. told p.1 fault | false ↦ flat_told p ] e some
+    elim (bytes_eq check_shape.name p.0) as (λ x. option_map_or (λ (s : Shape). level_fault s [] nothing_held p.1 false []) (cond (x || false) (Some check_shape) (of_later p.0)) [] ≡ []
+    → is_some (option_map (λ (s : Shape). rows_at s p.1) (cond (x || false) (Some check_shape) (of_later p.0))) ≡ true
+    → (command : Command) × Tells (option_map (λ (s : Shape). rows_at s p.1) (cond (x || false) (Some check_shape) (of_later p.0))) command)
+    [ true ↦ λ fault _. told p.1 fault | false ↦ later_told p ] e some
 
 wanted : (rows : List Row) (has : Bool) → check_fault app.top rows has ≡ [] → has ≡ true
 wanted rows true e = refl

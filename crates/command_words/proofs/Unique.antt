@@ -3,7 +3,7 @@ use Rattle.std.proofs.Common.{◌≡◌, ℕ, Bool, true, false, List, Option, S
 use Rattle.std.specs.Str.Parse.{digits_value, without_leading_plus}
 use Rattle.clap.specs.Words.{Row, Text, subcommand_of}
 use Rattle.command_words.specs.declared.command.Command.{Command}
-use Rattle.command_words.specs.declared.command.Command.TheVariants.{Check, Flat}
+use Rattle.command_words.specs.declared.command.Command.TheVariants.{Check, Recheck, Flat}
 use Rattle.command_words.specs.declared.command.Effort.{Effort}
 use Rattle.command_words.specs.Grammar.{HasEffort, HasFlag, HasNumber, Tells, Says, program}
 
@@ -29,9 +29,14 @@ same_effort rows a b h k =
 same_command : (found : Option (Text × List Row)) (a b : Command) → Tells found a → Tells found b → a ≡ b
 same_command None a b h k = absurd h
 same_command (Some found) (Check a) (Check b) (e, h) (f, k) = ap Check (same_effort found.1 a b h k)
+same_command (Some found) (Recheck a) (Recheck b) (e, h) (f, k) = ap Recheck (same_flag found.1 _ a b h k)
 same_command (Some found) Flat Flat e f = refl
 same_command (Some found) (Check a) Flat (e, h) f = cc
 same_command (Some found) Flat (Check a) f (e, h) = cc
+same_command (Some found) (Check a) (Recheck b) (e, h) (f, k) = cc
+same_command (Some found) (Recheck b) (Check a) (f, k) (e, h) = cc
+same_command (Some found) (Recheck a) Flat (e, h) f = cc
+same_command (Some found) Flat (Recheck a) f (e, h) = cc
 
 pub said_once : (words : List Text) (first second : Command) → Says words first → Says words second → first ≡ second
 said_once words first second (e, h) (f, k) = same_command (subcommand_of program words) first second h k

@@ -8,7 +8,7 @@ use Rattle.clap.specs.Faults.{fault_of}
 use Rattle.clap.specs.declared.builder.action.ArgAction.TheVariants.{SetTrue}
 use Rattle.clap.specs.declared.builder.value_parser.ValueParser.TheVariants as parser
 use Rattle.command_words.specs.declared.command.Command.{Command}
-use Rattle.command_words.specs.declared.command.Command.TheVariants.{Check, Flat}
+use Rattle.command_words.specs.declared.command.Command.TheVariants.{Check, Recheck, Flat}
 use Rattle.command_words.specs.declared.command.Effort.{Effort}
 
 -- a row of an option: its word, the least and the greatest number that it takes, and what stands for its number where
@@ -41,9 +41,17 @@ frames_option = record { word = codes "frames"; least = 0; greatest = 100000; de
 abbrev pub together_flag : Text
 together_flag = codes "together"
 
+-- whether certificates are made anew in the form that is judged by hints
+abbrev pub upgrade_flag : Text
+upgrade_flag = codes "upgrade"
+
 -- specifications are decided
 abbrev pub check_row : CommandRow
 check_row = record { word = codes "check"; options = conflicts_option ∷ bound_option ∷ frames_option ∷ []; flags = together_flag ∷ [] }
+
+-- a report is judged again
+abbrev pub recheck_row : CommandRow
+recheck_row = record { word = codes "recheck"; options = []; flags = upgrade_flag ∷ [] }
 
 -- slots and items are listed
 abbrev pub flat_row : CommandRow
@@ -51,7 +59,7 @@ flat_row = record { word = codes "flat"; options = []; flags = [] }
 
 -- the table
 abbrev pub commands : List CommandRow
-commands = check_row ∷ flat_row ∷ []
+commands = check_row ∷ recheck_row ∷ flat_row ∷ []
 
 -- `--WORD N` and `--WORD=N`, with a number in this range, and what stands for it where it is left out
 abbrev pub number_rule : Text → ℕ → ℕ → Text → Rule
@@ -113,10 +121,11 @@ pub record HasEffort (rows : List Row) (effort : Effort) : Type 0 where
   pub frames : HasNumber rows frames_option.word frames_option.greatest effort.frames
   pub together : HasFlag rows together_flag effort.together
 
--- the command that was found, with its options, is this one
+-- the command that was found, with its options and flags, is this one
 abbrev pub Tells : Option (Text × List Row) → Command → Type 0
 Tells None command = ⊥
 Tells (Some found) (Check effort) = (found.0 ≡ check_row.word) × HasEffort found.1 effort
+Tells (Some found) (Recheck upgrade) = (found.0 ≡ recheck_row.word) × HasFlag found.1 upgrade_flag upgrade
 Tells (Some found) Flat = found.0 ≡ flat_row.word
 
 -- the words say this command

@@ -4,10 +4,10 @@ ghost use Rattle.std.specs.Prelude.{◌≡◌, ◌≤◌, ℕ, Bool, map, IfOk, 
 ghost use Rattle.clap.specs.Words.{found_of, rows_of, subcommand_rows_of};
 ghost use Rattle.command_words.specs.declared.command.Command.{Command as CommandOf};
 ghost use Rattle.command_words.specs.declared.command.Effort.{Effort as EffortOf};
-ghost use Rattle.command_words.specs.Grammar.{HasEffort, HasFlag, HasNumber, IsCommandLine, Says, Tells, bound_option, conflicts_option, frames_option, together_flag};
+ghost use Rattle.command_words.specs.Grammar.{HasEffort, HasFlag, HasNumber, IsCommandLine, Says, Tells, bound_option, conflicts_option, frames_option, together_flag, upgrade_flag};
 
 use crate::command::{Command, Effort};
-use crate::table::{BOUND, CHECK, CONFLICTS, FLAT, FRAMES, TOGETHER, program};
+use crate::table::{BOUND, CONFLICTS, FLAT, FRAMES, RECHECK, TOGETHER, UPGRADE, program};
 use clap::ArgMatches;
 use clap::error::ErrorKind;
 use std::alloc::Global;
@@ -69,6 +69,10 @@ fn command_of(matches: &ArgMatches<'_>) -> Command
     };
     if word == FLAT {
         Command::Flat
+    } else if word == RECHECK {
+        Command::Recheck {
+            upgrade: flag_of(found, UPGRADE),
+        }
     } else {
         Command::Check(effort_of(found))
     }

@@ -3,7 +3,7 @@
 ghost use Rattle.std.specs.Prelude.{◌≡◌, false, IfOk};
 ghost use Rattle.clap.specs.Words.{app_of, rule_of};
 ghost use Rattle.clap.specs.declared.Command.TheViews.{out-Command};
-ghost use Rattle.command_words.specs.Grammar.{bound_option, check_row, command_app, conflicts_option, flag_rule, flat_row, frames_option, number_rule, option_rule, program, together_flag};
+ghost use Rattle.command_words.specs.Grammar.{bare_program, bound_option, check_row, command_app, conflicts_option, flag_rule, flat_row, frames_option, number_rule, option_rule, program, recheck_row, together_flag, upgrade_flag};
 
 use clap::builder::ValueParser;
 use clap::{Arg, ArgAction, Command};
@@ -11,6 +11,9 @@ use std::alloc::{AllocError, Global};
 
 /// The word of the command that decides specifications.
 pub const CHECK: &str = "check";
+
+/// The word of the command that judges a report again.
+pub const RECHECK: &str = "recheck";
 
 /// The word of the command that lists slots and items.
 pub const FLAT: &str = "flat";
@@ -26,6 +29,9 @@ pub const FRAMES: &str = "frames";
 
 /// The word of the flag that has all invariants decided over one pool of lemmas.
 pub const TOGETHER: &str = "together";
+
+/// The word of the flag that has certificates made anew in the form that is judged by hints.
+pub const UPGRADE: &str = "upgrade";
 
 // An option that takes a number from `least` to `greatest`.
 fn number_option<'a>(
@@ -89,6 +95,13 @@ fn check_command<'a>(alloc: Global) -> Result<Command<'a>, AllocError>
         .arg(flag(alloc, TOGETHER))
 }
 
+fn recheck_command<'a>(alloc: Global) -> Result<Command<'a>, AllocError>
+    ensures app { IfOk result (λ c. app_of c ≡ command_app recheck_row) }
+    ensures local { IfOk result (λ c. (out-Command c).has_globals ≡ false) }
+{
+    Command::new(alloc, RECHECK).arg(flag(alloc, UPGRADE))
+}
+
 fn flat_command<'a>(alloc: Global) -> Command<'a>
     ensures app { app_of result ≡ command_app flat_row }
     ensures local { (out-Command result).has_globals ≡ false }
@@ -96,16 +109,26 @@ fn flat_command<'a>(alloc: Global) -> Command<'a>
     Command::new(alloc, FLAT)
 }
 
-/// The whole table.
-pub fn program<'a>(alloc: Global) -> Result<Command<'a>, AllocError>
-    ensures { IfOk result (λ c. app_of c ≡ program) }
+// The program without its commands: it wants one, and has no help of its own.
+fn bare_program<'a>(alloc: Global) -> Command<'a>
+    ensures app { app_of result ≡ bare_program }
+    ensures local { (out-Command result).has_globals ≡ false }
 {
-    let check = check_command(alloc)?;
     Command::new(alloc, "smvcheck")
         .no_binary_name(true)
         .subcommand_required(true)
         .disable_help_flag(true)
         .disable_help_subcommand(true)
+}
+
+/// The whole table.
+pub fn program<'a>(alloc: Global) -> Result<Command<'a>, AllocError>
+    ensures { IfOk result (λ c. app_of c ≡ program) }
+{
+    let check = check_command(alloc)?;
+    let recheck = recheck_command(alloc)?;
+    bare_program(alloc)
         .subcommand(check)?
+        .subcommand(recheck)?
         .subcommand(flat_command(alloc))
 }

@@ -59,6 +59,8 @@ const SPENT: &str = "-- spec 1 INVARSPEC is unknown: conflicts 0 of 0\n";
 
 const OPEN: &str = "-- spec 1 INVARSPEC is unknown: frames 0\n";
 
+const UNSHOWN: &str = "-- spec 1 INVARSPEC has nothing shown\n";
+
 const LISTED: &str =
     "-- slot 0 state x : boolean\n-- item 0 init at 3:8 of main\n-- item 1 next at 3:26 of main\n";
 
@@ -122,7 +124,7 @@ const BOTH_JUDGED: &str =
 const BOTH_SPENT: &str =
     "-- spec 1 INVARSPEC is unknown: conflicts 0 of 0\n-- spec 2 INVARSPEC is unknown: conflicts 0 of 0\n";
 
-const CASES: [Case; 65] = [
+const CASES: [Case; 76] = [
     // Command lines.
     ("check", STANDING, TRUE, 0),
     ("check", TOGGLING, BROKEN, 1),
@@ -149,7 +151,18 @@ const CASES: [Case; 65] = [
     ("check --bound 1 --conflicts=+100", TOGGLING, BROKEN, 1),
     ("", STANDING, USAGE, 4),
     ("check check", STANDING, USAGE, 4),
-    ("recheck", STANDING, USAGE, 4),
+    ("recheck", STANDING, UNSHOWN, 2),
+    ("recheck --upgrade", STANDING, UNSHOWN, 2),
+    ("recheck --upgrade --upgrade", STANDING, USAGE, 4),
+    ("recheck --upgrade=true", STANDING, USAGE, 4),
+    ("recheck upgrade", STANDING, USAGE, 4),
+    ("recheck --together", STANDING, USAGE, 4),
+    ("recheck --bound 1", STANDING, USAGE, 4),
+    ("check --upgrade", STANDING, USAGE, 4),
+    ("flat --upgrade", STANDING, USAGE, 4),
+    ("recheck recheck", STANDING, USAGE, 4),
+    ("--upgrade recheck", STANDING, USAGE, 4),
+    ("Recheck", STANDING, USAGE, 4),
     ("check --workers 0", STANDING, USAGE, 4),
     ("check --bound", STANDING, USAGE, 4),
     ("check --bound -1", STANDING, USAGE, 4),
@@ -801,6 +814,134 @@ const MODELS: [Case; 19] = [
     ),
 ];
 
+// A model with lines of traces and certificates, and what is said of them.
+const RECHECKS: [Case; 12] = [
+    (
+        "recheck",
+        "MODULE main\nVAR x : boolean;\nASSIGN init(x) := FALSE; next(x) := x;\nINVARSPEC !x\n--% cert 1 spec 1 counter none\n--% clause -1 0\n--% part first 1\n--% step 0\n--% part kept 1\n--% step 0\n--% part safe 0\n--% step 0\n--% end\n",
+        "-- spec 1 INVARSPEC is shown true\n",
+        0,
+    ),
+    (
+        "recheck",
+        "MODULE main\nVAR x : boolean;\nASSIGN init(x) := FALSE; next(x) := x;\nINVARSPEC !x\n--% cert 1 spec 1 counter none\n--% clause 1 0\n--% part first 1\n--% step 0\n--% part kept 1\n--% step 0\n--% part safe 0\n--% step 0\n--% end\n",
+        "-- spec 1 INVARSPEC is rejected: part first 1\n",
+        1,
+    ),
+    // The model toggles, so that the clause is not kept.
+    (
+        "recheck",
+        "MODULE main\nVAR x : boolean;\nASSIGN init(x) := FALSE; next(x) := !x;\nINVARSPEC !x\n--% cert 1 spec 1 counter none\n--% clause -1 0\n--% part first 1\n--% step 0\n--% part kept 1\n--% step 0\n--% part safe 0\n--% step 0\n--% end\n",
+        "-- spec 1 INVARSPEC is rejected: part kept 1\n",
+        1,
+    ),
+    (
+        "recheck",
+        "MODULE main\nVAR x : boolean;\nASSIGN init(x) := FALSE; next(x) := !x;\nINVARSPEC !x\n--@ spec 1\n--@ state 0: x = FALSE\n--@ state 1: x = FALSE\n",
+        "-- spec 1 INVARSPEC is rejected: trace step 0\n",
+        1,
+    ),
+    // The lines of a report may stand in front of their model.
+    (
+        "recheck",
+        "--@ spec 1\n--@ state 0: x = FALSE\n--@ state 1: x = TRUE\nMODULE main\nVAR x : boolean;\nASSIGN init(x) := FALSE; next(x) := !x;\nINVARSPEC !x\n",
+        "-- spec 1 INVARSPEC is shown false\n",
+        0,
+    ),
+    // Of two specifications one is shown; a rejected one weighs more.
+    (
+        "recheck",
+        "MODULE main\nVAR x : boolean;\nASSIGN init(x) := FALSE; next(x) := !x;\nINVARSPEC !x\nINVARSPEC x | !x\n--@ spec 1\n--@ state 0: x = FALSE\n--@ state 1: x = TRUE\n",
+        "-- spec 1 INVARSPEC is shown false\n-- spec 2 INVARSPEC has nothing shown\n",
+        2,
+    ),
+    (
+        "recheck",
+        "MODULE main\nVAR x : boolean;\nASSIGN init(x) := FALSE; next(x) := !x;\nINVARSPEC !x\nINVARSPEC x | !x\n--@ spec 1\n--@ state 0: x = FALSE\n",
+        "-- spec 1 INVARSPEC is rejected: trace spec 0\n-- spec 2 INVARSPEC has nothing shown\n",
+        1,
+    ),
+    ("recheck", "MODULE main\nVAR x : boolean;\n", "", 0),
+    // A text that is no model, and lines that are not as they should be.
+    (
+        "recheck",
+        "MODULE main\nINIT y\n--@ spec 9\n",
+        "-- refused 304 UnknownName at 2:6: y\n",
+        3,
+    ),
+    (
+        "recheck",
+        "MODULE main\nVAR x : boolean;\nINVARSPEC !x\n--@ spec 2\n",
+        "-- refused 702 BadTrace at 4:1\n",
+        3,
+    ),
+    (
+        "recheck",
+        "MODULE main\nVAR x : boolean;\nINVARSPEC !x\n--% cert 1 spec 2 counter none\n--% end\n",
+        "-- refused 701 BadCertificate at 4:1\n",
+        3,
+    ),
+    // To the other commands they are comments.
+    (
+        "check",
+        "MODULE main\nVAR x : boolean;\nASSIGN init(x) := FALSE; next(x) := x;\nINVARSPEC !x\n--@ spec 2\n--% end\n",
+        TRUE,
+        0,
+    ),
+];
+
+#[test]
+fn rechecks(rt: HostRuntime) -> Result<(), Fail> {
+    let wrong = first_wrong(&rt, rt.alloc(), &RECHECKS)?;
+    assert_eq!(rt; wrong, None);
+    Ok(())
+}
+
+// A source, and what is said of its report when it is judged again with the source.
+type Round = (&'static str, &'static str, u8);
+
+const ROUNDS: [Round; 4] = [
+    (TOGGLING, "-- spec 1 INVARSPEC is shown false\n", 0),
+    (STANDING, UNSHOWN, 2),
+    (
+        BOTH,
+        "-- spec 1 INVARSPEC is shown false\n-- spec 2 INVARSPEC has nothing shown\n",
+        2,
+    ),
+    // A run with inputs, and one of a module.
+    (
+        "MODULE cell(next_one)\nVAR on : boolean;\nASSIGN init(on) := FALSE; next(on) := next_one;\nMODULE main\nIVAR push : boolean;\nVAR first : cell(second.on); second : cell(push);\nINVARSPEC !first.on\n",
+        "-- spec 1 INVARSPEC is shown false\n",
+        0,
+    ),
+];
+
+// The source of the first round whose report is judged otherwise.
+fn first_wrong_round<R: Threads + Wait + Sync>(
+    rt: &R,
+    alloc: Global,
+    rounds: &[Round],
+) -> Result<Option<&'static str>, AllocError> {
+    for (text, want, status) in rounds {
+        let mut both = text.as_bytes().to_vec(alloc)?;
+        let (_, report) = run_over_bytes(rt, alloc, &["check"], text.as_bytes().to_vec(alloc)?);
+        both.extend_from_slice(report.as_slice())?;
+        let words = ["recheck"];
+        if !prints_whole(rt, alloc, &words, both.as_slice(), want.as_bytes(), *status)? {
+            return Ok(Some(text));
+        }
+    }
+    Ok(None)
+}
+
+// What `check` prints behind its source is what `recheck` judges.
+#[test]
+fn rounds(rt: HostRuntime) -> Result<(), Fail> {
+    let wrong = first_wrong_round(&rt, rt.alloc(), &ROUNDS)?;
+    assert_eq!(rt; wrong, None);
+    Ok(())
+}
+
 #[test]
 fn cases(rt: HostRuntime) -> Result<(), Fail> {
     let wrong = first_wrong(&rt, rt.alloc(), &CASES)?;
@@ -893,7 +1034,7 @@ fn failing_calls(rt: HostRuntime) -> Result<(), Fail> {
         prints(
             &rt,
             alloc,
-            &["recheck"],
+            &["rechecks"],
             text,
             7,
             0,

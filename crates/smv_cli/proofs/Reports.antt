@@ -1,7 +1,7 @@
 -- From what the calls below say to a report.
-use Rattle.std.proofs.Common.{◌≡◌, ℕ, ◌≤◌, ◌<◌, List, [], ◌++◌, length, take, sym, ap, subst, ◌∙◌, arith, refl, length-take, take_all, Some, None, Result, Ok, Err, IfOk, inl, inr}
+use Rattle.std.proofs.Common.{◌≡◌, ℕ, ◌≤◌, ◌<◌, Bool, List, [], ◌++◌, length, take, sym, ap, subst, ◌∙◌, arith, refl, length-take, take_all, Some, None, Result, Ok, Err, IfOk, inl, inr}
 use Rattle.command_words.specs.declared.command.Command.{Command}
-use Rattle.command_words.specs.declared.command.Command.TheVariants.{Check, Flat}
+use Rattle.command_words.specs.declared.command.Command.TheVariants.{Check, Recheck, Flat}
 use Rattle.command_words.specs.declared.command.Effort.{Effort}
 use Rattle.command_words.specs.Grammar.{IsCommandLine, Says}
 use Rattle.outside.specs.declared.Stop.{Stop}
@@ -17,18 +17,22 @@ use Rattle.smv_tree.specs.Texts.{refusal_text}
 use Rattle.smv_text.specs.Texts.{IsBrokenAt, IsBrokenFirst}
 use Rattle.smv_front.specs.Sources.{IsModel, IsRefusedBy, in_text, in_grammar, in_types, in_assignments, in_bits}
 use Rattle.smv_meaning.specs.Runs.{specifications_of}
+use Rattle.smv_recheck.specs.declared.checking.Checked.{Checked}
+use Rattle.smv_recheck.specs.Checking.{status_of as status_again}
+use Rattle.smv_recheck.specs.Printed.{report_text}
+use Rattle.smv_recheck.specs.Refusing.{IsRefused, as_model, beside}
 use Rattle.smv_cli.specs.declared.record.Record.{Record}
 use Rattle.smv_cli.specs.Streams.{AppendsFront, ReadsFirst}
 use Rattle.smv_cli.specs.Listing.{listing_text}
 use Rattle.smv_cli.specs.Texts.{record_text, usage_text}
-use Rattle.smv_cli.specs.Report.{IsJudged, CommandStage, nothing, refused, judging, judged, listed, Stage, begun, said, usage, Held, Answered, Begun}
+use Rattle.smv_cli.specs.Report.{IsJudged, IsJudgedAgain, IsRefusedIn, CommandStage, nothing, refused, judging, judged, rechecked, listed, Stage, begun, said, usage, Held, Answered, Begun}
 use Rattle.smv_cli.specs.Written.{CommandDone, CommandPart, Recorded, RecordedPart}
 
 module _ (command : Command) where
-  pub refused-done : (bytes : List ℕ) (r : Refusal) (old new : Option (List ℕ)) → IsRefusedBy bytes r → Appends old new (refusal_text r) → CommandDone command bytes old new 3
+  pub refused-done : (bytes : List ℕ) (r : Refusal) (old new : Option (List ℕ)) → IsRefusedIn command bytes r → Appends old new (refusal_text r) → CommandDone command bytes old new 3
   refused-done bytes r old new h took = record { text = refusal_text r; took = took; stage = refused r h refl refl }
 
-  pub refused-part : (bytes : List ℕ) (r : Refusal) (old new : Option (List ℕ)) → IsRefusedBy bytes r → AppendsFront old new (refusal_text r) → CommandPart command bytes old new
+  pub refused-part : (bytes : List ℕ) (r : Refusal) (old new : Option (List ℕ)) → IsRefusedIn command bytes r → AppendsFront old new (refusal_text r) → CommandPart command bytes old new
   refused-part bytes r old new h took = record { text = refusal_text r; status = Some 3; took = took; stage = refused r h refl refl }
 
   pub judged-done : (effort : Effort) → command ≡ Check effort → (bytes : List ℕ) (p : Program) (old new : Option (List ℕ)) (status : ℕ) → IsModel bytes p
@@ -51,6 +55,11 @@ module _ (command : Command) where
   pub listed-part : command ≡ Flat → (bytes : List ℕ) (p : Program) (old new : Option (List ℕ)) → IsModel bytes p → AppendsFront old new (listing_text p) → CommandPart command bytes old new
   listed-part is bytes p old new model took = record { text = listing_text p; status = Some 0; took = took; stage = listed p is model refl refl }
 
+  pub rechecked-part : (upgrade : Bool) → command ≡ Recheck upgrade → (bytes : List ℕ) (c : Checked) (old new : Option (List ℕ)) → IsJudgedAgain bytes upgrade c
+      → AppendsFront old new (report_text c) → CommandPart command bytes old new
+  rechecked-part upgrade is bytes c old new again took =
+      record { text = report_text c; status = Some (status_again c.records); took = took; stage = rechecked upgrade c is again refl refl }
+
   pub nothing-part : (bytes : List ℕ) (old : Option (List ℕ)) → CommandPart command bytes old old
   nothing-part bytes old = record { text = []; status = None; took = (0, Appends-nil old); stage = nothing refl refl }
 
@@ -65,7 +74,13 @@ module _ (command : Command) where
       subst (λ (n : ℕ). CommandDone command bytes old new n) (sym zero_is) (record { text = listing_text p; took = took; stage = listed p is model refl refl })
   listed-result is bytes p old new (Err e) model made = tt
 
-  pub refused-result : (bytes : List ℕ) (r : Refusal) (old new : Option (List ℕ)) (result : Result ℕ Stop) → IsRefusedBy bytes r
+  pub rechecked-result : (upgrade : Bool) → command ≡ Recheck upgrade → (bytes : List ℕ) (c : Checked) (old new : Option (List ℕ)) (result : Result ℕ Stop) → IsJudgedAgain bytes upgrade c
+      → IfOk result (λ status. (status ≡ status_again c.records) × Appends old new (report_text c)) → IfOk result (λ status. CommandDone command bytes old new status)
+  rechecked-result upgrade is bytes c old new (Ok status) again (same, took) =
+      record { text = report_text c; took = took; stage = rechecked upgrade c is again refl (ap Some same) }
+  rechecked-result upgrade is bytes c old new (Err e) again made = tt
+
+  pub refused-result : (bytes : List ℕ) (r : Refusal) (old new : Option (List ℕ)) (result : Result ℕ Stop) → IsRefusedIn command bytes r
       → IfOk result (λ status. (status ≡ 3) × Appends old new (refusal_text r)) → IfOk result (λ status. CommandDone command bytes old new status)
   refused-result bytes r old new (Ok status) h (three, took) = subst (λ (n : ℕ). CommandDone command bytes old new n) (sym three) (refused-done bytes r old new h took)
   refused-result bytes r old new (Err e) h made = tt
@@ -91,6 +106,12 @@ refused-whole text all r e (in_types tokens p s h) = same_bytes (λ b. IsRefused
 refused-whole text all r e (in_assignments tokens p s n h) = same_bytes (λ b. IsRefusedBy b r) text all e s.text.0 (in_assignments tokens p s n h)
 refused-whole text all r e (in_bits tokens p s n a w h) = same_bytes (λ b. IsRefusedBy b r) text all e s.text.0 (in_bits tokens p s n a w h)
 
+refused-in-whole : (command : Command) (text all : List ℕ) (r : Refusal) → text ≡ take 16777217 all → IsRefusedIn command text r → IsRefusedIn command all r
+refused-in-whole (Check effort) text all r e h = refused-whole text all r e h
+refused-in-whole (Recheck upgrade) text all r e (as_model h) = as_model (refused-whole text all r e h)
+refused-in-whole (Recheck upgrade) text all r e (beside p model h) = same_bytes (λ b. IsRefused b r) text all e model.spelled.text.0 (beside p model h)
+refused-in-whole Flat text all r e h = refused-whole text all r e h
+
 -- what the source held, as far as it tells, else what was read
 unfoldable held : Option (List ℕ) → List ℕ → List ℕ
 held None text = text
@@ -107,9 +128,11 @@ module _ (command : Command) where
 
   stage-whole : (text all t : List ℕ) (s : Option ℕ) → text ≡ take 16777217 all → CommandStage command text t s → CommandStage command all t s
   stage-whole text all t s e (nothing a b) = nothing a b
-  stage-whole text all t s e (refused r h a b) = refused r (refused-whole text all r e h) a b
+  stage-whole text all t s e (refused r h a b) = refused r (refused-in-whole command text all r e h) a b
   stage-whole text all t s e (judging effort p records is j a b) = judging effort p records is (judged-whole effort text all p records e j) a b
   stage-whole text all t s e (judged effort p records is j n a b) = judged effort p records is (judged-whole effort text all p records e j) n a b
+  stage-whole text all t s e (rechecked upgrade c is again a b) =
+      rechecked upgrade c is (same_bytes (λ x. IsJudgedAgain x upgrade c) text all e again.checked.model.spelled.text.0 again) a b
   stage-whole text all t s e (listed p is model a b) = listed p is (same_bytes (λ x. IsModel x p) text all e model.spelled.text.0 model) a b
 
   stage-held : (left : Option (List ℕ)) (text t : List ℕ) (s : Option ℕ) → ReadsFirst 16777217 left text → CommandStage command text t s → CommandStage command (held left text) t s

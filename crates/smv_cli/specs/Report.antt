@@ -1,16 +1,26 @@
 -- What a run of the command may print, and with which status: the headline of the product.
-use Rattle.std.specs.Prelude.{◌≡◌, ℕ, List, [], length, IfSome, Option, None, Some}
+use Rattle.std.specs.Prelude.{◌≡◌, ℕ, Bool, true, List, [], length, IfSome, Option, None, Some, slice_get}
 use Rattle.std.specs.List.{flat_map}
 use Rattle.std.specs.Io.KnownBytes.{Appends}
 use Rattle.command_words.specs.declared.command.Command.{Command}
-use Rattle.command_words.specs.declared.command.Command.TheVariants.{Check, Flat}
+use Rattle.command_words.specs.declared.command.Command.TheVariants.{Check, Recheck, Flat}
 use Rattle.command_words.specs.declared.command.Effort.{Effort}
 use Rattle.command_words.specs.Grammar.{IsCommandLine, Says}
+use Rattle.hinted_log.specs.Hints.{HintedLog}
+use Rattle.cert_core.specs.Blocks.{Block}
 use Rattle.smv_tree.specs.declared.refusal.Refusal.{Refusal}
 use Rattle.smv_tree.specs.declared.tree.Program.{Program}
 use Rattle.smv_tree.specs.Texts.{refusal_text}
 use Rattle.smv_front.specs.Sources.{IsModel, IsRefusedBy}
+use Rattle.smv_resolve.specs.Items.{ResolvedItem}
 use Rattle.smv_meaning.specs.Runs.{specifications_of}
+use Rattle.trace_replay.specs.declared.trace.Trace.{Trace}
+use Rattle.smv_recheck.specs.declared.checking.Checked.{Checked}
+use Rattle.smv_recheck.specs.declared.judgement.Record.{Record as JudgedAgain}
+use Rattle.smv_recheck.specs.Checking.{IsChecked, is_shown_false, is_shown_true, status_of as status_again}
+use Rattle.smv_recheck.specs.Claims.{IsBroken, IsUnbroken}
+use Rattle.smv_recheck.specs.Printed.{report_text}
+use Rattle.smv_recheck.specs.Refusing.{Holdings, IsRefused}
 use Rattle.smv_cli.specs.declared.record.Record.{Record}
 use Rattle.smv_cli.specs.Listing.{listing_text}
 use Rattle.smv_cli.specs.Records.{RightFrom, status_of}
@@ -22,15 +32,35 @@ pub record IsJudged (bytes : List ℕ) (p : Program) (effort : Effort) (records 
   pub model : IsModel bytes p
   pub right : RightFrom p effort 1 (specifications_of p) records
 
+-- what is shown of the specifications of a program holds: no run breaks what is shown true, and some run breaks what is shown false
+abbrev pub ShownHolds : Program → List JudgedAgain → Type 0
+ShownHolds p records = (j : ℕ) (spec : ResolvedItem) (r : JudgedAgain) → slice_get (specifications_of p) j ≡ Some spec → slice_get records j ≡ Some r
+    → (is_shown_true r.judgement ≡ true → IsUnbroken p spec) × (is_shown_false r.judgement ≡ true → IsBroken p spec)
+
+-- what is said of the model that the bytes are, by the traces and certificates beside it, and it holds
+pub record IsJudgedAgain (bytes : List ℕ) (upgrade : Bool) (c : Checked) : Type 0 where
+  pub program : Program
+  pub checked : IsChecked program bytes upgrade c
+  pub holds : ShownHolds program c.records
+
+-- By which rule a command refuses bytes: by one of a model; `recheck` also by the lines of traces and certificates beside the model.
+abbrev pub IsRefusedIn : Command → List ℕ → Refusal → Type 0
+IsRefusedIn (Check effort) bytes r = IsRefusedBy bytes r
+IsRefusedIn (Recheck upgrade) bytes r = IsRefused bytes r
+IsRefusedIn Flat bytes r = IsRefusedBy bytes r
+
 -- The text of the first parts of what a command reports on these bytes, and the status of the report once it is whole. A part
--- is a line of refusal; a record, where the command is `check`; or the listing of slots and items, where it is `flat`.
+-- is a line of refusal; a record, where the command is `check`; what is said of a report, where it is `recheck`; or the listing of
+-- slots and items, where it is `flat`.
 pub data CommandStage (command : Command) (bytes text : List ℕ) (status : Option ℕ) : Type 0 where
   nothing : text ≡ [] → status ≡ None → CommandStage command bytes text status
-  refused : (r : Refusal) → IsRefusedBy bytes r → text ≡ refusal_text r → status ≡ Some 3 → CommandStage command bytes text status
+  refused : (r : Refusal) → IsRefusedIn command bytes r → text ≡ refusal_text r → status ≡ Some 3 → CommandStage command bytes text status
   judging : (effort : Effort) (p : Program) (records : List Record) → command ≡ Check effort → IsJudged bytes p effort records
       → text ≡ flat_map record_text records → status ≡ None → CommandStage command bytes text status
   judged : (effort : Effort) (p : Program) (records : List Record) → command ≡ Check effort → IsJudged bytes p effort records
       → length records ≡ length (specifications_of p) → text ≡ flat_map record_text records → status ≡ Some (status_of records) → CommandStage command bytes text status
+  rechecked : (upgrade : Bool) (c : Checked) → command ≡ Recheck upgrade → IsJudgedAgain bytes upgrade c
+      → text ≡ report_text c → status ≡ Some (status_again c.records) → CommandStage command bytes text status
   listed : (p : Program) → command ≡ Flat → IsModel bytes p → text ≡ listing_text p → status ≡ Some 0 → CommandStage command bytes text status
 
 -- The same for any words: what the command reports that they say; the line of usage where they are no command line; or
@@ -64,3 +94,18 @@ pub record Begun (stage : List ℕ → List ℕ → Option ℕ → Type 0) (left
 -- the bytes are a model of some program
 abbrev pub IsSomeModel : List ℕ → Type 0
 IsSomeModel bytes = (p : Program) × IsModel bytes p
+
+-- the bytes are a model, and the lines of traces and certificates beside it are as they should be
+pub record IsReport (bytes : List ℕ) : Type 0 where
+  pub program : Program
+  pub model : IsModel bytes program
+  pub traces : List (Option Trace)
+  pub sound : Option (List (Option HintedLog))
+  pub certificates : List (Option Block)
+  pub held : Holdings program bytes traces sound certificates
+
+-- The bytes are such as the command does not refuse: a model; for `recheck`, one with lines beside it that are as they should be.
+abbrev pub IsTaken : Command → List ℕ → Type 0
+IsTaken (Check effort) bytes = IsSomeModel bytes
+IsTaken (Recheck upgrade) bytes = IsReport bytes
+IsTaken Flat bytes = IsSomeModel bytes

@@ -4,7 +4,7 @@ use Rattle.std.specs.List.{flat_map}
 use Rattle.std.specs.Io.KnownBytes.{Appends}
 use Rattle.command_words.specs.declared.command.Command.{Command}
 use Rattle.clause_core.specs.Systems.{TransitionSystem}
-use Rattle.command_words.specs.declared.command.Command.TheVariants.{Check, Flat}
+use Rattle.command_words.specs.declared.command.Command.TheVariants.{Check, Recheck, Flat}
 use Rattle.command_words.specs.declared.command.Effort.{Effort}
 use Rattle.command_words.specs.Grammar.{frames_option}
 use Rattle.smv_tree.specs.declared.tree.Program.{Program}
@@ -47,6 +47,7 @@ IsInRange effort = effort.frames ≤ frames_option.greatest
 -- and so for the effort of a command
 abbrev pub IsCommandInRange : Command → Type 0
 IsCommandInRange (Check effort) = IsInRange effort
+IsCommandInRange (Recheck upgrade) = ⊤
 IsCommandInRange Flat = ⊤
 
 -- the program of a model that is checked

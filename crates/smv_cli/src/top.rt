@@ -1,12 +1,15 @@
 //! The top call: from the words and the bytes of a source to the bytes of a report and a status.
 ghost use Rattle.std.specs.Prelude.{◌≡◌, ◌<◌, ◌≤◌, map, IfOk, IsErrOf, IfSome, OnOk, ◌⊎◌, ◌≢◌, Some};
 ghost use Rattle.std.specs.Io.KnownBytes.{Appends};
-ghost use Rattle.command_words.specs.Grammar.{IsCommandLine};
+ghost use Rattle.command_words.specs.declared.command.Command.{Command as CommandOf};
+ghost use Rattle.command_words.specs.Grammar.{IsCommandLine, Says};
 ghost use Rattle.outside.specs.Causes.{Rose};
 ghost use Rattle.smv_tree.specs.Texts.{refusal_text};
 ghost use Rattle.smv_meaning.specs.Runs.{specifications_of};
 ghost use Rattle.smv_cli.specs.Listing.{listing_text};
-ghost use Rattle.smv_cli.specs.Report.{Answered, Begun, CommandStage, IsSomeModel, Stage};
+ghost use Rattle.smv_recheck.specs.Checking.{status_of as status_again};
+ghost use Rattle.smv_recheck.specs.Printed.{report_text};
+ghost use Rattle.smv_cli.specs.Report.{Answered, Begun, CommandStage, IsTaken, Stage};
 ghost use Rattle.smv_cli.specs.Streams.{AppendsFront};
 ghost use Rattle.smv_cli.specs.Texts.{usage_text};
 ghost use Rattle.smv_cli.specs.Written.{CommandDone, CommandPart, IsCommandInRange, IsInRange, IsReady, Recorded, RecordedPart, program_in};
@@ -20,6 +23,7 @@ use command_words::{Command, Effort, WordsStop, read_words};
 use outside::{Gate, OpenGate, Sink, Source, Stop, SureSink, SureSource};
 use smv_front::read_model;
 use smv_meaning::{Typed, specifications};
+use smv_recheck::{Checked, print, status, what_is_shown_holds};
 use smv_tree::{Refusal, TextStop};
 use std::alloc::Global;
 use std::sync::Wait;
@@ -76,6 +80,22 @@ fn report_listing<K: Sink>(alloc: Global, sink: &mut K, typed: &Typed) -> Result
     Ok(0)
 }
 
+// Writes what is said of a report.
+fn report_checked<K: Sink>(alloc: Global, sink: &mut K, checked: &Checked) -> Result<u8, Stop>
+    ensures ok { IfOk result (λ status. (status ≡ status_again checked.now.records) × Appends (K.taken sink.old) (K.taken sink.new) (report_text checked.now)) }
+    ensures small { IfOk result (λ status. status ≤ 2) }
+    ensures part { AppendsFront (K.taken sink.old) (K.taken sink.new) (report_text checked.now) }
+    ensures kept { OnOk result (K.faults sink.new ≡ K.faults sink.old) }
+    ensures failed { IsErrOf result Stop.Failed → Rose (K.faults sink.old) (K.faults sink.new) }
+    ensures no_memory { IsErrOf result Stop.NoMemory → K.faults sink.new ≡ K.faults sink.old }
+{
+    let Ok(text) = print(alloc, checked) else {
+        return Err(Stop::NoMemory);
+    };
+    write_all(sink, text.as_str().as_bytes())?;
+    Ok(status(checked.records.as_slice()))
+}
+
 // Decides the specifications of the model that a text is.
 fn check<K: Sink>(alloc: Global, sink: &mut K, text: &[u8], effort: &Effort) -> Result<u8, Stop>
     requires range { IsInRange effort.now }
@@ -109,6 +129,23 @@ fn list<K: Sink>(alloc: Global, sink: &mut K, text: &[u8]) -> Result<u8, Stop>
     }
 }
 
+// Judges the report again that stands beside the model that a text is.
+fn recheck<K: Sink>(alloc: Global, sink: &mut K, text: &[u8], upgrade: bool) -> Result<u8, Stop>
+    ensures ok { IfOk result (λ status. CommandDone (Command.Recheck upgrade) text.now (K.taken sink.old) (K.taken sink.new) status) }
+    ensures small { IfOk result (λ status. status ≤ 3) }
+    ensures part { CommandPart (Command.Recheck upgrade) text.now (K.taken sink.old) (K.taken sink.new) }
+    ensures kept { OnOk result (K.faults sink.new ≡ K.faults sink.old) }
+    ensures failed { IsErrOf result Stop.Failed → Rose (K.faults sink.old) (K.faults sink.new) }
+    ensures no_memory { IsErrOf result Stop.NoMemory → K.faults sink.new ≡ K.faults sink.old }
+{
+    what_is_shown_holds();
+    match smv_recheck::recheck(alloc, text, upgrade) {
+        Ok(checked) => report_checked(alloc, sink, &checked),
+        Err(TextStop::Refused(refusal)) => refuse(alloc, sink, &refusal),
+        Err(TextStop::NoMemory) => Err(Stop::NoMemory),
+    }
+}
+
 // Reports on a text what the command asks for, and gives the status.
 fn report<K: Sink>(alloc: Global, sink: &mut K, text: &[u8], command: &Command) -> Result<u8, Stop>
     requires range { IsCommandInRange command.now }
@@ -121,6 +158,7 @@ fn report<K: Sink>(alloc: Global, sink: &mut K, text: &[u8], command: &Command) 
 {
     match command {
         Command::Check(effort) => check(alloc, sink, text, effort),
+        Command::Recheck { upgrade } => recheck(alloc, sink, text, *upgrade),
         Command::Flat => list(alloc, sink, text),
     }
 }
@@ -199,6 +237,9 @@ fn perform<'a, S: Source, K: Sink>(
 /// record is written as soon as it is made; with `--together` all share one pool of lemmas and one effort, and are decided
 /// before the first record. The time is that of as many solver queries and learned clauses as the effort has tickets.
 ///
+/// `recheck` judges a report that stands beside its model, by its traces and certificates alone, and asks no solver
+/// (`smv_recheck::recheck`); with `--upgrade` it prints each certificate anew in the form that is judged by hints. What it shows holds.
+///
 /// No worker runs yet, so the gate is entered by none: a gate that holds its workers holds no run.
 pub fn run<'a, R: Threads + Wait + Sync, S: Source, K: Sink, G: Gate + Sync>(
     _rt: &R,
@@ -225,10 +266,10 @@ pub fn run<'a, R: Threads + Wait + Sync, S: Source, K: Sink, G: Gate + Sync>(
     ensures untouched { result ≡ 5 → sink.new ≡ sink.old }
     ensures write_fault { result ≡ 6 → Rose (K.faults sink.old) (K.faults sink.new) }
     ensures no_write_fault { result ≢ 6 → K.faults sink.new ≡ K.faults sink.old }
-    // A program gets its report, where nothing fails.
-    ensures complete { IsCommandLine (map (λ w. w.now) words.now)
+    // Bytes that the command takes get their report, where nothing fails.
+    ensures complete { (command : CommandOf) → Says (map (λ w. w.now) words.now) command
         → (Rose (S.faults source.old) (S.faults source.new) → ⊥) → (Rose (K.faults sink.old) (K.faults sink.new) → ⊥)
-        → IfSome (S.left source.old) (λ bytes. IsSomeModel bytes → (result ≤ 2) ⊎ (result ≡ 7)) }
+        → IfSome (S.left source.old) (λ bytes. IsTaken command bytes → (result ≤ 2) ⊎ (result ≡ 7)) }
 {
     perform(alloc, words, source, sink)
 }
@@ -242,7 +283,7 @@ pub fn run_over_bytes<'a, R: Threads + Wait + Sync>(
 ) -> (u8, Vec<u8>)
     ensures no_fault { (result.0 ≢ 5) × (result.0 ≢ 6) }
     ensures report { result.0 ≤ 4 → Stage (map (λ w. w.now) words.now) text.items result.1.items (Some result.0) }
-    ensures complete { IsCommandLine (map (λ w. w.now) words.now) → IsSomeModel text.items → (result.0 ≤ 2) ⊎ (result.0 ≡ 7) }
+    ensures complete { (command : CommandOf) → Says (map (λ w. w.now) words.now) command → IsTaken command text.items → (result.0 ≤ 2) ⊎ (result.0 ≡ 7) }
 {
     let mut source = SureSource::new(text);
     let mut sink = SureSink::new(alloc);

@@ -2,9 +2,10 @@
 #![tactic(auto)]
 
 ghost use Rattle.std.specs.Prelude.{◌≡◌, ◌≢◌, ◌<◌, ◌≤◌, ◌⊎◌, map, string_bytes, IfOk, IfSome};
-ghost use Rattle.command_words.specs.Grammar.{IsCommandLine};
+ghost use Rattle.command_words.specs.declared.command.Command.{Command};
+ghost use Rattle.command_words.specs.Grammar.{IsCommandLine, Says};
 ghost use Rattle.outside.specs.Causes.{Rose};
-ghost use Rattle.smv_cli.specs.Report.{Answered, Begun, IsSomeModel, Stage};
+ghost use Rattle.smv_cli.specs.Report.{Answered, Begun, IsTaken, Stage};
 
 use outside::{OpenGate, Sink, Source, StdSink, StdSource};
 use smv_cli::run;
@@ -66,9 +67,9 @@ fn start<R: Threads + Wait + Sync, S: Source, K: Sink>(
     ensures untouched { result ≡ 5 → sink.new ≡ sink.old }
     ensures write_fault { result ≡ 6 → Rose (K.faults sink.old) (K.faults sink.new) }
     ensures no_write_fault { result ≢ 6 → K.faults sink.new ≡ K.faults sink.old }
-    ensures complete { IsCommandLine (map string_bytes words.now)
+    ensures complete { (command : Command) → Says (map string_bytes words.now) command
         → (Rose (S.faults source.old) (S.faults source.new) → ⊥) → (Rose (K.faults sink.old) (K.faults sink.new) → ⊥)
-        → IfSome (S.left source.old) (λ bytes. IsSomeModel bytes → (result ≤ 2) ⊎ (result ≡ 7)) }
+        → IfSome (S.left source.old) (λ bytes. IsTaken command bytes → (result ≤ 2) ⊎ (result ≡ 7)) }
 {
     let Ok(texts) = texts(alloc, words) else {
         return 7;

@@ -14,6 +14,16 @@ returns-in-Check-clause-part g c =
     let taken = g.K.Sink.taken in
     subst (λ (command : Command). CommandPart command c.args.text.now (taken c.args.sink.now) (taken c.check.new.sink)) (sym c.in-Check.is) c.check.ensures.part
 
+pub returns-in-Recheck-clause-ok : goal.returns-in-Recheck-clause-ok
+returns-in-Recheck-clause-ok g c =
+    let taken = g.K.Sink.taken in
+    subst (λ (command : Command). IfOk c.recheck.result (λ (status : ℕ). CommandDone command c.args.text.now (taken c.args.sink.now) (taken c.recheck.new.sink) status)) (sym c.in-Recheck.is) c.recheck.ensures.ok
+
+pub returns-in-Recheck-clause-part : goal.returns-in-Recheck-clause-part
+returns-in-Recheck-clause-part g c =
+    let taken = g.K.Sink.taken in
+    subst (λ (command : Command). CommandPart command c.args.text.now (taken c.args.sink.now) (taken c.recheck.new.sink)) (sym c.in-Recheck.is) c.recheck.ensures.part
+
 pub returns-in-Flat-clause-ok : goal.returns-in-Flat-clause-ok
 returns-in-Flat-clause-ok g c =
     let taken = g.K.Sink.taken in
