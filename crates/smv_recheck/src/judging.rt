@@ -13,7 +13,7 @@ use smv_meaning::Typed;
 use smv_resolve::Item;
 use smv_tree::SpecificationKind;
 use std::alloc::{AllocError, Global};
-use trace_replay::{Replayed, Trace, replay};
+use trace_replay::{Replayed, Trace, replay_run};
 
 /// What a text shows of a specification: its trace and its certificate, if they are there.
 #[derive(Clone, Copy)]
@@ -34,7 +34,7 @@ fn by_trace(
     requires numbered { specification_at typed.now.scope.program number ≡ Some (item_by typed.now.nodes spec.now) }
     ensures { IfOk result (IsByTrace typed.now.scope.program (item_by typed.now.nodes spec.now) trace.now) }
 {
-    match replay(alloc, typed, number, trace)? {
+    match replay_run(alloc, typed, number, trace)? {
         Replayed::Accepted => Ok(Judgement::ShownFalse),
         Replayed::Rejected { rule, number } => Ok(Judgement::TestRejected { rule, number }),
     }
