@@ -19,6 +19,18 @@ use std::alloc::{AllocError, Global};
 // How many queries with a clause of their own a new solver has room for.
 const ROOM: usize = 1000;
 
+// How many clauses a solver may have learned before it is made anew, beside one for each eight clauses of a step: what was
+// learned long ago costs each query more than it saves.
+const LEARNED: usize = 300;
+
+// Whether the solver has learned less than makes it slow.
+fn is_light(systems: &[System], engine: &Engine) -> bool
+    requires some { 0 < length systems.now }
+{
+    let steps = system_of(systems, 0).step().len();
+    engine.solver.learned() < LEARNED.saturating_add(steps / 8)
+}
+
 // A solver with the groups for questions about steps, and room for so many lemmas.
 pub(crate) fn fresh_steps(
     alloc: Global,
@@ -146,7 +158,7 @@ fn renew_steps(
     ensures known { All (Contains engine.old.solver.learned) engine.new.solver.learned }
 {
     let need = sum(engine.base, sum(engine.heads, lemmas.len())?)?;
-    if need < engine.used {
+    if need < engine.used && is_light(systems, engine) {
         return Ok(());
     }
     *engine = fresh_steps(alloc, systems, lemmas.len())?;

@@ -10,8 +10,8 @@ returns-in_err-sum-clause-known c = same_known _ _ refl
 pub returns-in_err-need-clause-known : goal.returns-in_err-need-clause-known
 returns-in_err-need-clause-known c = same_known _ _ refl
 
-pub returns-then-need-engine-clause-known : goal.returns-then-need-engine-clause-known
-returns-then-need-engine-clause-known c = same_known _ _ refl
+pub returns-then-is_light-clause-known : goal.returns-then-is_light-clause-known
+returns-then-is_light-clause-known c = same_known _ _ refl
 
 pub returns-in_err-engine-clause-known : goal.returns-in_err-engine-clause-known
 returns-in_err-engine-clause-known c = same_known _ _ refl
