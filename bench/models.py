@@ -4,7 +4,7 @@
     bench/models.py [--only WORD] [--limit SECONDS] [--runs N] [WORDS OF check ..]
 
 Prints a line for each model: the answers, the seconds of processor time of each (the least of N runs), and their ratio; then the
-geometric mean of the ratios, with times below a hundredth of a second taken as that. Further words, as --bound 60, are handed to
+geometric mean of the ratios, with times below a hundredth of a second taken as that. Further words, as --frames 60, are handed to
 `smvcheck check`. Ends with status 1 where an answer is wrong by the model's name, or where the two differ.
 """
 import argparse
