@@ -1,0 +1,4 @@
+pub mod Lists
+pub mod Integers
+pub mod Denoting
+pub mod Resizing

@@ -1,0 +1,3 @@
+pub mod Widths
+pub mod Numbers
+pub mod OfBits

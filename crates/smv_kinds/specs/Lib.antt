@@ -1,0 +1,5 @@
+pub mod Constants
+pub mod Contexts
+pub mod Intervals
+pub mod Kinds
+pub mod Spans

@@ -1,0 +1,182 @@
+//! The table: the kind of each operator over operands.
+
+ghost use Rattle.std.specs.Prelude.{◌≡◌};
+ghost use Rattle.smv_kinds.specs.Kinds.{assigned_element, bounded_by, given, booleans, kind_given, next_kind};
+
+use crate::joining::{boolean_if, fit, given, is_integer, joined, set_of, takes};
+use crate::numbers::{
+    absolute, booleans, counted, divided, greatest, inverted, is_ordered, least, logical, negated,
+    operands_of_temporal, summed,
+};
+use crate::sets::{assigned_by, chosen, indexed, members, ranged};
+use crate::words::{
+    concatenated, constant_word, extended, resized, selected, shifted, size, to_boolean, to_word,
+    with_sign,
+};
+use crate::{ArrayKind, Kind, KindRule, Operand};
+use smv_value::Operator;
+
+/// The bounds of a temporal operator are no greater.
+const GREATEST_BOUND: u32 = 255;
+
+/// The kind that an operator gives of operands of these kinds. `arrays` has the arrays by number. The error is the first rule that
+/// the operands break. Linear in the number of operands.
+pub fn kind_given(
+    arrays: &[ArrayKind],
+    operator: Operator,
+    operands: &[Operand],
+) -> Result<Kind, KindRule>
+    ensures { result ≡ kind_given arrays.now operator operands.now }
+{
+    match operator {
+        Operator::Not => match operands {
+            [a] => given(inverted(a.kind)),
+            _ => Err(KindRule::TypeMismatch),
+        },
+        Operator::Logic(_) => match operands {
+            [a, b] => given(logical(a.kind, b.kind)),
+            _ => Err(KindRule::TypeMismatch),
+        },
+        Operator::Equal => match operands {
+            [a, b] => given(boolean_if(fit(a.kind, b.kind))),
+            _ => Err(KindRule::TypeMismatch),
+        },
+        Operator::NotEqual => match operands {
+            [a, b] => given(boolean_if(fit(a.kind, b.kind))),
+            _ => Err(KindRule::TypeMismatch),
+        },
+        Operator::Order(_) => match operands {
+            [a, b] => given(boolean_if(is_ordered(a.kind, b.kind))),
+            _ => Err(KindRule::TypeMismatch),
+        },
+        Operator::Negate => match operands {
+            [a] => negated(a.kind),
+            _ => Err(KindRule::TypeMismatch),
+        },
+        Operator::Arithmetic(o) => match operands {
+            [a, b] => summed(o, a.kind, b.kind),
+            _ => Err(KindRule::TypeMismatch),
+        },
+        Operator::Division(o) => match operands {
+            [a, b] => divided(o, a.kind, b.kind),
+            _ => Err(KindRule::TypeMismatch),
+        },
+        Operator::Absolute => match operands {
+            [a] => absolute(a.kind),
+            _ => Err(KindRule::TypeMismatch),
+        },
+        Operator::Maximum => match operands {
+            [a, b] => greatest(a.kind, b.kind),
+            _ => Err(KindRule::TypeMismatch),
+        },
+        Operator::Minimum => match operands {
+            [a, b] => least(a.kind, b.kind),
+            _ => Err(KindRule::TypeMismatch),
+        },
+        Operator::Count => counted(operands),
+        Operator::Shift(_) => match operands {
+            [a, b] => given(shifted(a.kind, b.kind)),
+            _ => Err(KindRule::TypeMismatch),
+        },
+        Operator::Join => match operands {
+            [a, b] => concatenated(a.kind, b.kind),
+            _ => Err(KindRule::TypeMismatch),
+        },
+        Operator::Select => match operands {
+            [a, high, low] => selected(*a, *high, *low),
+            _ => Err(KindRule::TypeMismatch),
+        },
+        Operator::Index => match operands {
+            [a, i] => given(indexed(arrays, a.kind, i.kind)),
+            _ => Err(KindRule::TypeMismatch),
+        },
+        Operator::Members => given(members(operands)),
+        Operator::Union => match operands {
+            [a, b] => given(joined(set_of(a.kind), set_of(b.kind))),
+            _ => Err(KindRule::TypeMismatch),
+        },
+        Operator::Range => match operands {
+            [a, b] => given(ranged(a.kind, b.kind)),
+            _ => Err(KindRule::TypeMismatch),
+        },
+        Operator::In => match operands {
+            [a, b] => given(boolean_if(takes(a.kind, b.kind))),
+            _ => Err(KindRule::TypeMismatch),
+        },
+        Operator::Choice => given(chosen(operands)),
+        Operator::ToWord => match operands {
+            [a] => given(to_word(a.kind)),
+            _ => Err(KindRule::TypeMismatch),
+        },
+        Operator::ToBoolean => match operands {
+            [a] => given(to_boolean(a.kind)),
+            _ => Err(KindRule::TypeMismatch),
+        },
+        Operator::Signed => match operands {
+            [a] => given(with_sign(true, a.kind)),
+            _ => Err(KindRule::TypeMismatch),
+        },
+        Operator::Unsigned => match operands {
+            [a] => given(with_sign(false, a.kind)),
+            _ => Err(KindRule::TypeMismatch),
+        },
+        Operator::Extend => match operands {
+            [a, by] => extended(*a, *by),
+            _ => Err(KindRule::TypeMismatch),
+        },
+        Operator::Resize => match operands {
+            [a, to] => resized(*a, *to),
+            _ => Err(KindRule::TypeMismatch),
+        },
+        Operator::Size => match operands {
+            [a] => size(a.kind),
+            _ => Err(KindRule::TypeMismatch),
+        },
+        Operator::UnsignedConstant => match operands {
+            [z, width] => constant_word(false, *z, *width),
+            _ => Err(KindRule::TypeMismatch),
+        },
+        Operator::SignedConstant => match operands {
+            [z, width] => constant_word(true, *z, *width),
+            _ => Err(KindRule::TypeMismatch),
+        },
+        Operator::Temporal(o) => given(booleans(operands_of_temporal(o), operands)),
+        Operator::Bounded(_, low, high) => bounded(low, high, operands),
+    }
+}
+
+// `F [a, b]`, and so on.
+fn bounded(low: u32, high: u32, operands: &[Operand]) -> Result<Kind, KindRule>
+    ensures { result ≡ bounded_by low high (given (booleans 1 operands.now)) }
+{
+    let kind = given(booleans(1, operands))?;
+    if low <= high && high <= GREATEST_BOUND {
+        Ok(kind)
+    } else {
+        Err(KindRule::BadBound)
+    }
+}
+
+/// The kind of `next(e)`, where `e` has this kind. The error is that `e` has no single value.
+pub fn next_kind(kind: Kind) -> Result<Kind, KindRule>
+    ensures { result ≡ next_kind kind }
+{
+    match kind {
+        Kind::Boolean => Ok(kind),
+        Kind::Word { .. } => Ok(kind),
+        Kind::Discrete(_) => Ok(kind),
+        _ => Err(KindRule::TypeMismatch),
+    }
+}
+
+/// The kind of an element that is assigned, as in `a[i] := e`. The error is that `a` is no array or `i` no integer, that `i` is no
+/// constant, or that it is outside the array.
+pub fn assigned_element(arrays: &[ArrayKind], a: Operand, i: Operand) -> Result<Kind, KindRule>
+    ensures { result ≡ assigned_element arrays.now a i }
+{
+    if is_integer(i.kind) {
+        assigned_by(arrays, a.kind, i.constant)
+    } else {
+        Err(KindRule::TypeMismatch)
+    }
+}

@@ -1,0 +1,5 @@
+pub mod Elements
+pub mod Ranges
+pub mod Coding
+pub mod Hulls
+pub mod Texts

@@ -1,0 +1,4 @@
+pub mod Types
+pub mod Codes
+pub mod Intervals
+pub mod Shown
