@@ -83,6 +83,18 @@ class Model:
         self.latches = []
         self.invariant = TRUE
 
+    def claimed(self):
+        """The signals that its specification reads."""
+        return [self.invariant]
+
+    def of_states(self):
+        """Those among them that speak of a state alone, and of no input."""
+        return self.claimed()
+
+    def specification(self, text):
+        """The lines that claim something of it, by the texts of its signals."""
+        return [f"INVARSPEC {text(self.invariant)}\n"]
+
     def input(self, name):
         signal = Signal("variable", self.name, name)
         self.inputs.append((name, signal))
@@ -525,8 +537,7 @@ def below(roots):
 
 
 def as_smv(model):
-    roots = [entry[3] for entry in model.latches] + [model.invariant]
-    order = below(roots)
+    order = below([entry[3] for entry in model.latches] + model.claimed())
     uses = {}
     for node in order:
         for operand in node.operands:
@@ -553,8 +564,8 @@ def as_smv(model):
             defines.append(f"  {name} := {text};\n")
             text, height = name, 1
         texts[id(node)], heights[id(node)] = text, height
-    # An invariant reads no input in SMV: an input that it reads is a variable that nothing is asked of.
-    read = {id(node) for node in below([model.invariant])}
+    # Neither an invariant nor JUSTICE reads an input in SMV: one that they read is a variable that nothing is asked of.
+    read = {id(node) for node in below(model.of_states())}
     inputs = [name for name, signal in model.inputs if id(signal) not in read]
     free = [name for name, signal in model.inputs if id(signal) in read]
     lines = ["MODULE main\n"]
@@ -566,7 +577,7 @@ def as_smv(model):
     lines.append("ASSIGN\n")
     for name, _, first, value in model.latches:
         lines.append(f"  init({name}) := {'TRUE' if first else 'FALSE'};\n  next({name}) := {texts[id(value)]};\n")
-    lines.append(f"INVARSPEC {texts[id(model.invariant)]}\n")
+    lines += model.specification(lambda signal: texts[id(signal)])
     return "".join(lines)
 
 
