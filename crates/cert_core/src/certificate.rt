@@ -75,6 +75,14 @@ impl Certificate {
         self.counter
     }
 
+    /// Says up to how many signals were counted; none is for an invariant.
+    pub fn set_counter(&mut self, counter: Option<usize>)
+        requires { ForSome counter (λ k. k ≤ MAX_COUNTER) }
+        ensures { self.new ≡ record self.old { counter = counter } }
+    {
+        self.counter = counter;
+    }
+
     /// The clauses.
     pub fn clauses(&self) -> &Clauses
         ensures { result.now ≡ self.now.clauses }

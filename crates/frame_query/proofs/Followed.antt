@@ -1,5 +1,5 @@
 -- Copies of lemmas that are brought up to date.
-use Rattle.std.proofs.Common.{◌≡◌, inl, inr, ℕ, ◌+◌, ◌<◌, ◌≤◌, Bool, true, false, List, [], ◌∷◌, ◌++◌, length, take, set, get_or, refl, sym, ◌∙◌, ap, subst, arith, length-set, get_or-set_same, get_or-set_other}
+use Rattle.std.proofs.Common.{◌≡◌, inl, inr, ℕ, ◌+◌, ◌<◌, ◌≤◌, Bool, true, false, List, [], ◌∷◌, ◌++◌, length, take, set, get_or, Option, refl, sym, ◌∙◌, ap, subst, arith, length-set, get_or-set_same, get_or-set_other}
 use Rattle.std.specs.Prelude.{All}
 use Rattle.std.proofs.lemmas.Bool.{cases_lt, cases_eq}
 use Rattle.std.proofs.lemmas.List.{set-set, ext_get_or, get_or-take, length-take-le, take-take, take_all}
@@ -10,12 +10,15 @@ use Rattle.clause_core.specs.Systems.{TransitionSystem}
 use Rattle.frame_core.specs.declared.parts.Lemma.{Lemma}
 use Rattle.std.proofs.Math.Seq.{get_or-append_seam, set-append_seam}
 use Rattle.frame_core.specs.Law.{no_lemma, lemma_at, system_at, raised_at, retired_at}
-use Rattle.frame_query.specs.declared.loading.Engine.{Engine}
-use Rattle.frame_query.specs.Guards.{HoldsGroups}
-use Rattle.frame_query.specs.Groups.{clauses_of, groups, base, step_heads, state_heads}
-use Rattle.frame_query.specs.Engines.{IsLoaded, IsKept}
+use Rattle.frame_solver.specs.declared.loading.Engine.{Engine}
+use Rattle.frame_solver.specs.Guards.{HoldsGroups}
+use Rattle.frame_solver.specs.Groups.{clauses_of, groups, base, step_heads, state_heads}
+use Rattle.frame_solver.specs.Engines.{IsLoaded}
+use Rattle.frame_query.specs.Keeping.{IsKept}
 use Rattle.frame_query.specs.Findings.{IsOlder}
-use Rattle.frame_query.proofs.Framed.{clauses_count, clause_of}
+use Rattle.frame_query.specs.declared.kept_proofs.KeptProof.{KeptProof}
+use Rattle.frame_query.proofs.Again.{kept_later}
+use Rattle.frame_solver.proofs.Framed.{clauses_count, clause_of}
 
 pub lemma_same : (a l : Lemma) → a.clause ≡ l.clause → a.live ≡ l.live → record { clause = a.clause; level = l.level; live = a.live } ≡ l
 lemma_same a l c v =
@@ -103,9 +106,9 @@ clauses_prefix old new lemmas older is le =
     ∙ sym (get_or-take (length (clauses_of old)) (clauses_of new) k [] lt))
 
 -- what a solver of frames keeps when its copy of the lemmas follows
-pub kept_followed : (systems : List TransitionSystem) (old new lemmas : List Lemma) (steps states : Engine) (known : TransitionSystem) → IsKept systems old steps states known → IsOlder old lemmas →
-    All (λ (l : Lemma). Within (system_at systems 0).state_bits l.clause) lemmas → new ≡ take (length new) lemmas → length old ≤ length new → IsKept systems new steps states known
-kept_followed systems old new lemmas steps states known h older within is le =
+pub kept_followed : (systems : List TransitionSystem) (old new lemmas : List Lemma) (steps states : Engine) (known : TransitionSystem) (proofs : List (Option KeptProof)) → IsKept systems old steps states known proofs → IsOlder old lemmas →
+    All (λ (l : Lemma). Within (system_at systems 0).state_bits l.clause) lemmas → new ≡ take (length new) lemmas → length old ≤ length new → IsKept systems new steps states known proofs
+kept_followed systems old new lemmas steps states known proofs h older within is le =
     let e = clauses_prefix old new lemmas older is le in
     let more : length (clauses_of old) ≤ length (clauses_of new) = omega (arith, clauses_count old, clauses_count new) in
     let W : List Lemma → Type 0 = All (λ (l : Lemma). Within (system_at systems 0).state_bits l.clause) in
@@ -116,6 +119,9 @@ kept_followed systems old new lemmas steps states known h older within is le =
       for_steps = loaded_followed (base (system_at systems 0)) (step_heads (system_at systems 0)) (clauses_of old) (clauses_of new) steps more e h.for_steps;
       for_states = loaded_followed (base (system_at systems 0)) (state_heads systems) (clauses_of old) (clauses_of new) states more e h.for_states;
       of_first = h.of_first;
+      again = kept_later (system_at systems 0) old new proofs le (λ k lt.
+          older.clause k lt
+          ∙ sym (ap (λ (l : Lemma). l.clause) (ap (λ xs. lemma_at xs k) is ∙ get_or-take (length new) lemmas k no_lemma (omega (arith, lt, le))))) h.again;
     }
 
 retired_record : (c : List Lit) (v : ℕ) (l : Lemma) → c ≡ l.clause → v ≡ l.level → l.live ≡ false → record { clause = c; level = v; live = false } ≡ l

@@ -9,13 +9,13 @@ use Rattle.frame_core.specs.declared.parts.Parent.{Parent}
 use Rattle.frame_core.specs.Facts.{IsPart, IsProved, ProvedClause, IsFound, IsFirstFlag, FoundStep}
 use Rattle.frame_core.specs.Law.{system_at, AreAlike}
 use Rattle.frame_core.proofs.States.{first_same, same_back}
-use Rattle.frame_query.specs.declared.stepping.Stepping.{Stepping}
-use Rattle.frame_query.specs.declared.stepping.Stepping.TheVariants as stepping
+use Rattle.frame_solver.specs.declared.stepping.Stepping.{Stepping}
+use Rattle.frame_solver.specs.declared.stepping.Stepping.TheVariants as stepping
 use Rattle.frame_query.specs.declared.outcomes.Relative.{Relative}
 use Rattle.frame_query.specs.declared.outcomes.Relative.TheVariants as relative
-use Rattle.frame_query.specs.Firsts.{AllFirstsMeet}
-use Rattle.frame_query.specs.Stepping.{Finds, Ends}
-use Rattle.frame_query.specs.Bads.{IsBadIn}
+use Rattle.frame_solver.specs.Firsts.{AllFirstsMeet}
+use Rattle.frame_solver.specs.Stepping.{Finds, Ends}
+use Rattle.frame_solver.specs.Bads.{IsBadIn}
 use Rattle.frame_query.specs.Findings.{Shows, Tells, FindsRelative}
 
 -- that steps end in a part, with what the caller knows, is a proof

@@ -11,13 +11,13 @@ use Rattle.clause_core.proofs.Lists.{lit_same}
 use Rattle.frame_core.specs.declared.parts.Lemma.{Lemma}
 use Rattle.frame_core.specs.declared.parts.Parent.{Parent}
 use Rattle.frame_core.specs.Facts.{IsPart, IsProved, ProvedClause}
-use Rattle.frame_query.specs.Firsts.{AllFirstsMeet}
-use Rattle.frame_query.specs.Stepping.{Ends}
-use Rattle.frame_query.specs.Paying.{Firsts, Steps, AskedQuery, PaysOne}
+use Rattle.frame_solver.specs.Firsts.{AllFirstsMeet}
+use Rattle.frame_solver.specs.Stepping.{Ends}
+use Rattle.frame_solver.specs.Paying.{Firsts, Steps, AskedQuery, PaysOne}
 use Rattle.frame_query.specs.Dropping.{AsksOf}
 use Rattle.frame_query.specs.Trying.{IsOthers, IsNeeded, IsSplit, PaysFor}
-use Rattle.frame_query.proofs.Guarding.{true_in}
-use Rattle.frame_query.proofs.Paid.{differ_append, apart, one_differs, pays_then}
+use Rattle.frame_solver.proofs.Guarding.{true_in}
+use Rattle.frame_solver.proofs.Paid.{differ_append, apart, one_differs, pays_then}
 
 sign_cases : (a b : Bool) → (a ≡ b) ⊎ (a ≡ b → ⊥)
 sign_cases true true = inl refl

@@ -14,12 +14,12 @@ use Rattle.frame_query.specs.declared.trying.Trial.TheVariants as trial
 use Rattle.frame_query.specs.declared.trying.Draft.{Draft}
 use Rattle.frame_query.specs.declared.trying.Walk.{Walk}
 use Rattle.frame_query.specs.declared.trying.Turn.{Turn}
-use Rattle.frame_query.specs.Firsts.{AllFirstsMeet}
-use Rattle.frame_query.specs.Stepping.{Ends}
-use Rattle.frame_query.specs.Paying.{Question, Firsts, Steps, AskedQuery, AllDiffer}
+use Rattle.frame_solver.specs.Firsts.{AllFirstsMeet}
+use Rattle.frame_solver.specs.Stepping.{Ends}
+use Rattle.frame_solver.specs.Paying.{Question, Firsts, Steps, AskedQuery, AllDiffer}
 use Rattle.frame_query.specs.Dropping.{IsBroken, IsWitness, AllNeeded, AsksOf, AsksOfSome, IsProperPart, PaysParts}
 use Rattle.frame_query.specs.Trying.{Tries, PaysFor, IsOthers, IsNeeded, IsUnderWay, IsPast, IsPaidSoFar, IsCandidate, Moves, MovesBy, TurnSays, Drops, Keeps}
-use Rattle.frame_query.proofs.Paid.{differ_append, pays_then, pays_none}
+use Rattle.frame_solver.proofs.Paid.{differ_append, pays_then, pays_none}
 use Rattle.frame_query.proofs.Tried.{lit_cases, part_trans, in_part, proved_part}
 
 left_part : (a b c d : List Lit) → IsPart a c → IsPart b d → IsPart (a ++ b) (c ++ d)

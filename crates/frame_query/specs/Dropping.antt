@@ -7,9 +7,9 @@ use Rattle.frame_core.specs.Facts.{IsPart, ProvedClause}
 use Rattle.frame_core.specs.Law.{AllStand}
 use Rattle.frame_query.specs.declared.outcomes.Generalised.{Generalised}
 use Rattle.frame_query.specs.declared.outcomes.Generalised.TheVariants as generalised
-use Rattle.frame_query.specs.Firsts.{IsFirstOut}
-use Rattle.frame_query.specs.Stepping.{IsStepOut}
-use Rattle.frame_query.specs.Paying.{Firsts, Steps, AskedQuery, Pays, AllDiffer}
+use Rattle.frame_solver.specs.Firsts.{IsFirstOut}
+use Rattle.frame_solver.specs.Stepping.{IsStepOut}
+use Rattle.frame_solver.specs.Paying.{Firsts, Steps, AskedQuery, Pays, AllDiffer}
 
 -- a first state does not meet the clause, or a step leaves it from a state of the frame below that meets it
 abbrev pub IsBroken : TransitionSystem → List Lemma → ℕ → List Lit → Type 0

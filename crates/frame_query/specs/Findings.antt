@@ -12,12 +12,12 @@ use Rattle.frame_query.specs.declared.outcomes.Bads.{Bads}
 use Rattle.frame_query.specs.declared.outcomes.Bads.TheVariants as bads
 use Rattle.frame_query.specs.declared.outcomes.Noted.{Noted}
 use Rattle.frame_query.specs.declared.outcomes.Noted.TheVariants as noted
-use Rattle.frame_query.specs.declared.stepping.Stepping.{Stepping}
-use Rattle.frame_query.specs.declared.stepping.Stepping.TheVariants as stepping
-use Rattle.frame_query.specs.Stepping.{IsStepOut, Ends}
-use Rattle.frame_query.specs.Firsts.{negation_of}
-use Rattle.frame_query.specs.Paying.{AskedQuery, Pays, AllDiffer, Firsts}
-use Rattle.frame_query.specs.Paying.{Bads as AskBads}
+use Rattle.frame_solver.specs.declared.stepping.Stepping.{Stepping}
+use Rattle.frame_solver.specs.declared.stepping.Stepping.TheVariants as stepping
+use Rattle.frame_solver.specs.Stepping.{IsStepOut, Ends}
+use Rattle.frame_solver.specs.Firsts.{negation_of}
+use Rattle.frame_solver.specs.Paying.{AskedQuery, Pays, AllDiffer, Firsts}
+use Rattle.frame_solver.specs.Paying.{Bads as AskBads}
 
 -- the systems, the lemmas, and learned clauses that later queries may use
 pub record SolverView : Type 0 where

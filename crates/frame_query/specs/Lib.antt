@@ -1,13 +1,5 @@
-pub mod Asking
-pub mod Bads
 pub mod Dropping
-pub mod Engines
 pub mod Findings
-pub mod Firsts
-pub mod Flags
-pub mod Groups
-pub mod Guards
-pub mod Paying
-pub mod Recalling
-pub mod Stepping
+pub mod Keeping
+pub mod KeptProofs
 pub mod Trying

@@ -14,9 +14,9 @@ use Rattle.frame_query.specs.declared.trying.Turn.{Turn}
 use Rattle.frame_query.specs.declared.trying.Turn.TheVariants as turn
 use Rattle.frame_query.specs.declared.trying.Ending.{Ending}
 use Rattle.frame_query.specs.declared.trying.Ending.TheVariants as ending
-use Rattle.frame_query.specs.Firsts.{AllFirstsMeet}
-use Rattle.frame_query.specs.Stepping.{Ends}
-use Rattle.frame_query.specs.Paying.{AskedQuery, Pays, AllDiffer}
+use Rattle.frame_solver.specs.Firsts.{AllFirstsMeet}
+use Rattle.frame_solver.specs.Stepping.{Ends}
+use Rattle.frame_solver.specs.Paying.{AskedQuery, Pays, AllDiffer}
 use Rattle.frame_query.specs.Dropping.{IsBroken, AllNeeded, AsksOf, AsksOfSome, IsProperPart}
 
 -- the draft as a proof

@@ -3,21 +3,17 @@ ghost use Rattle.frame_core.specs.declared.parts.Lemma.{Lemma as ALemma};
 ghost use Rattle.clause_core.specs.Literals.{Within};
 ghost use Rattle.frame_core.specs.Facts.{IsPart, IsProved};
 ghost use Rattle.frame_core.specs.Law.{AreAlike, system_at};
-ghost use Rattle.frame_query.specs.Groups.{base as base_of, step_heads, state_heads, clauses_of};
-ghost use Rattle.frame_query.specs.Engines.{IsLoaded, known_of};
-ghost use Rattle.frame_query.specs.Firsts.{AllFirstsMeet};
-ghost use Rattle.frame_query.specs.Paying.{Steps, PaysOne};
+ghost use Rattle.frame_solver.specs.Groups.{base as base_of, step_heads, state_heads, clauses_of};
+ghost use Rattle.frame_solver.specs.Engines.{IsLoaded, known_of};
+ghost use Rattle.frame_solver.specs.Firsts.{AllFirstsMeet};
+ghost use Rattle.frame_solver.specs.Paying.{Steps, PaysOne};
 ghost use Rattle.frame_query.specs.Trying.{proof_of, Tries, PaysFor, IsOthers, IsNeeded, IsSplit};
 
-use crate::loading::Engine;
-use crate::outcomes::Firsts;
-use crate::querying::{firsts_of, steps_of};
-use crate::recalling::Known;
-use crate::stepping::{Stepping, has};
 use crate::trying::{Draft, Trial};
 use clause_core::{Clause, Lit, System};
 use effort_purse::Purse;
 use frame_core::{Lemma, Parent, is_part_of};
+use frame_solver::{Engine, Firsts, Known, Stepping, firsts_of, has, steps_of};
 use std::alloc::{AllocError, Global};
 
 // A copy of the parents.

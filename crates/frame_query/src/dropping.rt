@@ -4,19 +4,18 @@ ghost use Rattle.clause_core.specs.declared.literal.Lit.{Lit as ALit};
 ghost use Rattle.clause_core.specs.Literals.{Within};
 ghost use Rattle.frame_core.specs.Facts.{IsPart, IsProved};
 ghost use Rattle.frame_core.specs.Law.{AreAlike, system_at};
-ghost use Rattle.frame_query.specs.Groups.{base as base_of, step_heads, state_heads, clauses_of};
-ghost use Rattle.frame_query.specs.Engines.{IsLoaded, known_of};
+ghost use Rattle.frame_solver.specs.Groups.{base as base_of, step_heads, state_heads, clauses_of};
+ghost use Rattle.frame_solver.specs.Engines.{IsLoaded, known_of};
 ghost use Rattle.frame_query.specs.Dropping.{PaysParts, Generalises};
 ghost use Rattle.frame_query.specs.Trying.{proof_of, Tries, PaysFor, IsUnderWay, IsCandidate, TurnSays, EndSays, MovesBy};
 
 use crate::attempting::{attempt, both, copy_parents, needed_of, ordered, others};
-use crate::loading::{Engine, system_of};
 use crate::outcomes::Generalised;
-use crate::recalling::Known;
 use crate::trying::{Draft, Ending, Trial, Turn, Walk};
 use clause_core::{Clause, Lit, System};
 use effort_purse::Purse;
 use frame_core::{Lemma, Proved};
+use frame_solver::{Engine, Known, system_of};
 use std::alloc::{AllocError, Global};
 
 // A copy of the proof, taken apart.

@@ -2,22 +2,20 @@ ghost use Rattle.std.specs.Prelude.{◌≡◌, ◌<◌, ◌≤◌, ℕ, Bool, Li
 ghost use Rattle.frame_core.specs.declared.parts.Lemma.{Lemma as ALemma};
 ghost use Rattle.clause_core.specs.Literals.{Within};
 ghost use Rattle.frame_core.specs.Law.{AreAlike, system_at};
-ghost use Rattle.frame_query.specs.Groups.{base as base_of, step_heads, state_heads, clauses_of};
-ghost use Rattle.frame_query.specs.Engines.{IsLoaded};
-ghost use Rattle.frame_query.specs.Firsts.{AllFirstsMeet, negation_of};
-ghost use Rattle.frame_query.specs.Bads.{IsBadIn};
+ghost use Rattle.frame_solver.specs.Groups.{base as base_of, step_heads, state_heads, clauses_of};
+ghost use Rattle.frame_solver.specs.Engines.{IsLoaded};
+ghost use Rattle.frame_solver.specs.Firsts.{AllFirstsMeet, negation_of};
+ghost use Rattle.frame_solver.specs.Bads.{IsBadIn};
 ghost use Rattle.frame_query.specs.Findings.{Shows, Tells, FindsRelative, FindsBad, IsTheState, PaysBad, FindsNoted};
-ghost use Rattle.frame_query.specs.Paying.{Steps, Firsts as AskFirsts, PaysOne};
+ghost use Rattle.frame_solver.specs.Paying.{Steps, Firsts as AskFirsts, PaysOne};
 
-use crate::bad_states::BadStates;
-use crate::loading::{Engine, system_of};
 use crate::outcomes::{Bads, Noted, Relative};
-use crate::querying::{Flag, bads_of, flag_of, steps_of};
-use crate::recalling::Known;
-use crate::stepping::Stepping;
 use clause_core::{Bits, Clause, Lit, System};
 use effort_purse::Purse;
 use frame_core::{Clear, Found, Lemma, Proved, Step};
+use frame_solver::{
+    BadStates, Engine, Flag, Known, Stepping, bads_of, flag_of, steps_of, system_of,
+};
 use std::alloc::{AllocError, Global};
 
 // What was found of steps, as callers see it.

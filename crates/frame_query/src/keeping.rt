@@ -1,14 +1,13 @@
 use crate::dropping::generalise_in;
 use crate::finding::{bad_of, noted_of, relative_of};
 use crate::following::{follow_adds, follow_levels};
-use crate::loading::{Engine, system_of};
-use crate::outcomes::{Bads, Firsts, Generalised, Noted, Relative};
-use crate::querying::firsts_of;
-use crate::recalling::Known;
-use crate::renewing::{fresh_states, fresh_steps};
+use crate::kept_proofs::KeptProof;
+use crate::outcomes::{Bads, Generalised, Noted, Relative};
+use crate::pushing::push_of;
 use clause_core::{Lit, System};
 use effort_purse::Purse;
 use frame_core::{Lemmas, Proved, Step};
+use frame_solver::{Engine, Firsts, Known, firsts_of, fresh_states, fresh_steps, system_of};
 use std::alloc::{AllocError, Global};
 use std::marker::Model;
 
@@ -17,8 +16,8 @@ use std::marker::Model;
 /// 2003), so that a query asks for just those that it wants. One has the steps; the other, a small one,
 /// answers questions about single states. They are made anew where activation literals run out, which no
 /// caller sees. What queries found is kept too: values that all first states give to bits, a first state, and
-/// 128 steps at most, those that were found or used last; a question that these answer is not asked. Contracts
-/// see the systems, the copy of the lemmas, and learned clauses that later queries may use.
+/// 128 steps at most, those that were found or used last; and the last proof of each lemma that was pushed. A
+/// question that these answer is not asked. Contracts see the systems, the copy of the lemmas, and learned clauses that later queries may use.
 #[derive(Drop)]
 pub struct FrameSolver<'a> {
     systems: &'a [System],
@@ -26,17 +25,20 @@ pub struct FrameSolver<'a> {
     steps: Engine,
     states: Engine,
     known: Known<'a>,
+    // for each lemma, by its number, the proof that its last push found
+    proofs: Vec<Option<KeptProof>>,
 }
 
 impl<'a> Model for FrameSolver<'a> {
     ghost use Rattle.frame_query.specs.Findings.{SolverView};
-    ghost use Rattle.frame_query.specs.Engines.{IsKept, known_of};
+    ghost use Rattle.frame_solver.specs.Engines.{known_of};
+    ghost use Rattle.frame_query.specs.Keeping.{IsKept};
 
     ghost Value = { SolverView };
 
     ghost view = { λ s. record { systems = s.systems.now; lemmas = s.lemmas; known = known_of s.steps s.states } };
 
-    ghost invariant = { λ s. IsKept s.systems.now s.lemmas s.steps s.states s.known };
+    ghost invariant = { λ s. IsKept s.systems.now s.lemmas s.steps s.states s.known s.proofs.items };
 }
 
 impl<'a> FrameSolver<'a> {
@@ -44,10 +46,10 @@ impl<'a> FrameSolver<'a> {
     ghost use Rattle.frame_core.specs.declared.parts.Lemma.{Lemma as ALemma};
     ghost use Rattle.clause_core.specs.Literals.{Within};
     ghost use Rattle.frame_core.specs.Law.{AreAlike, system_at, lemma_at};
-    ghost use Rattle.frame_query.specs.Firsts.{AllFirstsMeet, FindsFirsts, negation_of};
+    ghost use Rattle.frame_solver.specs.Firsts.{AllFirstsMeet, FindsFirsts, negation_of};
     ghost use Rattle.frame_query.specs.Findings.{SolverView, IsOlder, FindsRelative, FindsBad, IsTheState, PaysBad, FindsNoted};
     ghost use Rattle.frame_query.specs.Dropping.{Generalises, PaysParts};
-    ghost use Rattle.frame_query.specs.Paying.{Steps, Firsts as AskFirsts, PaysOne};
+    ghost use Rattle.frame_solver.specs.Paying.{Steps, Firsts as AskFirsts, PaysOne};
 
     /// Solvers for these systems, with no lemma. The only error is want of memory, which more variables than
     /// can be numbered count as.
@@ -65,6 +67,7 @@ impl<'a> FrameSolver<'a> {
             steps,
             states,
             known,
+            proofs: Vec::new(alloc),
         })
     }
 
@@ -118,7 +121,8 @@ impl<'a> FrameSolver<'a> {
         )
     }
 
-    /// Whether the lemma's clause is inductive at one level more than it has; as `relative` of these.
+    /// Whether the lemma's clause is inductive at one level more than it has; as `relative` of these. No query is asked
+    /// where the proof of its last push stands there: where that proof's parents have the lemma's level.
     pub fn push<Q: Purse>(
         &mut self,
         alloc: Global,
@@ -137,15 +141,14 @@ impl<'a> FrameSolver<'a> {
         ensures ready { Q.ready purse.new }
         ensures budget { Q.budget purse.new ≡ Q.budget purse.old }
     {
-        let pushed = self.lemmas.lemma(lemma);
-        relative_of(
+        push_of(
             alloc,
             self.systems,
             self.lemmas.as_slice(),
             &mut self.steps,
             &mut self.known,
-            pushed.clause.as_slice(),
-            pushed.level + 1,
+            &mut self.proofs,
+            lemma,
             purse,
         )
     }

@@ -2,26 +2,18 @@
 //! and generalisation of proved clauses.
 #![tactic(auto)]
 
-mod asking;
 mod attempting;
-mod bad_states;
 mod dropping;
 mod finding;
-mod first_states;
 mod following;
 pub mod keeping;
-mod known_steps;
-mod loading;
-mod negating;
+mod kept_proofs;
 pub mod outcomes;
-mod querying;
-mod recalling;
+mod pushing;
 mod reissuing;
-mod renewing;
-mod stepping;
 mod trying;
 
+pub use frame_solver::{Firsts, negation};
 pub use keeping::FrameSolver;
-pub use negating::negation;
-pub use outcomes::{Bads, Firsts, Generalised, Noted, Relative};
+pub use outcomes::{Bads, Generalised, Noted, Relative};
 pub use reissuing::reissued;

@@ -1,4 +1,3 @@
-use clause_core::{Bits, Clause};
 use frame_core::{Clear, Found, Proved, Step};
 
 /// What a query about steps finds.
@@ -28,17 +27,6 @@ pub enum Bads<'a> {
 pub enum Noted<'a> {
     /// The state that the step leads from.
     Found(Found<'a>),
-    /// The purse was spent before it was known.
-    Spent { drawn: u64, budget: u64 },
-}
-
-/// What a query about first states finds.
-#[derive(Drop)]
-pub enum Firsts {
-    /// First states meet this part of the clause.
-    Meet(Clause),
-    /// The state bits of a first state that does not meet the clause.
-    First(Bits),
     /// The purse was spent before it was known.
     Spent { drawn: u64, budget: u64 },
 }

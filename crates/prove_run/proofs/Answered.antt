@@ -1,13 +1,12 @@
 -- Answers, one after another.
 use Rattle.std.proofs.Common.{◌≡◌, ℕ, ◌+◌, ◌<◌, Bool, true, false, List, [], ◌∷◌, ◌++◌, length, get_or, refl, sym, subst, ◌∙◌, inl, inr, arith, length-append}
-use Rattle.std.specs.Prelude.{Option, None, Some, map, slice_get}
+use Rattle.std.specs.Prelude.{None, Some, map, slice_get}
 use Rattle.std.proofs.Math.ListN.{get_or-append}
 use Rattle.std.proofs.Math.Seq.{get_or-append_seam}
 use Rattle.std.proofs.lemmas.Bool.{cases_lt}
 use Rattle.std.proofs.lemmas.List.{get_or_read}
 use Rattle.std.proofs.lemmas.List.Elements.{All-weaker}
 use Rattle.std.proofs.lemmas.Option.{slice_get_read, get_or_from_slice_get}
-use Rattle.clause_core.specs.declared.literal.Lit.{Lit}
 use Rattle.clause_core.specs.Systems.{TransitionSystem}
 use Rattle.cert_core.specs.Blocks.{Block}
 use Rattle.cert_core.specs.Certificates.{Certifies}
@@ -118,20 +117,12 @@ is_system xs fs j s e lt is =
     let P : List TransitionSystem → Type 0 = λ z. s ≡ get_or z j s in
     get_or_read fs j s lt (subst P e is) no_system
 
-module _ (effort : Effort) (f : FrameState) (over : Bool) (j level : ℕ) (old new : List ℕ) (was now spent : Bool) (s : TransitionSystem) (cs : List (List Lit))
-    (verdict : VerdictSays f j (Some (Invariant level))) (not_yet : was ≡ false) (is : s ≡ system_at f.systems j) (are : cs ≡ clauses_above level f.lemmas) where
-  said_of : (r : Option Block) → CertifySays s cs old new spent r → CertifySays (system_at f.systems j) (clauses_above level f.lemmas) old new spent r
-  said_of r h =
-      let P : TransitionSystem → Type 0 = λ t. CertifySays t cs old new spent r in
-      let Q : List (List Lit) → Type 0 = λ ds. CertifySays (system_at f.systems j) ds old new spent r in
-      subst Q are (subst P is h)
+module _ (effort : Effort) (f : FrameState) (over : Bool) (j level : ℕ) (old new : List ℕ) (was now spent : Bool)
+    (verdict : VerdictSays f j (Some (Invariant level))) (not_yet : was ≡ false) where
+  pub certified_at : (cert : Block) → CertifySays (system_at f.systems j) (clauses_above level f.lemmas) None old new spent (Some cert) →
+      AnswersNext effort f over j old was new now (True cert)
+  certified_at cert said = certified_next effort f over j level old new was now cert verdict not_yet said.0 said.1 said.2.0 said.2.1
 
-  pub certified_at : (cert : Block) → CertifySays s cs old new spent (Some cert) → AnswersNext effort f over j old was new now (True cert)
-  certified_at cert h =
-      let said = said_of (Some cert) h in
-      certified_next effort f over j level old new was now cert verdict not_yet said.0 said.1 said.2.0 said.2.1
-
-  pub open_at : (cause : Cause) → now ≡ true → cause ≡ spent_cause effort → CertifySays s cs old new spent None → AnswersNext effort f over j old was new now (Unknown cause)
-  open_at cause on e h =
-      let said = said_of None h in
-      open_next effort f over j level old new was now cause verdict not_yet on e said.1
+  pub open_at : (cause : Cause) → now ≡ true → cause ≡ spent_cause effort →
+      CertifySays (system_at f.systems j) (clauses_above level f.lemmas) None old new spent None → AnswersNext effort f over j old was new now (Unknown cause)
+  open_at cause on e said = open_next effort f over j level old new was now cause verdict not_yet on e said.1

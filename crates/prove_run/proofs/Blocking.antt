@@ -10,12 +10,12 @@ use Rattle.frame_core.specs.declared.parts.Lemma.{Lemma}
 use Rattle.frame_core.specs.Facts.{FoundStep, FoundState, ProvedClause, IsPart}
 use Rattle.frame_core.specs.Law.{system_at, AllStand, InFrame}
 use Rattle.frame_core.proofs.Changing.{ClauseTrue-part}
-use Rattle.frame_query.specs.Firsts.{AllFirstsMeet, negation_of}
+use Rattle.frame_solver.specs.Firsts.{AllFirstsMeet, negation_of}
 use Rattle.frame_query.specs.Findings.{SolverView}
-use Rattle.frame_query.specs.Stepping.{IsStepOut}
-use Rattle.frame_query.specs.Paying.{Question, Steps, Firsts, AskedQuery, PaysOne}
+use Rattle.frame_solver.specs.Stepping.{IsStepOut}
+use Rattle.frame_solver.specs.Paying.{Question, Steps, Firsts, AskedQuery, PaysOne}
 use Rattle.frame_query.specs.Dropping.{PaysParts, IsProperPart, AsksOf, AsksOfSome}
-use Rattle.frame_query.proofs.Negated.{negation_has, negation_false}
+use Rattle.frame_solver.proofs.Negated.{negation_has, negation_false}
 use Rattle.frame_book.specs.declared.claim.Outcome.{Outcome}
 use Rattle.frame_book.specs.declared.claim.Outcome.TheVariants.{Proved, Step, Found, Clear, Spent}
 use Rattle.prove_run.specs.Asking.{AnswersBlock, IsSmaller, IsBefore, PaysFor}

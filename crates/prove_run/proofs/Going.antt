@@ -20,7 +20,7 @@ use Rattle.frame_history.specs.History.{BookState, start, replay, all_changed, c
 use Rattle.frame_history.proofs.Keeping.{holds_at_start, same_systems}
 use Rattle.frame_history.proofs.Waiting.{holds_all, some_is_out}
 use Rattle.frame_query.specs.Findings.{SolverView, IsOlder}
-use Rattle.frame_query.specs.Paying.{AskedQuery, Pays}
+use Rattle.frame_solver.specs.Paying.{AskedQuery, Pays}
 use Rattle.frame_book.specs.declared.claim.Outcome.{Outcome}
 use Rattle.frame_book.specs.Claims.{ClaimView, IsOfSubject, IsOutHere}
 use Rattle.frame_book.specs.Outcomes.{IsOutcomeOf}
@@ -33,12 +33,6 @@ use Rattle.prove_run.proofs.Paid.{paid_claim, by_claim}
 use Rattle.prove_run.proofs.Turned.{older_all, not_behind, spent_all, all_ended}
 
 -- ---- What the book keeps
-
-first_of_book : BookView → BookState
-first_of_book b = start b.limits b.systems []
-
-replayed : (b : BookView) → IsBook b → b.carried ≡ [] → b.state ≡ replay (start b.limits b.systems []) b.history
-replayed b is carried = is.replayed ∙ ap (λ (z : List Lemma). replay (start b.limits b.systems z) b.history) carried
 
 pub book_holds : (b : BookView) → IsBook b → FramesHold b.state.frames
 book_holds b is =
@@ -54,9 +48,9 @@ out_none : true ≡ false → ⊥
 out_none e = let h : true ≡ false = e in cc
 
 -- where no claim is out, and none is lawful, the book is closed
-pub idle_never : (b : BookView) (v : SolverView) (tickets : List ℕ) (over : Bool) → IsPlayed b v tickets over → (IsClosed b.state → ⊥) →
+pub idle_never : (old : List ℕ) (b : BookView) (v : SolverView) (tickets : List ℕ) (over : Bool) → IsPlayed old b v tickets over → (IsClosed b.state → ⊥) →
     ((u : Subject) (level : ℕ) → IsLawfulClaim b.limits b.state u level → ⊥) → ⊥
-idle_never b v tickets over h still_open none =
+idle_never old b v tickets over h still_open none =
     let s : BookState = replay (start b.limits b.systems b.carried) b.history in
     let is : b.state ≡ s = h.book.replayed in
     let out = some_is_out b.limits b.systems b.carried b.history h.book.carried h.book.lawful
@@ -92,9 +86,9 @@ asked_by limits s c (Block o) holds task of =
     (task.0, of, task.4.0, later)
 asked_by limits s c (Push n) holds task of = (task.0, task.2, of)
 
-pub taken_asks : (b : BookView) (c : ClaimView) (v : SolverView) (tickets : List ℕ) (over : Bool) → IsTaken b c v tickets over →
+pub taken_asks : (old : List ℕ) (b : BookView) (c : ClaimView) (v : SolverView) (tickets : List ℕ) (over : Bool) → IsTaken old b c v tickets over →
     MayBeAsked b.state.frames c c.subject
-taken_asks b c v tickets over t =
+taken_asks old b c v tickets over t =
     let e : BookView = t.earlier in
     let now : BookView = entered e (Claim 0 c.subject c.level) in
     let may : MayBeAsked e.state.frames c c.subject =
@@ -106,16 +100,16 @@ taken_asks b c v tickets over t =
 last_claim : (claims : List (Option Made)) (n : ℕ) (d : Made) → n ≡ length claims → claim_at (claims ++ Some d ∷ []) n ≡ Some d
 last_claim claims n d e = rw e (get_or-append_seam claims (Some d) [] None)
 
-numbered : (b : BookView) → IsBook b → b.carried ≡ [] → length b.state.claims ≡ length b.history
-numbered b is carried =
-    let e = ap (λ (s : BookState). length s.claims) (replayed b is carried) in
-    omega (arith, claims_each (start b.limits b.systems []) b.history)
+numbered : (b : BookView) → IsBook b → length b.state.claims ≡ length b.history
+numbered b is =
+    let e = ap (λ (s : BookState). length s.claims) is.replayed in
+    omega (arith, claims_each (start b.limits b.systems b.carried) b.history)
 
-pub taken_out : (b : BookView) (c : ClaimView) (v : SolverView) (tickets : List ℕ) (over : Bool) → IsTaken b c v tickets over → IsOutHere b.state c
-taken_out b c v tickets over t =
+pub taken_out : (old : List ℕ) (b : BookView) (c : ClaimView) (v : SolverView) (tickets : List ℕ) (over : Bool) → IsTaken old b c v tickets over → IsOutHere b.state c
+taken_out old b c v tickets over t =
     let e : BookView = t.earlier in
     let d : Made = record { worker = 0; subject = c.subject; level = c.level; growth = e.state.growth; out = true; void = false } in
-    let at : c.number ≡ length e.state.claims = t.claims.2 ∙ sym (numbered e t.played.book t.played.carried) in
+    let at : c.number ≡ length e.state.claims = t.claims.2 ∙ sym (numbered e t.played.book) in
     let there : claim_at (e.state.claims ++ Some d ∷ []) c.number ≡ Some d = last_claim e.state.claims c.number d at in
     let here : IsOutHere (entered e (Claim 0 c.subject c.level)).state c =
     (d, record { out = (there, refl, sym t.claims.3); subject = refl; level = refl; target = t.claims.5 }) in
@@ -132,16 +126,16 @@ EndsAll claims n void = (m : ℕ) (c : Made) → claim_at (set claims n (ended v
 abbrev pub with_claim : BookView → ClaimView → BookView
 with_claim e c = entered e (Claim 0 c.subject c.level)
 
-pub turned : (e : BookView) (c : ClaimView) (v w : SolverView) (before after : List ℕ) (over later : Bool) (o : Outcome) (entry : Entry) →
-    IsPlayed e v before over → IsLawfulClaim e.limits e.state c.subject c.level → c.number ≡ length e.history → IsAsked e.state.frames c later o →
+pub turned : (old : List ℕ) (e : BookView) (c : ClaimView) (v w : SolverView) (before after : List ℕ) (over later : Bool) (o : Outcome) (entry : Entry) →
+    IsPlayed old e v before over → IsLawfulClaim e.limits e.state c.subject c.level → c.number ≡ length e.history → IsAsked e.state.frames c later o →
     PaysClaim e.state.frames c v.known w.known before after → w.systems ≡ v.systems → w.lemmas ≡ e.state.frames.lemmas →
-    SettlesBy (with_claim e c) c o entry → IsBook (entered (with_claim e c) entry) → IsPlayed (entered (with_claim e c) entry) w after later
-turned e c v w before after over later o (Claim worker u level) h lawful number asked paid systems lemmas by book = absurd by
-turned e c v w before after over later o (Back worker n) h lawful number asked paid systems lemmas by book = absurd by
-turned e c v w before after over later o (Settle worker n changes) h lawful number asked paid systems lemmas by book =
+    SettlesBy (with_claim e c) c o entry → IsBook (entered (with_claim e c) entry) → IsPlayed old (entered (with_claim e c) entry) w after later
+turned old e c v w before after over later o (Claim worker u level) h lawful number asked paid systems lemmas by book = absurd by
+turned old e c v w before after over later o (Back worker n) h lawful number asked paid systems lemmas by book = absurd by
+turned old e c v w before after over later o (Settle worker n changes) h lawful number asked paid systems lemmas by book =
     let s : BookState = e.state in
-    let first : BookState = start e.limits e.systems [] in
-    let is : s ≡ replay first e.history = replayed e h.book h.carried in
+    let first : BookState = start e.limits e.systems e.carried in
+    let is : s ≡ replay first e.history = h.book.replayed in
     let N : BookState = (with_claim e c).state in
     let x = by.2 in
     let made : Made = x.0 in
@@ -156,7 +150,7 @@ turned e c v w before after over later o (Settle worker n changes) h lawful numb
     let d0 : Made = record { worker = 0; subject = c.subject; level = c.level; growth = s.growth; out = true; void = false } in
     let more : List (Option Made) = s.claims ++ Some d0 ∷ [] in
     let same_claims : T.claims ≡ more = changes_claims N changes.items in
-    let at : n ≡ length s.claims = by.1 ∙ number ∙ sym (numbered e h.book h.carried) in
+    let at : n ≡ length s.claims = by.1 ∙ number ∙ sym (numbered e h.book) in
     let ends : EndsAll more (length s.claims) false = all_ended s.claims d0 h.ended in
     let ends' : EndsAll T.claims n (is_behind changes.items) =
     subst (λ (b : Bool). EndsAll T.claims n b) (sym void) (subst (λ (k : ℕ). EndsAll T.claims k false) (sym at)
@@ -168,12 +162,11 @@ turned e c v w before after over later o (Settle worker n changes) h lawful numb
     let P : BookState → Type 0 = λ z. Pays z.frames.systems z.frames.lemmas v.known w.known before after paid.0 in
     let M : BookState → Type 0 = λ z. All (λ (a : AskedQuery). MayAsk z.frames c.subject c.level a.question) paid.0 in
     let entry : Entry = Settle worker n changes in
-    let run : IsPaidRun first (e.history ++ Claim 0 c.subject c.level ∷ entry ∷ []) w.known after (h.log ++ map (by_claim (length e.history)) paid.0) =
-    paid_claim first e.history (entry ∷ []) 0 c.subject c.level v.known w.known before after h.log paid.0 h.paid new none_void (subst P is paid.1) paid.2
+    let run : IsPaidRun first (e.history ++ Claim 0 c.subject c.level ∷ entry ∷ []) w.known old after (h.log ++ map (by_claim (length e.history)) paid.0) =
+    paid_claim first e.history (entry ∷ []) 0 c.subject c.level v.known w.known old before after h.log paid.0 h.paid new none_void (subst P is paid.1) paid.2
     (subst M is paid.3) in
     record {
       book = book;
-      carried = h.carried;
       systems = systems ∙ h.systems;
       older = subst (λ (z : List Lemma). IsOlder z T.frames.lemmas) (sym lemmas) older;
       ended = ends';
@@ -184,31 +177,31 @@ turned e c v w before after over later o (Settle worker n changes) h lawful numb
             | inr now ↦ now
           ]);
       log = h.log ++ map (by_claim (length e.history)) paid.0;
-      paid = subst (λ (z : List Entry). IsPaidRun first z w.known after (h.log ++ map (by_claim (length e.history)) paid.0))
+      paid = subst (λ (z : List Entry). IsPaidRun first z w.known old after (h.log ++ map (by_claim (length e.history)) paid.0))
           (sym (append_assoc e.history (Claim 0 c.subject c.level ∷ []) (entry ∷ []))) run;
     }
 
 -- the same of a task that was taken and a book that is the later one now
-pub went_on : (b now : BookView) (c : ClaimView) (v w : SolverView) (before after : List ℕ) (over later : Bool) (o : Outcome) → IsTaken b c v before over →
+pub went_on : (old : List ℕ) (b now : BookView) (c : ClaimView) (v w : SolverView) (before after : List ℕ) (over later : Bool) (o : Outcome) → IsTaken old b c v before over →
     IsAsked b.state.frames c later o → PaysClaim b.state.frames c v.known w.known before after → w.systems ≡ v.systems →
-    w.lemmas ≡ b.state.frames.lemmas → IsSettled b c o now → IsBook now → IsPlayed now w after later
-went_on b now c v w before after over later o t asked paid systems lemmas settled book =
+    w.lemmas ≡ b.state.frames.lemmas → IsSettled b c o now → IsBook now → IsPlayed old now w after later
+went_on old b now c v w before after over later o t asked paid systems lemmas settled book =
     let e : BookView = t.earlier in
     let is : b ≡ with_claim e c = t.claims.1 in
     let by : SettlesBy (with_claim e c) c o settled.0 = subst (λ (z : BookView). SettlesBy z c o settled.0) is settled.1 in
     let now_is : now ≡ entered (with_claim e c) settled.0 = settled.2 ∙ ap (λ (z : BookView). entered z settled.0) is in
-    let done = turned e c v w before after over later o settled.0 t.played t.claims.0 t.claims.2
+    let done = turned old e c v w before after over later o settled.0 t.played t.claims.0 t.claims.2
     (subst (λ (z : BookView). IsAsked z.state.frames c later o) is asked)
     (subst (λ (z : BookView). PaysClaim z.state.frames c v.known w.known before after) is paid) systems
     (lemmas ∙ ap (λ (z : BookView). z.state.frames.lemmas) is) by (subst IsBook now_is book) in
-    subst (λ (z : BookView). IsPlayed z w after later) (sym now_is) done
+    subst (λ (z : BookView). IsPlayed old z w after later) (sym now_is) done
 
-pub taken_systems : (b : BookView) (c : ClaimView) (v : SolverView) (tickets : List ℕ) (over : Bool) → IsTaken b c v tickets over →
+pub taken_systems : (old : List ℕ) (b : BookView) (c : ClaimView) (v : SolverView) (tickets : List ℕ) (over : Bool) → IsTaken old b c v tickets over →
     v.systems ≡ b.state.frames.systems
-taken_systems b c v tickets over t =
+taken_systems old b c v tickets over t =
     t.played.systems ∙ sym (book_systems t.earlier t.played.book) ∙ sym (ap (λ (z : BookView). z.state.frames.systems) t.claims.1)
 
-pub taken_same : (b : BookView) (c : ClaimView) (v : SolverView) (tickets : List ℕ) (over : Bool) → IsTaken b c v tickets over →
+pub taken_same : (old : List ℕ) (b : BookView) (c : ClaimView) (v : SolverView) (tickets : List ℕ) (over : Bool) → IsTaken old b c v tickets over →
     b.state.frames.systems ≡ b.systems
-taken_same b c v tickets over t =
+taken_same old b c v tickets over t =
     ap (λ (z : BookView). z.state.frames.systems) t.claims.1 ∙ book_systems t.earlier t.played.book ∙ sym (ap (λ (z : BookView). z.systems) t.claims.1)

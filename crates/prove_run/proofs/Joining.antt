@@ -8,7 +8,7 @@ use Rattle.clause_core.specs.Systems.{TransitionSystem}
 use Rattle.sat_core.specs.Paying.{IsPaidLog}
 use Rattle.sat_core.proofs.Payments.{log_join}
 use Rattle.frame_core.specs.declared.parts.Lemma.{Lemma}
-use Rattle.frame_query.specs.Paying.{Question, AskedQuery, IsQueryOf, Pays, AllDiffer, queries_of}
+use Rattle.frame_solver.specs.Paying.{Question, AskedQuery, IsQueryOf, Pays, AllDiffer, queries_of}
 use Rattle.frame_query.specs.Findings.{SolverView}
 use Rattle.cert_make.proofs.Pairs.{pairs_join, no_pairs}
 use Rattle.prove_run.specs.Asking.{PaysFor}

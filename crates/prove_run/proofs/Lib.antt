@@ -2,6 +2,7 @@ pub mod Answered
 pub mod Blocking
 pub mod Certified
 pub mod Claimed
+pub mod Closing
 pub mod Finished
 pub mod Going
 pub mod Invariant

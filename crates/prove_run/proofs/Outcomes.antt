@@ -9,7 +9,7 @@ use Rattle.frame_core.proofs.States.{first_same}
 use Rattle.frame_history.specs.declared.entries.Subject.{Subject}
 use Rattle.frame_history.specs.declared.entries.Subject.TheVariants.{Bad, Block}
 use Rattle.frame_history.specs.History.{asked_level, asked_system}
-use Rattle.frame_query.specs.Firsts.{AllFirstsMeet}
+use Rattle.frame_solver.specs.Firsts.{AllFirstsMeet}
 use Rattle.frame_query.specs.Findings.{SolverView}
 use Rattle.frame_book.specs.declared.claim.Outcome.{Outcome}
 use Rattle.frame_book.specs.declared.claim.Outcome.TheVariants.{Proved, Step, Found, Clear, Spent}

@@ -15,7 +15,7 @@ use Rattle.frame_history.specs.declared.entries.Made.{Made}
 use Rattle.frame_history.specs.declared.entries.Entry.{Entry}
 use Rattle.frame_history.specs.declared.entries.Entry.TheVariants.{Claim}
 use Rattle.frame_history.specs.History.{BookState, replay, claim_at, IsNew}
-use Rattle.frame_query.specs.Paying.{AskedQuery, IsQueryOf, Pays, AllDiffer, queries_of}
+use Rattle.frame_solver.specs.Paying.{AskedQuery, IsQueryOf, Pays, AllDiffer, queries_of}
 use Rattle.prove_run.specs.Paying.{ClaimQuery, Key, MayAsk, HasKey, IsOfClaim, DifferInKey, IsPaidRun, queries_in}
 use Rattle.prove_run.specs.Paying.{before as state_before}
 use Rattle.cert_make.proofs.Pairs.{pairs_join, pairs_map}
@@ -119,13 +119,13 @@ from_map P n asked h q there =
     All-contains P (map (by_claim n) asked) q (All-map P (by_claim n) asked (λ i d lt. h (get_or asked i d))) there
 
 -- the queries of one more claim, behind the log so far
-pub paid_claim : (first : BookState) (h es : List Entry) (worker : ℕ) (u : Subject) (level : ℕ) (known later : List (List Lit)) (before after : List ℕ)
-    (log : List ClaimQuery) (asked : List AskedQuery) → IsPaidRun first h known before log → IsNew (replay first h) u level →
+pub paid_claim : (first : BookState) (h es : List Entry) (worker : ℕ) (u : Subject) (level : ℕ) (known later : List (List Lit)) (old before after : List ℕ)
+    (log : List ClaimQuery) (asked : List AskedQuery) → IsPaidRun first h known old before log → IsNew (replay first h) u level →
     ((n : ℕ) (c : Made) → claim_at (replay first h).claims n ≡ Some c → c.void ≡ false) →
     Pays (replay first h).frames.systems (replay first h).frames.lemmas known later before after asked → AllDiffer asked →
     All (λ (a : AskedQuery). MayAsk (replay first h).frames u level a.question) asked →
-    IsPaidRun first (h ++ Claim worker u level ∷ es) later after (log ++ map (by_claim (length h)) asked)
-paid_claim first h es worker u level known later before after log asked paid new none_void pays differ may =
+    IsPaidRun first (h ++ Claim worker u level ∷ es) later old after (log ++ map (by_claim (length h)) asked)
+paid_claim first h es worker u level known later old before after log asked paid new none_void pays differ may =
     let e : Entry = Claim worker u level in
     let rest : List Entry = e ∷ es in
     let n : ℕ = length h in
@@ -153,6 +153,6 @@ paid_claim first h es worker u level known later before after log asked paid new
           (λ p q in_log in_new.
           let of : IsOfClaim first h p = All-contains (IsOfClaim first h) log p paid.each in_log in
           from_map (DifferInKey first H p) n asked (λ a. cross_apart first h es worker u level new none_void p of a) q in_new);
-      paid = subst (λ (qs : List Query). IsPaidLog [] later [] after qs) (sym (map-append (λ (q : ClaimQuery). q.asked.query) log added ∙ ap (λ (qs : List Query). queries_in log ++ qs) (map_map n asked)))
-          (log_join [] known later [] before after (queries_in log) (queries_of asked) paid.paid pays.paid);
+      paid = subst (λ (qs : List Query). IsPaidLog [] later old after qs) (sym (map-append (λ (q : ClaimQuery). q.asked.query) log added ∙ ap (λ (qs : List Query). queries_in log ++ qs) (map_map n asked)))
+          (log_join [] known later old before after (queries_in log) (queries_of asked) paid.paid pays.paid);
     }

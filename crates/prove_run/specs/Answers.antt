@@ -38,7 +38,7 @@ pub record IsSpent (systems : List TransitionSystem) (effort : Effort) (history 
   pub known : List (List Lit)
   pub claimed : List ℕ
   pub drawn : List ℕ
-  pub paid : IsPaidRun (first_of systems effort) history known claimed log
+  pub paid : IsPaidRun (first_of systems effort) history known [] claimed log
   pub certified : PaysCertificates (frames_of systems effort history) claimed drawn parts
   pub all : tickets_in (queries_in log) + tickets_in (queries_of parts) ≡ effort.conflicts
 
@@ -85,11 +85,11 @@ Answers effort f over parts spent j (False run) = IsBadRun (system_at f.systems 
 Answers effort f over parts spent j (Unknown cause) =
     ((HasVerdict f j → ⊥) × (cause ≡ cause_of over effort)) ⊎ (LacksPart f parts j × (spent ≡ true) × (cause ≡ spent_cause effort))
 
--- some certificate: it certifies, and has no counter; none: the purse is spent, and some part was not answered. What was asked was paid for.
-abbrev pub CertifySays : TransitionSystem → List (List Lit) → List ℕ → List ℕ → Bool → Option Block → Type 0
-CertifySays sys cs before after spent None = (spent ≡ true) × PaysOpen sys cs before after
-CertifySays sys cs before after spent (Some cert) =
-    Certifies sys cert × (cert.counter ≡ None) × ((log : List PartQuery) × PaysParts sys cs [] before after log)
+-- some certificate: it certifies, and has this counter; none: the purse is spent, and some part was not answered. What was asked was paid for.
+abbrev pub CertifySays : TransitionSystem → List (List Lit) → Option ℕ → List ℕ → List ℕ → Bool → Option Block → Type 0
+CertifySays sys cs counter before after spent None = (spent ≡ true) × PaysOpen sys cs before after
+CertifySays sys cs counter before after spent (Some cert) =
+    Certifies sys cert × (cert.counter ≡ counter) × ((log : List PartQuery) × PaysParts sys cs [] before after log)
 
 -- the answer at this place is right of the system of this number
 abbrev pub AnswersAt : Effort → FrameState → Bool → List CertQuery → Bool → List Answer → ℕ → Type 0

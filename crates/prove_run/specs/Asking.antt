@@ -9,8 +9,8 @@ use Rattle.frame_history.specs.declared.entries.Subject.{Subject}
 use Rattle.frame_history.specs.declared.entries.Subject.TheVariants.{Bad, Block, Push}
 use Rattle.frame_history.specs.History.{asked_level, asked_system}
 use Rattle.frame_query.specs.Findings.{SolverView}
-use Rattle.frame_query.specs.Paying.{Question, AskedQuery, Pays, AllDiffer}
-use Rattle.frame_query.specs.Stepping.{IsStepOut}
+use Rattle.frame_solver.specs.Paying.{Question, AskedQuery, Pays, AllDiffer}
+use Rattle.frame_solver.specs.Stepping.{IsStepOut}
 use Rattle.frame_book.specs.declared.claim.Outcome.{Outcome}
 use Rattle.frame_book.specs.declared.claim.Outcome.TheVariants.{Proved, Step, Found, Clear, Spent}
 use Rattle.frame_book.specs.Claims.{ClaimView}

@@ -9,7 +9,7 @@ use Rattle.frame_history.specs.declared.entries.Subject.TheVariants.{Bad, Block,
 use Rattle.frame_history.specs.declared.entries.Entry.{Entry}
 use Rattle.frame_history.specs.declared.entries.Entry.TheVariants.{Claim}
 use Rattle.frame_history.specs.History.{BookState, replay}
-use Rattle.frame_query.specs.Paying.{Question, Steps, Firsts, Bads, AskedQuery, IsQueryOf}
+use Rattle.frame_solver.specs.Paying.{Question, Steps, Firsts, Bads, AskedQuery, IsQueryOf}
 
 -- what a claim on bad states of system j may ask: for one in the frame of its level, and whether a state is an initial one
 abbrev pub MayAskBad : ℕ → ℕ → Question → Type 0
@@ -75,8 +75,8 @@ abbrev pub queries_in : List ClaimQuery → List Query
 queries_in log = map (λ (q : ClaimQuery). q.asked.query) log
 
 -- the queries of this log were asked by claims of the history, no two have one key, each learned its clauses from conflicts, and as many
--- tickets were drawn as they cost; `known` are the learned clauses that later queries may use
-pub record IsPaidRun (first : BookState) (history : List Entry) (known : List (List Lit)) (tickets : List ℕ) (log : List ClaimQuery) : Type 0 where
+-- tickets were drawn as they cost, where `old` were drawn before; `known` are the learned clauses that later queries may use
+pub record IsPaidRun (first : BookState) (history : List Entry) (known : List (List Lit)) (old tickets : List ℕ) (log : List ClaimQuery) : Type 0 where
   pub each : All (IsOfClaim first history) log
   pub apart : AllPairs (DifferInKey first history) log
-  pub paid : IsPaidLog [] known [] tickets (queries_in log)
+  pub paid : IsPaidLog [] known old tickets (queries_in log)

@@ -1,5 +1,5 @@
 -- A book that one worker plays alone.
-use Rattle.std.specs.Prelude.{◌≡◌, ℕ, Bool, true, false, List, [], Some}
+use Rattle.std.specs.Prelude.{◌≡◌, ℕ, Bool, true, false, List, Some}
 use Rattle.frame_history.specs.declared.entries.Made.{Made}
 use Rattle.frame_history.specs.declared.entries.Entry.{Entry}
 use Rattle.frame_history.specs.History.{start, claim_at}
@@ -11,21 +11,20 @@ use Rattle.frame_book.specs.Book.{BookView, IsBook, Claims, SettlesBy, entered}
 use Rattle.prove_run.specs.Paying.{ClaimQuery, IsPaidRun}
 
 -- no claim is out or void; the solver has the systems, and the lemmas as they were; that the purse was spent is noted only where it was; and
--- what was drawn was paid for queries of the history's claims, no two of which are equal
-pub record IsPlayed (b : BookView) (v : SolverView) (tickets : List ℕ) (over : Bool) : Type 0 where
+-- what was drawn since `old` was paid for queries of the history's claims, no two of which are equal
+pub record IsPlayed (old : List ℕ) (b : BookView) (v : SolverView) (tickets : List ℕ) (over : Bool) : Type 0 where
   pub book : IsBook b
-  pub carried : b.carried ≡ []
   pub systems : v.systems ≡ b.systems
   pub older : IsOlder v.lemmas b.state.frames.lemmas
   pub ended : (n : ℕ) (c : Made) → claim_at b.state.claims n ≡ Some c → (c.out ≡ false) × (c.void ≡ false)
   pub spent : b.state.spent ≡ true → over ≡ true
   pub log : List ClaimQuery
-  pub paid : IsPaidRun (start b.limits b.systems []) b.history v.known tickets log
+  pub paid : IsPaidRun (start b.limits b.systems b.carried) b.history v.known old tickets log
 
 -- the worker has just taken this task of the book, which it played until then
-pub record IsTaken (b : BookView) (c : ClaimView) (v : SolverView) (tickets : List ℕ) (over : Bool) : Type 0 where
+pub record IsTaken (old : List ℕ) (b : BookView) (c : ClaimView) (v : SolverView) (tickets : List ℕ) (over : Bool) : Type 0 where
   pub earlier : BookView
-  pub played : IsPlayed earlier v tickets over
+  pub played : IsPlayed old earlier v tickets over
   pub claims : Claims earlier 0 (Task c) b
 
 -- the claim was settled by this outcome

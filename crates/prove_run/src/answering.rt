@@ -1,10 +1,13 @@
 //! What a book that is closed says of each of its systems, with a certificate of each that it shows to be true.
 
-ghost use Rattle.std.specs.Prelude.{◌≡◌, ◌<◌, ℕ, Bool, true, All, Some, length, IfOk, OnOk};
+ghost use Rattle.std.specs.Prelude.{◌≡◌, ◌<◌, ◌≤◌, ℕ, Bool, true, All, Some, length, IfOk, OnOk};
+ghost use Rattle.std.specs.Option.{ForSome};
 ghost use Rattle.clause_core.specs.Literals.{Within};
+ghost use Rattle.cert_core.specs.declared.form.TheConstants.{MAX_COUNTER};
 ghost use Rattle.cert_core.specs.Certificates.{IsInvariant};
 ghost use Rattle.frame_core.specs.declared.outcomes.Verdict.TheVariants.{Invariant};
 ghost use Rattle.frame_core.specs.Changes.{VerdictSays};
+ghost use Rattle.frame_core.specs.Law.{system_at};
 ghost use Rattle.prove_run.specs.Answers.{AnswersNext, AreAnswered, CertifySays, cause_of, spent_cause};
 ghost use Rattle.prove_run.specs.Certifying.{clauses_above};
 
@@ -32,28 +35,59 @@ fn clauses_of(alloc: Global, lemmas: &Lemmas, level: u32) -> Result<Clauses, All
     Ok(clauses)
 }
 
-// A certificate of an invariant, which the check accepts; none where the purse was spent before it was made.
+// A certificate of an invariant that names this counter, and which the check accepts; none where the purse was spent before it
+// was made.
 fn certify<Q: Purse>(
     alloc: Global,
     system: &System,
     clauses: &Clauses,
+    counter: Option<usize>,
     purse: &mut Q,
 ) -> Result<Option<Certificate>, AllocError>
     requires within { All (Within system.now.state_bits) clauses.now }
     requires invariant { IsInvariant system.now clauses.now }
+    requires counter { ForSome counter (λ k. k ≤ MAX_COUNTER) }
     requires ready { Q.ready purse.old }
-    ensures certified { IfOk result (CertifySays system.now clauses.now (Q.tickets purse.old) (Q.tickets purse.new) (Q.spent purse.new)) }
+    ensures certified { IfOk result (CertifySays system.now clauses.now counter (Q.tickets purse.old) (Q.tickets purse.new) (Q.spent purse.new)) }
     ensures kept { Q.kept purse.old purse.new }
     ensures ready { Q.ready purse.new }
     ensures budget { Q.budget purse.new ≡ Q.budget purse.old }
 {
     match make(alloc, system, clauses, purse)? {
         Made::Spent { .. } => Ok(None),
-        Made::Certificate(cert) => match check(alloc, system, &cert)? {
-            Judgement::Yes => Ok(Some(cert)),
-            Judgement::No { .. } => unreachable!(),
-        },
+        Made::Certificate(mut cert) => {
+            cert.set_counter(counter);
+            match check(alloc, system, &cert)? {
+                Judgement::Yes => Ok(Some(cert)),
+                Judgement::No { .. } => unreachable!(),
+            }
+        }
     }
+}
+
+/// A certificate of system `j`, of which the frames tell an invariant: of the live lemmas above its level, with this counter.
+///
+/// The check of certificates accepted it. There is none where the purse was spent before it was made. What was asked was
+/// paid for. The only error is want of memory.
+pub fn certificate_of<Q: Purse>(
+    alloc: Global,
+    frames: &Frames,
+    j: usize,
+    level: u32,
+    counter: Option<usize>,
+    purse: &mut Q,
+) -> Result<Option<Certificate>, AllocError>
+    requires number { j < length frames.now.systems }
+    requires invariant { VerdictSays frames.now j (Some (Invariant level)) }
+    requires counter { ForSome counter (λ k. k ≤ MAX_COUNTER) }
+    requires ready { Q.ready purse.old }
+    ensures certified { IfOk result (CertifySays (system_at frames.now.systems j) (clauses_above level frames.now.lemmas) counter (Q.tickets purse.old) (Q.tickets purse.new) (Q.spent purse.new)) }
+    ensures kept { Q.kept purse.old purse.new }
+    ensures ready { Q.ready purse.new }
+    ensures budget { Q.budget purse.new ≡ Q.budget purse.old }
+{
+    let clauses = clauses_of(alloc, frames.all_lemmas(), level)?;
+    certify(alloc, &frames.systems()[j], &clauses, counter, purse)
 }
 
 // The cause where the purse was spent.
@@ -89,8 +123,7 @@ fn shown<Q: Purse>(
     if *spent {
         return Ok(Answer::Unknown(spent_by(effort)));
     }
-    let clauses = clauses_of(alloc, frames.all_lemmas(), level)?;
-    match certify(alloc, &frames.systems()[j], &clauses, purse)? {
+    match certificate_of(alloc, frames, j, level, None, purse)? {
         Some(cert) => Ok(Answer::True(cert)),
         None => {
             *spent = true;

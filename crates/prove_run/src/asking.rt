@@ -5,9 +5,9 @@ ghost use Rattle.std.specs.Prelude.{◌≡◌, ◌+◌, ◌-◌, ◌^◌, ◌<�
 ghost use Rattle.clause_core.specs.Assignments.{assignment_of};
 ghost use Rattle.clause_core.specs.Systems.{FirstBits};
 ghost use Rattle.frame_core.specs.Law.{AllStand, system_at, lemma_at};
-ghost use Rattle.frame_query.specs.Firsts.{AllFirstsMeet, negation_of};
+ghost use Rattle.frame_solver.specs.Firsts.{AllFirstsMeet, negation_of};
 ghost use Rattle.frame_query.specs.Dropping.{PaysParts};
-ghost use Rattle.frame_query.specs.Paying.{Firsts, PaysOne};
+ghost use Rattle.frame_solver.specs.Paying.{Firsts, PaysOne};
 ghost use Rattle.prove_run.specs.Asking.{AnswersBad, AnswersBlock, AnswersPush, IsBefore, IsSmaller, PaysFor};
 ghost use Rattle.prove_run.specs.Paying.{MayAskBad, MayAskBlock, MayAskPush};
 

@@ -2,14 +2,17 @@
 //! to one, or says why neither is known.
 #![tactic(auto)]
 
-mod answering;
+pub mod answering;
 pub mod answers;
 mod asking;
 mod claims;
 pub mod effort;
+pub mod exploring;
 mod playing;
 mod proving;
 
+pub use answering::certificate_of;
 pub use answers::{Answer, Cause, Done, Work};
 pub use effort::Effort;
+pub use exploring::{Explored, explore};
 pub use proving::{prove_all, prove_invariant};

@@ -3,10 +3,10 @@ use Rattle.clause_core.specs.declared.literal.Lit.{Lit}
 use Rattle.frame_core.specs.declared.parts.Parent.{Parent}
 use Rattle.frame_core.specs.Facts.{IsPart}
 use Rattle.frame_core.specs.Law.{system_at, AllStand}
-use Rattle.frame_query.specs.Paying.{Steps}
-use Rattle.frame_query.specs.Stepping.{Ends}
+use Rattle.frame_solver.specs.Paying.{Steps}
+use Rattle.frame_solver.specs.Stepping.{Ends}
 use Rattle.frame_query.specs.Trying.{proof_of}
-use Rattle.frame_query.proofs.Paid.{none_same}
+use Rattle.frame_solver.proofs.Paid.{none_same}
 use Rattle.frame_query.proofs.Tried.{ends_part, meets_more}
 use Rattle.frame_query.proofs.attempting.steps_or_draft.Goals as goal
 

@@ -1,7 +1,7 @@
 use Rattle.std.proofs.Common.{◌≡◌, length}
 use Rattle.frame_core.specs.Law.{system_at}
-use Rattle.frame_query.specs.Groups.{base, step_heads, state_heads, clauses_of}
-use Rattle.frame_query.specs.Engines.{IsLoaded, known_of}
+use Rattle.frame_solver.specs.Groups.{base, step_heads, state_heads, clauses_of}
+use Rattle.frame_solver.specs.Engines.{IsLoaded, known_of}
 use Rattle.frame_query.specs.Trying.{IsUnderWay, IsPaidSoFar}
 use Rattle.frame_query.proofs.dropping.generalised.Given as goal
 

@@ -5,10 +5,10 @@ use Rattle.clause_core.specs.declared.literal.Lit.{Lit}
 use Rattle.clause_core.specs.Literals.{Within}
 use Rattle.frame_core.specs.Facts.{IsPart, IsProved}
 use Rattle.frame_core.specs.Law.{system_at}
-use Rattle.frame_query.specs.Engines.{known_of}
+use Rattle.frame_solver.specs.Engines.{known_of}
 use Rattle.frame_query.specs.Dropping.{AsksOf}
 use Rattle.frame_query.specs.Trying.{proof_of, IsOthers, PaysFor, Tries, MovesBy, TurnSays}
-use Rattle.frame_query.proofs.Paid.{pays_none}
+use Rattle.frame_solver.proofs.Paid.{pays_none}
 use Rattle.frame_query.proofs.Walked.{kept_candidate, is_candidate, candidate_best, within_part, turn_says}
 use Rattle.frame_query.proofs.dropping.turn.Goals as goal
 

@@ -2,7 +2,7 @@ use Rattle.std.proofs.Common.{[]}
 use Rattle.std.specs.Result.{IfOk}
 use Rattle.std.proofs.lemmas.Result.{IfOk-from_err}
 use Rattle.frame_query.specs.Findings.{IsTheState}
-use Rattle.frame_query.proofs.Paid.{bad_one, bad_two}
+use Rattle.frame_query.proofs.PaidBad.{bad_one, bad_two}
 use Rattle.frame_query.proofs.finding.bad_of.Goals as goal
 
 pub returns-in_err-parents-clause-pays : goal.returns-in_err-parents-clause-pays

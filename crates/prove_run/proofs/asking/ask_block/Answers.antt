@@ -4,13 +4,13 @@ use Rattle.clause_core.specs.declared.literal.Lit.{Lit}
 use Rattle.clause_core.specs.Literals.{Within}
 use Rattle.frame_core.specs.Facts.{ProvedClause, FoundStep}
 use Rattle.frame_core.specs.Law.{system_at}
-use Rattle.frame_query.specs.Firsts.{AllFirstsMeet, negation_of}
+use Rattle.frame_solver.specs.Firsts.{AllFirstsMeet, negation_of}
 use Rattle.frame_query.specs.Findings.{FindsRelative}
 use Rattle.frame_query.specs.Dropping.{PaysParts}
-use Rattle.frame_query.specs.Paying.{PaysOne, Steps, Firsts}
-use Rattle.frame_query.specs.Stepping.{IsStepOut}
+use Rattle.frame_solver.specs.Paying.{PaysOne, Steps, Firsts}
+use Rattle.frame_solver.specs.Stepping.{IsStepOut}
 use Rattle.frame_query.specs.declared.outcomes.Relative.TheVariants.{Proved, Step}
-use Rattle.frame_query.proofs.Negated.{negation_within}
+use Rattle.frame_solver.proofs.Negated.{negation_within}
 use Rattle.prove_run.specs.Asking.{AnswersBlock, IsSmaller, IsBefore, PaysFor}
 use Rattle.prove_run.specs.Paying.{MayAskBlock}
 use Rattle.prove_run.proofs.Blocking.{initial_meet, smaller_answers, before_answers, part_paid, note_paid, one_paid}

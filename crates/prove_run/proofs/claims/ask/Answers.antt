@@ -5,7 +5,7 @@ use Rattle.clause_core.specs.Systems.{TransitionSystem, FirstBits}
 use Rattle.frame_core.specs.declared.parts.Lemma.{Lemma}
 use Rattle.frame_core.specs.Law.{system_at, lemma_at}
 use Rattle.frame_history.specs.declared.entries.Subject.TheVariants.{Block, Push}
-use Rattle.frame_query.specs.Firsts.{AllFirstsMeet}
+use Rattle.frame_solver.specs.Firsts.{AllFirstsMeet}
 use Rattle.prove_run.specs.Asking.{AnswersBad, AnswersBlock, IsAsked}
 use Rattle.prove_run.proofs.Outcomes.{IsUpToDate, asked_of, bad_asked, block_asked, lemma_first}
 use Rattle.prove_run.proofs.claims.ask.Goals as goal

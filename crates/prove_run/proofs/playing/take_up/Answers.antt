@@ -11,24 +11,24 @@ use Rattle.prove_run.proofs.playing.take_up.Goals as goal
 
 pub ask-requires-clause-systems : goal.ask-requires-clause-systems
 ask-requires-clause-systems g c =
-    taken_systems c.args.book.now c.args.claim c.args.solver.now (g.Q.Purse.tickets c.args.purse.now) (g.Q.Purse.spent c.args.purse.now) c.requires.taken
+    taken_systems g.B.Begun.before c.args.book.now c.args.claim c.args.solver.now (g.Q.Purse.tickets c.args.purse.now) (g.Q.Purse.spent c.args.purse.now) c.requires.taken
     ∙ sym (ap (λ (f : FrameState). f.systems) c.frames.ensures.value)
 
 pub ask-requires-clause-asked : goal.ask-requires-clause-asked
 ask-requires-clause-asked g c =
     subst (λ (f : FrameState). MayBeAsked f c.args.claim c.args.claim.subject) (sym c.frames.ensures.value)
-    (taken_asks c.args.book.now c.args.claim c.args.solver.now (g.Q.Purse.tickets c.args.purse.now) (g.Q.Purse.spent c.args.purse.now) c.requires.taken)
+    (taken_asks g.B.Begun.before c.args.book.now c.args.claim c.args.solver.now (g.Q.Purse.tickets c.args.purse.now) (g.Q.Purse.spent c.args.purse.now) c.requires.taken)
 
 pub settle-requires-clause-out : goal.settle-requires-clause-out
 settle-requires-clause-out g c =
-    taken_out c.args.book.now c.args.claim c.args.solver.now (g.Q.Purse.tickets c.args.purse.now) (g.Q.Purse.spent c.args.purse.now) c.requires.taken
+    taken_out g.B.Begun.before c.args.book.now c.args.claim c.args.solver.now (g.Q.Purse.tickets c.args.purse.now) (g.Q.Purse.spent c.args.purse.now) c.requires.taken
 
 pub settle-requires-clause-outcome : goal.settle-requires-clause-outcome
 settle-requires-clause-outcome g c =
     let b = c.args.book.now in
     let v = c.args.claim in
     let o = c.in-Ok.outcome in
-    let same = taken_same b v c.args.solver.now (g.Q.Purse.tickets c.args.purse.now) (g.Q.Purse.spent c.args.purse.now) c.requires.taken in
+    let same = taken_same g.B.Begun.before b v c.args.solver.now (g.Q.Purse.tickets c.args.purse.now) (g.Q.Purse.spent c.args.purse.now) c.requires.taken in
     let asked : IsAsked b.state.frames v (g.Q.Purse.spent c.ask.new.purse) o =
     subst (λ (f : FrameState). IsAsked f v (g.Q.Purse.spent c.ask.new.purse) o) c.frames.ensures.value c.in-Ok.ensures.answer in
     subst (λ (z : List TransitionSystem). IsOutcomeOf z v v.subject o) same asked.of
@@ -48,6 +48,6 @@ returns-in-Ok-clause-played g c =
     let paid : PaysClaim b.state.frames v c.args.solver.now.known w.known x y =
     subst (λ (f : FrameState). PaysClaim f v c.args.solver.now.known w.known x y) c.frames.ensures.value c.in-Ok.ensures.pays in
     let lemmas = c.in-Ok.ensures.lemmas ∙ ap (λ (f : FrameState). f.lemmas) c.frames.ensures.value in
-    on_ok_both c.settle.result (IsSettled b v o now) (IsBook now) (IsPlayed now w y later)
-    (λ settled book. went_on b now v c.args.solver.now w x y over later o c.requires.taken asked paid c.ask.ensures.systems lemmas settled book)
+    on_ok_both c.settle.result (IsSettled b v o now) (IsBook now) (IsPlayed g.B.Begun.before now w y later)
+    (λ settled book. went_on g.B.Begun.before b now v c.args.solver.now w x y over later o c.requires.taken asked paid c.ask.ensures.systems lemmas settled book)
     c.settle.ensures.settled c.settle.ensures.kept

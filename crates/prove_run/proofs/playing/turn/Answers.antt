@@ -9,4 +9,4 @@ pub returns-in-Idle-clause-closed : goal.returns-in-Idle-clause-closed
 returns-in-Idle-clause-closed g c = λ e.
     let b = c.args.book.now in
     let idle : Claims b 0 Idle c.claim.new.self = subst (λ (a : Claiming). Claims b 0 a c.claim.new.self) c.in-Idle.is c.in_ok-claim.ensures.done in
-    absurd (idle_never b c.args.solver.now (g.Q.Purse.tickets c.args.purse.now) (g.Q.Purse.spent c.args.purse.now) c.requires.played idle.0 idle.1)
+    absurd (idle_never g.B.Begun.before b c.args.solver.now (g.Q.Purse.tickets c.args.purse.now) (g.Q.Purse.spent c.args.purse.now) c.requires.played idle.0 idle.1)

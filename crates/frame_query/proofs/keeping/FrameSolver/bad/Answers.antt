@@ -1,9 +1,9 @@
 use Rattle.std.proofs.Common.{List, subst}
 use Rattle.std.specs.Result.{IfOk}
 use Rattle.frame_core.specs.declared.parts.Lemma.{Lemma}
-use Rattle.frame_query.specs.Engines.{known_of}
+use Rattle.frame_solver.specs.Engines.{known_of}
 use Rattle.frame_query.specs.Findings.{SolverView, FindsBad, IsTheState, PaysBad}
-use Rattle.frame_query.proofs.Paid.{bad_right}
+use Rattle.frame_query.proofs.PaidBad.{bad_right}
 use Rattle.frame_query.proofs.keeping.FrameSolver.bad.Goals as goal
 
 pub returns-clause-pays : goal.returns-clause-pays

@@ -2,11 +2,11 @@ use Rattle.std.proofs.Common.{List, subst}
 use Rattle.std.specs.Result.{IfOk}
 use Rattle.frame_core.specs.declared.parts.Lemma.{Lemma}
 use Rattle.frame_core.specs.Law.{system_at}
-use Rattle.frame_query.specs.Engines.{known_of}
-use Rattle.frame_query.specs.Firsts.{FindsFirsts}
+use Rattle.frame_solver.specs.Engines.{known_of}
+use Rattle.frame_solver.specs.Firsts.{FindsFirsts}
 use Rattle.frame_query.specs.Findings.{SolverView}
-use Rattle.frame_query.specs.Paying.{Firsts, PaysOne}
-use Rattle.frame_query.proofs.Paid.{one_right}
+use Rattle.frame_solver.specs.Paying.{Firsts, PaysOne}
+use Rattle.frame_solver.proofs.Paid.{one_right}
 use Rattle.frame_query.proofs.keeping.FrameSolver.first.Goals as goal
 
 pub returns-clause-pays : goal.returns-clause-pays

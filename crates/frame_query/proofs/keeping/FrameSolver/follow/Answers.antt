@@ -26,7 +26,7 @@ invariant_of-self c =
     let older : IsOlder c.self.inside.lemmas c.args.lemmas.now = subst K (sym c.self.view_is) c.requires.older in
     let taken : length c.follow_levels.new.copy ≡ length c.self.inside.lemmas =
     ap length c.follow_levels.ensures ∙ length-take-le (length c.self.inside.lemmas) c.args.lemmas.now older.shorter in
-    kept_followed c.self.inside.systems.now c.self.inside.lemmas c.follow_adds.new.copy c.args.lemmas.now c.self.inside.steps c.self.inside.states c.self.inside.known c.self.invariant older
+    kept_followed c.self.inside.systems.now c.self.inside.lemmas c.follow_adds.new.copy c.args.lemmas.now c.self.inside.steps c.self.inside.states c.self.inside.known c.self.inside.proofs.items c.self.invariant older
     (subst W (sym c.self.view_is) c.requires.within) c.follow_adds.ensures.part (omega (arith, c.follow_adds.ensures.more, taken))
 
 pub returns-clause-older : goal.returns-clause-older

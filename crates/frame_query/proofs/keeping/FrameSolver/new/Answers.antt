@@ -4,8 +4,10 @@ use Rattle.std.proofs.lemmas.List.Elements.{All-nil}
 use Rattle.clause_core.specs.Literals.{Within}
 use Rattle.frame_core.specs.declared.parts.Lemma.{Lemma}
 use Rattle.frame_core.specs.Law.{system_at}
-use Rattle.frame_query.specs.Groups.{base, step_heads, state_heads, clauses_of}
-use Rattle.frame_query.proofs.Renewed.{fresh_loaded}
+use Rattle.frame_solver.specs.Groups.{base, step_heads, state_heads, clauses_of}
+use Rattle.frame_solver.proofs.Renewed.{fresh_loaded}
+use Rattle.frame_query.specs.KeptProofs.{AreKept}
+use Rattle.frame_query.proofs.Again.{kept_none}
 use Rattle.frame_query.proofs.keeping.FrameSolver.new.Goals as goal
 
 pub invariant_of-result : goal.invariant_of-result
@@ -20,4 +22,5 @@ invariant_of-result c =
       for_steps = fresh_loaded (base sys) (step_heads sys) 0 (clauses_of lemmas) c.in_ok-steps.steps c.in_ok-steps.ensures;
       for_states = fresh_loaded (base sys) (state_heads c.args.systems.now) 0 (clauses_of lemmas) c.in_ok-states.states c.in_ok-states.ensures;
       of_first = c.in_ok-known.ensures ∙ c.system_of.ensures.value;
+      again = subst (AreKept sys lemmas) (sym c.new-3.ensures.items) (kept_none sys lemmas);
     }

@@ -2,11 +2,11 @@ use Rattle.std.proofs.Common.{List, subst, sym}
 use Rattle.std.specs.Result.{IfOk}
 use Rattle.frame_core.specs.declared.parts.Lemma.{Lemma}
 use Rattle.frame_core.specs.Law.{system_at}
-use Rattle.frame_query.specs.Engines.{known_of}
-use Rattle.frame_query.specs.Firsts.{AllFirstsMeet}
+use Rattle.frame_solver.specs.Engines.{known_of}
+use Rattle.frame_solver.specs.Firsts.{AllFirstsMeet}
 use Rattle.frame_query.specs.Findings.{SolverView, FindsRelative}
-use Rattle.frame_query.specs.Paying.{Steps, PaysOne}
-use Rattle.frame_query.proofs.Paid.{one_left}
+use Rattle.frame_solver.specs.Paying.{Steps, PaysOne}
+use Rattle.frame_solver.proofs.Paid.{one_left}
 use Rattle.frame_query.proofs.keeping.FrameSolver.relative.Goals as goal
 
 pub returns-clause-pays : goal.returns-clause-pays

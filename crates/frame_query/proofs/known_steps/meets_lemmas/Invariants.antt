@@ -1,8 +1,0 @@
-use Rattle.std.proofs.Common.{◌<◌, ◌≤◌, ℕ}
-use Rattle.clause_core.specs.Assignments.{ClauseTrue, assignment_of}
-use Rattle.frame_core.specs.Law.{lemma_at}
-use Rattle.frame_query.proofs.known_steps.meets_lemmas.Given as goal
-
-abbrev pub invariant-lemmas : goal.invariant-lemmas
-invariant-lemmas l =
-    (n : ℕ) → n < l.lemma-index → l.least ≤ (lemma_at l.lemmas n).level → ClauseTrue (assignment_of l.values) (lemma_at l.lemmas n).clause

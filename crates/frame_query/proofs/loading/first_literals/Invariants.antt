@@ -1,6 +1,0 @@
-use Rattle.std.proofs.Common.{◌≡◌, take}
-use Rattle.frame_query.specs.Groups.{first_clause}
-use Rattle.frame_query.proofs.loading.first_literals.Given as goal
-
-abbrev pub invariant-literals : goal.invariant-literals
-invariant-literals l = l.literals.items ≡ first_clause l.system (take l.l-index l.clause)

@@ -1,5 +1,0 @@
-use Rattle.std.proofs.Common.{◌≡◌}
-use Rattle.frame_query.proofs.loading.prefer_first.Given as goal
-
-abbrev pub invariant-clauses : goal.invariant-clauses
-invariant-clauses l = l.solver ≡ l.fn.solver

@@ -1,6 +1,0 @@
-use Rattle.std.proofs.Common.{◌≡◌, take}
-use Rattle.frame_query.specs.Stepping.{step_literals}
-use Rattle.frame_query.proofs.stepping.own_literals.Given as goal
-
-abbrev pub invariant-literals : goal.invariant-literals
-invariant-literals l = l.literals.items ≡ step_literals l.bits l.own (take l.l-index l.clause)

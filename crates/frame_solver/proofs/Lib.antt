@@ -1,0 +1,15 @@
+pub mod Asked
+pub mod BadsOf
+pub mod Cutting
+pub mod FirstsOf
+pub mod Framed
+pub mod Guarding
+pub mod Joined
+pub mod Loaded
+pub mod Negated
+pub mod Paid
+pub mod Recalled
+pub mod Renewed
+pub mod Stepped
+pub mod Tests
+pub mod Truths

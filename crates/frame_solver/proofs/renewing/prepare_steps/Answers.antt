@@ -1,0 +1,30 @@
+use Rattle.std.proofs.Common.{◌≡◌, List, sym, ◌∙◌, subst, arith, length}
+use Rattle.std.specs.Prelude.{All, Contains}
+use Rattle.std.proofs.lemmas.Result.{on_ok_weaker}
+use Rattle.clause_core.specs.declared.literal.Lit.{Lit}
+use Rattle.frame_core.specs.Law.{system_at}
+use Rattle.frame_solver.specs.Groups.{base, step_heads, clauses_of}
+use Rattle.frame_solver.specs.Engines.{IsReady}
+use Rattle.frame_solver.proofs.Framed.{clauses_count}
+use Rattle.frame_solver.proofs.Loaded.{is_ready}
+use Rattle.frame_solver.proofs.renewing.prepare_steps.Goals as goal
+
+pub returns-clause-done : goal.returns-clause-done
+returns-clause-done c =
+    let b = base (system_at c.args.systems.now 0) in
+    let heads = (step_heads (system_at c.args.systems.now 0)) in
+    let lemmas = c.args.lemmas.now in
+    let loaded = c.catch_up.ensures.each b heads c.in_ok-renew_steps.ensures.engine in
+    on_ok_weaker {P = c.catch_up.new.engine.loaded ≡ length lemmas} {Q = IsReady b heads (clauses_of lemmas) c.catch_up.new.engine} c.catch_up.result
+    (λ all. is_ready b heads (clauses_of lemmas) c.catch_up.new.engine loaded (all ∙ sym (clauses_count lemmas))
+    (omega (arith, c.in_ok-renew_steps.ensures.room, c.catch_up.ensures.keeps.used, clauses_count lemmas)))
+    c.catch_up.ensures.all
+
+pub returns-clause-engine : goal.returns-clause-engine
+returns-clause-engine c =
+    c.catch_up.ensures.each (base (system_at c.args.systems.now 0)) (step_heads (system_at c.args.systems.now 0)) c.in_ok-renew_steps.ensures.engine
+
+pub returns-clause-known : goal.returns-clause-known
+returns-clause-known c =
+    let P : List (List Lit) → Type 0 = All (Contains c.args.engine.now.solver.learned) in
+    subst P (sym c.catch_up.ensures.keeps.learned) c.renew_steps.ensures.known

@@ -1,0 +1,10 @@
+pub mod Asking
+pub mod Bads
+pub mod Engines
+pub mod Firsts
+pub mod Flags
+pub mod Groups
+pub mod Guards
+pub mod Paying
+pub mod Recalling
+pub mod Stepping

@@ -1,0 +1,219 @@
+ghost use Rattle.std.specs.Prelude.{◌≡◌, ◌+◌, ◌<◌, ◌≤◌, ◌^◌, ℕ, List, [], ◌∷◌, ◌++◌, All, Contains, OnOk, OnErr, IfOk, length};
+ghost use Rattle.clause_core.specs.declared.literal.Lit.{Lit as ALit};
+ghost use Rattle.clause_core.specs.Literals.{Within};
+ghost use Rattle.frame_core.specs.declared.parts.Lemma.{Lemma as ALemma};
+ghost use Rattle.frame_core.specs.Law.{AreAlike, system_at};
+ghost use Rattle.frame_solver.specs.Guards.{off, HoldsGroups};
+ghost use Rattle.frame_solver.specs.Groups.{base as base_of, init_group, step_heads, state_heads, clauses_of};
+ghost use Rattle.frame_solver.specs.Engines.{IsFresh, IsLoaded, IsReady, KeepsLoading};
+
+use crate::loading::{
+    Engine, first_clauses, first_guard, prefer_first, push_group, push_guarded, sum, system_of,
+};
+use clause_core::{Lit, System};
+use frame_core::Lemma;
+use sat_core::Solver;
+use sat_prop::Watched;
+use std::alloc::{AllocError, Global};
+
+// How many queries with a clause of their own a new solver has room for.
+const ROOM: usize = 1000;
+
+// How many clauses a solver may have learned before it is made anew, beside one for each eight clauses of a step: what was
+// learned long ago costs each query more than it saves.
+const LEARNED: usize = 300;
+
+// Whether the solver has learned less than makes it slow.
+fn is_light(systems: &[System], engine: &Engine) -> bool
+    requires some { 0 < length systems.now }
+{
+    let steps = system_of(systems, 0).step().len();
+    engine.solver.learned() < LEARNED.saturating_add(steps / 8)
+}
+
+// A solver with the groups for questions about steps, and room for so many lemmas.
+pub fn fresh_steps(alloc: Global, systems: &[System], lemmas: usize) -> Result<Engine, AllocError>
+    requires { 0 < length systems.now }
+    ensures { IfOk result (IsFresh (base_of (system_at systems.now 0)) (step_heads (system_at systems.now 0)) lemmas) }
+{
+    let system = system_of(systems, 0);
+    let init = first_clauses(alloc, system)?;
+    let base = first_guard(system)?;
+    let used = sum(base, sum(2 + ROOM, lemmas)?)?;
+    let mut solver = Solver::new(alloc, used)?;
+    push_group(alloc, &mut solver, base, &init)?;
+    push_group(alloc, &mut solver, base + 1, system.step())?;
+    prefer_first(&mut solver, system);
+    Ok(Engine {
+        solver,
+        base,
+        heads: 2,
+        loaded: 0,
+        used,
+    })
+}
+
+// Adds the bad clauses of each system, from the second group on.
+fn push_bads(
+    alloc: Global,
+    solver: &mut Solver<Watched>,
+    base: usize,
+    systems: &[System],
+) -> Result<(), AllocError>
+    requires some { 0 < length systems.now }
+    requires alike { AreAlike systems.now }
+    requires base { base ≡ base_of (system_at systems.now 0) }
+    requires room { base + (1 + length systems.now) < solver.old.vars }
+    requires small { solver.old.vars < 2 ^ 64 }
+    requires init { HoldsGroups base (init_group (system_at systems.now 0) ∷ []) solver.old.vars solver.old.given }
+    ensures vars { OnOk result (solver.new.vars ≡ solver.old.vars) }
+    ensures learned { OnOk result (solver.new.learned ≡ solver.old.learned) }
+    ensures all { OnOk result (HoldsGroups base (state_heads systems.now) solver.old.vars solver.new.given) }
+{
+    'systems: for j in 0..systems.len() {
+        let system = system_of(systems, j);
+        push_group(alloc, solver, base + (1 + j), system.bad())?;
+    }
+    Ok(())
+}
+
+// A solver with the groups for questions about single states, and room for so many lemmas.
+pub fn fresh_states(alloc: Global, systems: &[System], lemmas: usize) -> Result<Engine, AllocError>
+    requires some { 0 < length systems.now }
+    requires alike { AreAlike systems.now }
+    ensures { IfOk result (IsFresh (base_of (system_at systems.now 0)) (state_heads systems.now) lemmas) }
+{
+    let system = system_of(systems, 0);
+    let init = first_clauses(alloc, system)?;
+    let base = first_guard(system)?;
+    let heads = sum(1, systems.len())?;
+    let used = sum(base, sum(heads, sum(ROOM, lemmas)?)?)?;
+    let mut solver = Solver::new(alloc, used)?;
+    push_group(alloc, &mut solver, base, &init)?;
+    push_bads(alloc, &mut solver, base, systems)?;
+    prefer_first(&mut solver, system);
+    Ok(Engine {
+        solver,
+        base,
+        heads,
+        loaded: 0,
+        used,
+    })
+}
+
+// Loads one lemma more. After want of memory all is as before.
+fn add_lemma(alloc: Global, engine: &mut Engine, clause: &[Lit]) -> Result<(), AllocError>
+    requires room { engine.old.base + (engine.old.heads + engine.old.loaded) < engine.old.used }
+    requires fits { engine.old.used ≤ engine.old.solver.vars }
+    requires within { Within engine.old.solver.vars clause.now }
+    ensures done { OnOk result (engine.new ≡ record engine.old { loaded = engine.old.loaded + 1; solver = record engine.old.solver { given = engine.old.solver.given ++ (off (engine.old.base + (engine.old.heads + engine.old.loaded)) ∷ clause.now) ∷ [] } }) }
+    ensures failed { OnErr result (engine.new ≡ engine.old) }
+{
+    let _vars = engine.solver.vars();
+    let guard = engine.base + (engine.heads + engine.loaded);
+    push_guarded(alloc, &mut engine.solver, guard, clause)?;
+    engine.loaded += 1;
+    Ok(())
+}
+
+// Loads the lemmas that were not loaded yet. After want of memory some of them were.
+pub(crate) fn catch_up(
+    alloc: Global,
+    engine: &mut Engine,
+    lemmas: &[Lemma],
+) -> Result<(), AllocError>
+    requires some { engine.old.loaded ≤ length lemmas.now }
+    requires room { engine.old.base + (engine.old.heads + length lemmas.now) < engine.old.used }
+    requires fits { engine.old.used ≤ engine.old.solver.vars }
+    requires within { All (λ (l : ALemma). Within engine.old.solver.vars l.clause) lemmas.now }
+    ensures keeps { KeepsLoading engine.old engine.new }
+    ensures each { (b : ℕ) (hs : List (List (List ALit))) → IsLoaded b hs (clauses_of lemmas.now) engine.old → IsLoaded b hs (clauses_of lemmas.now) engine.new }
+    ensures all { OnOk result (engine.new.loaded ≡ length lemmas.now) }
+{
+    'lemmas: for n in engine.loaded..lemmas.len() {
+        add_lemma(alloc, engine, lemmas[n].clause.as_slice())?;
+    }
+    Ok(())
+}
+
+// Makes the solver for questions about steps anew where no activation variable is left.
+fn renew_steps(
+    alloc: Global,
+    systems: &[System],
+    lemmas: &[Lemma],
+    engine: &mut Engine,
+) -> Result<(), AllocError>
+    requires some { 0 < length systems.now }
+    requires engine { IsLoaded (base_of (system_at systems.now 0)) (step_heads (system_at systems.now 0)) (clauses_of lemmas.now) engine.old }
+    ensures engine { IsLoaded (base_of (system_at systems.now 0)) (step_heads (system_at systems.now 0)) (clauses_of lemmas.now) engine.new }
+    ensures room { OnOk result (base_of (system_at systems.now 0) + (length (step_heads (system_at systems.now 0)) + length lemmas.now) < engine.new.used) }
+    ensures known { All (Contains engine.old.solver.learned) engine.new.solver.learned }
+{
+    let need = sum(engine.base, sum(engine.heads, lemmas.len())?)?;
+    if need < engine.used && is_light(systems, engine) {
+        return Ok(());
+    }
+    *engine = fresh_steps(alloc, systems, lemmas.len())?;
+    Ok(())
+}
+
+// Makes the solver ready for a query about steps: an activation variable is left, and all lemmas are loaded.
+pub(crate) fn prepare_steps(
+    alloc: Global,
+    systems: &[System],
+    lemmas: &[Lemma],
+    engine: &mut Engine,
+) -> Result<(), AllocError>
+    requires some { 0 < length systems.now }
+    requires lemmas { All (λ (l : ALemma). Within (system_at systems.now 0).state_bits l.clause) lemmas.now }
+    requires engine { IsLoaded (base_of (system_at systems.now 0)) (step_heads (system_at systems.now 0)) (clauses_of lemmas.now) engine.old }
+    ensures done { OnOk result (IsReady (base_of (system_at systems.now 0)) (step_heads (system_at systems.now 0)) (clauses_of lemmas.now) engine.new) }
+    ensures engine { IsLoaded (base_of (system_at systems.now 0)) (step_heads (system_at systems.now 0)) (clauses_of lemmas.now) engine.new }
+    ensures known { All (Contains engine.old.solver.learned) engine.new.solver.learned }
+{
+    let _system = system_of(systems, 0);
+    renew_steps(alloc, systems, lemmas, engine)?;
+    catch_up(alloc, engine, lemmas)
+}
+
+// Makes the solver for questions about single states anew where no activation variable is left.
+fn renew_states(
+    alloc: Global,
+    systems: &[System],
+    lemmas: &[Lemma],
+    engine: &mut Engine,
+) -> Result<(), AllocError>
+    requires some { 0 < length systems.now }
+    requires alike { AreAlike systems.now }
+    requires engine { IsLoaded (base_of (system_at systems.now 0)) (state_heads systems.now) (clauses_of lemmas.now) engine.old }
+    ensures engine { IsLoaded (base_of (system_at systems.now 0)) (state_heads systems.now) (clauses_of lemmas.now) engine.new }
+    ensures room { OnOk result (base_of (system_at systems.now 0) + (length (state_heads systems.now) + length lemmas.now) < engine.new.used) }
+    ensures known { All (Contains engine.old.solver.learned) engine.new.solver.learned }
+{
+    let need = sum(engine.base, sum(engine.heads, lemmas.len())?)?;
+    if need < engine.used {
+        return Ok(());
+    }
+    *engine = fresh_states(alloc, systems, lemmas.len())?;
+    Ok(())
+}
+
+// Makes the solver ready for a query about single states: an activation variable is left, and all lemmas are loaded.
+pub(crate) fn prepare_states(
+    alloc: Global,
+    systems: &[System],
+    lemmas: &[Lemma],
+    engine: &mut Engine,
+) -> Result<(), AllocError>
+    requires some { 0 < length systems.now }
+    requires alike { AreAlike systems.now }
+    requires lemmas { All (λ (l : ALemma). Within (system_at systems.now 0).state_bits l.clause) lemmas.now }
+    requires engine { IsLoaded (base_of (system_at systems.now 0)) (state_heads systems.now) (clauses_of lemmas.now) engine.old }
+    ensures done { OnOk result (IsReady (base_of (system_at systems.now 0)) (state_heads systems.now) (clauses_of lemmas.now) engine.new) }
+    ensures engine { IsLoaded (base_of (system_at systems.now 0)) (state_heads systems.now) (clauses_of lemmas.now) engine.new }
+    ensures known { All (Contains engine.old.solver.learned) engine.new.solver.learned }
+{
+    let _system = system_of(systems, 0);
+    renew_states(alloc, systems, lemmas, engine)?;
+    catch_up(alloc, engine, lemmas)
+}

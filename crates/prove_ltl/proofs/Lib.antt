@@ -1,0 +1,5 @@
+mod Beginning
+mod Ladder
+mod Longer
+mod Owned
+mod Stepping

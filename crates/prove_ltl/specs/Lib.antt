@@ -1,0 +1,5 @@
+pub mod Lengths
+pub mod Searching
+pub mod Rungs
+pub mod LtlAnswers
+pub mod Climbing

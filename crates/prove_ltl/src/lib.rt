@@ -1,0 +1,13 @@
+//! Linear temporal logic by search and proof: lassos of one length after another (Biere, Heljanko, Junttila, Latvala and
+//! Schuppan 2006), then k-liveness by IC3 for one counter after another (Claessen and Sörensson 2012; Bradley 2011).
+#![tactic(auto)]
+
+pub mod answers;
+mod climbing;
+pub mod effort;
+pub mod proving;
+mod searching;
+
+pub use answers::{LtlAnswer, LtlCause, LtlDone};
+pub use effort::LtlEffort;
+pub use proving::prove_ltl;
