@@ -2,3 +2,4 @@ pub mod MoreNodes
 pub mod MoreKept
 pub mod Fitting
 pub mod Telling
+pub mod Untold

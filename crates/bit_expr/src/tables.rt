@@ -49,7 +49,7 @@ fn all_settled(
 }
 
 /// The truth of each node in the state of these edges with the inputs of these, where `later` has the truths in the next
-/// state. An operator that is not of booleans, or over another number of operands, counts as want of memory.
+/// state. An operator that is neither of booleans nor temporal, or over another number of operands, counts as want of memory.
 pub fn table(
     alloc: Global,
     graph: &mut Graph,

@@ -224,8 +224,8 @@ fn conditional(graph: &mut Graph, condition: Truth, a: Truth, b: Truth) -> Resul
     Ok(Truth { known, value })
 }
 
-/// The truth of an operator over those of its operands. Operands that are not as many as its kind asks for count as want of
-/// memory, and so does an operator that is not of booleans.
+/// The truth of an operator over those of its operands. A temporal operator has no value in a state. Operands that are not as many as
+/// the operator's kind asks for count as want of memory, and so does any other operator that is not of booleans.
 pub fn applied(
     graph: &mut Graph,
     operator: Operator,
@@ -238,6 +238,8 @@ pub fn applied(
     match operator {
         Operator::Not => unary(operands),
         Operator::Choice => choice(graph, operands),
+        Operator::Temporal(_) => Ok(nothing(graph)),
+        Operator::Bounded(..) => Ok(nothing(graph)),
         other => binary(graph, other, operands),
     }
 }

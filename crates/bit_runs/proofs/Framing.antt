@@ -4,7 +4,7 @@ use Rattle.clause_core.specs.Systems.{TransitionSystem, ReachedWithin}
 use Rattle.frame_core.specs.declared.parts.Lemma.{Lemma}
 use Rattle.frame_core.specs.Law.{InFrame, IsInvariant, IsSafe, LemmasHold, MeetsFrom}
 use Rattle.frame_core.proofs.Reaching.{holds_within}
-use Rattle.bit_runs.specs.Running.{NeverBad, NeverBadWithin}
+use Rattle.bit_system.specs.Claims.{NeverBad, NeverBadWithin}
 
 module _ (sys : TransitionSystem) (lemmas : List Lemma) where
   kept : (i : ℕ) → IsInvariant sys lemmas i → (n : ℕ) (x : ℕ → Bool) → ReachedWithin sys n x → MeetsFrom lemmas i x

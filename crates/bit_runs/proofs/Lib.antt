@@ -1,3 +1,2 @@
 pub mod Framing
-pub mod Reaching
 pub mod Replaying

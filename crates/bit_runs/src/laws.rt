@@ -7,15 +7,8 @@ ghost use Rattle.smv_resolve.specs.Items.{ResolvedItem};
 ghost use Rattle.frame_core.specs.declared.parts.Lemma.{Lemma};
 ghost use Rattle.frame_core.specs.Law.{AreAlike, FrameState, FramesHold, IsInvariant, system_at, top_at};
 ghost use Rattle.bit_system.specs.Building.{BitProgram, IsBuilt};
+ghost use Rattle.bit_system.specs.Claims.{IsUnbroken, IsUnbrokenWithin};
 ghost use Rattle.bit_system.specs.Standing.{StandsFor};
-ghost use Rattle.bit_runs.specs.Running.{NeverBad, NeverBadWithin, IsUnbroken, IsUnbrokenWithin};
-
-/// Where a system stands for a program and a specification and reaches no bad state, no run of the program breaks the
-/// specification; and where it reaches none in n steps, no run of at most n steps does.
-pub fn what_is_never_bad_is_unbroken()
-    ensures all { (p : Program) (spec : ResolvedItem) (sys : TransitionSystem) → StandsFor p spec sys → NeverBad sys → IsUnbroken p spec }
-    ensures within { (p : Program) (spec : ResolvedItem) (sys : TransitionSystem) (n : ℕ) → StandsFor p spec sys → NeverBadWithin sys n → IsUnbrokenWithin p spec n }
-{}
 
 /// The systems of a program have the same bits, first states and steps.
 pub fn what_is_built_is_alike()

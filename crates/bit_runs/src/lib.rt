@@ -1,9 +1,11 @@
 //! Runs of a system over bits and runs of the model that it stands for: where no bad state is reached no run breaks the
-//! specification, and a run to a bad state is a counterexample (Bradley 2011, section 2; Biere and others 1999).
+//! specification, and a run to a bad state is a counterexample (Bradley 2011, section 2; Biere and others 1999). The same of a lasso.
 #![tactic(auto)]
 
+mod lassos;
 mod laws;
 mod runs;
 
-pub use laws::{what_frames_say_of_runs, what_is_built_is_alike, what_is_never_bad_is_unbroken};
+pub use lassos::{Lasso, lasso_of};
+pub use laws::{what_frames_say_of_runs, what_is_built_is_alike};
 pub use runs::{Run, run_of};

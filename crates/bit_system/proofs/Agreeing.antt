@@ -20,15 +20,15 @@ use Rattle.bit_system.proofs.Codes.{code_at, coding, fits_long, plain}
 use Rattle.bit_system.proofs.Frames.{decoded_moved}
 use Rattle.bit_system.proofs.OfSides.{state_same}
 
-and_left : (a b : Bool) → (a && b) ≡ true → a ≡ true
+pub and_left : (a b : Bool) → (a && b) ≡ true → a ≡ true
 and_left true b h = refl
 and_left false b h = cc
 
-and_right : (a b : Bool) → (a && b) ≡ true → b ≡ true
+pub and_right : (a b : Bool) → (a && b) ≡ true → b ≡ true
 and_right true b h = h
 and_right false b h = cc
 
-inputs_fit : (p : Program) (s u t : List Value) → is_step p s u t ≡ true → are_inputs p u ≡ true
+pub inputs_fit : (p : Program) (s u t : List Value) → is_step p s u t ≡ true → are_inputs p u ≡ true
 inputs_fit p s u t h =
     let kept = keeps_frozen (slots_of p) s t in
     let allowed = list_all (allows_step (slots_of p) s u t) (items_of p) in
@@ -92,7 +92,7 @@ module _ (p : Program) (spec : ResolvedItem) (sys : TransitionSystem) (stands : 
       let next : NextIs w b y = λ k lt. found.1 (w + k) (omega (arith, lt)) ∙ second_bits w x y (code_of u) k lt in
       (b, subst (λ n. Agrees n b x) (sym stands.bits) agrees, subst (λ n. NextIs n b y) (sym stands.bits) next, found.2)
 
-  beq_true : (a b : Bool) → beq a b ≡ true → a ≡ b
+  pub beq_true : (a b : Bool) → beq a b ≡ true → a ≡ b
   beq_true true true h = refl
   beq_true false false h = refl
   beq_true true false h = cc

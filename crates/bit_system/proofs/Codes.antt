@@ -39,7 +39,7 @@ module _ where
   pub fits_long : (slots : List Slot) (s : List Value) → fits slots s ≡ true → length s ≡ length slots
   fits_long slots s h = sym (eqb-true (length slots) (length s) (and_parts (length slots == length s) (all_typed slots s) h).0)
 
-  fits_back : (slots : List Slot) (s : List Value) → fits slots s ≡ true → map (λ (v : Value). value.Bool (truth_value v)) s ≡ s
+  pub fits_back : (slots : List Slot) (s : List Value) → fits slots s ≡ true → map (λ (v : Value). value.Bool (truth_value v)) s ≡ s
   fits_back slots s h = values_back slots s (sym (fits_long slots s h)) (and_parts (length slots == length s) (all_typed slots s) h).1
 
 -- values are what their code decodes to

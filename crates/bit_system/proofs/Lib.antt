@@ -4,3 +4,4 @@ pub mod Frames
 pub mod Joining
 pub mod OfSides
 pub mod OfStates
+pub mod Reaching

@@ -30,14 +30,14 @@ pub framed : (v : ℕ → Bool) (bits : List Edge) (ns ms : List ℕ) → bits �
 framed v bits ns ms bits_are ns_are = ap (state_under v) bits_are ∙ edges_decoded v ns ∙ ap (λ (ks : List ℕ). decoded ks v) ns_are
 
 -- conditions that tell a test of the inputs
-decides_told : (n : ℕ) (g : List Node) (es : List Either) (cs : List (List Lit)) (f : (ℕ → Bool) → Bool) → HasInputs n g → OneWay g
+pub decides_told : (n : ℕ) (g : List Node) (es : List Either) (cs : List (List Lit)) (f : (ℕ → Bool) → Bool) → HasInputs n g → OneWay g
     → ((v : ℕ → Bool) → Consistent v g → all_hold v es ≡ f v) → ((a b : ℕ → Bool) → Agrees n a b → f a ≡ f b) → DecidesGroup n g es cs → Decides n cs f
 decides_told n g es cs f inputs law holds only decides =
     decides_as n cs (λ x. all_hold (values x g) es) f (λ x. holds (values x g) (law.some x).0 ∙ only (values x g) x (λ k lt. let at = inputs.at k lt in (law.some x).1 k at.0 at.1)) decides
 
 module _ (n : ℕ) (cs : List (List Lit)) where
   -- a literal defined by one of two equal functions is by the other
-  one_as : (l : Lit) (f h : (ℕ → Bool) → Bool) → ((x : ℕ → Bool) → f x ≡ h x) → Defines n cs l f → Defines n cs l h
+  pub one_as : (l : Lit) (f h : (ℕ → Bool) → Bool) → ((x : ℕ → Bool) → f x ≡ h x) → Defines n cs l f → Defines n cs l h
   one_as l f h same defines = record {
     gives = λ x a agrees met. defines.gives x a agrees met ∙ same x;
     sets = λ x t sets closed. subst (λ (b : Bool). t (signed l b) ≡ true) (same x) (defines.sets x t sets closed);
@@ -46,7 +46,7 @@ module _ (n : ℕ) (cs : List (List Lit)) where
   none : {Y : Type 0} (h : Y → Bool) (y : Y) (ys : List Y) → [] ≡ map h (y ∷ ys) → ⊥
   none h y ys e = let l : 0 ≡ suc (length (map h ys)) = ap length e in omega (arith, l)
 
-  defines_as : {X Y : Type 0} (f : X → (ℕ → Bool) → Bool) (h : Y → (ℕ → Bool) → Bool) (xs : List X) (ys : List Y) (lits : List Lit)
+  pub defines_as : {X Y : Type 0} (f : X → (ℕ → Bool) → Bool) (h : Y → (ℕ → Bool) → Bool) (xs : List X) (ys : List Y) (lits : List Lit)
       → ((a : ℕ → Bool) → map (λ x. f x a) xs ≡ map (λ y. h y a) ys) → DefinesAll n cs lits (map f xs) → DefinesAll n cs lits (map h ys)
   unfolding DefinesAll
   defines_as f h [] [] lits same defines = defines

@@ -102,8 +102,8 @@ fn value_at(values: &[bool], i: usize) -> bool
     }
 }
 
-// The values that these bits are.
-fn decoded(alloc: Global, places: &[usize], bits: &[bool]) -> Result<Items<Value>, AllocError>
+/// The values that these bits are; bits past the end of the list are false. The only error is want of memory.
+pub fn decoded(alloc: Global, places: &[usize], bits: &[bool]) -> Result<Items<Value>, AllocError>
     ensures { IfOk result (λ values. values ≡ decoded places.now (assignment_of bits.now)) }
 {
     let mut values = Vec::new(alloc);

@@ -30,8 +30,8 @@ fn is_justice(kind: ItemKind) -> bool
     }
 }
 
-// The edge that is true where the node is TRUE.
-fn true_edge(graph: &mut Graph, truths: &[Truth], e: usize) -> Result<Edge, AllocError>
+/// The edge that is true where the node is TRUE.
+pub fn true_edge(graph: &mut Graph, truths: &[Truth], e: usize) -> Result<Edge, AllocError>
     requires { TruthsStand graph.old truths.now }
     ensures extends { Extends graph.old graph.new }
     ensures stands { IfOk result (λ edge. Stands graph.new edge) }

@@ -14,6 +14,11 @@ mod systems;
 mod widths;
 
 pub use building::build;
-pub use coding::Built;
-pub use laws::{is_coding, what_stands_agrees};
-pub use widths::{BuildStop, Layout, is_narrow};
+pub use coding::{Built, decoded};
+pub use justice::{just_edges, true_edge};
+pub use laws::{is_coding, what_is_never_bad_is_unbroken, what_stands_agrees};
+pub use sides::{StepConditions, framed_state, higher, nowhere_in};
+pub use states::{StateTruths, first_conditions};
+pub use steps::step_conditions;
+pub use systems::copied;
+pub use widths::{BuildStop, Layout, edges_of, input_width, is_narrow, numbers, state_width};

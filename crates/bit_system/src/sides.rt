@@ -61,8 +61,8 @@ pub struct Claim {
     pub good: Clauses,
 }
 
-// The truths of the nodes where there is no state.
-fn nowhere_in(alloc: Global, graph: &Graph, typed: &Typed) -> Result<Items<Truth>, AllocError>
+/// The truths of the nodes where there is no state.
+pub fn nowhere_in(alloc: Global, graph: &Graph, typed: &Typed) -> Result<Items<Truth>, AllocError>
     ensures { IfOk result (λ truths. TellsEach graph.now truths (λ v. outcomes_of (slots_of typed.now.scope.program) [] [] [] typed.now.nodes)) }
 {
     let truths = nowhere(
@@ -74,8 +74,8 @@ fn nowhere_in(alloc: Global, graph: &Graph, typed: &Typed) -> Result<Items<Truth
     Ok(truths)
 }
 
-// The state whose bits are these inputs.
-fn framed_state(
+/// The state whose bits are these inputs of the graph.
+pub fn framed_state(
     alloc: Global,
     graph: &mut Graph,
     typed: &Typed,

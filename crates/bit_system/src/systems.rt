@@ -55,7 +55,7 @@ pub fn highest(start: usize, claims: &[Claim]) -> usize
 }
 
 // The same clauses.
-fn copied(alloc: Global, clauses: &Clauses) -> Result<Clauses, AllocError>
+fn copied_clauses(alloc: Global, clauses: &Clauses) -> Result<Clauses, AllocError>
     ensures { IfOk result (λ r. r ≡ clauses.now) }
 {
     let mut made = Clauses::new(alloc);
@@ -76,12 +76,12 @@ fn system_of(
     requires claim { CanBeClaimed vars shared.now.width claim.now }
     ensures { IfOk result (λ r. r ≡ system_by shared.now vars claim.now) }
 {
-    let init = copied(alloc, &shared.states.init)?;
-    let step = copied(alloc, &shared.steps.clauses)?;
-    let bad = copied(alloc, &claim.bad)?;
-    let good = copied(alloc, &claim.good)?;
+    let init = copied_clauses(alloc, &shared.states.init)?;
+    let step = copied_clauses(alloc, &shared.steps.clauses)?;
+    let bad = copied_clauses(alloc, &claim.bad)?;
+    let good = copied_clauses(alloc, &claim.good)?;
     let fair = Clause::from_slice(alloc, shared.states.fair.as_slice())?;
-    let defs = copied(alloc, &shared.states.defs)?;
+    let defs = copied_clauses(alloc, &shared.states.defs)?;
     Ok(System::new(Parts {
         state_bits: shared.width,
         all_bits: vars,
@@ -110,4 +110,27 @@ pub fn systems(
         systems.push(system_of(alloc, shared, vars, claim)?)?;
     }
     Ok(systems)
+}
+
+/// The same system. Time and memory grow with its clauses; the only error is want of memory.
+pub fn copied(alloc: Global, system: &System) -> Result<System, AllocError>
+    ensures { IfOk result (λ r. r ≡ system.now) }
+{
+    system.law();
+    let init = copied_clauses(alloc, system.init())?;
+    let step = copied_clauses(alloc, system.step())?;
+    let bad = copied_clauses(alloc, system.bad())?;
+    let good = copied_clauses(alloc, system.good())?;
+    let fair = Clause::from_slice(alloc, system.fair())?;
+    let defs = copied_clauses(alloc, system.defs())?;
+    Ok(System::new(Parts {
+        state_bits: system.state_bits(),
+        all_bits: system.all_bits(),
+        init,
+        step,
+        bad,
+        good,
+        fair,
+        defs,
+    }))
 }

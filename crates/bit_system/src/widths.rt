@@ -70,8 +70,8 @@ pub fn is_narrow(alloc: Global, typed: &Typed) -> Result<bool, AllocError>
     Ok(width <= MOST && given <= MOST - width)
 }
 
-// The numbers from `start` on.
-fn numbers(alloc: Global, start: usize, len: usize) -> Result<Items<usize>, AllocError>
+/// So many numbers from `start` on. The only error is want of memory.
+pub fn numbers(alloc: Global, start: usize, len: usize) -> Result<Items<usize>, AllocError>
     requires { start + len < 2 ^ 64 }
     ensures { IfOk result (λ r. r ≡ range_with_len start len) }
 {

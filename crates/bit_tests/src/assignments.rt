@@ -92,7 +92,7 @@ const ROWS: [Row; 4] = [
 ];
 
 // The low bits of a number.
-fn bits_of(alloc: Global, number: usize, count: usize) -> Result<Vec<bool>, AllocError> {
+pub fn bits_of(alloc: Global, number: usize, count: usize) -> Result<Vec<bool>, AllocError> {
     let mut rest = number;
     let mut bits = Vec::new(alloc);
     for _ in 0..count {

@@ -1,5 +1,5 @@
 //! Tests of nodes as edges and of the systems over bits of small models, through public calls alone: each assignment of the bits
-//! against what the model means, and how many clauses there are.
+//! against what the model means, and how many clauses there are. And the system of a formula that reads an input.
 #![tactic(auto)]
 
 use bit_system::{BuildStop, Built, build};
@@ -32,6 +32,8 @@ pub fn read(alloc: Global, source: &[u8]) -> Result<Option<Loaded>, AllocError> 
 
 #[cfg(test)]
 mod assignments;
+#[cfg(test)]
+mod formulas;
 #[cfg(test)]
 mod nodes;
 #[cfg(test)]

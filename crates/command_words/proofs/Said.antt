@@ -25,7 +25,7 @@ use Rattle.clap.specs.declared.parser.matches.ValueSource.TheVariants.{DefaultVa
 use Rattle.clap.proofs.ValueTestLemmas.{accepts-Accepts}
 use Rattle.command_words.specs.declared.command.Command.{Command}
 use Rattle.command_words.specs.declared.command.Command.TheVariants.{Check, Recheck, Flat}
-use Rattle.command_words.specs.Grammar.{OptionRow, conflicts_option, bound_option, frames_option, together_flag, upgrade_flag, option_rule, flag_rule, flag_text, program, HasEffort, HasFlag, HasNumber, Tells, Says, IsCommandLine}
+use Rattle.command_words.specs.Grammar.{OptionRow, conflicts_option, bound_option, frames_option, counter_option, together_flag, cert_flag, upgrade_flag, option_rule, flag_rule, flag_text, program, HasEffort, HasFlag, HasNumber, Tells, Says, IsCommandLine}
 
 -- an option that takes a number, or a flag
 data Entry : Type 0 where
@@ -69,15 +69,21 @@ bound = number bound_option
 abbrev frames : Entry
 frames = number frames_option
 
+abbrev counter : Entry
+counter = number counter_option
+
 abbrev together : Entry
 together = flag together_flag
+
+abbrev cert : Entry
+cert = flag cert_flag
 
 abbrev upgrade : Entry
 upgrade = flag upgrade_flag
 
 -- those of `check`, and those of `recheck`
 abbrev check_entries : List Entry
-check_entries = conflicts ∷ bound ∷ frames ∷ together ∷ []
+check_entries = conflicts ∷ bound ∷ frames ∷ counter ∷ together ∷ cert ∷ []
 
 abbrev recheck_entries : List Entry
 recheck_entries = upgrade ∷ []
@@ -440,16 +446,22 @@ itself : (e : Entry) → Agrees e e
 itself e same v h = h
 
 agree_conflicts : Each (Agrees conflicts) check_entries
-agree_conflicts = (itself conflicts, (apart conflicts bound refl, (apart conflicts frames refl, (apart conflicts together refl, tt))))
+agree_conflicts = (itself conflicts, (apart conflicts bound refl, (apart conflicts frames refl, (apart conflicts counter refl, (apart conflicts together refl, (apart conflicts cert refl, tt))))))
 
 agree_bound : Each (Agrees bound) check_entries
-agree_bound = (apart bound conflicts refl, (itself bound, (apart bound frames refl, (apart bound together refl, tt))))
+agree_bound = (apart bound conflicts refl, (itself bound, (apart bound frames refl, (apart bound counter refl, (apart bound together refl, (apart bound cert refl, tt))))))
 
 agree_frames : Each (Agrees frames) check_entries
-agree_frames = (apart frames conflicts refl, (apart frames bound refl, (itself frames, (apart frames together refl, tt))))
+agree_frames = (apart frames conflicts refl, (apart frames bound refl, (itself frames, (apart frames counter refl, (apart frames together refl, (apart frames cert refl, tt))))))
+
+agree_counter : Each (Agrees counter) check_entries
+agree_counter = (apart counter conflicts refl, (apart counter bound refl, (apart counter frames refl, (itself counter, (apart counter together refl, (apart counter cert refl, tt))))))
 
 agree_together : Each (Agrees together) check_entries
-agree_together = (apart together conflicts refl, (apart together bound refl, (apart together frames refl, (itself together, tt))))
+agree_together = (apart together conflicts refl, (apart together bound refl, (apart together frames refl, (apart together counter refl, (itself together, (apart together cert refl, tt))))))
+
+agree_cert : Each (Agrees cert) check_entries
+agree_cert = (apart cert conflicts refl, (apart cert bound refl, (apart cert frames refl, (apart cert counter refl, (apart cert together refl, (itself cert, tt))))))
 
 agree_upgrade : Each (Agrees upgrade) recheck_entries
 agree_upgrade = (itself upgrade, tt)
@@ -488,10 +500,10 @@ module _ (name : Text) (es : List Entry) (reads : DefaultsRead es) (same : Words
   has_rows words = has_each es (settled (map ready es) (walk (map ready es) [] nothing_held words).held).rows same
 
 check_reads : DefaultsRead check_entries
-check_reads = (refl, (refl, (refl, (refl, tt))))
+check_reads = (refl, (refl, (refl, (refl, (refl, (refl, tt))))))
 
 check_same : WordsSame check_entries
-check_same = (refl, (refl, (refl, (refl, tt))))
+check_same = (refl, (refl, (refl, (refl, (refl, (refl, tt))))))
 
 told : (words : List Text) → level_fault check_shape [] nothing_held words false [] ≡ [] → (command : Command) × Tells (Some (rows_at check_shape words)) command
 told words e =
@@ -502,10 +514,12 @@ told words e =
     let budget = number_in conflicts_option rows (keeps conflicts agree_conflicts) has.0 in
     let steps = number_in bound_option rows (keeps bound agree_bound) has.1.0 in
     let level = number_in frames_option rows (keeps frames agree_frames) has.1.1.0 in
-    let shared = flag_in together_flag rows (keeps together agree_together) has.1.1.1.0 in
-    let has_effort : HasEffort rows (record { conflicts = budget.0; bound = steps.0; frames = level.0; together = shared.0 }) =
-    record { conflicts = budget.1; bound = steps.1; frames = level.1; together = shared.1 } in
-    (Check (record { conflicts = budget.0; bound = steps.0; frames = level.0; together = shared.0 }), (refl, has_effort))
+    let signals = number_in counter_option rows (keeps counter agree_counter) has.1.1.1.0 in
+    let shared = flag_in together_flag rows (keeps together agree_together) has.1.1.1.1.0 in
+    let shown = flag_in cert_flag rows (keeps cert agree_cert) has.1.1.1.1.1.0 in
+    let has_effort : HasEffort rows (record { conflicts = budget.0; bound = steps.0; frames = level.0; counter = signals.0; together = shared.0; cert = shown.0 }) =
+    record { conflicts = budget.1; bound = steps.1; frames = level.1; counter = signals.1; together = shared.1; cert = shown.1 } in
+    (Check (record { conflicts = budget.0; bound = steps.0; frames = level.0; counter = signals.0; together = shared.0; cert = shown.0 }), (refl, has_effort))
 
 told_again : (words : List Text) → level_fault recheck_shape [] nothing_held words false [] ≡ [] → (command : Command) × Tells (Some (rows_at recheck_shape words)) command
 told_again words e =

@@ -18,13 +18,15 @@ same_flag rows word false false x y = refl
 same_flag rows word true false x y = let e : Some (codes "true") ≡ Some (codes "false") = sym x ∙ y in cc
 same_flag rows word false true x y = let e : Some (codes "false") ≡ Some (codes "true") = sym x ∙ y in cc
 
-abbrev effort_with : ℕ → ℕ → ℕ → Bool → Effort
-effort_with conflicts bound frames together = record { conflicts = conflicts; bound = bound; frames = frames; together = together }
+abbrev effort_with : ℕ → ℕ → ℕ → ℕ → Bool → Bool → Effort
+effort_with conflicts bound frames counter together cert =
+    record { conflicts = conflicts; bound = bound; frames = frames; counter = counter; together = together; cert = cert }
 
 same_effort : (rows : List Row) (a b : Effort) → HasEffort rows a → HasEffort rows b → a ≡ b
 same_effort rows a b h k =
-    ap₂ (λ (n m : ℕ). effort_with n m a.frames a.together) (same_number rows _ _ a.conflicts b.conflicts h.conflicts k.conflicts) (same_number rows _ _ a.bound b.bound h.bound k.bound)
-    ∙ ap₂ (λ (n : ℕ) (t : Bool). effort_with b.conflicts b.bound n t) (same_number rows _ _ a.frames b.frames h.frames k.frames) (same_flag rows _ a.together b.together h.together k.together)
+    ap₂ (λ (n m : ℕ). effort_with n m a.frames a.counter a.together a.cert) (same_number rows _ _ a.conflicts b.conflicts h.conflicts k.conflicts) (same_number rows _ _ a.bound b.bound h.bound k.bound)
+    ∙ ap₂ (λ (n m : ℕ). effort_with b.conflicts b.bound n m a.together a.cert) (same_number rows _ _ a.frames b.frames h.frames k.frames) (same_number rows _ _ a.counter b.counter h.counter k.counter)
+    ∙ ap₂ (λ (t u : Bool). effort_with b.conflicts b.bound b.frames b.counter t u) (same_flag rows _ a.together b.together h.together k.together) (same_flag rows _ a.cert b.cert h.cert k.cert)
 
 same_command : (found : Option (Text × List Row)) (a b : Command) → Tells found a → Tells found b → a ≡ b
 same_command None a b h k = absurd h

@@ -37,9 +37,17 @@ bound_option = record { word = codes "bound"; least = 0; greatest = 10000; defau
 abbrev pub frames_option : OptionRow
 frames_option = record { word = codes "frames"; least = 0; greatest = 100000; default = codes "1000" }
 
+-- up to which number of signals formulas are proved
+abbrev pub counter_option : OptionRow
+counter_option = record { word = codes "counter"; least = 0; greatest = 64; default = codes "16" }
+
 -- whether invariants are proved over one pool of lemmas
 abbrev pub together_flag : Text
 together_flag = codes "together"
+
+-- whether the certificate of what is true is printed
+abbrev pub cert_flag : Text
+cert_flag = codes "cert"
 
 -- whether certificates are made anew in the form that is judged by hints
 abbrev pub upgrade_flag : Text
@@ -47,7 +55,11 @@ upgrade_flag = codes "upgrade"
 
 -- specifications are decided
 abbrev pub check_row : CommandRow
-check_row = record { word = codes "check"; options = conflicts_option ∷ bound_option ∷ frames_option ∷ []; flags = together_flag ∷ [] }
+check_row = record {
+  word = codes "check";
+  options = conflicts_option ∷ bound_option ∷ frames_option ∷ counter_option ∷ [];
+  flags = together_flag ∷ cert_flag ∷ [];
+}
 
 -- a report is judged again
 abbrev pub recheck_row : CommandRow
@@ -114,12 +126,14 @@ flag_text false = codes "false"
 abbrev pub HasFlag : List Row → Text → Bool → Type 0
 HasFlag rows word is_there = one_of word rows ≡ Some (flag_text is_there)
 
--- the options of `check` have these numbers, and its flag is there or not
+-- the options of `check` have these numbers, and its flags are there or not
 pub record HasEffort (rows : List Row) (effort : Effort) : Type 0 where
   pub conflicts : HasNumber rows conflicts_option.word conflicts_option.greatest effort.conflicts
   pub bound : HasNumber rows bound_option.word bound_option.greatest effort.bound
   pub frames : HasNumber rows frames_option.word frames_option.greatest effort.frames
+  pub counter : HasNumber rows counter_option.word counter_option.greatest effort.counter
   pub together : HasFlag rows together_flag effort.together
+  pub cert : HasFlag rows cert_flag effort.cert
 
 -- the command that was found, with its options and flags, is this one
 abbrev pub Tells : Option (Text × List Row) → Command → Type 0

@@ -21,6 +21,10 @@ pub struct Effort {
     pub bound: usize,
     /// The greatest level of the frames at which states that break an invariant are looked for.
     pub frames: u32,
+    /// The greatest number of signals that a counter admits with which a formula is proved.
+    pub counter: usize,
     /// Whether all invariants are decided over one pool of lemmas, at the cost of one specification.
     pub together: bool,
+    /// Whether the certificate of what is true is printed.
+    pub cert: bool,
 }

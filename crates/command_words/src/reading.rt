@@ -4,10 +4,12 @@ ghost use Rattle.std.specs.Prelude.{◌≡◌, ◌≤◌, ℕ, Bool, map, IfOk, 
 ghost use Rattle.clap.specs.Words.{found_of, rows_of, subcommand_rows_of};
 ghost use Rattle.command_words.specs.declared.command.Command.{Command as CommandOf};
 ghost use Rattle.command_words.specs.declared.command.Effort.{Effort as EffortOf};
-ghost use Rattle.command_words.specs.Grammar.{HasEffort, HasFlag, HasNumber, IsCommandLine, Says, Tells, bound_option, conflicts_option, frames_option, together_flag, upgrade_flag};
+ghost use Rattle.command_words.specs.Grammar.{HasEffort, HasFlag, HasNumber, IsCommandLine, Says, Tells, bound_option, cert_flag, conflicts_option, counter_option, frames_option, together_flag, upgrade_flag};
 
 use crate::command::{Command, Effort};
-use crate::table::{BOUND, CONFLICTS, FLAT, FRAMES, RECHECK, TOGETHER, UPGRADE, program};
+use crate::table::{
+    BOUND, CERT, CONFLICTS, COUNTER, FLAT, FRAMES, RECHECK, TOGETHER, UPGRADE, program,
+};
 use clap::ArgMatches;
 use clap::error::ErrorKind;
 use std::alloc::Global;
@@ -43,7 +45,7 @@ fn flag_of(found: &ArgMatches<'_>, word: &str) -> bool
     found.get_flag(word)
 }
 
-// The effort that the options and the flag of `check` give.
+// The effort that the options and the flags of `check` give.
 fn effort_of(found: &ArgMatches<'_>) -> Effort
     requires { (effort : EffortOf) × HasEffort (rows_of (found_of found.now)) effort }
     ensures { HasEffort (rows_of (found_of found.now)) result }
@@ -51,11 +53,14 @@ fn effort_of(found: &ArgMatches<'_>) -> Effort
     let conflicts = number_of(found, CONFLICTS, 1_099_511_627_776);
     let bound = number_of(found, BOUND, 10_000);
     let frames = number_of(found, FRAMES, 100_000);
+    let counter = number_of(found, COUNTER, 64);
     Effort {
         conflicts,
         bound: bound as usize,
         frames: frames as u32,
+        counter: counter as usize,
         together: flag_of(found, TOGETHER),
+        cert: flag_of(found, CERT),
     }
 }
 

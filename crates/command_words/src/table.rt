@@ -1,9 +1,9 @@
 //! The table of commands and options, as `clap` takes it.
 
-ghost use Rattle.std.specs.Prelude.{◌≡◌, false, IfOk};
+ghost use Rattle.std.specs.Prelude.{◌≡◌, [], false, IfOk};
 ghost use Rattle.clap.specs.Words.{app_of, rule_of};
 ghost use Rattle.clap.specs.declared.Command.TheViews.{out-Command};
-ghost use Rattle.command_words.specs.Grammar.{bare_program, bound_option, check_row, command_app, conflicts_option, flag_rule, flat_row, frames_option, number_rule, option_rule, program, recheck_row, together_flag, upgrade_flag};
+ghost use Rattle.command_words.specs.Grammar.{bare_program, bound_option, cert_flag, check_row, command_app, conflicts_option, counter_option, flag_rule, flat_row, frames_option, number_rule, option_rule, program, recheck_row, together_flag, upgrade_flag};
 
 use clap::builder::ValueParser;
 use clap::{Arg, ArgAction, Command};
@@ -27,8 +27,14 @@ pub const BOUND: &str = "bound";
 /// The word of the option that says up to which level frames are looked at.
 pub const FRAMES: &str = "frames";
 
+/// The word of the option that says up to which number of signals formulas are proved.
+pub const COUNTER: &str = "counter";
+
 /// The word of the flag that has all invariants decided over one pool of lemmas.
 pub const TOGETHER: &str = "together";
+
+/// The word of the flag that has the certificate of what is true printed.
+pub const CERT: &str = "cert";
 
 /// The word of the flag that has certificates made anew in the form that is judged by hints.
 pub const UPGRADE: &str = "upgrade";
@@ -71,6 +77,13 @@ fn frames_option<'a>(alloc: Global) -> Arg<'a>
     number_option(alloc, FRAMES, 0, 100_000, "1000")
 }
 
+fn counter_option<'a>(alloc: Global) -> Arg<'a>
+    ensures rule { rule_of result ≡ option_rule counter_option }
+    ensures local { result.global ≡ false }
+{
+    number_option(alloc, COUNTER, 0, 64, "16")
+}
+
 // A word that is there or is not.
 fn flag<'a>(alloc: Global, word: &'a str) -> Arg<'a>
     ensures rule { rule_of result ≡ flag_rule word.now }
@@ -79,20 +92,27 @@ fn flag<'a>(alloc: Global, word: &'a str) -> Arg<'a>
     Arg::new(alloc, word).long(word).action(ArgAction::SetTrue)
 }
 
-fn check_command<'a>(alloc: Global) -> Result<Command<'a>, AllocError>
-    ensures app { IfOk result (λ c. app_of c ≡ command_app check_row) }
+// The command `check` with its options alone.
+fn check_options<'a>(alloc: Global) -> Result<Command<'a>, AllocError>
+    ensures app { IfOk result (λ c. app_of c ≡ command_app (record check_row { flags = [] })) }
     ensures local { IfOk result (λ c. (out-Command c).has_globals ≡ false) }
 {
-    let (conflicts, bound, frames) = (
-        conflicts_option(alloc),
-        bound_option(alloc),
-        frames_option(alloc),
-    );
+    let (conflicts, bound) = (conflicts_option(alloc), bound_option(alloc));
+    let (frames, counter) = (frames_option(alloc), counter_option(alloc));
     Command::new(alloc, CHECK)
         .arg(conflicts)?
         .arg(bound)?
         .arg(frames)?
-        .arg(flag(alloc, TOGETHER))
+        .arg(counter)
+}
+
+fn check_command<'a>(alloc: Global) -> Result<Command<'a>, AllocError>
+    ensures app { IfOk result (λ c. app_of c ≡ command_app check_row) }
+    ensures local { IfOk result (λ c. (out-Command c).has_globals ≡ false) }
+{
+    check_options(alloc)?
+        .arg(flag(alloc, TOGETHER))?
+        .arg(flag(alloc, CERT))
 }
 
 fn recheck_command<'a>(alloc: Global) -> Result<Command<'a>, AllocError>

@@ -6,7 +6,7 @@ use std::alloc::{AllocError, Global};
 use std::test::Fail;
 
 /// A source, and the line by which it is refused; or nothing, where it is read.
-const VERDICTS: [(&str, &str); 33] = [
+const VERDICTS: [(&str, &str); 46] = [
     ("", ""),
     ("MODULE main", ""),
     (
@@ -118,10 +118,65 @@ const VERDICTS: [(&str, &str); 33] = [
         "MODULE main\nVAR x",
         "-- refused 201 Unexpected at 2:6: end\n",
     ),
+    // Temporal operators, and their bounds.
+    (
+        "MODULE main LTLSPEC NAME p := G (x -> F !y) & X Y Z O H x; LTLSPEC x U y V z S x T y",
+        "",
+    ),
+    (
+        "MODULE main LTLSPEC F [0, 3] x & G [1,1] O [2, 5] H [0, 0] y",
+        "",
+    ),
+    (
+        "MODULE main\nLTLSPEC A x",
+        "-- refused 203 Unsupported at 2:9: A\n",
+    ),
+    // An integer and a bracket that are none of their bounds go beyond the language.
+    (
+        "MODULE main\nINIT x = 3",
+        "-- refused 203 Unsupported at 2:10: 3\n",
+    ),
+    (
+        "MODULE main\nINIT x[3]",
+        "-- refused 203 Unsupported at 2:7: [\n",
+    ),
+    (
+        "MODULE main\nVAR x : 0..3;",
+        "-- refused 203 Unsupported at 2:9: 0\n",
+    ),
+    (
+        "MODULE main\nLTLSPEC F [3] x",
+        "-- refused 203 Unsupported at 2:11: [\n",
+    ),
+    (
+        "MODULE main\nLTLSPEC F [0, x] x",
+        "-- refused 203 Unsupported at 2:11: [\n",
+    ),
+    (
+        "MODULE main\nLTLSPEC F [0 3] x",
+        "-- refused 203 Unsupported at 2:11: [\n",
+    ),
+    (
+        "MODULE main\nLTLSPEC F [0, 3 x",
+        "-- refused 203 Unsupported at 2:11: [\n",
+    ),
+    // One that has the form of bounds has its place behind `F`, `G`, `O` and `H` alone.
+    (
+        "MODULE main\nLTLSPEC X [0, 1] x",
+        "-- refused 201 Unexpected at 2:11: [\n",
+    ),
+    (
+        "MODULE main\nLTLSPEC x 3]",
+        "-- refused 201 Unexpected at 2:11: 3\n",
+    ),
+    (
+        "MODULE main\nLTLSPEC x ]",
+        "-- refused 201 Unexpected at 2:11: ]\n",
+    ),
 ];
 
 /// The head of a source, what opens and closes a level before and behind `x`, how often, and the line by which it is refused.
-const LEVELS: [(&str, &str, &str, usize, &str); 6] = [
+const LEVELS: [(&str, &str, &str, usize, &str); 8] = [
     ("MODULE main\nINIT ", "(", ")", 256, ""),
     (
         "MODULE main\nINIT ",
@@ -131,6 +186,14 @@ const LEVELS: [(&str, &str, &str, usize, &str); 6] = [
         "-- refused 202 TooDeep at 2:262\n",
     ),
     ("MODULE main\nINIT ", "!", "", 256, ""),
+    ("MODULE main\nLTLSPEC ", "X ", "", 256, ""),
+    (
+        "MODULE main\nLTLSPEC ",
+        "F [0, 1] ",
+        "",
+        256,
+        "-- refused 202 TooDeep at 2:2306\n",
+    ),
     (
         "MODULE main\nINIT ",
         "x -> ",

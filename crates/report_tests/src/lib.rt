@@ -3,4 +3,6 @@
 #![tactic(auto)]
 
 #[cfg(test)]
+mod formulas;
+#[cfg(test)]
 mod reports;

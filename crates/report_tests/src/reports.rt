@@ -52,6 +52,9 @@ const TOGGLING: &str =
 
 const TRUE: &str = "-- spec 1 INVARSPEC is true\n";
 
+const CERTIFIED: &str =
+    "-- spec 1 INVARSPEC is true\n--% cert 2 spec 1 counter none\n--% clause -1 0\n--% part first 1\n--% step 0 1 2 0\n--% part kept 1\n--% step 0 1 4 2 0\n--% part safe 0\n--% step 0 1 2 0\n--% end\n";
+
 const BROKEN: &str =
     "-- spec 1 INVARSPEC is false\n--@ spec 1\n--@ state 0: x = FALSE\n--@ state 1: x = TRUE\n";
 
@@ -96,10 +99,10 @@ fn answers<R: Threads + Wait + Sync>(
 }
 
 // The words, a source, what is printed, and the status.
-type Case = (&'static str, &'static str, &'static str, u8);
+pub type Case = (&'static str, &'static str, &'static str, u8);
 
 // The source of the first case that is answered otherwise.
-fn first_wrong<R: Threads + Wait + Sync>(
+pub fn first_wrong<R: Threads + Wait + Sync>(
     rt: &R,
     alloc: Global,
     cases: &[Case],
@@ -124,7 +127,7 @@ const BOTH_JUDGED: &str =
 const BOTH_SPENT: &str =
     "-- spec 1 INVARSPEC is unknown: conflicts 0 of 0\n-- spec 2 INVARSPEC is unknown: conflicts 0 of 0\n";
 
-const CASES: [Case; 76] = [
+const CASES: [Case; 87] = [
     // Command lines.
     ("check", STANDING, TRUE, 0),
     ("check", TOGGLING, BROKEN, 1),
@@ -159,6 +162,17 @@ const CASES: [Case; 76] = [
     ("recheck --together", STANDING, USAGE, 4),
     ("recheck --bound 1", STANDING, USAGE, 4),
     ("check --upgrade", STANDING, USAGE, 4),
+    ("check --cert", STANDING, CERTIFIED, 0),
+    ("check --cert", TOGGLING, BROKEN, 1),
+    ("check --cert --conflicts 0", STANDING, SPENT, 2),
+    ("check --cert --cert", STANDING, USAGE, 4),
+    ("check --cert=true", STANDING, USAGE, 4),
+    ("recheck --cert", STANDING, USAGE, 4),
+    ("flat --cert", STANDING, USAGE, 4),
+    ("check --counter 0", STANDING, TRUE, 0),
+    ("check --counter=64", STANDING, TRUE, 0),
+    ("check --counter 65", STANDING, USAGE, 4),
+    ("flat --counter 1", STANDING, USAGE, 4),
     ("flat --upgrade", STANDING, USAGE, 4),
     ("recheck recheck", STANDING, USAGE, 4),
     ("--upgrade recheck", STANDING, USAGE, 4),
@@ -681,8 +695,8 @@ const RULES_OF_ITEMS: [Case; 31] = [
     ),
     (
         "check",
-        "MODULE main\nVAR x : boolean;\nLTLSPEC x\n",
-        "-- refused 203 Unsupported at 3:1: LTLSPEC\n",
+        "MODULE main\nVAR x : boolean;\nSPEC x\n",
+        "-- refused 203 Unsupported at 3:1: SPEC\n",
         3,
     ),
 ];
@@ -897,35 +911,67 @@ fn rechecks(rt: HostRuntime) -> Result<(), Fail> {
     Ok(())
 }
 
-// A source, and what is said of its report when it is judged again with the source.
-type Round = (&'static str, &'static str, u8);
+// A line of words, a source, and what is said of its report when it is judged again with the source.
+pub type Round = (&'static str, &'static str, &'static str, u8);
 
-const ROUNDS: [Round; 4] = [
-    (TOGGLING, "-- spec 1 INVARSPEC is shown false\n", 0),
-    (STANDING, UNSHOWN, 2),
+const SHOWN: &str = "-- spec 1 INVARSPEC is shown true\n";
+
+const BOTH_SHOWN: &str =
+    "-- spec 1 INVARSPEC is shown false\n-- spec 2 INVARSPEC is shown true\n";
+
+// A number of three bits goes from 0 to 5, and is never 6 or 7.
+const COUNTING: &str =
+    "MODULE main\nVAR a : boolean; b : boolean; c : boolean;\nASSIGN init(a) := FALSE; init(b) := FALSE; init(c) := FALSE;\nnext(a) := !a; next(b) := (a xor b) & !(c & a); next(c) := c xor (a & (b | c));\nINVARSPEC !(b & c)\nINVARSPEC !(a & b & c)\n";
+
+const COUNTING_SHOWN: &str =
+    "-- spec 1 INVARSPEC is shown true\n-- spec 2 INVARSPEC is shown true\n";
+
+// A run with inputs, and one of a module.
+const CELLS: &str =
+    "MODULE cell(next_one)\nVAR on : boolean;\nASSIGN init(on) := FALSE; next(on) := next_one;\nMODULE main\nIVAR push : boolean;\nVAR first : cell(second.on); second : cell(push);\nINVARSPEC !first.on\n";
+
+const ROUNDS: [Round; 11] = [
+    ("check", TOGGLING, "-- spec 1 INVARSPEC is shown false\n", 0),
+    ("check", STANDING, UNSHOWN, 2),
     (
+        "check",
         BOTH,
         "-- spec 1 INVARSPEC is shown false\n-- spec 2 INVARSPEC has nothing shown\n",
         2,
     ),
-    // A run with inputs, and one of a module.
-    (
-        "MODULE cell(next_one)\nVAR on : boolean;\nASSIGN init(on) := FALSE; next(on) := next_one;\nMODULE main\nIVAR push : boolean;\nVAR first : cell(second.on); second : cell(push);\nINVARSPEC !first.on\n",
-        "-- spec 1 INVARSPEC is shown false\n",
-        0,
-    ),
+    ("check", CELLS, "-- spec 1 INVARSPEC is shown false\n", 0),
+    // What is true is shown by its certificate.
+    ("check --cert", STANDING, SHOWN, 0),
+    ("check --cert", BOTH, BOTH_SHOWN, 0),
+    ("check --cert --together", BOTH, BOTH_SHOWN, 0),
+    ("check --cert", COUNTING, COUNTING_SHOWN, 0),
+    ("check --together --cert", COUNTING, COUNTING_SHOWN, 0),
+    ("check --cert", CELLS, "-- spec 1 INVARSPEC is shown false\n", 0),
+    ("check --cert --conflicts 0", STANDING, UNSHOWN, 2),
 ];
 
+// A source with its report behind it.
+fn with_report<R: Threads + Wait + Sync>(
+    rt: &R,
+    alloc: Global,
+    line: &str,
+    text: &[u8],
+) -> Result<Vec<u8>, AllocError> {
+    let words: Vec<&str> = line.split_whitespace().collect(alloc)?;
+    let mut both = text.to_vec(alloc)?;
+    let (_, report) = run_over_bytes(rt, alloc, &words, text.to_vec(alloc)?);
+    both.extend_from_slice(report.as_slice())?;
+    Ok(both)
+}
+
 // The source of the first round whose report is judged otherwise.
-fn first_wrong_round<R: Threads + Wait + Sync>(
+pub fn first_wrong_round<R: Threads + Wait + Sync>(
     rt: &R,
     alloc: Global,
     rounds: &[Round],
 ) -> Result<Option<&'static str>, AllocError> {
-    for (text, want, status) in rounds {
-        let mut both = text.as_bytes().to_vec(alloc)?;
-        let (_, report) = run_over_bytes(rt, alloc, &["check"], text.as_bytes().to_vec(alloc)?);
-        both.extend_from_slice(report.as_slice())?;
+    for (line, text, want, status) in rounds {
+        let both = with_report(rt, alloc, line, text.as_bytes())?;
         let words = ["recheck"];
         if !prints_whole(rt, alloc, &words, both.as_slice(), want.as_bytes(), *status)? {
             return Ok(Some(text));
@@ -938,6 +984,43 @@ fn first_wrong_round<R: Threads + Wait + Sync>(
 #[test]
 fn rounds(rt: HostRuntime) -> Result<(), Fail> {
     let wrong = first_wrong_round(&rt, rt.alloc(), &ROUNDS)?;
+    assert_eq!(rt; wrong, None);
+    Ok(())
+}
+
+// A source of which all is true, and what is said of its certificates.
+const UPGRADES: [(&str, &str); 2] = [(STANDING, SHOWN), (COUNTING, COUNTING_SHOWN)];
+
+// Whether certificates that are made anew show this behind their source.
+fn shows_anew<R: Threads + Wait + Sync>(
+    rt: &R,
+    alloc: Global,
+    text: &[u8],
+    want: &str,
+) -> Result<bool, AllocError> {
+    let mut both = text.to_vec(alloc)?;
+    let whole = with_report(rt, alloc, "check --cert", text)?;
+    let (_, anew) = run_over_bytes(rt, alloc, &["recheck", "--upgrade"], whole);
+    both.extend_from_slice(anew.as_slice())?;
+    prints_whole(rt, alloc, &["recheck"], both.as_slice(), want.as_bytes(), 0)
+}
+
+// The source of the first certificates that show something else.
+fn first_wrong_upgrade<R: Threads + Wait + Sync>(
+    rt: &R,
+    alloc: Global,
+) -> Result<Option<&'static str>, AllocError> {
+    for (text, want) in &UPGRADES {
+        if !shows_anew(rt, alloc, text.as_bytes(), want)? {
+            return Ok(Some(text));
+        }
+    }
+    Ok(None)
+}
+
+#[test]
+fn upgrades(rt: HostRuntime) -> Result<(), Fail> {
+    let wrong = first_wrong_upgrade(&rt, rt.alloc())?;
     assert_eq!(rt; wrong, None);
     Ok(())
 }

@@ -10,7 +10,6 @@ use Rattle.command_words.specs.Grammar.{Says}
 use Rattle.command_words.proofs.Unique.{said_once}
 use Rattle.smv_tree.specs.declared.refusal.Refusal.{Refusal}
 use Rattle.smv_tree.specs.declared.tree.Program.{Program}
-use Rattle.smv_front.specs.Sources.{IsRefusedBy}
 use Rattle.smv_front.proofs.OfSources.{never_both, program_once}
 use Rattle.trace_replay.specs.declared.trace.Trace.{Trace}
 use Rattle.trace_replay.proofs.LawsOfReading.{held_or_refused}

@@ -2,7 +2,9 @@ pub mod Asking
 pub mod Complete
 pub mod Known
 pub mod Listings
+pub mod OfFormulas
+pub mod Pooling
 pub mod Ranges
 pub mod Recording
-pub mod Reports
 pub mod Replays
+pub mod Reports

@@ -25,7 +25,7 @@ use Rattle.smv_cli.specs.Written.{Recorded, RecordedPart, status_with}
 
 -- a right record of the specification of this number
 abbrev pub IsRecordOf : Program → Effort → ℕ → ResolvedItem → Record → Type 0
-IsRecordOf p effort number spec r = (r.number ≡ number) × (spec.kind ≡ item.Specification r.kind) × IsRight p effort spec r.verdict
+IsRecordOf p effort number spec r = (r.number ≡ number) × (spec.kind ≡ item.Specification r.kind) × IsRight r.kind p effort spec r.verdict
 
 -- what is a claim is a specification
 pub claimed : (kind : ItemKind) → is_claim kind ≡ true → (k : SpecificationKind) × (kind ≡ item.Specification k)
@@ -65,13 +65,13 @@ status_by some_false some_unknown = if some_false then 1 else if some_unknown th
 
 status_by-next : (some_false some_unknown : Bool) (v : Verdict)
     → status_by (some_false || (is_false v || false)) (some_unknown || (is_unknown v || false)) ≡ status_with (status_by some_false some_unknown) v
-status_by-next true b True = refl
+status_by-next true b (True shown) = refl
 status_by-next true b (False trace) = refl
 status_by-next true b (Unknown cause) = refl
-status_by-next false true True = refl
+status_by-next false true (True shown) = refl
 status_by-next false true (False trace) = refl
 status_by-next false true (Unknown cause) = refl
-status_by-next false false True = refl
+status_by-next false false (True shown) = refl
 status_by-next false false (False trace) = refl
 status_by-next false false (Unknown cause) = refl
 

@@ -1,15 +1,20 @@
--- The trace of a run that breaks a specification is accepted.
+-- The trace of a run that breaks a specification, or of a lasso that violates it, is accepted.
 use Rattle.std.proofs.Common.{◌≡◌, ◌↔◌, ◌≤◌, ◌-◌, ℕ, List, length, Some, IfSome, subst, arith}
 use Rattle.std.proofs.lemmas.Option.{slice_get_within}
 use Rattle.std.specs.declared.option.Option.{Option}
 use Rattle.smv_tree.specs.declared.tree.Program.{Program}
+use Rattle.smv_tree.specs.declared.tree.SpecificationKind.TheVariants as claim
 use Rattle.smv_value.specs.declared.value.Value.{Value}
+use Rattle.smv_resolve.specs.declared.item.ItemKind.{ItemKind}
+use Rattle.smv_resolve.specs.declared.item.ItemKind.TheVariants as item
 use Rattle.smv_resolve.specs.Items.{ResolvedItem}
+use Rattle.smv_meaning.specs.Lassos.{Lasso, Violates}
 use Rattle.smv_meaning.specs.Runs.{Breaks, specifications_of}
 use Rattle.trace_replay.specs.declared.rule.ReplayRule.{ReplayRule}
 use Rattle.trace_replay.specs.declared.rule.Replayed.{Replayed}
 use Rattle.trace_replay.specs.declared.rule.Replayed.TheVariants.{Accepted, Rejected}
 use Rattle.trace_replay.specs.declared.trace.Trace.{Trace}
+use Rattle.trace_replay.specs.Lassos.{Shows, ShowsViolated, lasso_trace}
 use Rattle.trace_replay.specs.Rows.{run_trace}
 use Rattle.trace_replay.specs.Tests.{ShowsBroken, specification_at}
 
@@ -24,4 +29,15 @@ pub never_rejected : (p : Program) (number : ℕ) (spec : ResolvedItem) (t : Tra
 never_rejected p number spec t r rule n numbered h broken is =
     let both = subst (λ (o : Option ResolvedItem). IfSome o (λ x. (r ≡ Accepted) ↔ ShowsBroken p x t)) numbered h in
     let accepted : r ≡ Accepted = both.1 broken in
+    let never : ⊥ = cc in never
+
+pub shown_by_lasso : (p : Program) (spec : ResolvedItem) (w : Lasso) (t : Trace) → t ≡ lasso_trace p w → Violates p spec w → ShowsViolated p spec t
+shown_by_lasso p spec w t told violates = record { lasso = w; told = told; violates = violates }
+
+pub lasso_never_rejected : (p : Program) (number : ℕ) (spec : ResolvedItem) (t : Trace) (r : Replayed) (rule : ReplayRule) (n : ℕ) → specification_at p number ≡ Some spec
+    → spec.kind ≡ item.Specification claim.Temporal → IfSome (specification_at p number) (λ x. Shows x.kind p x t r) → ShowsViolated p spec t → r ≡ Rejected rule n → ⊥
+lasso_never_rejected p number spec t r rule n numbered temporal h violated is =
+    let at_spec = subst (λ (o : Option ResolvedItem). IfSome o (λ x. Shows x.kind p x t r)) numbered h in
+    let both : (r ≡ Accepted) ↔ ShowsViolated p spec t = subst (λ (k : ItemKind). Shows k p spec t r) temporal at_spec in
+    let accepted : r ≡ Accepted = both.1 violated in
     let never : ⊥ = cc in never

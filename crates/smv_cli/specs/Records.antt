@@ -1,9 +1,12 @@
 -- Right records of the specifications of a program, and the status that they give.
-use Rattle.std.specs.Prelude.{◌≡◌, ⊤, ℕ, ◌+◌, Bool, true, false, if◌then◌else◌, List, [], ◌∷◌, length, filter, Some, slice_get}
+use Rattle.std.specs.Prelude.{◌≡◌, ⊤, ℕ, ◌+◌, Bool, true, false, if◌then◌else◌, List, [], ◌∷◌, length, filter, Option, None, Some, slice_get}
 use Rattle.std.specs.List.{list_any}
 use Rattle.clause_core.specs.Systems.{TransitionSystem}
+use Rattle.cert_core.specs.Blocks.{Block}
+use Rattle.cert_core.specs.Certificates.{Certifies}
 use Rattle.command_words.specs.declared.command.Effort.{Effort}
 use Rattle.smv_tree.specs.declared.tree.Program.{Program}
+use Rattle.smv_tree.specs.declared.tree.SpecificationKind.{SpecificationKind}
 use Rattle.smv_tree.specs.declared.tree.SpecificationKind.TheVariants as claim
 use Rattle.smv_resolve.specs.declared.item.ItemKind.{ItemKind}
 use Rattle.smv_resolve.specs.declared.item.ItemKind.TheVariants as item
@@ -13,12 +16,23 @@ use Rattle.frame_core.specs.Law.{system_at}
 use Rattle.frame_history.specs.declared.entries.Entry.{Entry}
 use Rattle.frame_history.specs.History.{IsLawful}
 use Rattle.bit_system.specs.Standing.{StandsFor}
-use Rattle.bit_runs.specs.Running.{IsUnbroken, IsUnbrokenWithin}
+use Rattle.bit_system.specs.Claims.{IsUnbroken, IsUnbrokenWithin}
+use Rattle.bit_formula.specs.Standing.{FormulaSystem, StandsForFormula}
+use Rattle.bit_lassos.specs.Claims.{IsUnviolated, IsUnviolatedWithin}
+use Rattle.ltl_meaning.specs.Ltl.{past_height}
+use Rattle.ltl_meaning.specs.Unfolded.{unfolded}
 use Rattle.prove_run.specs.declared.effort.Effort.{Effort as ProverEffort}
 use Rattle.prove_run.specs.declared.answers.Cause.{Cause}
 use Rattle.prove_run.specs.declared.answers.Cause.TheVariants.{Conflicts, Frames}
 use Rattle.prove_run.specs.Answers.{IsCause, first_of, limits_of}
+use Rattle.prove_ltl.specs.declared.effort.LtlEffort.{LtlEffort}
+use Rattle.prove_ltl.specs.declared.answers.LtlCause.{LtlCause}
+use Rattle.prove_ltl.specs.declared.answers.LtlCause.TheVariants as ltl
+use Rattle.prove_ltl.specs.LtlAnswers.{IsLtlCause, IsLtlCertificate, IsLtlLog, LtlLog}
+use Rattle.trace_replay.specs.Lassos.{ShowsViolated}
 use Rattle.trace_replay.specs.Tests.{ShowsBroken}
+use Rattle.smv_cli.specs.declared.record.Reason.{Reason}
+use Rattle.smv_cli.specs.declared.record.Reason.TheVariants as reason
 use Rattle.smv_cli.specs.declared.record.Verdict.{Verdict}
 use Rattle.smv_cli.specs.declared.record.Verdict.TheVariants.{True, False, Unknown}
 use Rattle.smv_cli.specs.declared.record.Record.{Record}
@@ -26,6 +40,10 @@ use Rattle.smv_cli.specs.declared.record.Record.{Record}
 -- how much the prover may do
 abbrev pub prover_effort : Effort → ProverEffort
 prover_effort effort = record { conflicts = effort.conflicts; frames = effort.frames }
+
+-- the same for a formula
+abbrev pub ltl_effort : Effort → LtlEffort
+ltl_effort effort = record { conflicts = effort.conflicts; frames = effort.frames; counter = effort.counter; bound = effort.bound }
 
 -- the item is an INVARSPEC
 abbrev pub is_invariant : ItemKind → Bool
@@ -63,27 +81,85 @@ pub record IsLeftOpen (p : Program) (effort : Effort) (spec : ResolvedItem) (why
   pub cause : IsCause systems (prover_effort effort) history number why
   pub runs : SaysOfRuns p spec why
 
--- What is said of a specification with this effort is right. True: no run of any length breaks it. False: the trace is that of
--- a run that breaks it. Unknown: the prover's work within the effort leaves it open for this cause.
-abbrev pub IsRight : Program → Effort → ResolvedItem → Verdict → Type 0
-IsRight p effort spec True = IsUnbroken p spec
-IsRight p effort spec (False trace) = ShowsBroken p spec trace
-IsRight p effort spec (Unknown cause) = IsLeftOpen p effort spec cause
+-- the certificate certifies a system that stands for the program and the specification
+pub record IsCertified (p : Program) (spec : ResolvedItem) (cert : Block) : Type 0 where
+  pub system : TransitionSystem
+  pub stands : StandsFor p spec system
+  pub certifies : Certifies system cert
+  pub no_counter : cert.counter ≡ None
+
+-- there is such a certificate where one is asked for, and else there is none
+abbrev pub IsShownBy : Bool → Program → ResolvedItem → Option Block → Type 0
+IsShownBy true p spec (Some cert) = IsCertified p spec cert
+IsShownBy true p spec None = ⊥
+IsShownBy false p spec (Some cert) = ⊥
+IsShownBy false p spec None = Unit {0}
+
+-- What a cause says of lassos, where past operators nest h deep: no lasso violates the specification whose states, with h passes more of
+-- its loop, are at most so many.
+abbrev pub SaysOfLassos : Program → ResolvedItem → ℕ → LtlCause → Type 0
+SaysOfLassos p spec h (ltl.Conflicts drawn budget) = ⊤
+SaysOfLassos p spec h (ltl.Bound bound counter) = IsUnviolatedWithin p spec h bound
+SaysOfLassos p spec h (ltl.Frames bound frames counter) = IsUnviolatedWithin p spec h bound
+
+-- Why an LTLSPEC is unknown: for a system that stands for the program and the specification, what was done within the effort leaves its
+-- formula open for this cause.
+pub record IsFormulaOpen (p : Program) (effort : Effort) (spec : ResolvedItem) (why : LtlCause) : Type 0 where
+  pub formula : FormulaSystem
+  pub log : LtlLog
+  pub stands : StandsForFormula p spec formula
+  pub so_it_was : IsLtlLog formula.system (unfolded formula.formula) formula.atoms (ltl_effort effort) log
+  pub cause : IsLtlCause formula.system (unfolded formula.formula) formula.atoms (ltl_effort effort) log why
+  pub lassos : SaysOfLassos p spec (past_height (unfolded formula.formula)) why
+
+-- The certificate certifies that a system that stands for the program and the specification, with a monitor and a counter beside it up to
+-- the number that the certificate names, reaches no bad state.
+pub record IsFormulaCertified (p : Program) (effort : Effort) (spec : ResolvedItem) (cert : Block) : Type 0 where
+  pub formula : FormulaSystem
+  pub stands : StandsForFormula p spec formula
+  pub certifies : IsLtlCertificate formula.system (unfolded formula.formula) formula.atoms effort.counter cert
+
+abbrev pub IsFormulaShownBy : Bool → Program → Effort → ResolvedItem → Option Block → Type 0
+IsFormulaShownBy true p effort spec (Some cert) = IsFormulaCertified p effort spec cert
+IsFormulaShownBy true p effort spec None = ⊥
+IsFormulaShownBy false p effort spec (Some cert) = ⊥
+IsFormulaShownBy false p effort spec None = Unit {0}
+
+-- What is said of an INVARSPEC with this effort is right. True: no run of any length breaks it, and with `--cert` a certificate
+-- shows it. False: the trace is that of a run that breaks it. Unknown: the prover's work within the effort leaves it open for this
+-- cause.
+abbrev pub IsRightInvariant : Program → Effort → ResolvedItem → Verdict → Type 0
+IsRightInvariant p effort spec (True shown) = IsUnbroken p spec × IsShownBy effort.cert p spec shown
+IsRightInvariant p effort spec (False trace) = ShowsBroken p spec trace
+IsRightInvariant p effort spec (Unknown (reason.Invariant cause)) = IsLeftOpen p effort spec cause
+IsRightInvariant p effort spec (Unknown (reason.Formula cause)) = ⊥
+
+-- The same of an LTLSPEC. True: no fair lasso violates it. False: the trace is that of a fair lasso that violates it.
+abbrev pub IsRightFormula : Program → Effort → ResolvedItem → Verdict → Type 0
+IsRightFormula p effort spec (True shown) = IsUnviolated p spec × IsFormulaShownBy effort.cert p effort spec shown
+IsRightFormula p effort spec (False trace) = ShowsViolated p spec trace
+IsRightFormula p effort spec (Unknown (reason.Invariant cause)) = ⊥
+IsRightFormula p effort spec (Unknown (reason.Formula cause)) = IsFormulaOpen p effort spec cause
+
+-- The same of a specification of either kind.
+abbrev pub IsRight : SpecificationKind → Program → Effort → ResolvedItem → Verdict → Type 0
+IsRight claim.Invariant = IsRightInvariant
+IsRight claim.Temporal = IsRightFormula
 
 -- right records of the first specifications, in their order, numbered from i on
 abbrev pub RightFrom : Program → Effort → ℕ → List ResolvedItem → List Record → Type 0
 RightFrom p effort i specs [] = Unit {0}
 RightFrom p effort i [] (r ∷ rs) = ⊥
 RightFrom p effort i (spec ∷ specs) (r ∷ rs) =
-    (r.number ≡ i) × (spec.kind ≡ item.Specification r.kind) × IsRight p effort spec r.verdict × RightFrom p effort (i + 1) specs rs
+    (r.number ≡ i) × (spec.kind ≡ item.Specification r.kind) × IsRight r.kind p effort spec r.verdict × RightFrom p effort (i + 1) specs rs
 
 abbrev pub is_false : Verdict → Bool
-is_false True = false
+is_false (True shown) = false
 is_false (False trace) = true
 is_false (Unknown cause) = false
 
 abbrev pub is_unknown : Verdict → Bool
-is_unknown True = false
+is_unknown (True shown) = false
 is_unknown (False trace) = false
 is_unknown (Unknown cause) = true
 

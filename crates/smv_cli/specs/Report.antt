@@ -18,7 +18,7 @@ use Rattle.trace_replay.specs.declared.trace.Trace.{Trace}
 use Rattle.smv_recheck.specs.declared.checking.Checked.{Checked}
 use Rattle.smv_recheck.specs.declared.judgement.Record.{Record as JudgedAgain}
 use Rattle.smv_recheck.specs.Checking.{IsChecked, is_shown_false, is_shown_true, status_of as status_again}
-use Rattle.smv_recheck.specs.Claims.{IsBroken, IsUnbroken}
+use Rattle.smv_recheck.specs.Claims.{IsRefuted, IsUpheld}
 use Rattle.smv_recheck.specs.Printed.{report_text}
 use Rattle.smv_recheck.specs.Refusing.{Holdings, IsRefused}
 use Rattle.smv_cli.specs.declared.record.Record.{Record}
@@ -32,10 +32,11 @@ pub record IsJudged (bytes : List ℕ) (p : Program) (effort : Effort) (records 
   pub model : IsModel bytes p
   pub right : RightFrom p effort 1 (specifications_of p) records
 
--- what is shown of the specifications of a program holds: no run breaks what is shown true, and some run breaks what is shown false
+-- what is shown of the specifications of a program holds: no run breaks, or no lasso violates, what is shown true, and some run or
+-- lasso does what is shown false
 abbrev pub ShownHolds : Program → List JudgedAgain → Type 0
 ShownHolds p records = (j : ℕ) (spec : ResolvedItem) (r : JudgedAgain) → slice_get (specifications_of p) j ≡ Some spec → slice_get records j ≡ Some r
-    → (is_shown_true r.judgement ≡ true → IsUnbroken p spec) × (is_shown_false r.judgement ≡ true → IsBroken p spec)
+    → (is_shown_true r.judgement ≡ true → IsUpheld spec.kind p spec) × (is_shown_false r.judgement ≡ true → IsRefuted spec.kind p spec)
 
 -- what is said of the model that the bytes are, by the traces and certificates beside it, and it holds
 pub record IsJudgedAgain (bytes : List ℕ) (upgrade : Bool) (c : Checked) : Type 0 where

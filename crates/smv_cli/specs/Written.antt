@@ -1,28 +1,30 @@
 -- What the calls below the top call have written.
-use Rattle.std.specs.Prelude.{◌≡◌, ⊤, ℕ, ◌≤◌, ◌==◌, true, false, if◌then◌else◌, List, length, Option, None, Some}
+use Rattle.std.specs.Prelude.{◌≡◌, ⊤, ℕ, ◌+◌, ◌≤◌, ◌==◌, Bool, true, false, if◌then◌else◌, List, [], ◌∷◌, length, Option, None, Some, drop, reverse}
 use Rattle.std.specs.List.{flat_map}
 use Rattle.std.specs.Io.KnownBytes.{Appends}
 use Rattle.command_words.specs.declared.command.Command.{Command}
 use Rattle.clause_core.specs.Systems.{TransitionSystem}
 use Rattle.command_words.specs.declared.command.Command.TheVariants.{Check, Recheck, Flat}
 use Rattle.command_words.specs.declared.command.Effort.{Effort}
-use Rattle.command_words.specs.Grammar.{frames_option}
+use Rattle.command_words.specs.Grammar.{counter_option, frames_option}
 use Rattle.smv_tree.specs.declared.tree.Program.{Program}
 use Rattle.smv_resolve.specs.declared.item.Item.{Item}
 use Rattle.smv_resolve.specs.Items.{ResolvedItem, item_by}
 use Rattle.smv_meaning.specs.Runs.{specifications_of}
 use Rattle.frame_core.specs.Runs.{IsBadRun}
-use Rattle.bit_system.specs.Building.{IsBuilt}
+use Rattle.bit_system.specs.Building.{IsBuilt, bit_limit, bits_of}
+use Rattle.bit_formula.specs.Standing.{FormulaSystem}
+use Rattle.ltl_meaning.specs.Unfolded.{unfolded}
 use Rattle.cert_core.specs.Certificates.{Certifies}
 use Rattle.prove_run.specs.declared.answers.Answer.{Answer}
 use Rattle.prove_run.specs.declared.answers.Answer.TheVariants as answer
-use Rattle.prove_run.specs.declared.answers.Done.{Done}
-use Rattle.prove_run.specs.Answers.{IsDone}
+use Rattle.prove_ltl.specs.declared.answers.LtlAnswer.{LtlAnswer}
+use Rattle.prove_ltl.specs.LtlAnswers.{IsLtlLog, IsLtlRight, LtlLog}
 use Rattle.smv_cli.specs.declared.checking.Checking.{Checking}
 use Rattle.smv_cli.specs.declared.record.Verdict.{Verdict}
 use Rattle.smv_cli.specs.declared.record.Verdict.TheVariants.{True, False, Unknown}
 use Rattle.smv_cli.specs.declared.record.Record.{Record}
-use Rattle.smv_cli.specs.Records.{IsLeftOpen, RightFrom, invariants_of, prover_effort, status_of}
+use Rattle.smv_cli.specs.Records.{IsLeftOpen, RightFrom, is_invariant, ltl_effort, status_of}
 use Rattle.smv_cli.specs.Report.{CommandStage}
 use Rattle.smv_cli.specs.Streams.{AppendsFront}
 use Rattle.smv_cli.specs.Texts.{record_text}
@@ -33,16 +35,39 @@ IsAnswered p effort sys spec (answer.True cert) = Certifies sys cert × (cert.co
 IsAnswered p effort sys spec (answer.False run) = IsBadRun sys run
 IsAnswered p effort sys spec (answer.Unknown cause) = IsLeftOpen p effort spec cause
 
--- what was done for all specifications at once, where the effort says so: they are INVARSPECs, and there is a right answer for
--- each of their systems
-abbrev pub IsAskedBefore : Program → List TransitionSystem → Effort → Option Done → Type 0
-IsAskedBefore p systems effort None = effort.together ≡ false
-IsAskedBefore p systems effort (Some done) =
-    (effort.together ≡ true) × (invariants_of p ≡ specifications_of p) × IsDone systems (prover_effort effort) done.work.history.items done.answers.items
+-- what was answered of an LTLSPEC, whose system this is, is right
+pub record IsFormulaAnswered (effort : Effort) (r : FormulaSystem) (a : LtlAnswer) : Type 0 where
+  pub log : LtlLog
+  pub so_it_was : IsLtlLog r.system (unfolded r.formula) r.atoms (ltl_effort effort) log
+  pub right : IsLtlRight r.system (unfolded r.formula) r.atoms (ltl_effort effort) log a
 
--- the greatest level that the words of a command line can say
+-- the systems of the INVARSPECs among these specifications, whose systems these are, in their order
+abbrev pub pooled : List ResolvedItem → List TransitionSystem → List TransitionSystem
+pooled [] systems = []
+pooled (x ∷ xs) [] = []
+pooled (x ∷ xs) (sys ∷ systems) = if is_invariant x.kind then sys ∷ pooled xs systems else pooled xs systems
+
+-- the first, or else the second
+abbrev pub either : Bool → Type 0 → Type 0 → Type 0
+either true A B = A
+either false A B = B
+
+-- these are the answers for the INVARSPECs among these specifications, whose systems these are, in their order; each is right
+abbrev pub AreAnswersOf : Program → Effort → List ResolvedItem → List TransitionSystem → List Answer → Type 0
+AreAnswersOf p effort [] systems answers = ⊤
+AreAnswersOf p effort (x ∷ xs) [] answers = ⊥
+AreAnswersOf p effort (x ∷ xs) (sys ∷ systems) [] = (is_invariant x.kind ≡ false) × AreAnswersOf p effort xs systems []
+AreAnswersOf p effort (x ∷ xs) (sys ∷ systems) (a ∷ answers) =
+    either (is_invariant x.kind) (IsAnswered p effort sys x a × AreAnswersOf p effort xs systems answers) (AreAnswersOf p effort xs systems (a ∷ answers))
+
+-- where the effort says so, these answers are left for the INVARSPECs from specification i on, counted from 0; the next one is the last
+abbrev pub IsPool : Program → List TransitionSystem → Effort → ℕ → List Answer → Type 0
+IsPool p systems effort i answers =
+    effort.together ≡ true → AreAnswersOf p effort (drop i (specifications_of p)) (drop i systems) (reverse answers)
+
+-- the greatest level and the greatest number of signals that the words of a command line can say
 abbrev pub IsInRange : Effort → Type 0
-IsInRange effort = effort.frames ≤ frames_option.greatest
+IsInRange effort = (effort.frames ≤ frames_option.greatest) × (effort.counter ≤ counter_option.greatest)
 
 -- and so for the effort of a command
 abbrev pub IsCommandInRange : Command → Type 0
@@ -61,11 +86,12 @@ item_in model spec = item_by model.flat.typed.nodes spec
 -- the systems are those of the program, and the effort is one that words can say
 pub record IsReady (model : Checking) : Type 0 where
   pub built : IsBuilt (program_in model) model.built
+  pub narrow : bits_of (program_in model) ≤ bit_limit
   pub range : IsInRange model.effort
 
 -- the status after one more verdict
 abbrev pub status_with : ℕ → Verdict → ℕ
-status_with status True = status
+status_with status (True shown) = status
 status_with status (False trace) = 1
 status_with status (Unknown cause) = if status == 1 then 1 else 2
 

@@ -1,20 +1,25 @@
 //! What is said of a specification: its system is proved to reach no bad state, or a run that breaks it is replayed.
 
-ghost use Rattle.std.specs.Prelude.{◌≡◌, ◌<◌, ◌-◌, All, IfOk, Some, false, length, map, slice_get, true};
+ghost use Rattle.std.specs.Prelude.{◌≡◌, ◌<◌, ◌≤◌, ◌-◌, ◌++◌, ◌∷◌, [], if◌then◌else◌, IfOk, List, OnOk, None, Some, false, length, map, true};
+ghost use Rattle.smv_resolve.specs.declared.node.Node.{Node};
 ghost use Rattle.smv_resolve.specs.Items.{item_by};
 ghost use Rattle.smv_resolve.specs.declared.item.ItemKind.TheVariants as item;
 ghost use Rattle.smv_meaning.specs.Runs.{Breaks, specifications_of};
 ghost use Rattle.trace_replay.specs.Tests.{ShowsBroken, specification_at};
 ghost use Rattle.bit_system.specs.Building.{system_of};
-ghost use Rattle.smv_cli.specs.Records.{IsRight, is_invariant, prover_effort};
-ghost use Rattle.smv_cli.specs.Written.{IsAnswered, IsAskedBefore, IsReady, item_in, program_in};
+ghost use Rattle.smv_cli.specs.Records.{IsRight, IsRightInvariant, is_invariant, prover_effort};
+ghost use Rattle.smv_cli.specs.Written.{IsAnswered, IsPool, IsReady, item_in, pooled, program_in};
 
 use crate::checking::Checking;
-use crate::record::{Record, Verdict};
-use bit_runs::{run_of, what_is_built_is_alike, what_is_never_bad_is_unbroken};
+use crate::formulas::judge_formula;
+use crate::record::{Reason, Record, Verdict};
+use bit_runs::{run_of, what_is_built_is_alike};
+use bit_system::{Built, copied, what_is_never_bad_is_unbroken};
+use cert_core::Certificate;
 use cert_core::laws::no_run_reaches_bad;
+use clause_core::System;
 use command_words::Effort;
-use prove_run::{Answer, Done, prove_all, prove_invariant};
+use prove_run::{Answer, prove_all, prove_invariant};
 use smv_meaning::{Inputs, State, Typed};
 use smv_resolve::{Item, ItemKind};
 use smv_tree::SpecificationKind;
@@ -41,67 +46,74 @@ fn is_invariant(kind: ItemKind) -> bool
     }
 }
 
-fn are_invariants(specs: &[Item]) -> bool
-    ensures { result ≡ true → All (λ spec. is_invariant spec.kind ≡ true) specs.now }
+// Adds a copy of the system of an INVARSPEC.
+fn push_invariant(
+    alloc: Global,
+    systems: &mut Vec<System>,
+    kind: ItemKind,
+    system: &System,
+) -> Result<(), AllocError>
+    ensures { OnOk result (systems.new.items ≡ systems.old.items ++ (if is_invariant kind then system.now ∷ [] else [])) }
 {
-    for spec in specs {
-        if !is_invariant(spec.kind) {
-            return false;
-        }
+    if is_invariant(kind) {
+        systems.push(copied(alloc, system)?)?;
     }
-    true
+    Ok(())
 }
 
-/// What is answered of all specifications at once, where the effort says so.
+// The systems of the INVARSPECs among these specifications, copied, in their order.
+fn pooled(alloc: Global, built: &Built, specs: &[Item]) -> Result<Vec<System>, AllocError>
+    requires { length specs.now ≤ length built.now.systems }
+    ensures { (nodes : List Node) → IfOk result (λ r. r.items ≡ pooled (map (item_by nodes) specs.now) built.now.systems) }
+{
+    let mut systems = Vec::new(alloc);
+    for (j, spec) in specs.iter().enumerate() {
+        push_invariant(alloc, &mut systems, spec.kind, built.system_of(j))?;
+    }
+    Ok(systems)
+}
+
+/// What is answered of all INVARSPECs at once, the first one last, where the effort says so; else nothing.
 pub fn ask_together(
     alloc: Global,
     model: &Checking,
     specs: &[Item],
-) -> Result<Option<Done>, AllocError>
+) -> Result<Vec<Answer>, AllocError>
     requires ready { IsReady model.now }
     requires listed { map (item_in model.now) specs.now ≡ specifications_of (program_in model.now) }
-    ensures { IfOk result (IsAskedBefore (program_in model.now) model.now.built.systems model.now.effort) }
+    ensures { IfOk result (λ pool. IsPool (program_in model.now) model.now.built.systems model.now.effort 0 pool.items) }
 {
     if !model.effort.together {
-        return Ok(None);
+        return Ok(Vec::new(alloc));
     }
-    // No text has another specification as long as its words go beyond the language.
-    if !are_invariants(specs) {
-        return Err(AllocError);
-    }
+    let systems = pooled(alloc, &model.built, specs)?;
     what_is_built_is_alike();
-    let done = prove_all(alloc, model.built.systems(), &prover_effort(&model.effort))?;
-    Ok(Some(done))
+    let done = prove_all(alloc, &systems, &prover_effort(&model.effort))?;
+    let mut pool = done.answers;
+    pool.reverse();
+    Ok(pool)
 }
 
-/// The record of the specification of this number, by what was answered of all at once, or else by an answer of its own.
+/// The record of the specification of this number, by the next of the answers of all at once, or else by an answer of its own.
 pub fn judge(
     alloc: Global,
     model: &Checking,
     number: usize,
     kind: SpecificationKind,
     spec: &Item,
-    together: &Option<Done>,
+    pool: &mut Vec<Answer>,
 ) -> Result<Record, AllocError>
     requires ready { IsReady model.now }
     requires first { 0 < number }
+    requires kind { spec.now.kind ≡ item.Specification kind }
     requires numbered { specification_at (program_in model.now) number ≡ Some (item_in model.now spec.now) }
-    requires together { IsAskedBefore (program_in model.now) model.now.built.systems model.now.effort together.now }
+    requires pool { IsPool (program_in model.now) model.now.built.systems model.now.effort (number - 1) pool.old.items }
     ensures number { IfOk result (λ r. r.number ≡ number) }
     ensures kind { IfOk result (λ r. r.kind ≡ kind) }
-    ensures right { IfOk result (λ r. IsRight (program_in model.now) model.now.effort (item_in model.now spec.now) r.verdict) }
+    ensures right { IfOk result (λ r. IsRight kind (program_in model.now) model.now.effort (item_in model.now spec.now) r.verdict) }
+    ensures pool { OnOk result (IsPool (program_in model.now) model.now.built.systems model.now.effort number pool.new.items) }
 {
-    // No text has such a specification as long as its words go beyond the language.
-    if kind == SpecificationKind::Temporal {
-        return Err(AllocError);
-    }
-    let verdict = match together {
-        Some(done) => {
-            let answer = answer_at(&done.answers, number - 1);
-            verdict_of(alloc, model, number, spec, answer)?
-        }
-        None => judge_alone(alloc, model, number, spec)?,
-    };
+    let verdict = judge_by_kind(alloc, model, number, kind, spec, pool)?;
     Ok(Record {
         number,
         kind,
@@ -109,31 +121,107 @@ pub fn judge(
     })
 }
 
-// What was answered of the system of this number.
-fn answer_at(answers: &[Answer], number: usize) -> &Answer
-    requires { number < length answers.now }
-    ensures { slice_get answers.now number ≡ Some result.now }
+// What is said of a specification of this kind.
+fn judge_by_kind(
+    alloc: Global,
+    model: &Checking,
+    number: usize,
+    kind: SpecificationKind,
+    spec: &Item,
+    pool: &mut Vec<Answer>,
+) -> Result<Verdict, AllocError>
+    requires ready { IsReady model.now }
+    requires first { 0 < number }
+    requires kind { spec.now.kind ≡ item.Specification kind }
+    requires numbered { specification_at (program_in model.now) number ≡ Some (item_in model.now spec.now) }
+    requires pool { IsPool (program_in model.now) model.now.built.systems model.now.effort (number - 1) pool.old.items }
+    ensures right { IfOk result (IsRight kind (program_in model.now) model.now.effort (item_in model.now spec.now)) }
+    ensures pool { OnOk result (IsPool (program_in model.now) model.now.built.systems model.now.effort number pool.new.items) }
 {
-    &answers[number]
+    match kind {
+        SpecificationKind::Invariant => judge_invariant(alloc, model, number, spec, pool),
+        SpecificationKind::Temporal => judge_formula(alloc, model, number, spec),
+    }
 }
 
-// What is said of a specification that is asked alone.
-fn judge_alone(
+// What is said of an INVARSPEC, by the next of the answers of all at once, or else by an answer of its own.
+fn judge_invariant(
     alloc: Global,
     model: &Checking,
     number: usize,
     spec: &Item,
+    pool: &mut Vec<Answer>,
 ) -> Result<Verdict, AllocError>
+    requires ready { IsReady model.now }
+    requires first { 0 < number }
+    requires invariant { is_invariant spec.now.kind ≡ true }
+    requires numbered { specification_at (program_in model.now) number ≡ Some (item_in model.now spec.now) }
+    requires pool { IsPool (program_in model.now) model.now.built.systems model.now.effort (number - 1) pool.old.items }
+    ensures right { IfOk result (IsRightInvariant (program_in model.now) model.now.effort (item_in model.now spec.now)) }
+    ensures pool { OnOk result (IsPool (program_in model.now) model.now.built.systems model.now.effort number pool.new.items) }
+{
+    let answer = answer_of(alloc, model, number, spec, pool)?;
+    verdict_of(alloc, model, number, spec, answer)
+}
+
+// The last of these answers.
+fn last_of(answers: &mut Vec<Answer>) -> Answer
+    requires { 0 < length answers.old.items }
+    ensures { answers.old.items ≡ answers.new.items ++ result ∷ [] }
+{
+    match answers.pop() {
+        Some(answer) => answer,
+        None => unreachable!(),
+    }
+}
+
+// What is answered of a specification: the next of the answers of all at once, or what is answered of it alone.
+fn answer_of(
+    alloc: Global,
+    model: &Checking,
+    number: usize,
+    spec: &Item,
+    pool: &mut Vec<Answer>,
+) -> Result<Answer, AllocError>
+    requires ready { IsReady model.now }
+    requires first { 0 < number }
+    requires invariant { is_invariant spec.now.kind ≡ true }
+    requires numbered { specification_at (program_in model.now) number ≡ Some (item_in model.now spec.now) }
+    requires pool { IsPool (program_in model.now) model.now.built.systems model.now.effort (number - 1) pool.old.items }
+    ensures answered { IfOk result (IsAnswered (program_in model.now) model.now.effort (system_of model.now.built (number - 1)) (item_in model.now spec.now)) }
+    ensures pool { OnOk result (IsPool (program_in model.now) model.now.built.systems model.now.effort number pool.new.items) }
+{
+    if model.effort.together {
+        Ok(last_of(pool))
+    } else {
+        ask_alone(alloc, model, number, spec)
+    }
+}
+
+// What is answered of a specification that is asked alone.
+fn ask_alone(
+    alloc: Global,
+    model: &Checking,
+    number: usize,
+    spec: &Item,
+) -> Result<Answer, AllocError>
     requires ready { IsReady model.now }
     requires alone { model.now.effort.together ≡ false }
     requires first { 0 < number }
     requires numbered { specification_at (program_in model.now) number ≡ Some (item_in model.now spec.now) }
-    ensures { IfOk result (IsRight (program_in model.now) model.now.effort (item_in model.now spec.now)) }
+    ensures { IfOk result (IsAnswered (program_in model.now) model.now.effort (system_of model.now.built (number - 1)) (item_in model.now spec.now)) }
 {
     let system = model.built.system_of(number - 1);
     let done = prove_invariant(alloc, system, &prover_effort(&model.effort))?;
-    let answer = answer_at(&done.answers, 0);
-    verdict_of(alloc, model, number, spec, answer)
+    let mut answers = done.answers;
+    Ok(last_of(&mut answers))
+}
+
+/// A certificate, where one is wanted.
+pub fn if_wanted(wanted: bool, certificate: Certificate) -> Option<Certificate>
+    ensures { result ≡ (if wanted then Some certificate else None) }
+{
+    if wanted { Some(certificate) } else { None }
 }
 
 // What is said of a specification of whose system this was answered.
@@ -142,27 +230,27 @@ fn verdict_of(
     model: &Checking,
     number: usize,
     spec: &Item,
-    answer: &Answer,
+    answer: Answer,
 ) -> Result<Verdict, AllocError>
     requires ready { IsReady model.now }
     requires first { 0 < number }
     requires numbered { specification_at (program_in model.now) number ≡ Some (item_in model.now spec.now) }
-    requires answered { IsAnswered (program_in model.now) model.now.effort (system_of model.now.built (number - 1)) (item_in model.now spec.now) answer.now }
-    ensures { IfOk result (IsRight (program_in model.now) model.now.effort (item_in model.now spec.now)) }
+    requires answered { IsAnswered (program_in model.now) model.now.effort (system_of model.now.built (number - 1)) (item_in model.now spec.now) answer }
+    ensures { IfOk result (IsRightInvariant (program_in model.now) model.now.effort (item_in model.now spec.now)) }
 {
     match answer {
-        Answer::True(_) => {
+        Answer::True(certificate) => {
             no_run_reaches_bad();
             what_is_never_bad_is_unbroken();
-            Ok(Verdict::True)
+            Ok(Verdict::True(if_wanted(model.effort.cert, certificate)))
         }
         Answer::False(run) => {
-            let run = run_of(alloc, &model.built, run)?;
+            let run = run_of(alloc, &model.built, &run)?;
             let (states, inputs) = (run.states.as_slice(), run.inputs.as_slice());
             let trace = replayed(alloc, &model.flat.typed, number, spec, states, inputs)?;
             Ok(Verdict::False(trace))
         }
-        Answer::Unknown(cause) => Ok(Verdict::Unknown(*cause)),
+        Answer::Unknown(cause) => Ok(Verdict::Unknown(Reason::Invariant(cause))),
     }
 }
 

@@ -2,6 +2,7 @@
 #![tactic(auto)]
 
 mod checking;
+mod formulas;
 mod judging;
 mod listing;
 mod print;
@@ -9,5 +10,5 @@ mod record;
 mod streams;
 mod top;
 
-pub use record::{Record, Verdict};
+pub use record::{Reason, Record, Verdict};
 pub use top::{SOURCE_LIMIT, run, run_over_bytes};

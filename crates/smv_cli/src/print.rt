@@ -4,14 +4,15 @@ ghost use Rattle.std.specs.Io.KnownBytes.{Appends};
 ghost use Rattle.outside.specs.Causes.{Rose};
 ghost use Rattle.smv_meaning.specs.Runs.{is_claim, specifications_of};
 ghost use Rattle.smv_cli.specs.Streams.{AppendsFront};
-ghost use Rattle.smv_cli.specs.Written.{IsAskedBefore, IsReady, Recorded, RecordedPart, item_in, program_in, status_with};
+ghost use Rattle.smv_cli.specs.Texts.{record_text};
+ghost use Rattle.smv_cli.specs.Written.{IsPool, IsReady, Recorded, RecordedPart, item_in, program_in, status_with};
 
 use crate::checking::Checking;
 use crate::judging::judge;
-use crate::record::Verdict;
+use crate::record::{Record, Verdict, print};
 use crate::streams::write_all;
 use outside::{Sink, Stop};
-use prove_run::Done;
+use prove_run::Answer;
 use smv_resolve::{Item, ItemKind};
 use std::alloc::Global;
 use std::fmt;
@@ -30,13 +31,27 @@ pub fn put<K: Sink, D: fmt::Display>(alloc: Global, sink: &mut K, part: &D) -> R
     write_all(sink, text.as_bytes())
 }
 
+// Writes one record.
+fn put_record<K: Sink>(alloc: Global, sink: &mut K, made: &Record) -> Result<(), Stop>
+    ensures ok { OnOk result (Appends (K.taken sink.old) (K.taken sink.new) (record_text made.now)) }
+    ensures front { AppendsFront (K.taken sink.old) (K.taken sink.new) (record_text made.now) }
+    ensures kept { OnOk result (K.faults sink.new ≡ K.faults sink.old) }
+    ensures failed { IsErrOf result Stop.Failed → Rose (K.faults sink.old) (K.faults sink.new) }
+    ensures no_memory { IsErrOf result Stop.NoMemory → K.faults sink.new ≡ K.faults sink.old }
+{
+    let Ok(text) = print(alloc, made) else {
+        return Err(Stop::NoMemory);
+    };
+    write_all(sink, text.as_bytes())
+}
+
 // The status after one more verdict.
 fn status_with(status: u8, verdict: &Verdict) -> u8
     ensures value { result ≡ status_with status verdict.now }
     ensures small { status ≤ 2 → result ≤ 2 }
 {
     match verdict {
-        Verdict::True => status,
+        Verdict::True(_) => status,
         Verdict::False(_) => 1,
         Verdict::Unknown(_) if status == 1 => 1,
         Verdict::Unknown(_) => 2,
@@ -50,12 +65,12 @@ pub fn put_records<K: Sink>(
     sink: &mut K,
     model: &Checking,
     specs: &[Item],
-    together: &Option<Done>,
+    pool: Vec<Answer>,
 ) -> Result<u8, Stop>
     requires ready { IsReady model.now }
     requires claims { All (λ spec. is_claim spec.kind ≡ true) specs.now }
     requires listed { map (item_in model.now) specs.now ≡ specifications_of (program_in model.now) }
-    requires together { IsAskedBefore (program_in model.now) model.now.built.systems model.now.effort together.now }
+    requires pool { IsPool (program_in model.now) model.now.built.systems model.now.effort 0 pool.items }
     ensures ok { IfOk result (λ status. Recorded (program_in model.now) model.now.effort (map (item_in model.now) specs.now) (K.taken sink.old) (K.taken sink.new) status) }
     ensures small { IfOk result (λ status. status ≤ 2) }
     ensures part { RecordedPart (program_in model.now) model.now.effort (map (item_in model.now) specs.now) (K.taken sink.old) (K.taken sink.new) }
@@ -64,14 +79,15 @@ pub fn put_records<K: Sink>(
     ensures no_memory { IsErrOf result Stop.NoMemory → K.faults sink.new ≡ K.faults sink.old }
 {
     let mut status = 0;
+    let mut pool = pool;
     'specs: for (i, spec) in specs.iter().enumerate() {
         let ItemKind::Specification(kind) = spec.kind else {
             unreachable!()
         };
-        let Ok(made) = judge(alloc, model, i + 1, kind, spec, together) else {
+        let Ok(made) = judge(alloc, model, i + 1, kind, spec, &mut pool) else {
             return Err(Stop::NoMemory);
         };
-        put(alloc, sink, &made)?;
+        put_record(alloc, sink, &made)?;
         status = status_with(status, &made.verdict);
     }
     Ok(status)

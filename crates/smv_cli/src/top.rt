@@ -59,10 +59,10 @@ fn report_model<K: Sink>(alloc: Global, sink: &mut K, model: &Checking) -> Resul
     let Ok(specs) = specifications(alloc, &model.flat.typed) else {
         return Err(Stop::NoMemory);
     };
-    let Ok(together) = ask_together(alloc, model, specs.as_slice()) else {
+    let Ok(pool) = ask_together(alloc, model, specs.as_slice()) else {
         return Err(Stop::NoMemory);
     };
-    put_records(alloc, sink, model, specs.as_slice(), &together)
+    put_records(alloc, sink, model, specs.as_slice(), pool)
 }
 
 // Writes the slots and items of a model, with status 0.

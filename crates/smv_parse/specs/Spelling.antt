@@ -31,6 +31,7 @@ is_in_use kind.Trans = true
 is_in_use kind.Justice = true
 is_in_use kind.Fairness = true
 is_in_use kind.Invarspec = true
+is_in_use kind.Ltlspec = true
 is_in_use kind.Name = true
 is_in_use kind.Boolean = true
 is_in_use kind.SelfName = true
@@ -40,6 +41,17 @@ is_in_use kind.True = true
 is_in_use kind.False = true
 is_in_use kind.Xor = true
 is_in_use kind.Xnor = true
+is_in_use kind.NextTime = true
+is_in_use kind.Finally = true
+is_in_use kind.Globally = true
+is_in_use kind.Until = true
+is_in_use kind.Releases = true
+is_in_use kind.PreviousTime = true
+is_in_use kind.WeakPreviousTime = true
+is_in_use kind.Once = true
+is_in_use kind.Historically = true
+is_in_use kind.Since = true
+is_in_use kind.Triggered = true
 is_in_use kind.Identifier = true
 is_in_use kind.Abs = true
 is_in_use kind.Max = true
@@ -47,6 +59,9 @@ is_in_use kind.Min = true
 is_in_use kind.Count = true
 is_in_use kind.LeftParen = true
 is_in_use kind.RightParen = true
+is_in_use kind.Integer = true
+is_in_use kind.LeftBracket = true
+is_in_use kind.RightBracket = true
 is_in_use kind.Comma = true
 is_in_use kind.Semicolon = true
 is_in_use kind.Colon = true
@@ -66,9 +81,31 @@ is_in_use other = false
 abbrev pub names_function : Token → Bool
 names_function t = is_kind kind.Abs t || is_kind kind.Max t || is_kind kind.Min t || is_kind kind.Count t
 
--- The token goes beyond the language: it has no place in it, or names a function of integers. The tokens behind it are given.
+-- the tokens begin with an integer and "]"
+abbrev pub is_high : List Token → Bool
+is_high [] = false
+is_high (t ∷ rest) = is_kind kind.Integer t && head (is_kind kind.RightBracket) rest
+
+-- with ",", an integer and "]"
+abbrev pub goes_on_to_high : List Token → Bool
+goes_on_to_high [] = false
+goes_on_to_high (t ∷ rest) = is_kind kind.Comma t && is_high rest
+
+-- with two bounds and "]"
+abbrev pub are_bounds : List Token → Bool
+are_bounds [] = false
+are_bounds (t ∷ rest) = is_kind kind.Integer t && goes_on_to_high rest
+
+-- an integer, or "[", that is none of the bounds of a temporal operator by the tokens behind it
+abbrev pub is_out_of_bounds : Token → List Token → Bool
+is_out_of_bounds t rest =
+    (is_kind kind.LeftBracket t && not (are_bounds rest))
+    || (is_kind kind.Integer t && not (goes_on_to_high rest || head (is_kind kind.RightBracket) rest))
+
+-- The token goes beyond the language: it has no place in it, names a function of integers, or is an integer or "[" where no bounds
+-- are. The tokens behind it are given.
 abbrev pub is_unsupported : Token → List Token → Bool
-is_unsupported t rest = not (is_in_use t.kind) || (names_function t && head (is_kind kind.LeftParen) rest)
+is_unsupported t rest = not (is_in_use t.kind) || (names_function t && head (is_kind kind.LeftParen) rest) || is_out_of_bounds t rest
 
 -- the first token that goes beyond the language
 unfoldable pub first_unsupported : List Token → Option Token

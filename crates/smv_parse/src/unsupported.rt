@@ -2,7 +2,7 @@
 
 ghost use Rattle.std.specs.Prelude.{◌≡◌};
 ghost use Rattle.std.specs.Option.{option_copied};
-ghost use Rattle.smv_parse.specs.Spelling.{is_in_use, names_function, is_unsupported, first_unsupported};
+ghost use Rattle.smv_parse.specs.Spelling.{are_bounds, goes_on_to_high, is_high, is_in_use, is_out_of_bounds, is_unsupported, names_function, first_unsupported};
 
 use smv_phrases::{begins, is_kind};
 use smv_tree::{Token, TokenKind};
@@ -26,6 +26,7 @@ fn is_in_use(kind: TokenKind) -> bool
         | TokenKind::Justice
         | TokenKind::Fairness
         | TokenKind::Invarspec
+        | TokenKind::Ltlspec
         | TokenKind::Name => true,
         // The words of types and expressions.
         TokenKind::Boolean
@@ -35,6 +36,20 @@ fn is_in_use(kind: TokenKind) -> bool
         | TokenKind::False
         | TokenKind::Xor
         | TokenKind::Xnor => true,
+        // The temporal operators.
+        TokenKind::NextTime
+        | TokenKind::Finally
+        | TokenKind::Globally
+        | TokenKind::Until
+        | TokenKind::Releases => true,
+        TokenKind::PreviousTime
+        | TokenKind::WeakPreviousTime
+        | TokenKind::Once
+        | TokenKind::Historically
+        | TokenKind::Since
+        | TokenKind::Triggered => true,
+        // Their bounds.
+        TokenKind::Integer | TokenKind::LeftBracket | TokenKind::RightBracket => true,
         // The names.
         TokenKind::Identifier
         | TokenKind::Abs
@@ -73,11 +88,54 @@ fn names_function(token: &Token) -> bool
         || is_kind(TokenKind::Count, token)
 }
 
+/// Whether the tokens begin with an integer and `]`.
+fn is_high(tokens: &[Token]) -> bool
+    ensures { result ≡ is_high tokens.now }
+{
+    match tokens {
+        [high, rest @ ..] => {
+            is_kind(TokenKind::Integer, high) && begins(TokenKind::RightBracket, rest)
+        }
+        [] => false,
+    }
+}
+
+/// Whether they begin with `,`, an integer and `]`.
+fn goes_on_to_high(tokens: &[Token]) -> bool
+    ensures { result ≡ goes_on_to_high tokens.now }
+{
+    match tokens {
+        [comma, rest @ ..] => is_kind(TokenKind::Comma, comma) && is_high(rest),
+        [] => false,
+    }
+}
+
+/// Whether they begin with two bounds and `]`.
+fn are_bounds(tokens: &[Token]) -> bool
+    ensures { result ≡ are_bounds tokens.now }
+{
+    match tokens {
+        [low, rest @ ..] => is_kind(TokenKind::Integer, low) && goes_on_to_high(rest),
+        [] => false,
+    }
+}
+
+/// Whether the token is an integer or `[`, and none of the bounds of a temporal operator by the tokens behind it.
+fn is_out_of_bounds(token: &Token, rest: &[Token]) -> bool
+    ensures { result ≡ is_out_of_bounds token.now rest.now }
+{
+    is_kind(TokenKind::LeftBracket, token) && !are_bounds(rest)
+        || is_kind(TokenKind::Integer, token)
+            && !(goes_on_to_high(rest) || begins(TokenKind::RightBracket, rest))
+}
+
 /// Whether the token goes beyond the language, before these tokens.
 fn is_unsupported(token: &Token, rest: &[Token]) -> bool
     ensures { result ≡ is_unsupported token.now rest.now }
 {
-    !is_in_use(token.kind) || names_function(token) && begins(TokenKind::LeftParen, rest)
+    !is_in_use(token.kind)
+        || names_function(token) && begins(TokenKind::LeftParen, rest)
+        || is_out_of_bounds(token, rest)
 }
 
 /// The first token that goes beyond the language.

@@ -1,7 +1,7 @@
 pub mod Ascii
 pub mod CutLines
 pub mod Full
-pub mod Reaching
+pub mod Gives
 pub mod Recording
 pub mod Showing
 pub mod Stopping

@@ -1,14 +1,18 @@
--- What it means for a specification to be broken or not.
-use Rattle.std.specs.Prelude.{List}
+-- What it means for a specification to hold or not, by its kind.
 use Rattle.smv_tree.specs.declared.tree.Program.{Program}
-use Rattle.smv_value.specs.declared.value.Value.{Value}
+use Rattle.smv_tree.specs.declared.tree.SpecificationKind.TheVariants as claim
+use Rattle.smv_resolve.specs.declared.item.ItemKind.{ItemKind}
+use Rattle.smv_resolve.specs.declared.item.ItemKind.TheVariants as item
 use Rattle.smv_resolve.specs.Items.{ResolvedItem}
-use Rattle.smv_meaning.specs.Runs.{Breaks}
+use Rattle.bit_system.specs.Claims.{IsBroken, IsUnbroken}
+use Rattle.bit_lassos.specs.Claims.{IsUnviolated, IsViolated}
 
--- no run breaks it
-abbrev pub IsUnbroken : Program → ResolvedItem → Type 0
-IsUnbroken p spec = (states inputs : List (List Value)) → Breaks p spec states inputs → ⊥
+-- no run breaks it; of a temporal formula, no fair lasso violates it
+abbrev pub IsUpheld : ItemKind → Program → ResolvedItem → Type 0
+IsUpheld (item.Specification claim.Temporal) = IsUnviolated
+IsUpheld other = IsUnbroken
 
--- some run breaks it
-abbrev pub IsBroken : Program → ResolvedItem → Type 0
-IsBroken p spec = (states : List (List Value)) × ((inputs : List (List Value)) × Breaks p spec states inputs)
+-- some run breaks it; of a temporal formula, some fair lasso violates it
+abbrev pub IsRefuted : ItemKind → Program → ResolvedItem → Type 0
+IsRefuted (item.Specification claim.Temporal) = IsViolated
+IsRefuted other = IsBroken

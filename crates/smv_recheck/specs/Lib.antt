@@ -1,5 +1,6 @@
 pub mod Checking
 pub mod Claims
+pub mod Counted
 pub mod Cutting
 pub mod Full
 pub mod Judging

@@ -1,10 +1,10 @@
 //! Judges all specifications of a text.
 
-ghost use Rattle.std.specs.Prelude.{◌≡◌, ◌+◌, ◌<◌, ◌^◌, ◌&&◌, nat_lt, map, true, None, Some, All, IfOk, IfErr, option_copied, slice_get, slice_index_or, if◌then◌else◌};
+ghost use Rattle.std.specs.Prelude.{◌≡◌, ◌+◌, ◌<◌, ◌≤◌, ◌^◌, ◌&&◌, nat_lt, map, true, None, Some, All, IfOk, IfErr, option_copied, slice_get, slice_index_or, if◌then◌else◌};
 ghost use Rattle.std.specs.List.{list_any};
 ghost use Rattle.smv_resolve.specs.Items.{item_by};
 ghost use Rattle.smv_meaning.specs.Runs.{is_claim, specifications_of};
-ghost use Rattle.bit_system.specs.Building.{IsBuilt, system_of};
+ghost use Rattle.bit_system.specs.Building.{IsBuilt, bit_limit, bits_of, system_of};
 ghost use Rattle.smv_recheck.specs.declared.judgement.Record.{Record};
 ghost use Rattle.smv_recheck.specs.Checking.{AreRecords, IsCheckedText, is_nothing, is_rejected, status_of};
 ghost use Rattle.smv_recheck.specs.Judging.{IsRecord};
@@ -13,11 +13,11 @@ ghost use Rattle.smv_recheck.specs.Refusing.{IsStop};
 use crate::beside::{Beside, read_beside};
 use crate::judgement::{Judgement, Record};
 use crate::judging::{Exhibit, judge};
-use bit_system::{Built, build};
+use bit_system::{BuildStop, Built, build};
 use cert_core::{Certificate, Sound};
 use smv_flat::Flat;
 use smv_front::read_model;
-use smv_meaning::{Typed, specifications};
+use smv_meaning::specifications;
 use smv_resolve::{Item, ItemKind};
 use smv_tree::TextStop;
 use sqlite_items::Items;
@@ -35,13 +35,15 @@ pub struct Checked {
     pub records: Items<Record>,
 }
 
-// The systems of a model. Each variable has one bit, and a model has at most 65536 variables, so that no bits are too many.
+// The systems of a model, whose bits are never too many.
 fn systems_of(alloc: Global, flat: &Flat) -> Result<Built, AllocError>
+    requires narrow { bits_of flat.now.typed.scope.program ≤ bit_limit }
     ensures { IfOk result (IsBuilt flat.now.typed.scope.program) }
 {
     match build(alloc, flat) {
         Ok(built) => Ok(built),
-        Err(_) => Err(AllocError),
+        Err(BuildStop::TooManyBits) => unreachable!(),
+        Err(BuildStop::NoMemory) => Err(AllocError),
     }
 }
 
@@ -70,18 +72,19 @@ fn certificate_at(certificates: &[Option<Certificate>], j: usize) -> Option<&Cer
 // The record of a specification, counted from 0.
 fn record_of(
     alloc: Global,
-    typed: &Typed,
+    flat: &Flat,
     built: &Built,
     beside: &Beside,
     j: usize,
     spec: &Item,
     again: bool,
 ) -> Result<Record, AllocError>
+    requires narrow { bits_of flat.now.typed.scope.program ≤ bit_limit }
     requires room { j + 1 < 2 ^ 64 }
     requires claim { is_claim spec.now.kind ≡ true }
-    requires here { slice_get (specifications_of typed.now.scope.program) j ≡ Some (item_by typed.now.nodes spec.now) }
-    requires built { IsBuilt typed.now.scope.program built.now }
-    ensures { IfOk result (IsRecord typed.now.scope.program (system_of built.now j) again (slice_index_or beside.now.traces j None) (slice_index_or beside.now.certificates.items j None) (j + 1) (item_by typed.now.nodes spec.now)) }
+    requires here { slice_get (specifications_of flat.now.typed.scope.program) j ≡ Some (item_by flat.now.typed.nodes spec.now) }
+    requires built { IsBuilt flat.now.typed.scope.program built.now }
+    ensures { IfOk result (IsRecord flat.now.typed.scope.program (system_of built.now j) again (slice_index_or beside.now.traces j None) (slice_index_or beside.now.certificates.items j None) (j + 1) (item_by flat.now.typed.nodes spec.now)) }
 {
     let ItemKind::Specification(kind) = spec.kind else {
         unreachable!()
@@ -92,7 +95,7 @@ fn record_of(
         certificate: certificate_at(&beside.certificates, j),
     };
     let system = built.system_of(j);
-    let judgement = judge(alloc, typed, system, number, kind, spec, exhibit, again)?;
+    let judgement = judge(alloc, flat, system, number, kind, spec, exhibit, again)?;
     Ok(Record {
         number,
         kind,
@@ -103,20 +106,21 @@ fn record_of(
 // The records of the specifications.
 fn records_of(
     alloc: Global,
-    typed: &Typed,
+    flat: &Flat,
     built: &Built,
     beside: &Beside,
     specs: &[Item],
     again: bool,
 ) -> Result<Items<Record>, AllocError>
+    requires narrow { bits_of flat.now.typed.scope.program ≤ bit_limit }
     requires claims { All (λ spec. is_claim spec.kind ≡ true) specs.now }
-    requires listed { map (item_by typed.now.nodes) specs.now ≡ specifications_of typed.now.scope.program }
-    requires built { IsBuilt typed.now.scope.program built.now }
-    ensures { IfOk result (AreRecords typed.now.scope.program built.now again beside.now.traces beside.now.certificates.items) }
+    requires listed { map (item_by flat.now.typed.nodes) specs.now ≡ specifications_of flat.now.typed.scope.program }
+    requires built { IsBuilt flat.now.typed.scope.program built.now }
+    ensures { IfOk result (AreRecords flat.now.typed.scope.program built.now again beside.now.traces beside.now.certificates.items) }
 {
     let mut records = Vec::new(alloc);
     for (j, spec) in specs.iter().enumerate() {
-        let record = record_of(alloc, typed, built, beside, j, spec, again)?;
+        let record = record_of(alloc, flat, built, beside, j, spec, again)?;
         records.push(record)?;
     }
     Ok(Items::from_vec(records))
@@ -133,12 +137,13 @@ fn sound_again(sound: Option<Sound>, specs: usize, upgrade: bool) -> Option<Soun
 /// lines: to the language they are comments.
 ///
 /// Of each specification it says: shown true, where its certificate certifies; shown false, where its trace is that of a run that breaks
-/// it; rejected, with the first part of its certificate or the first test of its trace that fails; or that nothing is shown. A trace is
-/// judged before a certificate. What is shown holds, by the law `what_is_shown_holds`. With `upgrade` each certificate that certifies is
-/// made anew in the form that is judged by hints, and the sound block is kept.
+/// it, or of a lasso that violates it; rejected, with the first part of its certificate or the first test of its trace that fails; or
+/// that nothing is shown. A trace is judged before a certificate. What is shown holds, by the law `what_is_shown_holds`. With `upgrade`
+/// each certificate that certifies is made anew in the form that is judged by hints, and the sound block is kept.
 ///
 /// No solver is asked. The time is that of reading the text, of building the systems of the model, of the tests of each trace, and of
-/// `cert_check::check` or `cert_check::upgrade` for each certificate.
+/// `cert_check::check` or `cert_check::upgrade` for each certificate. For each certificate of a temporal formula the system of the
+/// formula with monitor and counter is built.
 ///
 /// # Errors
 ///
@@ -156,7 +161,7 @@ pub fn recheck(alloc: Global, text: &[u8], upgrade: bool) -> Result<Checked, Tex
     let specs = specifications(alloc, typed)?;
     let count = specs.len();
     let beside = read_beside(alloc, text, typed, count)?;
-    let records = records_of(alloc, typed, &built, &beside, specs.as_slice(), upgrade)?;
+    let records = records_of(alloc, &flat, &built, &beside, specs.as_slice(), upgrade)?;
     let sound = sound_again(beside.sound, count, upgrade);
     Ok(Checked {
         built,

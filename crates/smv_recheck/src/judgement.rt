@@ -7,10 +7,10 @@ use trace_replay::ReplayRule;
 /// What is said of a specification, by its trace or its certificate.
 #[derive(Drop)]
 pub enum Judgement {
-    /// Its certificate certifies: no run breaks it. Where certificates are to be printed again, this is the one that is judged by
-    /// hints.
+    /// Its certificate certifies: no run breaks it, and no lasso violates it. Where certificates are to be printed again, this is the
+    /// one that is judged by hints.
     ShownTrue(Option<Certificate>),
-    /// Its trace is that of a run that breaks it.
+    /// Its trace is that of a run that breaks it, or of a lasso that violates it.
     ShownFalse,
     /// This part of its certificate is the first that fails.
     PartRejected(Part),

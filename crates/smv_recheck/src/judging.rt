@@ -1,19 +1,23 @@
 //! What is said of one specification.
 
-ghost use Rattle.std.specs.Prelude.{◌≡◌, ◌<◌, IfOk, None, Some, false, true, option_copied};
+ghost use Rattle.std.specs.Prelude.{◌≡◌, ◌<◌, ◌≤◌, IfOk, Some, false, true, option_copied};
+ghost use Rattle.smv_resolve.specs.declared.item.ItemKind.TheVariants as item;
 ghost use Rattle.smv_resolve.specs.Items.{item_by};
 ghost use Rattle.trace_replay.specs.Tests.{specification_at};
-ghost use Rattle.smv_recheck.specs.Judging.{IsByCertificate, IsByTrace, IsJudged};
+ghost use Rattle.bit_system.specs.Building.{bit_limit, bits_of};
+ghost use Rattle.smv_recheck.specs.Judging.{IsByCertificate, IsByTrace, IsCertified, IsJudged, IsOfFormula, IsOfInvariant};
 
+use crate::counting::counted_system;
 use crate::judgement::Judgement;
 use cert_check::{Upgraded, Verdict, check, upgrade};
 use cert_core::{Certificate, Part};
 use clause_core::System;
+use smv_flat::Flat;
 use smv_meaning::Typed;
 use smv_resolve::Item;
 use smv_tree::SpecificationKind;
 use std::alloc::{AllocError, Global};
-use trace_replay::{Replayed, Trace, replay_run};
+use trace_replay::{Replayed, Trace, replay};
 
 /// What a text shows of a specification: its trace and its certificate, if they are there.
 #[derive(Clone, Copy)]
@@ -22,19 +26,21 @@ pub struct Exhibit<'a> {
     pub certificate: Option<&'a Certificate>,
 }
 
-// By a trace of the specification of this number.
+// By a trace of the specification of this number, which is of this kind.
 fn by_trace(
     alloc: Global,
     typed: &Typed,
     number: usize,
+    kind: SpecificationKind,
     spec: &Item,
     trace: &Trace,
 ) -> Result<Judgement, AllocError>
     requires first { 0 < number }
     requires numbered { specification_at typed.now.scope.program number ≡ Some (item_by typed.now.nodes spec.now) }
-    ensures { IfOk result (IsByTrace typed.now.scope.program (item_by typed.now.nodes spec.now) trace.now) }
+    requires kind { spec.now.kind ≡ item.Specification kind }
+    ensures { IfOk result (IsByTrace kind typed.now.scope.program (item_by typed.now.nodes spec.now) trace.now) }
 {
-    match replay_run(alloc, typed, number, trace)? {
+    match replay(alloc, typed, number, trace)? {
         Replayed::Accepted => Ok(Judgement::ShownFalse),
         Replayed::Rejected { rule, number } => Ok(Judgement::TestRejected { rule, number }),
     }
@@ -46,8 +52,7 @@ fn by_check(
     system: &System,
     certificate: &Certificate,
 ) -> Result<Judgement, AllocError>
-    requires { certificate.now.counter ≡ None }
-    ensures { IfOk result (IsByCertificate system.now certificate.now false) }
+    ensures { IfOk result (IsCertified system.now certificate.now false) }
 {
     match check(alloc, system, certificate)? {
         Verdict::Yes => Ok(Judgement::ShownTrue(None)),
@@ -61,8 +66,7 @@ fn by_upgrade(
     system: &System,
     certificate: &Certificate,
 ) -> Result<Judgement, AllocError>
-    requires { certificate.now.counter ≡ None }
-    ensures { IfOk result (IsByCertificate system.now certificate.now true) }
+    ensures { IfOk result (IsCertified system.now certificate.now true) }
 {
     match upgrade(alloc, system, certificate)? {
         Upgraded::Certificate(again) => Ok(Judgement::ShownTrue(Some(again))),
@@ -70,18 +74,15 @@ fn by_upgrade(
     }
 }
 
-// By a certificate of an invariant, which has no counter.
-fn by_certificate(
+// By a certificate of this system.
+fn by_system(
     alloc: Global,
     system: &System,
     certificate: &Certificate,
     again: bool,
 ) -> Result<Judgement, AllocError>
-    ensures { IfOk result (IsByCertificate system.now certificate.now again) }
+    ensures { IfOk result (IsCertified system.now certificate.now again) }
 {
-    if certificate.counter().is_some() {
-        return Ok(Judgement::PartRejected(Part::Safe));
-    }
     if again {
         by_upgrade(alloc, system, certificate)
     } else {
@@ -89,14 +90,67 @@ fn by_certificate(
     }
 }
 
-/// What is said of a specification with this number and kind, by its system, its trace and its certificate: by the trace where there is
-/// one, else by the certificate. `again` asks for a certificate that is judged by hints beside each that certifies.
+// By a certificate of an invariant, which has no counter.
+fn of_invariant(
+    alloc: Global,
+    system: &System,
+    certificate: &Certificate,
+    again: bool,
+) -> Result<Judgement, AllocError>
+    ensures { IfOk result (IsOfInvariant certificate.now.counter system.now certificate.now again) }
+{
+    if certificate.counter().is_some() {
+        return Ok(Judgement::PartRejected(Part::Safe));
+    }
+    by_system(alloc, system, certificate, again)
+}
+
+// By a certificate of a temporal formula, which has a counter.
+fn of_formula(
+    alloc: Global,
+    flat: &Flat,
+    spec: &Item,
+    certificate: &Certificate,
+    again: bool,
+) -> Result<Judgement, AllocError>
+    requires narrow { bits_of flat.now.typed.scope.program ≤ bit_limit }
+    ensures { IfOk result (IsOfFormula certificate.now.counter flat.now.typed.scope.program (item_by flat.now.typed.nodes spec.now) certificate.now again) }
+{
+    let Some(bound) = certificate.counter() else {
+        return Ok(Judgement::PartRejected(Part::Safe));
+    };
+    let counted = counted_system(alloc, flat, spec, bound)?;
+    by_system(alloc, &counted, certificate, again)
+}
+
+// By a certificate of a specification of this kind.
+fn by_certificate(
+    alloc: Global,
+    flat: &Flat,
+    system: &System,
+    kind: SpecificationKind,
+    spec: &Item,
+    certificate: &Certificate,
+    again: bool,
+) -> Result<Judgement, AllocError>
+    requires narrow { bits_of flat.now.typed.scope.program ≤ bit_limit }
+    ensures { IfOk result (IsByCertificate kind flat.now.typed.scope.program system.now (item_by flat.now.typed.nodes spec.now) certificate.now again) }
+{
+    match kind {
+        SpecificationKind::Invariant => of_invariant(alloc, system, certificate, again),
+        SpecificationKind::Temporal => of_formula(alloc, flat, spec, certificate, again),
+    }
+}
+
+/// What is said of a specification with this number and kind, by its trace and its certificate: by the trace where there is one, else
+/// by the certificate. That of an invariant is judged by the system of the invariant. That of a temporal formula is judged by the
+/// system of the formula with monitor and counter, which is built for it. `again` asks for a certificate that is judged by hints beside
+/// each that certifies.
 ///
-/// The only error is want of memory. Of a temporal formula it is the only answer: no text has one as long as its words go beyond the
-/// language.
+/// The only error is want of memory.
 pub fn judge(
     alloc: Global,
-    typed: &Typed,
+    flat: &Flat,
     system: &System,
     number: usize,
     kind: SpecificationKind,
@@ -104,18 +158,25 @@ pub fn judge(
     exhibit: Exhibit,
     again: bool,
 ) -> Result<Judgement, AllocError>
+    requires narrow { bits_of flat.now.typed.scope.program ≤ bit_limit }
     requires first { 0 < number }
-    requires numbered { specification_at typed.now.scope.program number ≡ Some (item_by typed.now.nodes spec.now) }
-    ensures { IfOk result (IsJudged kind typed.now.scope.program system.now (item_by typed.now.nodes spec.now) again (option_copied exhibit.entry.trace) (option_copied exhibit.entry.certificate)) }
+    requires numbered { specification_at flat.now.typed.scope.program number ≡ Some (item_by flat.now.typed.nodes spec.now) }
+    requires kind { spec.now.kind ≡ item.Specification kind }
+    ensures { IfOk result (IsJudged kind flat.now.typed.scope.program system.now (item_by flat.now.typed.nodes spec.now) again (option_copied exhibit.entry.trace) (option_copied exhibit.entry.certificate)) }
 {
-    match kind {
-        SpecificationKind::Temporal => Err(AllocError),
-        SpecificationKind::Invariant => match exhibit.trace {
-            Some(trace) => by_trace(alloc, typed, number, spec, trace),
-            None => match exhibit.certificate {
-                Some(certificate) => by_certificate(alloc, system, certificate, again),
-                None => Ok(Judgement::NothingShown),
-            },
+    match exhibit.trace {
+        Some(trace) => by_trace(alloc, &flat.typed, number, kind, spec, trace),
+        None => match exhibit.certificate {
+            Some(certificate) => by_certificate(
+                alloc,
+                flat,
+                system,
+                kind,
+                spec,
+                certificate,
+                again,
+            ),
+            None => Ok(Judgement::NothingShown),
         },
     }
 }

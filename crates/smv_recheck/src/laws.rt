@@ -13,20 +13,27 @@ ghost use Rattle.bit_system.specs.Standing.{StandsFor};
 ghost use Rattle.smv_recheck.specs.declared.checking.Checked.{Checked};
 ghost use Rattle.smv_recheck.specs.declared.judgement.Record.{Record};
 ghost use Rattle.smv_recheck.specs.Checking.{IsChecked, is_shown_false, is_shown_true};
-ghost use Rattle.smv_recheck.specs.Claims.{IsBroken, IsUnbroken};
+ghost use Rattle.smv_recheck.specs.Claims.{IsRefuted, IsUpheld};
 ghost use Rattle.smv_recheck.specs.Full.{HasReason, IsFullPart};
 
+use bit_lassos::what_is_never_violated;
+use bit_system::what_is_never_bad_is_unbroken;
 use cert_core::laws::no_run_reaches_bad;
+use ltl_lassos::law::counted_systems;
 
-/// What is said of a text holds, from the text alone: no run of the model breaks a specification that is shown true, and some run
-/// breaks one that is shown false. It does nothing.
+/// What is said of a text holds, from the text alone: no run of the model breaks an invariant that is shown true, and no fair lasso
+/// violates a temporal formula that is; some run breaks an invariant that is shown false, and some fair lasso violates a temporal formula
+/// that is. It does nothing.
 pub fn what_is_shown_holds()
     ensures shown_true { (p : Program) (text : List ℕ) (upgrade : Bool) (c : Checked) (j : ℕ) (spec : ResolvedItem) (r : Record) → IsChecked p text upgrade c
-        → slice_get (specifications_of p) j ≡ Some spec → slice_get c.records j ≡ Some r → is_shown_true r.judgement ≡ true → IsUnbroken p spec }
+        → slice_get (specifications_of p) j ≡ Some spec → slice_get c.records j ≡ Some r → is_shown_true r.judgement ≡ true → IsUpheld spec.kind p spec }
     ensures shown_false { (p : Program) (text : List ℕ) (upgrade : Bool) (c : Checked) (j : ℕ) (spec : ResolvedItem) (r : Record) → IsChecked p text upgrade c
-        → slice_get (specifications_of p) j ≡ Some spec → slice_get c.records j ≡ Some r → is_shown_false r.judgement ≡ true → IsBroken p spec }
+        → slice_get (specifications_of p) j ≡ Some spec → slice_get c.records j ≡ Some r → is_shown_false r.judgement ≡ true → IsRefuted spec.kind p spec }
 {
     no_run_reaches_bad();
+    what_is_never_bad_is_unbroken();
+    counted_systems();
+    what_is_never_violated();
 }
 
 /// A part of a certificate in the plain form that is full is rejected for a reason of the program alone: some step of it sets the bits to

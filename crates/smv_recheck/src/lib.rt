@@ -5,6 +5,7 @@
 
 mod beside;
 mod checking;
+mod counting;
 mod judgement;
 mod judging;
 mod laws;

@@ -11,21 +11,25 @@ use Rattle.smv_resolve.specs.Items.{ResolvedItem}
 use Rattle.trace_replay.specs.declared.rule.Replayed.{Replayed}
 use Rattle.trace_replay.specs.declared.rule.Replayed.TheVariants.{Accepted, Rejected}
 use Rattle.trace_replay.specs.declared.trace.Trace.{Trace}
-use Rattle.trace_replay.specs.Lassos.{IsReplayOf, Shows}
+use Rattle.trace_replay.specs.Lassos.{IsLassoReplay, IsReplayOf, Shows, ShowsViolated}
 use Rattle.trace_replay.specs.Tests.{IsReplay, ShowsBroken}
 use Rattle.trace_replay.proofs.Broken.{broken_passes}
-use Rattle.trace_replay.proofs.OfLassos.{violates}
 use Rattle.trace_replay.proofs.Shows.{shows}
+use Rattle.trace_replay.proofs.Violated.{shows_violated, violated_passes}
 
 accepted : (p : Program) (spec : ResolvedItem) (t : Trace) (r : Replayed) → IsReplay p spec t r → (r ≡ Accepted) ↔ ShowsBroken p spec t
 accepted p spec t Accepted h = (λ e. shows p spec t h, λ b. refl)
 accepted p spec t (Rejected rule n) h =
     (λ e. absurd (let never : ⊥ = cc in never), λ b. absurd (let e = sym h.fails ∙ broken_passes p spec t b rule n in let never : ⊥ = cc in never))
 
+lasso_accepted : (p : Program) (spec : ResolvedItem) (t : Trace) (r : Replayed) → IsLassoReplay p spec t r → (r ≡ Accepted) ↔ ShowsViolated p spec t
+lasso_accepted p spec t Accepted h = (λ e. shows_violated p spec t h, λ v. refl)
+lasso_accepted p spec t (Rejected rule n) h =
+    (λ e. absurd (let never : ⊥ = cc in never), λ v. absurd (h.fails (violated_passes p spec t v rule n)))
+
 -- the same of a specification of either kind
 shown : (kind : ItemKind) (p : Program) (spec : ResolvedItem) (t : Trace) (r : Replayed) → IsReplayOf kind p spec t r → Shows kind p spec t r
-shown (item.Specification claim.Temporal) p spec t Accepted h = λ e. violates p spec t h
-shown (item.Specification claim.Temporal) p spec t (Rejected rule n) h = λ e. absurd (let never : ⊥ = cc in never)
+shown (item.Specification claim.Temporal) p spec t r h = lasso_accepted p spec t r h
 shown (item.Specification claim.Invariant) p spec t r h = accepted p spec t r h
 shown (item.Assignment kind) p spec t r h = accepted p spec t r h
 shown (item.Constraint kind) p spec t r h = accepted p spec t r h

@@ -12,3 +12,4 @@ pub mod OfReading
 pub mod LawsOfReading
 pub mod Readable
 pub mod OfLassos
+pub mod Violated

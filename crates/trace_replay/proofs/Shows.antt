@@ -22,6 +22,7 @@ use Rattle.trace_replay.specs.declared.entry.Binding.{Binding}
 use Rattle.trace_replay.specs.declared.rule.ReplayRule.{ReplayRule}
 use Rattle.trace_replay.specs.declared.rule.ReplayRule.TheVariants as rule
 use Rattle.trace_replay.specs.declared.trace.Trace.{Trace}
+use Rattle.trace_replay.specs.Lassos.{due_each}
 use Rattle.trace_replay.specs.Rows.{bindings_of, given_rows, input_columns, inputs_read, inputs_told, line_read, row_read, run_trace, state_columns, state_read, states_told}
 use Rattle.trace_replay.specs.Tests.{ShowsBroken, due_beside, inputs_fit, is_false, passes, starts_at, state_fits}
 use Rattle.trace_replay.proofs.Cells.{row_told}
@@ -36,7 +37,7 @@ pub unasked : (a b : Bool) → (a ≡ true → b ≡ true) → (not a || b) ≡ 
 unasked true b h = h refl
 unasked false b h = refl
 
-at_some : (a x : Bool) → cond a x true ≡ true → a ≡ true → x ≡ true
+pub at_some : (a x : Bool) → cond a x true ≡ true → a ≡ true → x ≡ true
 at_some true x h e = h
 at_some false x h e = absurd (let never : ⊥ = cc in never)
 
@@ -61,9 +62,16 @@ false_is (Values (Some (value.Sym n))) h = absurd (let never : ⊥ = cc in never
 false_is (Values (Some (value.Word s w b))) h = absurd (let never : ⊥ = cc in never)
 false_is (Fault f place) h = absurd (let never : ⊥ = cc in never)
 
--- whether the inputs of a number are told as they should be, by the columns
+-- whether the inputs of a number are told as they should be, by the columns, where so many are due: beside the states of a run, and
+-- beside those of a lasso
+abbrev pub fits_due : List Column → List (List Binding) → ℕ → ℕ → Bool
+fits_due cs rows m i = cond (ltb i m) (is_some (line_read cs (slice_get rows i))) (cond (eqb i m) (leb (length rows) i) true)
+
 abbrev pub fit : List Column → List (List Binding) → ℕ → ℕ → Bool
-fit cs rows n i = cond (ltb i (due_beside cs n)) (is_some (line_read cs (slice_get rows i))) (cond (eqb i (due_beside cs n)) (leb (length rows) i) true)
+fit cs rows n i = fits_due cs rows (due_beside cs n) i
+
+abbrev pub each_fit : List Column → List (List Binding) → ℕ → ℕ → Bool
+each_fit cs rows n i = fits_due cs rows (due_each cs n) i
 
 abbrev pub read_at : List Column → List (List Binding) → ℕ → List Value
 read_at cs rows i = unwrap_or (line_read cs (slice_get rows i)) []
@@ -83,7 +91,7 @@ module _ (cs : List Column) where
       ap (bindings_of cs) (ap (λ (x : Option (List Value)). unwrap_or x []) value.1) ∙ row_told cs row.0 value.0 row.2 ∙ some_equal row.0 bs (sym row.1 ∙ here)
 
   -- rows that all tell values are those of the values
-  rows_back : (rows : List (List Binding)) → ((i : ℕ) → i < length rows → is_some (line_read cs (slice_get rows i)) ≡ true) → map (bindings_of cs) (map told rows) ≡ rows
+  pub rows_back : (rows : List (List Binding)) → ((i : ℕ) → i < length rows → is_some (line_read cs (slice_get rows i)) ≡ true) → map (bindings_of cs) (map told rows) ≡ rows
   rows_back rows h = same_lists (map (bindings_of cs) (map told rows)) rows
       (length-map (map told rows) (bindings_of cs) ∙ length-map rows told)
       (λ k d below.
@@ -110,25 +118,33 @@ module _ (cs : List Column) where
       ∙ ap (bindings_of cs) (get_or-map-range_with_len (read_at cs rows) 0 m k k [] within (omega arith))
       ∙ line_back (slice_get rows k) (get_or rows k d) here (h k within))
 
-inputs_back : (cs : List Column) (rows : List (List Binding)) (n : ℕ) → ((i : ℕ) → fit cs rows n i ≡ true) → given_rows cs (map (read_at cs rows) (range_with_len 0 (n - 1))) ≡ rows
-inputs_back [] rows n h = sym (no_rows rows (leb-true (length rows) 0 (h 0)))
-inputs_back (c ∷ cs) rows n h =
-    let last = h (n - 1) in
-    let most : length rows ≤ n - 1 =
-    leb-true (length rows) (n - 1)
-    (sym (cond-false (ltb (n - 1) (n - 1)) (is_some (line_read (c ∷ cs) (slice_get rows (n - 1)))) _ (le-ltb (n - 1) (n - 1) (omega arith))
-    ∙ cond-true (eqb (n - 1) (n - 1)) (leb (length rows) (n - 1)) true (eq-eqb (n - 1) (n - 1) refl)) ∙ last) in
-    let each : (i : ℕ) → i < n - 1 → is_some (line_read (c ∷ cs) (slice_get rows i)) ≡ true =
-    λ i below. sym (cond-true (ltb i (n - 1)) (is_some (line_read (c ∷ cs) (slice_get rows i))) _ (lt-ltb i (n - 1) below)) ∙ h i in
-    let least : n - 1 ≤ length rows = elim (cases_lt (length rows) (n - 1)) [
+-- rows that all tell values, as many as are due
+due_back : (cs : List Column) (rows : List (List Binding)) (m : ℕ) → ((i : ℕ) → fits_due cs rows m i ≡ true) → map (bindings_of cs) (map (read_at cs rows) (range_with_len 0 m)) ≡ rows
+due_back cs rows m h =
+    let most : length rows ≤ m =
+    leb-true (length rows) m
+    (sym (cond-false (ltb m m) (is_some (line_read cs (slice_get rows m))) _ (le-ltb m m (omega arith))
+    ∙ cond-true (eqb m m) (leb (length rows) m) true (eq-eqb m m refl)) ∙ h m) in
+    let each : (i : ℕ) → i < m → is_some (line_read cs (slice_get rows i)) ≡ true =
+    λ i below. sym (cond-true (ltb i m) (is_some (line_read cs (slice_get rows i))) _ (lt-ltb i m below)) ∙ h i in
+    let least : m ≤ length rows = elim (cases_lt (length rows) m) [
       | inl short ↦
-          let value = is_there (line_read (c ∷ cs) (slice_get rows (length rows))) (each (length rows) short) in
-          let row = line_row (c ∷ cs) (slice_get rows (length rows)) value.0 value.1 in
+          let value = is_there (line_read cs (slice_get rows (length rows))) (each (length rows) short) in
+          let row = line_row cs (slice_get rows (length rows)) value.0 value.1 in
           let within : length rows < length rows = slice_get_within rows (length rows) row.0 row.1 in
           absurd (let never : ⊥ = omega (arith, within) in never)
       | inr enough ↦ enough
     ] in
-    numbers_back (c ∷ cs) rows (n - 1) (omega (arith, most, least)) each
+    numbers_back cs rows m (omega (arith, most, least)) each
+
+inputs_back : (cs : List Column) (rows : List (List Binding)) (n : ℕ) → ((i : ℕ) → fit cs rows n i ≡ true) → given_rows cs (map (read_at cs rows) (range_with_len 0 (n - 1))) ≡ rows
+inputs_back [] rows n h = sym (no_rows rows (leb-true (length rows) 0 (h 0)))
+inputs_back (c ∷ cs) rows n h = due_back (c ∷ cs) rows (n - 1) h
+
+-- the same beside the states of a lasso
+pub each_inputs_back : (cs : List Column) (rows : List (List Binding)) (n : ℕ) → ((i : ℕ) → each_fit cs rows n i ≡ true) → given_rows cs (map (read_at cs rows) (range_with_len 0 n)) ≡ rows
+each_inputs_back [] rows n h = sym (no_rows rows (leb-true (length rows) 0 (h 0)))
+each_inputs_back (c ∷ cs) rows n h = due_back (c ∷ cs) rows n h
 
 module _ (p : Program) (spec : ResolvedItem) (t : Trace) (all : (r : ReplayRule) (i : ℕ) → passes p spec t r i ≡ true) where
   some : 0 < length t.states

@@ -109,10 +109,16 @@ abbrev pub IsReplayOf : ItemKind → Program → ResolvedItem → Trace → Repl
 IsReplayOf (item.Specification claim.Temporal) = IsLassoReplay
 IsReplayOf other = IsReplay
 
--- What is accepted shows that the specification does not hold: the trace of an invariant is that of a run that breaks it, and none but such
--- a trace is accepted; that of a temporal specification tells a lasso that violates it.
+-- the trace is that of a lasso that violates the specification
+pub record ShowsViolated (p : Program) (spec : ResolvedItem) (t : Trace) : Type 0 where
+  pub lasso : Lasso
+  pub told : t ≡ lasso_trace p lasso
+  pub violates : Violates p spec lasso
+
+-- What is accepted shows that the specification does not hold. A trace is accepted just where it is that of a run that breaks the
+-- invariant, or of a lasso that violates the temporal specification.
 abbrev pub Shows : ItemKind → Program → ResolvedItem → Trace → Replayed → Type 0
-Shows (item.Specification claim.Temporal) p spec t r = r ≡ Accepted → Violates p spec (lasso_told p t)
+Shows (item.Specification claim.Temporal) p spec t r = (r ≡ Accepted) ↔ ShowsViolated p spec t
 Shows other p spec t r = (r ≡ Accepted) ↔ ShowsBroken p spec t
 
 -- What the calls below give.

@@ -2,7 +2,7 @@ use Rattle.frame_core.specs.Law.{system_at, top_at}
 use Rattle.bit_system.proofs.Agreeing.{agreeing}
 use Rattle.bit_system.proofs.Codes.{coding}
 use Rattle.bit_runs.proofs.Framing.{never_bad, never_bad_below}
-use Rattle.bit_runs.proofs.Reaching.{unbroken, unbroken_within}
+use Rattle.bit_system.proofs.Reaching.{unbroken, unbroken_within}
 use Rattle.bit_runs.proofs.laws.what_frames_say_of_runs.Goals as goal
 
 pub returns-clause-invariant : goal.returns-clause-invariant

@@ -3,7 +3,9 @@ use Rattle.std.proofs.Common.{◌-◌, List, subst, sym}
 use Rattle.smv_value.specs.declared.value.Value.{Value}
 use Rattle.smv_meaning.specs.Runs.{Breaks}
 use Rattle.bit_system.specs.Building.{system_of}
+use Rattle.smv_cli.specs.Records.{IsCertified, IsShownBy}
 use Rattle.smv_cli.specs.Written.{IsAnswered, item_in, program_in}
+use Rattle.smv_cli.proofs.Asking.{shown_if}
 use Rattle.smv_cli.proofs.judging.verdict_of.Goals as goal
 
 pub replayed-requires-clause-broken : goal.replayed-requires-clause-broken
@@ -24,5 +26,8 @@ returns-in-True c =
     let spec = item_in model c.args.spec.now in
     let sys = system_of model.built (c.args.number - 1) in
     let shown = subst (IsAnswered p model.effort sys spec) c.in-True.is c.requires.answered in
-    c.what_is_never_bad_is_unbroken.ensures.all p spec sys (c.requires.ready.built.stands (c.args.number - 1) spec c.requires.numbered)
-    (λ n x reached bad. c.no_run_reaches_bad.ensures sys c.in-True.field-0 shown.0 n x reached bad)
+    let stands = c.requires.ready.built.stands (c.args.number - 1) spec c.requires.numbered in
+    let certified : IsCertified p spec c.in-True.certificate = record { system = sys; stands = stands; certifies = shown.0; no_counter = shown.1 } in (
+      c.what_is_never_bad_is_unbroken.ensures.all p spec sys stands (λ n x reached bad. c.no_run_reaches_bad.ensures sys c.in-True.certificate shown.0 n x reached bad),
+      subst (IsShownBy model.effort.cert p spec) (sym c.if_wanted.ensures) (shown_if p spec model.effort.cert c.in-True.certificate certified),
+    )

@@ -23,9 +23,11 @@ abbrev listed : List Node → List Item → List ResolvedItem
 listed nodes specs = map (item_by nodes) specs
 
 listed_at : (p : Program) (effort : Effort) (nodes : List Node) (specs : List Item) (i : ℕ) (s : Item) (kind : SpecificationKind) (r : Record) → (get_or specs i s).kind ≡ item.Specification kind
-    → r.number ≡ i + 1 → r.kind ≡ kind → IsRight p effort (item_by nodes (get_or specs i s)) r.verdict → IsRecordOf p effort (i + 1) (get_or (listed nodes specs) i (item_by nodes s)) r
+    → r.number ≡ i + 1 → r.kind ≡ kind → IsRight kind p effort (item_by nodes (get_or specs i s)) r.verdict → IsRecordOf p effort (i + 1) (get_or (listed nodes specs) i (item_by nodes s)) r
 listed_at p effort nodes specs i s kind r of_kind number same right =
-    subst (λ (x : ResolvedItem). IsRecordOf p effort (i + 1) x r) (sym (get_or-map (item_by nodes) specs i s)) (number, of_kind ∙ ap item.Specification (sym same), right)
+    let x = item_by nodes (get_or specs i s) in
+    let here : IsRight r.kind p effort x r.verdict = subst (λ (k : SpecificationKind). IsRight k p effort x r.verdict) (sym same) right in
+    subst (λ (y : ResolvedItem). IsRecordOf p effort (i + 1) y r) (sym (get_or-map (item_by nodes) specs i s)) (number, of_kind ∙ ap item.Specification (sym same), here)
 
 not_claimed : (specs : List Item) (i : ℕ) (d : Item) → i < length specs → All (λ (x : Item). is_claim x.kind ≡ true) specs
     → ((k : SpecificationKind) → (get_or specs i d).kind ≡ item.Specification k → ⊥) → ⊥
@@ -56,15 +58,16 @@ specs-preserved g c =
     let made = c.in-Ok.made in
     let within : i < length (listed nodes specs) = omega (arith, c.specs-test.true, length-map specs (item_by nodes)) in
     record {
-      so_far = Recorded-push p effort (listed nodes specs) i _ made (taken c.args.sink.now) (taken c.specs.sink) (taken c.put.new.sink) c.specs.status c.status_with-status.result within
+      so_far = Recorded-push p effort (listed nodes specs) i _ made (taken c.args.sink.now) (taken c.specs.sink) (taken c.put_record.new.sink) c.specs.status c.status_with-status.result within
           (listed_at p effort nodes specs i _ c.in-Specification.kind made c.in-Specification.is c.in-Ok.ensures.number c.in-Ok.ensures.kind c.in-Ok.ensures.right)
-          c.specs.invariant.so_far c.in_ok-put.ensures.ok c.status_with-status.ensures.value;
+          c.specs.invariant.so_far c.in_ok-put_record.ensures.ok c.status_with-status.ensures.value;
       small = omega arith;
-      same = c.in_ok-put.ensures.kept ∙ c.specs.invariant.same;
+      same = c.in_ok-put_record.ensures.kept ∙ c.specs.invariant.same;
+      pool = c.in-Ok.ensures.pool;
     }
 
-pub returns-in_err-put-clause-part : goal.returns-in_err-put-clause-part
-returns-in_err-put-clause-part g c =
+pub returns-in_err-put_record-clause-part : goal.returns-in_err-put_record-clause-part
+returns-in_err-put_record-clause-part g c =
     let taken = g.K.Sink.taken in
     let p = program_in c.args.model.now in
     let nodes = c.args.model.now.flat.typed.nodes in
@@ -73,9 +76,9 @@ returns-in_err-put-clause-part g c =
     let i = c.specs.i in
     let made = c.in-Ok.made in
     let within : i < length (listed nodes specs) = omega (arith, c.specs-test.true, length-map specs (item_by nodes)) in
-    RecordedPart-push p effort (listed nodes specs) i _ made (taken c.args.sink.now) (taken c.specs.sink) (taken c.put.new.sink) c.specs.status within
+    RecordedPart-push p effort (listed nodes specs) i _ made (taken c.args.sink.now) (taken c.specs.sink) (taken c.put_record.new.sink) c.specs.status within
     (listed_at p effort nodes specs i _ c.in-Specification.kind made c.in-Specification.is c.in-Ok.ensures.number c.in-Ok.ensures.kind c.in-Ok.ensures.right)
-    c.specs.invariant.so_far c.put.ensures.front
+    c.specs.invariant.so_far c.put_record.ensures.front
 
 pub returns-in_default-judge-clause-part : goal.returns-in_default-judge-clause-part
 returns-in_default-judge-clause-part g c =

@@ -1,5 +1,5 @@
 -- A report that is judged again.
-use Rattle.std.proofs.Common.{ℕ, refl}
+use Rattle.std.proofs.Common.{refl}
 use Rattle.command_words.specs.declared.command.Command.TheVariants.{Recheck}
 use Rattle.smv_recheck.specs.Refusing.{IsRefused}
 use Rattle.smv_cli.specs.Report.{IsJudgedAgain}

@@ -5,4 +5,4 @@ use Rattle.smv_recheck.proofs.checking.record_of.Goals as goal
 
 pub system_of-system-requires : goal.system_of-system-requires
 system_of-system-requires c =
-    has_system c.args.typed.now.scope.program c.args.built.now c.args.j (item_by c.args.typed.now.nodes c.args.spec.now) c.requires.built c.requires.here
+    has_system c.args.flat.now.typed.scope.program c.args.built.now c.args.j (item_by c.args.flat.now.typed.nodes c.args.spec.now) c.requires.built c.requires.here

@@ -1,0 +1,9 @@
+pub mod Agreeing
+pub mod Coding
+pub mod Conditions
+pub mod Marks
+pub mod Numbers
+pub mod Reading
+pub mod Sides
+pub mod Standing
+pub mod Stored

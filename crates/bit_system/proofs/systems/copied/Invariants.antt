@@ -1,6 +1,0 @@
--- The clauses so far.
-use Rattle.std.proofs.Common.{◌≡◌, take}
-use Rattle.bit_system.proofs.systems.copied.Given as goal
-
-abbrev pub invariant-loop-k : goal.invariant-loop-k
-invariant-loop-k l = l.made ≡ take l.k l.clauses
