@@ -193,8 +193,18 @@ const CASES: [Case; 30] = [
         "-- refused 201 Unexpected at 3:11: ]\n",
         3,
     ),
-    ("check --counter 65", FREE, "-- usage: smvcheck check | recheck | flat | self N SEED\n", 4),
-    ("flat", INFINITELY_OFTEN, "-- slot 0 state x : boolean\n-- item 0 init at 3:8 of main\n-- item 1 next at 3:26 of main\n", 0),
+    (
+        "check --counter 65",
+        FREE,
+        "-- usage: smvcheck check | recheck | flat | self N SEED\n",
+        4,
+    ),
+    (
+        "flat",
+        INFINITELY_OFTEN,
+        "-- slot 0 state x : boolean\n-- item 0 init at 3:8 of main\n-- item 1 next at 3:26 of main\n",
+        0,
+    ),
 ];
 
 #[test]
@@ -210,7 +220,12 @@ const ROUNDS: [Round; 8] = [
     ("check --bound 2", FROZEN, VIOLATED, 0),
     ("check --cert", INFINITELY_OFTEN, SHOWN, 0),
     ("check --cert", FAIR, SHOWN, 0),
-    ("check --cert --counter 1", INFINITELY_OFTEN, "-- spec 1 LTLSPEC has nothing shown\n", 2),
+    (
+        "check --cert --counter 1",
+        INFINITELY_OFTEN,
+        "-- spec 1 LTLSPEC has nothing shown\n",
+        2,
+    ),
     (
         "check --cert --together",
         WITHOUT_SUCCESSOR,

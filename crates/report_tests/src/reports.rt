@@ -916,8 +916,7 @@ pub type Round = (&'static str, &'static str, &'static str, u8);
 
 const SHOWN: &str = "-- spec 1 INVARSPEC is shown true\n";
 
-const BOTH_SHOWN: &str =
-    "-- spec 1 INVARSPEC is shown false\n-- spec 2 INVARSPEC is shown true\n";
+const BOTH_SHOWN: &str = "-- spec 1 INVARSPEC is shown false\n-- spec 2 INVARSPEC is shown true\n";
 
 // A number of three bits goes from 0 to 5, and is never 6 or 7.
 const COUNTING: &str =
@@ -946,7 +945,12 @@ const ROUNDS: [Round; 11] = [
     ("check --cert --together", BOTH, BOTH_SHOWN, 0),
     ("check --cert", COUNTING, COUNTING_SHOWN, 0),
     ("check --together --cert", COUNTING, COUNTING_SHOWN, 0),
-    ("check --cert", CELLS, "-- spec 1 INVARSPEC is shown false\n", 0),
+    (
+        "check --cert",
+        CELLS,
+        "-- spec 1 INVARSPEC is shown false\n",
+        0,
+    ),
     ("check --cert --conflicts 0", STANDING, UNSHOWN, 2),
 ];
 
