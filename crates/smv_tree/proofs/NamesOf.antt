@@ -1,8 +1,9 @@
 -- The names of each node.
-use Rattle.std.proofs.Common.{◌≡◌, Bool, List, [], ◌∷◌, ◌++◌, map, Result, Ok, Err, OnOk, ap, sym, ◌∙◌, append_assoc}
+use Rattle.std.proofs.Common.{◌≡◌, List, [], ◌∷◌, ◌++◌, map, Result, Ok, Err, OnOk, ap, sym, ◌∙◌, append_assoc}
 use Rattle.std.specs.List.{flat_map}
 use Rattle.std.proofs.lemmas.List.Folds.{flat_map-map}
 use Rattle.smv_tree.specs.declared.place.Place.{Place}
+use Rattle.smv_value.specs.declared.value.Value.{Value}
 use Rattle.smv_value.specs.declared.operator.Operator.{Operator}
 use Rattle.smv_tree.specs.declared.tree.Name.{Name}
 use Rattle.smv_tree.specs.declared.tree.Expr.{Expr}
@@ -11,9 +12,9 @@ use Rattle.smv_tree.specs.declared.tree.Expr.TheFolds.{fold-roll-Expr}
 use Rattle.smv_tree.specs.declared.tree.Expr.TheVariants as expr
 use Rattle.smv_tree.specs.Occurring.{names_of_node, names_in}
 
-pub names_in-bool : (place : Place) (b : Bool) → names_in (expr.Bool place b) ≡ []
+pub names_in-constant : (place : Place) (v : Value) → names_in (expr.Constant place v) ≡ []
 unfolding names_in
-names_in-bool place b = ap names_in (sym (expr.rolls-Bool place b)) ∙ fold-roll-Expr (List Name) names_of_node (Expr-F.Bool place b)
+names_in-constant place v = ap names_in (sym (expr.rolls-Constant place v)) ∙ fold-roll-Expr (List Name) names_of_node (Expr-F.Constant place v)
 
 pub names_in-name : (name : Name) → names_in (expr.Name name) ≡ name ∷ []
 unfolding names_in
@@ -41,7 +42,7 @@ names_in-chain first links =
     ap names_in (sym (expr.rolls-Chain first links)) ∙ fold-roll-Expr (List Name) names_of_node (Expr-F.Chain first links)
     ∙ ap (λ names. names_in first ++ names) (flat_map-map (λ (link : Place × Operator × List Name). link.2) _ links)
 
-pub ruleset names_of = (names_in-bool, names_in-name, names_in-group, names_in-next, names_in-apply, names_in-chain)
+pub ruleset names_of = (names_in-constant, names_in-name, names_in-group, names_in-next, names_in-apply, names_in-chain)
 
 -- a list to which the second part of some elements was added, after the first
 pub goes_on : {A T E : Type 0} (result : Result T E) (new mid old xs ys whole : List A) → OnOk result (new ≡ mid ++ ys) → mid ≡ old ++ xs → whole ≡ xs ++ ys → OnOk result (new ≡ old ++ whole)

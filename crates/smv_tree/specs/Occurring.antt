@@ -9,7 +9,7 @@ use Rattle.smv_tree.specs.declared.tree.Expr.{Expr, Expr-F, fold-Expr}
 
 -- the names of a node, where those of its parts are known
 abbrev pub names_of_node : Expr-F (List Name) → List Name
-names_of_node (Expr-F.Bool place b) = []
+names_of_node (Expr-F.Constant place v) = []
 names_of_node (Expr-F.Name name) = name ∷ []
 names_of_node (Expr-F.Group place e) = e
 names_of_node (Expr-F.Next place e) = e

@@ -3,7 +3,7 @@ use Rattle.std.specs.Prelude.{ℕ, List, [], ◌∷◌, ◌++◌, codes, Option,
 use Rattle.std.specs.Fmt.{decimal}
 use Rattle.smv_tree.specs.declared.place.Place.{Place}
 use Rattle.smv_tree.specs.declared.refusal.Rule.{Rule}
-use Rattle.smv_tree.specs.declared.refusal.Rule.TheVariants.{SourceTooLarge, BadByte, OpenComment, BadWordConstant, IntTooLarge, Unexpected, TooDeep, Unsupported, NoMain, MainHasParameters, DuplicateModule, UnknownName, DuplicateName, UnknownModule, ArgumentCount, ModuleCycle, DefineCycle, UnfoldedDepth, TooManyInstances, TooManySlots, TypeMismatch, NextHere, InputHere, TemporalHere, NotAssignable, BadBound, AssignedTwice, AssignCycle, TooManyBits, BadCertificate, BadTrace}
+use Rattle.smv_tree.specs.declared.refusal.Rule.TheVariants.{SourceTooLarge, BadByte, OpenComment, BadWordConstant, IntTooLarge, Unexpected, TooDeep, Unsupported, NoMain, MainHasParameters, DuplicateModule, UnknownName, DuplicateName, UnknownModule, ArgumentCount, ModuleCycle, DefineCycle, UnfoldedDepth, TooManyInstances, TooManySlots, TypeMismatch, WordWidth, EmptyRange, NotConstant, SetHere, NextHere, InputHere, TemporalHere, IntWidth, DuplicateElement, NotAssignable, BadSelection, BadBound, AssignedTwice, AssignCycle, TooManyBits, CaseOpen, OutOfRange, IndexOutside, DivisorZero, ShiftTooFar, BadCertificate, BadTrace}
 use Rattle.smv_tree.specs.declared.refusal.Refusal.{Refusal}
 use Rattle.smv_tree.specs.declared.tree.SpecificationKind.{SpecificationKind}
 use Rattle.smv_tree.specs.declared.tree.SpecificationKind.TheVariants.{Invariant, Temporal}
@@ -37,14 +37,26 @@ rule_text UnfoldedDepth = codes "310 UnfoldedDepth"
 rule_text TooManyInstances = codes "311 TooManyInstances"
 rule_text TooManySlots = codes "312 TooManySlots"
 rule_text TypeMismatch = codes "401 TypeMismatch"
+rule_text WordWidth = codes "402 WordWidth"
+rule_text EmptyRange = codes "403 EmptyRange"
+rule_text NotConstant = codes "404 NotConstant"
+rule_text SetHere = codes "405 SetHere"
 rule_text NextHere = codes "406 NextHere"
 rule_text InputHere = codes "407 InputHere"
 rule_text TemporalHere = codes "408 TemporalHere"
+rule_text IntWidth = codes "409 IntWidth"
+rule_text DuplicateElement = codes "410 DuplicateElement"
 rule_text NotAssignable = codes "411 NotAssignable"
+rule_text BadSelection = codes "412 BadSelection"
 rule_text BadBound = codes "413 BadBound"
 rule_text AssignedTwice = codes "501 AssignedTwice"
 rule_text AssignCycle = codes "502 AssignCycle"
 rule_text TooManyBits = codes "511 TooManyBits"
+rule_text CaseOpen = codes "601 CaseOpen"
+rule_text OutOfRange = codes "602 OutOfRange"
+rule_text IndexOutside = codes "603 IndexOutside"
+rule_text DivisorZero = codes "604 DivisorZero"
+rule_text ShiftTooFar = codes "605 ShiftTooFar"
 rule_text BadCertificate = codes "701 BadCertificate"
 rule_text BadTrace = codes "702 BadTrace"
 

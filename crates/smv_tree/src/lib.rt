@@ -14,5 +14,5 @@ pub use token::{Token, TokenKind, Tokens};
 pub use tree::{
     Assignment, AssignmentKind, Constraint, ConstraintKind, Definition, Expr, Identifier, Module,
     Name, Parameter, Program, Section, Specification, SpecificationKind, Start, TypeExpr, Variable,
-    VariableKind,
+    VariableKind, WrittenElement,
 };

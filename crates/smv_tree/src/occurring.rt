@@ -27,7 +27,7 @@ fn push_names<'a>(names: &mut Vec<&'a Name>, e: &'a Expr) -> Result<(), AllocErr
     ensures { OnOk result (read names.new.items ≡ read names.old.items ++ names_in e.now) }
 {
     match e {
-        Expr::Bool(..) => Ok(()),
+        Expr::Constant(..) => Ok(()),
         Expr::Name(name) => {
             names.push(name)?;
             Ok(())

@@ -54,14 +54,28 @@ pub enum Rule {
     TooManySlots,
     /// An operand, or what is assigned or claimed, is of another kind.
     TypeMismatch,
+    /// A word is as wide as no word is, a signed one loses bits, or a constant is outside its word's range.
+    WordWidth,
+    /// The first bound of a range is greater than the second.
+    EmptyRange,
+    /// What is no constant stands where one is asked.
+    NotConstant,
+    /// A set stands where one value is asked.
+    SetHere,
     /// `next` stands where no next value is.
     NextHere,
     /// An input stands where no step is.
     InputHere,
     /// A temporal operator stands where none may.
     TemporalHere,
+    /// An integer may pass 32 bits.
+    IntWidth,
+    /// An enumeration has an element twice.
+    DuplicateElement,
     /// What is assigned is no variable of the state.
     NotAssignable,
+    /// Bits are taken that a word does not have, or an element that an array does not have.
+    BadSelection,
     /// The bounds of a temporal operator are out of order or too large.
     BadBound,
     /// A variable is assigned twice.
@@ -70,6 +84,16 @@ pub enum Rule {
     AssignCycle,
     /// The bits of a state and of the inputs are more than 65536.
     TooManyBits,
+    /// No condition of a `case` is TRUE.
+    CaseOpen,
+    /// A value is none of those of the variable that is assigned.
+    OutOfRange,
+    /// An element is taken that an array does not have.
+    IndexOutside,
+    /// A divisor is 0.
+    DivisorZero,
+    /// A word is shifted by less than 0, or by more than its width.
+    ShiftTooFar,
     /// A line of a certificate is not as it should be.
     BadCertificate,
     /// A line of a trace is not as it should be.
@@ -127,14 +151,26 @@ impl fmt::Display for Rule {
             Rule::TooManyInstances => write!(f, "311 TooManyInstances"),
             Rule::TooManySlots => write!(f, "312 TooManySlots"),
             Rule::TypeMismatch => write!(f, "401 TypeMismatch"),
+            Rule::WordWidth => write!(f, "402 WordWidth"),
+            Rule::EmptyRange => write!(f, "403 EmptyRange"),
+            Rule::NotConstant => write!(f, "404 NotConstant"),
+            Rule::SetHere => write!(f, "405 SetHere"),
             Rule::NextHere => write!(f, "406 NextHere"),
             Rule::InputHere => write!(f, "407 InputHere"),
             Rule::TemporalHere => write!(f, "408 TemporalHere"),
+            Rule::IntWidth => write!(f, "409 IntWidth"),
+            Rule::DuplicateElement => write!(f, "410 DuplicateElement"),
             Rule::NotAssignable => write!(f, "411 NotAssignable"),
+            Rule::BadSelection => write!(f, "412 BadSelection"),
             Rule::BadBound => write!(f, "413 BadBound"),
             Rule::AssignedTwice => write!(f, "501 AssignedTwice"),
             Rule::AssignCycle => write!(f, "502 AssignCycle"),
             Rule::TooManyBits => write!(f, "511 TooManyBits"),
+            Rule::CaseOpen => write!(f, "601 CaseOpen"),
+            Rule::OutOfRange => write!(f, "602 OutOfRange"),
+            Rule::IndexOutside => write!(f, "603 IndexOutside"),
+            Rule::DivisorZero => write!(f, "604 DivisorZero"),
+            Rule::ShiftTooFar => write!(f, "605 ShiftTooFar"),
             Rule::BadCertificate => write!(f, "701 BadCertificate"),
             Rule::BadTrace => write!(f, "702 BadTrace"),
         }

@@ -6,7 +6,7 @@ ghost use Rattle.smv_tree.specs.Texts.{kind_text};
 
 use crate::Place;
 use plain_text::Text;
-use smv_value::Operator;
+use smv_value::{Operator, Value};
 use sqlite_items::{Boxed, Items};
 use std::fmt;
 
@@ -42,6 +42,8 @@ pub enum Section {
     Variables(VariableKind, Items<Variable>),
     /// `DEFINE` and its definitions (manual 2.3.2).
     Definitions(Items<Definition>),
+    /// `CONSTANTS` and its symbols (manual 2.3.4).
+    Constants(Items<Identifier>),
     /// `ASSIGN` and its assignments (manual 2.3.8).
     Assignments(Items<Assignment>),
     /// `INIT`, `INVAR`, `TRANS` or `JUSTICE` (manual 2.3.5 to 2.3.7, 2.3.9).
@@ -69,10 +71,26 @@ pub struct Variable {
     pub declared: TypeExpr,
 }
 
-/// A type as it is written (manual 2.1, Types Overview).
+/// An element of an enumeration as it is written.
+#[derive(Debug, Drop)]
+pub struct WrittenElement {
+    pub place: Place,
+    /// Its tokens, without what stands between them.
+    pub text: Text,
+    /// The integer that it is; none where it is a symbol.
+    pub number: Option<i32>,
+}
+
+/// A type as it is written (manual 2.1, Types Overview). Its place is that of its first token.
 #[derive(Debug, Drop)]
 pub enum TypeExpr {
     Boolean(Place),
+    /// `word[n]`, `unsigned word[n]` or `signed word[n]`: whether it is signed, and its width.
+    Word(Place, bool, Expr),
+    /// The integers from the first bound to the second, both among them.
+    Range(Place, Expr, Expr),
+    /// These elements.
+    Enumeration(Place, Items<WrittenElement>),
     /// An instance of the module of this name, with what it is given (manual 2.3.11, Module Instantiations).
     Instance(Place, Text, Items<Expr>),
 }
@@ -175,7 +193,8 @@ pub struct Name {
 /// An expression (manual 2.2). A node's place is that of its operator, or of its first token.
 #[derive(Debug, Drop)]
 pub enum Expr {
-    Bool(Place, bool),
+    /// `TRUE`, `FALSE`, an integer or a word.
+    Constant(Place, Value),
     Name(Name),
     /// An expression in parentheses, at its `(`.
     Group(Place, Boxed<Expr>),

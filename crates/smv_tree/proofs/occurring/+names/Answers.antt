@@ -6,11 +6,11 @@ use Rattle.smv_tree.specs.declared.place.Place.{Place}
 use Rattle.smv_value.specs.declared.operator.Operator.{Operator}
 use Rattle.smv_tree.specs.declared.tree.Expr.{Expr}
 use Rattle.smv_tree.specs.Occurring.{names_in, read}
-use Rattle.smv_tree.proofs.NamesOf.{goes_on, names_in-bool, names_in-name, names_in-apply, names_in-chain}
+use Rattle.smv_tree.proofs.NamesOf.{goes_on, names_in-constant, names_in-name, names_in-apply, names_in-chain}
 use Rattle.smv_tree.proofs.occurring.+names.Goals as goal
 
-pub push_names-returns-in-Bool : goal.push_names-returns-in-Bool
-push_names-returns-in-Bool t c = sym (ap (λ l. read c.args.names.now.items ++ l) (ap names_in c.in-Bool.is ∙ names_in-bool _ _) ∙ append-nil (read c.args.names.now.items))
+pub push_names-returns-in-Constant : goal.push_names-returns-in-Constant
+push_names-returns-in-Constant t c = sym (ap (λ l. read c.args.names.now.items ++ l) (ap names_in c.in-Constant.is ∙ names_in-constant _ _) ∙ append-nil (read c.args.names.now.items))
 
 pub push_names-returns-in_ok-push-in-Name : goal.push_names-returns-in_ok-push-in-Name
 push_names-returns-in_ok-push-in-Name t c =
