@@ -1,7 +1,7 @@
 -- The truth of one node more.
 use Rattle.std.proofs.Common.{◌≡◌, ◌∙◌, ℕ, zero, suc, ◌+◌, ◌-◌, ◌<◌, Bool, List, [], ◌∷◌, ◌++◌, take, drop, length, get_or, sym, ap, subst, arith}
 use Rattle.smv_resolve.specs.Resolved.{last_of}
-use Rattle.smv_meaning.specs.declared.value.Outcome.{Outcome}
+use Rattle.smv_meaning.specs.declared.outcome.Outcome.{Outcome}
 use Rattle.std.proofs.lemmas.List.{get_or-drop, length-drop, map-append, take-map}
 use Rattle.std.proofs.lemmas.List.Elements.{All-append}
 use Rattle.bit_graph.specs.declared.edge.Edge.{Edge}

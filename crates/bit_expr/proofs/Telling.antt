@@ -8,14 +8,15 @@ use Rattle.smv_tree.specs.declared.place.Place.{Place}
 use Rattle.smv_value.specs.declared.operator.Operator.{Operator}
 use Rattle.smv_value.specs.declared.operator.Operator.TheVariants as operator
 use Rattle.smv_value.specs.declared.value.Value.TheVariants as value
-use Rattle.smv_meaning.specs.declared.value.Outcome.{Outcome}
-use Rattle.smv_meaning.specs.Values.{applied, nothing, one}
+use Rattle.smv_meaning.specs.declared.outcome.Outcome.TheVariants.{Nothing}
+use Rattle.smv_meaning.specs.declared.outcome.Outcome.{Outcome}
+use Rattle.smv_meaning.specs.Outcomes.{applied, one}
 use Rattle.bit_expr.specs.declared.truths.Truth.{Truth}
 use Rattle.bit_expr.specs.Edges.{TellsTruth, TruthStands, TruthsStand, all_told, boolean_of, is_of_booleans, is_one, told}
 
 -- the outcome that a known edge and a value say
 abbrev said : Bool → Bool → Outcome
-said known b = cond known (one (value.Bool b)) nothing
+said known b = cond known (one (value.Bool b)) Nothing
 
 pub exclusive_not : (n b : Bool) → exclusive_or (not n) b ≡ not (exclusive_or n b)
 exclusive_not true true = refl

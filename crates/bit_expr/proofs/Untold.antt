@@ -11,26 +11,27 @@ use Rattle.smv_value.specs.declared.operator.Bounded.{Bounded}
 use Rattle.smv_value.specs.declared.value.Value.{Value}
 use Rattle.smv_value.specs.declared.value.Value.TheVariants as value
 use Rattle.smv_value.specs.Results.{is_value}
-use Rattle.smv_meaning.specs.declared.value.Outcome.{Outcome}
-use Rattle.smv_meaning.specs.Values.{applied, given, nothing, one, operated}
+use Rattle.smv_meaning.specs.declared.outcome.Outcome.TheVariants.{Nothing}
+use Rattle.smv_meaning.specs.declared.outcome.Outcome.{Outcome}
+use Rattle.smv_meaning.specs.Outcomes.{applied, given, one, operated}
 use Rattle.bit_expr.specs.declared.truths.Truth.{Truth}
 use Rattle.bit_expr.specs.Edges.{TellsTruth, all_told}
 
-module _ (f : List Value → Outcome) (none : (vs : List Value) → f vs ≡ nothing) where
-  one_more : (known b : Bool) (vs : List Value) (os : List Outcome) → operated f (vs ++ value.Bool b ∷ []) os ≡ nothing → operated f vs (cond known (one (value.Bool b)) nothing ∷ os) ≡ nothing
+module _ (f : List Value → Outcome) (none : (vs : List Value) → f vs ≡ Nothing) where
+  one_more : (known b : Bool) (vs : List Value) (os : List Outcome) → operated f (vs ++ value.Bool b ∷ []) os ≡ Nothing → operated f vs (cond known (one (value.Bool b)) Nothing ∷ os) ≡ Nothing
   one_more true b vs os h = h
   one_more false b vs os h = refl
 
-  none_told : (v : ℕ → Bool) (xs : List Truth) (vs : List Value) → operated f vs (all_told v xs) ≡ nothing
+  none_told : (v : ℕ → Bool) (xs : List Truth) (vs : List Value) → operated f vs (all_told v xs) ≡ Nothing
   none_told v [] vs = none vs
   none_told v (x ∷ xs) vs = one_more (edge_value v x.known) (edge_value v x.value) vs (all_told v xs) (none_told v xs (vs ++ value.Bool (edge_value v x.value) ∷ []))
 
-given_none : (place : Place) (all : Bool) → given place (cond all (Ok None) (Ok None)) ≡ nothing
+given_none : (place : Place) (all : Bool) → given place (cond all (Ok None) (Ok None)) ≡ Nothing
 given_none place true = refl
 given_none place false = refl
 
-module _ (g : List Node) (t : Truth) (xs : List Truth) (tells : TellsTruth g t (λ v. nothing)) (place : Place) where
-  pub untold : (o : Operator) → ((v : ℕ → Bool) → applied o place (all_told v xs) ≡ nothing) → TellsTruth g t (λ v. applied o place (all_told v xs))
+module _ (g : List Node) (t : Truth) (xs : List Truth) (tells : TellsTruth g t (λ v. Nothing)) (place : Place) where
+  pub untold : (o : Operator) → ((v : ℕ → Bool) → applied o place (all_told v xs) ≡ Nothing) → TellsTruth g t (λ v. applied o place (all_told v xs))
   untold o none = record { stands = tells.stands; told = λ v consistent. tells.told v consistent ∙ sym (none v) }
 
   pub temporal_untold : (o : Temporal) → TellsTruth g t (λ v. applied (operator.Temporal o) place (all_told v xs))

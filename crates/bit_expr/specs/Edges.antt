@@ -1,5 +1,5 @@
 -- What edges of a graph say of states, of outcomes and of the outcomes of nodes.
-use Rattle.std.specs.Prelude.{◌≡◌, ℕ, Bool, true, false, not, cond, Some, List, length, map, All}
+use Rattle.std.specs.Prelude.{◌≡◌, ℕ, Bool, true, false, not, cond, Option, None, Some, List, length, map, All}
 use Rattle.std.specs.Bool.{beq}
 use Rattle.std.specs.List.{list_all, zip}
 use Rattle.bit_graph.specs.declared.edge.Edge.{Edge}
@@ -15,9 +15,9 @@ use Rattle.smv_resolve.specs.declared.item.Item.{Item}
 use Rattle.smv_resolve.specs.declared.item.ItemKind.{ItemKind}
 use Rattle.smv_scope.specs.declared.slot.Slot.{Slot}
 use Rattle.smv_scope.specs.Slots.{slots_of}
-use Rattle.smv_meaning.specs.declared.value.Outcome.{Outcome}
-use Rattle.smv_meaning.specs.declared.value.Outcome.TheVariants.{Values}
-use Rattle.smv_meaning.specs.Values.{nothing, one}
+use Rattle.smv_meaning.specs.declared.outcome.Outcome.{Outcome}
+use Rattle.smv_meaning.specs.declared.outcome.Outcome.TheVariants.{Nothing}
+use Rattle.smv_meaning.specs.Outcomes.{one, truth}
 use Rattle.smv_meaning.specs.Runs.{asks_always, asks_first, asks_step, input_slots, keeps, state_slots}
 use Rattle.smv_meaning.specs.Tables.{outcome_at, target_at}
 use Rattle.bit_expr.specs.declared.when.When.{When}
@@ -32,10 +32,14 @@ state_under v bits = map (λ e. value.Bool (edge_value v e)) bits
 abbrev pub AllStand : List Node → List Edge → Type 0
 AllStand g edges = All (Stands g) edges
 
+-- there is a truth, and it is this one
+abbrev pub is_truth : Bool → Option Bool → Bool
+is_truth b None = false
+is_truth b (Some c) = beq b c
+
 -- the outcome is this boolean
 abbrev pub is_one : Bool → Outcome → Bool
-is_one b (Values (Some (value.Bool c))) = beq b c
-is_one b other = false
+is_one b o = is_truth b (truth o)
 
 -- the operator gives a boolean of two booleans, and this one
 abbrev pub is_of_booleans : Operator → Bool
@@ -52,7 +56,7 @@ boolean_of other a b = false
 
 -- the outcome that two edges say: a value where the first is true, and then that of the second
 abbrev pub told : (ℕ → Bool) → Truth → Outcome
-told v truth = cond (edge_value v truth.known) (one (value.Bool (edge_value v truth.value))) nothing
+told v truth = cond (edge_value v truth.known) (one (value.Bool (edge_value v truth.value))) Nothing
 
 -- both edges lead to nodes of the graph
 abbrev pub TruthStands : List Node → Truth → Type 0

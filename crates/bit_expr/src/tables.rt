@@ -6,10 +6,10 @@ ghost use Rattle.bit_graph.specs.Meaning.{Consistent};
 ghost use Rattle.smv_value.specs.declared.value.Value.{Value};
 ghost use Rattle.smv_resolve.specs.Resolved.{last_of};
 ghost use Rattle.smv_meaning.specs.Tables.{outcome_at, outcome_by, outcomes_of};
-ghost use Rattle.smv_meaning.specs.Values.{applied};
+ghost use Rattle.smv_meaning.specs.Outcomes.{applied};
 ghost use Rattle.bit_expr.specs.Edges.{AllStand, TellsEach, TellsTruth, TruthsStand, all_told, state_under};
 
-use crate::truths::{Truth, applied, constant, nothing, of_slot, settled, truth_at};
+use crate::truths::{Truth, applied, nothing, of_slot, settled, settled_value, truth_at};
 use bit_graph::{Edge, Graph};
 use smv_meaning::{Outcome, outcomes};
 use smv_resolve::{Node, first, last};
@@ -43,7 +43,7 @@ fn all_settled(
 {
     let mut truths = Vec::new(alloc);
     for outcome in outcomes {
-        truths.push(settled(graph, *outcome)?)?;
+        truths.push(settled(graph, outcome)?)?;
     }
     Ok(Items::from_vec(truths))
 }
@@ -95,7 +95,7 @@ fn truth_of_node(
     ensures told { IfOk result (λ t. TellsTruth graph.new t (λ v. outcome_by slots.now (state_under v bits.now) (state_under v inputs.now) (all_told v here.now) (all_told v later.now) node.now)) }
 {
     match *node {
-        Node::Constant(_, b) => Ok(constant(graph, b)),
+        Node::Constant(_, v) => settled_value(graph, v),
         Node::Slot(_, n) => Ok(of_slot(graph, slots, bits, inputs, n)),
         Node::Whole(..) => Ok(nothing(graph)),
         Node::Named(_, _, a) => Ok(truth_at(graph, here, a)),

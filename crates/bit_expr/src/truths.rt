@@ -9,8 +9,9 @@ ghost use Rattle.smv_tree.specs.declared.place.Place.{Place};
 ghost use Rattle.smv_value.specs.declared.operator.Operator.TheVariants as operator;
 ghost use Rattle.smv_value.specs.Results.{logic_truth};
 ghost use Rattle.smv_scope.specs.Slots.{item_of};
+ghost use Rattle.smv_meaning.specs.declared.outcome.Outcome.TheVariants.{Nothing};
 ghost use Rattle.smv_meaning.specs.Tables.{outcome_at, target_at};
-ghost use Rattle.smv_meaning.specs.Values.{applied, nothing, one};
+ghost use Rattle.smv_meaning.specs.Outcomes.{applied, one, valued};
 ghost use Rattle.bit_expr.specs.Edges.{AllStand, TellsTruth, TruthStands, TruthsStand, all_told, boolean_of, is_of_booleans, state_under, told};
 
 use bit_graph::{Edge, Graph};
@@ -42,18 +43,21 @@ impl Truth {
 }
 
 // The truth of an outcome that is known. One that is no boolean counts as want of memory.
-pub fn settled(graph: &Graph, outcome: Outcome) -> Result<Truth, AllocError>
-    ensures { IfOk result (λ truth. TellsTruth graph.now truth (λ v. outcome)) }
+pub fn settled(graph: &Graph, outcome: &Outcome) -> Result<Truth, AllocError>
+    ensures { IfOk result (λ truth. TellsTruth graph.now truth (λ v. outcome.now)) }
 {
     match outcome {
-        Outcome::Values(None) => Ok(nothing(graph)),
-        Outcome::Values(Some(v)) => settled_value(graph, v),
+        Outcome::Nothing => Ok(nothing(graph)),
+        Outcome::Values(values) => match values.single() {
+            None => Err(AllocError),
+            Some(v) => settled_value(graph, v),
+        },
         Outcome::Fault(..) => Err(AllocError),
     }
 }
 
 // The same of a value.
-fn settled_value(graph: &Graph, v: Value) -> Result<Truth, AllocError>
+pub fn settled_value(graph: &Graph, v: Value) -> Result<Truth, AllocError>
     ensures { IfOk result (λ truth. TellsTruth graph.now truth (λ a. one v)) }
 {
     match v {
@@ -76,7 +80,7 @@ pub fn constant(graph: &Graph, b: bool) -> Truth
 
 /// The truth of what has no value.
 pub fn nothing(graph: &Graph) -> Truth
-    ensures { TellsTruth graph.now result (λ v. nothing) }
+    ensures { TellsTruth graph.now result (λ v. Nothing) }
 {
     Truth {
         known: graph.constant(false),
@@ -87,7 +91,7 @@ pub fn nothing(graph: &Graph) -> Truth
 // The truth of what the edge of this number says.
 fn of_edge(graph: &Graph, edges: &[Edge], i: usize) -> Truth
     requires { AllStand graph.now edges.now }
-    ensures { TellsTruth graph.now result (λ v. Outcome.Values (slice_get (state_under v edges.now) i)) }
+    ensures { TellsTruth graph.now result (λ v. valued (slice_get (state_under v edges.now) i)) }
 {
     match edges.get(i) {
         None => nothing(graph),
@@ -102,7 +106,7 @@ fn of_edge(graph: &Graph, edges: &[Edge], i: usize) -> Truth
 pub fn of_slot(graph: &Graph, slots: &[Slot], bits: &[Edge], inputs: &[Edge], n: usize) -> Truth
     requires bits { AllStand graph.now bits.now }
     requires inputs { AllStand graph.now inputs.now }
-    ensures { TellsTruth graph.now result (λ v. Outcome.Values (item_of slots.now (state_under v bits.now) (state_under v inputs.now) n)) }
+    ensures { TellsTruth graph.now result (λ v. valued (item_of slots.now (state_under v bits.now) (state_under v inputs.now) n)) }
 {
     match slots.get(n) {
         None => nothing(graph),

@@ -16,13 +16,14 @@ use Rattle.smv_value.specs.declared.value.Value.{Value}
 use Rattle.smv_value.specs.declared.value.Value.TheVariants as value
 use Rattle.smv_scope.specs.Slots.{slots_of}
 use Rattle.smv_resolve.specs.Items.{ResolvedItem}
-use Rattle.smv_meaning.specs.Runs.{are_inputs, input_slots, is_step}
+use Rattle.smv_meaning.specs.Runs.{are_inputs, has_booleans_alone, input_slots, is_step}
 use Rattle.bit_clauses.specs.Deciding.{Decides}
 use Rattle.bit_clauses.specs.Gated.{DefinesAll}
 use Rattle.bit_system.specs.Coding.{HoldsAt, code_of, input_width, state_width, truth_value}
 use Rattle.bit_system.specs.Standing.{is_just_in, justices_of}
 use Rattle.bit_system.proofs.Agreeing as agreeing
-use Rattle.bit_system.proofs.Codes.{code_at, code_back, fits_long}
+use Rattle.bit_system.proofs.Codes.{code_at, code_back, fits_long, input_booleans}
+use Rattle.smv_declared.specs.Types.{types_of}
 use Rattle.bit_system.proofs.Frames.{decoded_moved}
 use Rattle.bit_formula.specs.Agreeing.{FormulaAgrees}
 use Rattle.bit_formula.specs.Coding.{inputs_in, is_in, joint_width, next_in, others, place_in, place_of_input, read_bit, read_inputs, state_in}
@@ -83,7 +84,7 @@ read_agrees p reads a i lt =
     ∙ decoded_agree (λ j. a (place_of_input p reads j)) (read_bit w reads a) n k (bit_placed w n reads a k (in_at reads i lt))
 
 -- inputs and the others, as bits behind those of a state with inputs that agree with them
-module _ (p : Program) (reads : List ℕ) (x y : ℕ → Bool) (u : List Value) (fit : are_inputs p u ≡ true) (agree : AgreeOn reads u (read_inputs p reads x)) where
+module _ (p : Program) (reads : List ℕ) (booleans : has_booleans_alone p ≡ true) (x y : ℕ → Bool) (u : List Value) (fit : are_inputs p u ≡ true) (agree : AgreeOn reads u (read_inputs p reads x)) where
   abbrev w : ℕ
   w = state_width p
 
@@ -124,10 +125,10 @@ module _ (p : Program) (reads : List ℕ) (x y : ℕ → Bool) (u : List Value) 
   given : inputs_in p reads a ≡ u
   given =
       let z : ℕ → Bool = λ k. a (place_of_input p reads k) in
-      let long : length u ≡ n = fits_long (input_slots (slots_of p)) u fit in
+      let long : length u ≡ n = fits_long (types_of p) (input_slots (slots_of p)) u fit in
       let at : HoldsAt (range_with_len 0 n) z u =
       subst (λ m. HoldsAt (range_with_len 0 m) z u) long (code_at u 0 z (λ k lt. ap z (plain k) ∙ placed k (omega (arith, lt, long)))) in
-      inputs_placed p reads a ∙ code_back (input_slots (slots_of p)) u (range_with_len 0 n) z fit at
+      inputs_placed p reads a ∙ code_back (types_of p) (input_slots (slots_of p)) u (range_with_len 0 n) z (input_booleans p booleans) fit at
 
 module _ (p : Program) (spec : ResolvedItem) (r : FormulaSystem) (stands : StandsForFormula p spec r) where
   abbrev reads : List ℕ
@@ -155,12 +156,12 @@ module _ (p : Program) (spec : ResolvedItem) (r : FormulaSystem) (stands : Stand
       → StepBits r.system x y
   step_from x y (u, step, agree) =
       let fit : are_inputs p u ≡ true = agreeing.inputs_fit p (state_in p reads x) u (state_in p reads y) step in
-      let z : ℕ → Bool = rest p reads x y u fit agree in
+      let z : ℕ → Bool = rest p reads stands.booleans x y u fit agree in
       let a = bits width x y z in
       let first : state_in p reads a ≡ state_in p reads x = state_same p reads a x (first_bits width x y z) in
       let second : next_in p reads a ≡ state_in p reads y =
       decoded_moved a y (state_width p) width 0 (λ i lt. second_bits width x y z i (omega (arith, lt)) ∙ ap y (sym (plain i))) in
-      let inputs : inputs_in p reads a ≡ u = given p reads x y u fit agree in
+      let inputs : inputs_in p reads a ≡ u = given p reads stands.booleans x y u fit agree in
       let holds : is_step p (state_in p reads a) (inputs_in p reads a) (next_in p reads a) ≡ true =
       ap (λ s. is_step p s (inputs_in p reads a) (next_in p reads a)) first ∙ ap (λ v. is_step p (state_in p reads x) v (next_in p reads a)) inputs
       ∙ ap (is_step p (state_in p reads x) u) second ∙ step in

@@ -13,12 +13,13 @@ use Rattle.smv_tree.specs.declared.tree.Program.{Program}
 use Rattle.smv_value.specs.declared.value.Value.{Value}
 use Rattle.smv_value.specs.declared.value.Value.TheVariants as value
 use Rattle.smv_scope.specs.Slots.{slots_of}
-use Rattle.smv_meaning.specs.Runs.{are_inputs, fits, input_slots, is_state, is_step, state_slots}
+use Rattle.smv_meaning.specs.Runs.{are_inputs, fits, has_booleans_alone, input_slots, is_state, is_step, state_slots}
 use Rattle.bit_clauses.specs.Gated.{DefinesAll}
-use Rattle.bit_expr.proofs.Fitting.{bits_fit}
 use Rattle.bit_system.specs.Coding.{decoded, input_width, state_width, truth_value}
 use Rattle.bit_system.specs.Conditions.{edges_of}
-use Rattle.bit_system.proofs.Codes.{fits_back, fits_long, state_back}
+use Rattle.bit_system.proofs.Codes.{fits_back, fits_long, input_booleans, state_back}
+use Rattle.bit_system.proofs.OfStates as of_states
+use Rattle.smv_declared.specs.Types.{types_of}
 use Rattle.bit_system.proofs.Frames.{decoded_moved, decoded_same, edges_decoded, length_edges}
 use Rattle.bit_formula.specs.Agreeing.{IsJointCoding}
 use Rattle.bit_formula.specs.Coding.{inputs_in, is_in, joint_code, joint_named, joint_width, next_in, others, place_by, place_in, place_of_input, read_bit, read_inputs, state_in}
@@ -127,30 +128,30 @@ module _ (p : Program) (reads : List ℕ) where
       ∙ ap (is_step p (state_in p reads b) (inputs_in p reads b)) second
 
   -- bits are those of a state and of inputs
-  pub states_fit : (x : ℕ → Bool) → is_state p (state_in p reads x) ≡ true
-  states_fit x =
-      ap (fits (state_slots (slots_of p))) (sym (edges_decoded x (range_with_len 0 w)))
-      ∙ bits_fit x (state_slots (slots_of p)) (edges_of (range_with_len 0 w)) (length_edges 0 w)
+  pub states_fit : has_booleans_alone p ≡ true → (x : ℕ → Bool) → is_state p (state_in p reads x) ≡ true
+  states_fit booleans x =
+      ap (fits (types_of p) (state_slots (slots_of p))) (sym (edges_decoded x (range_with_len 0 w)))
+      ∙ of_states.state_fits p booleans x (edges_of (range_with_len 0 w)) (length_edges 0 w)
 
-  pub inputs_fit : (x : ℕ → Bool) → are_inputs p (read_inputs p reads x) ≡ true
-  inputs_fit x =
+  pub inputs_fit : has_booleans_alone p ≡ true → (x : ℕ → Bool) → are_inputs p (read_inputs p reads x) ≡ true
+  inputs_fit booleans x =
       let v = read_bit w reads x in
-      ap (fits (input_slots (slots_of p))) (sym (edges_decoded v (range_with_len 0 n)))
-      ∙ bits_fit v (input_slots (slots_of p)) (edges_of (range_with_len 0 n)) (length_edges 0 n)
+      ap (fits (types_of p) (input_slots (slots_of p))) (sym (edges_decoded v (range_with_len 0 n)))
+      ∙ of_states.inputs_fit p booleans v (edges_of (range_with_len 0 n)) (length_edges 0 n)
 
   -- the value of an input
-  pub input_at : (u : List Value) → are_inputs p u ≡ true → (k : ℕ) → k < n → slice_get u k ≡ Some (value.Bool (truth_value (slice_index_or u k (value.Bool false))))
-  input_at u fit k lt =
+  pub input_at : has_booleans_alone p ≡ true → (u : List Value) → are_inputs p u ≡ true → (k : ℕ) → k < n → slice_get u k ≡ Some (value.Bool (truth_value (slice_index_or u k (value.Bool false))))
+  input_at booleans u fit k lt =
       let back : Value → Value = λ v. value.Bool (truth_value v) in
-      let long = fits_long (input_slots (slots_of p)) u fit in
+      let long = fits_long (types_of p) (input_slots (slots_of p)) u fit in
       slice_get-get_or u k (value.Bool false) (omega (arith, lt, long))
-      ∙ ap Some (ap (λ (xs : List Value). get_or xs k (value.Bool false)) (sym (fits_back (input_slots (slots_of p)) u fit)) ∙ get_or-map back u k (value.Bool false))
+      ∙ ap Some (ap (λ (xs : List Value). get_or xs k (value.Bool false)) (sym (fits_back (types_of p) (input_slots (slots_of p)) u (input_booleans p booleans) fit)) ∙ get_or-map back u k (value.Bool false))
 
-  module _ (s u : List Value) where
+  module _ (booleans : has_booleans_alone p ≡ true) (s u : List Value) where
     state_coded : is_state p s ≡ true → state_in p reads (joint_code p reads s u) ≡ s
     state_coded is =
-        let long = fits_long (state_slots (slots_of p)) s is in
-        state_back p s (joint_code p reads s u) is (λ k lt.
+        let long = fits_long (types_of p) (state_slots (slots_of p)) s is in
+        state_back p booleans s (joint_code p reads s u) is (λ k lt.
         ap (λ (b : Bool). cond b (truth_value (slice_index_or s k (value.Bool false))) (truth_value (slice_index_or u (slice_index_or reads (k - w) 0) (value.Bool false))))
         (lt-ltb k w (omega (arith, lt, long))))
 
@@ -169,19 +170,19 @@ module _ (p : Program) (reads : List ℕ) where
     read_coded fit i lt =
         let k = get_or reads i 0 in
         let v = read_bit w reads (joint_code p reads s u) in
-        let long = fits_long (input_slots (slots_of p)) u fit in
+        let long = fits_long (types_of p) (input_slots (slots_of p)) u fit in
         elim (cases_lt k n) [
-          | inl below ↦ decoded_get v n k below ∙ ap (λ (b : Bool). Some (value.Bool b)) (bit_coded k (in_at reads i lt)) ∙ sym (input_at u fit k below)
+          | inl below ↦ decoded_get v n k below ∙ ap (λ (b : Bool). Some (value.Bool b)) (bit_coded k (in_at reads i lt)) ∙ sym (input_at booleans u fit k below)
           | inr past ↦ decoded_past v n k past ∙ sym (slice_get_past u k (omega (arith, past, long)))
         ]
 
-  pub coded : IsJointCoding p reads
-  coded = record {
-    state = λ s u is. state_coded s u is;
-    read = λ s u fit. read_coded s u fit;
+  pub coded : has_booleans_alone p ≡ true → IsJointCoding p reads
+  coded booleans = record {
+    state = λ s u is. state_coded booleans s u is;
+    read = λ s u fit. read_coded booleans s u fit;
     own_bits = λ x y agrees. (state_same x y agrees, read_same x y agrees);
-    states = states_fit;
-    inputs = inputs_fit;
+    states = states_fit booleans;
+    inputs = inputs_fit booleans;
   }
 
 -- as many literals as values, and the parts of both

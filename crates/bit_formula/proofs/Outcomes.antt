@@ -9,9 +9,9 @@ use Rattle.smv_value.specs.declared.value.Value.{Value}
 use Rattle.smv_scope.specs.declared.slot.Slot.{Slot}
 use Rattle.smv_scope.specs.Slots.{given_to, is_input, slots_of}
 use Rattle.smv_resolve.specs.Resolved.{Resolved, Operands}
-use Rattle.smv_meaning.specs.declared.value.Outcome.{Outcome}
-use Rattle.smv_meaning.specs.declared.value.Outcome.TheVariants.{Values}
-use Rattle.smv_meaning.specs.Values.{applied, outcome, outcomes}
+use Rattle.smv_meaning.specs.declared.outcome.Outcome.{Outcome}
+use Rattle.smv_meaning.specs.Outcomes.{applied, valued}
+use Rattle.smv_meaning.specs.Values.{outcome, outcomes}
 use Rattle.bit_system.specs.Coding.{input_width}
 use Rattle.bit_formula.specs.Agreeing.{AreAllRead}
 use Rattle.bit_formula.specs.Coding.{place_in}
@@ -70,7 +70,7 @@ module _ (slots : List Slot) where
     mutual
       outcome_same : (s t : List Value) (r : Resolved) → Same (λ k. is_read slots k r) → outcome slots s u t r ≡ outcome slots s v t r
       outcome_same s t (Resolved.Constant place b) same = refl
-      outcome_same s t (Resolved.Slot place n) same = ap Values (given_same s (slice_get slots n) same)
+      outcome_same s t (Resolved.Slot place n) same = ap valued (given_same s (slice_get slots n) same)
       outcome_same s t (Resolved.Whole place i) same = refl
       outcome_same s t (Resolved.Named place naming r) same = outcome_same s t r same
       outcome_same s t (Resolved.Next place r) same = refl

@@ -1,5 +1,5 @@
 -- A system over bits that stands for a program and the formula of an LTLSPEC.
-use Rattle.std.specs.Prelude.{◌≡◌, ℕ, ◌≤◌, ◌&&◌, ◌++◌, Bool, List, [], length, map}
+use Rattle.std.specs.Prelude.{◌≡◌, ℕ, ◌≤◌, ◌&&◌, ◌++◌, Bool, true, List, [], length, map}
 use Rattle.clause_core.specs.declared.literal.Lit.{Lit}
 use Rattle.clause_core.specs.Literals.{Within}
 use Rattle.clause_core.specs.Systems.{TransitionSystem, Gives}
@@ -10,7 +10,7 @@ use Rattle.smv_tree.specs.declared.tree.Program.{Program}
 use Rattle.smv_resolve.specs.Items.{ResolvedItem}
 use Rattle.smv_resolve.specs.Resolved.{Resolved}
 use Rattle.smv_scope.specs.Slots.{slots_of}
-use Rattle.smv_meaning.specs.Runs.{is_first_state, is_state, is_step, is_true}
+use Rattle.smv_meaning.specs.Runs.{has_booleans_alone, is_first_state, is_state, is_step, is_true}
 use Rattle.smv_meaning.specs.Values.{outcome}
 use Rattle.smv_formulas.specs.Says.{Says}
 use Rattle.bit_clauses.specs.Deciding.{Decides}
@@ -44,6 +44,7 @@ joint_just_values p reads = map (λ (x : ResolvedItem). λ (b : ℕ → Bool). i
 -- inputs that are read are free in each state, and are those of the step from it. No state is bad. Its fair literals are those of JUSTICE,
 -- and the formula, over atoms whose literals these are, says what the specification says.
 pub record StandsForFormula (p : Program) (spec : ResolvedItem) (r : FormulaSystem) : Type 0 where
+  pub booleans : has_booleans_alone p ≡ true
   -- the parts of the specification that the atoms stand for
   pub parts : List Resolved
   pub reads : r.reads ≡ reads_of p parts

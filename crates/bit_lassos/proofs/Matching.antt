@@ -26,32 +26,24 @@ use Rattle.smv_resolve.specs.declared.item.ItemKind.TheVariants as item
 use Rattle.smv_resolve.specs.Items.{ResolvedItem, items_of}
 use Rattle.smv_resolve.specs.Resolved.{Resolved, part_at}
 use Rattle.smv_scope.specs.Slots.{slots_of}
-use Rattle.smv_meaning.specs.declared.value.Outcome.{Outcome}
-use Rattle.smv_meaning.specs.declared.value.Outcome.TheVariants.{Fault, Values}
+use Rattle.smv_meaning.specs.declared.outcome.Outcome.{Outcome}
 use Rattle.smv_meaning.specs.Lassos.{Holds, Lasso, MeetsJustice, place_at}
 use Rattle.smv_meaning.specs.Runs.{are_inputs, at_time, input_slots, is_state, is_true}
-use Rattle.smv_meaning.specs.Values.{one, outcome, outcome_in}
+use Rattle.smv_meaning.specs.Outcomes.{one}
+use Rattle.smv_meaning.specs.Values.{outcome, outcome_in}
 use Rattle.smv_formulas.specs.Says.{atoms_on}
 use Rattle.bit_system.specs.Coding.{input_width}
 use Rattle.bit_system.specs.Standing.{is_just_in, is_justice, justices_of}
+use Rattle.bit_expr.proofs.Known.{true_only}
 use Rattle.bit_system.proofs.Codes.{fits_long}
+use Rattle.smv_declared.specs.Types.{types_of}
 use Rattle.bit_formula.specs.Agreeing.{AreAllRead, FormulaAgrees, IsJointCoding}
 use Rattle.bit_formula.specs.Coding.{read_inputs, state_in}
 use Rattle.bit_formula.specs.Reading.{AgreeOn}
 use Rattle.bit_formula.specs.Standing.{FormulaSystem, StandsForFormula, is_true_at}
 
--- the outcome is TRUE
-true_is : (o : Outcome) → is_true o ≡ true → o ≡ one (value.Bool true)
-true_is (Values None) h = absurd (let never : ⊥ = cc in never)
-true_is (Values (Some (value.Bool true))) h = refl
-true_is (Values (Some (value.Bool false))) h = absurd (let never : ⊥ = cc in never)
-true_is (Values (Some (value.Int z))) h = absurd (let never : ⊥ = cc in never)
-true_is (Values (Some (value.Sym n))) h = absurd (let never : ⊥ = cc in never)
-true_is (Values (Some (value.Word s w b))) h = absurd (let never : ⊥ = cc in never)
-true_is (Fault f place) h = absurd (let never : ⊥ = cc in never)
-
 true_either : (o : Outcome) → (is_true o ≡ true) ↔ (o ≡ one (value.Bool true))
-true_either o = (true_is o, λ e. ap is_true e)
+true_either o = (true_only o, λ e. ap is_true e)
 
 -- formulas over atoms that are true at the same times, as far as they have them
 module _ (A B : ℕ → Moment) (m : ℕ) (e : (a : ℕ) → a < m → AreAlike (A a) (B a)) where
@@ -195,7 +187,7 @@ module _ (p : Program) (spec : ResolvedItem) (r : FormulaSystem) (stands : Stand
   and_true false b h = absurd (let never : ⊥ = cc in never)
 
   many_inputs : (u : List Value) → are_inputs p u ≡ true → length u ≡ input_width p
-  many_inputs u h = fits_long (input_slots (slots_of p)) u h
+  many_inputs u h = fits_long (types_of p) (input_slots (slots_of p)) u h
 
   part_there : (a i : ℕ) → a < length parts → i < n → is_true_at p r.reads (part_at parts a) (xs i) ≡ is_true_there (part_at parts a) i
   part_there a i lt below =

@@ -9,27 +9,18 @@ use Rattle.smv_value.specs.declared.value.Value.{Value}
 use Rattle.smv_value.specs.declared.value.Value.TheVariants as value
 use Rattle.smv_resolve.specs.Items.{ResolvedItem}
 use Rattle.smv_scope.specs.Slots.{slots_of}
-use Rattle.smv_meaning.specs.declared.value.Outcome.{Outcome}
-use Rattle.smv_meaning.specs.declared.value.Outcome.TheVariants.{Fault, Values}
-use Rattle.smv_meaning.specs.Values.{one, outcome_in}
+use Rattle.smv_meaning.specs.declared.outcome.Outcome.{Outcome}
+use Rattle.smv_meaning.specs.Outcomes.{one}
+use Rattle.smv_meaning.specs.Values.{outcome_in}
 use Rattle.smv_meaning.specs.Runs.{Breaks, at_time, is_first_state, is_state, is_step}
 use Rattle.frame_core.specs.Runs.{IsBadRun, row_at}
 use Rattle.bit_expr.specs.Edges.{is_one}
+use Rattle.bit_expr.proofs.Known.{false_only}
 use Rattle.bit_system.specs.Coding.{inputs_of, next_of, state_of, state_width}
 use Rattle.bit_system.specs.Standing.{AgreesWith, StandsFor, is_broken_in}
 use Rattle.bit_system.proofs.Codes.{plain}
 use Rattle.bit_system.proofs.Frames.{decoded_moved}
 use Rattle.bit_runs.specs.Running.{inputs_in, states_in}
-
--- the outcome is FALSE
-false_only : (o : Outcome) → is_one false o ≡ true → o ≡ one (value.Bool false)
-false_only (Values (Some (value.Bool false))) h = refl
-false_only (Values (Some (value.Bool true))) h = cc
-false_only (Values (Some (value.Int i))) h = cc
-false_only (Values (Some (value.Sym i))) h = cc
-false_only (Values (Some (value.Word s w b))) h = cc
-false_only (Values None) h = cc
-false_only (Fault rule place) h = cc
 
 module _ (p : Program) (spec : ResolvedItem) (sys : TransitionSystem) (stands : StandsFor p spec sys) (agrees : AgreesWith p spec sys) (rows : List (List Bool)) (run : IsBadRun sys rows) where
   abbrev state_in : List Bool → List Value

@@ -11,6 +11,7 @@ use Rattle.smv_tree.specs.declared.tree.Program.{Program}
 use Rattle.smv_value.specs.declared.value.Value.{Value}
 use Rattle.smv_resolve.specs.Items.{ResolvedItem, items_of}
 use Rattle.smv_scope.specs.Slots.{slots_of}
+use Rattle.smv_declared.specs.Types.{types_of}
 use Rattle.smv_meaning.specs.Runs.{allows_step, are_inputs, input_slots, is_state, is_step, keeps_frozen, meets_invariants}
 use Rattle.bit_clauses.specs.Deciding.{Decides, Defines}
 use Rattle.bit_clauses.specs.Gated.{DefinesAll}
@@ -82,8 +83,8 @@ module _ (p : Program) (spec : ResolvedItem) (sys : TransitionSystem) (stands : 
       let second : next_of p a ≡ state_of p y = decoded_moved a y w w 0 (λ i lt. second_bits w x y (code_of u) i lt ∙ ap y (sym (plain i))) in
       let fit : are_inputs p u ≡ true = inputs_fit p (state_of p x) u (state_of p y) step in
       let at : HoldsAt (layout_of p).inputs a u =
-      subst (λ n. HoldsAt (range_with_len (w + w) n) a u) (fits_long (input_slots (slots_of p)) u fit) (code_at u (w + w) a (λ k lt. input_bits w x y (code_of u) k)) in
-      let given : inputs_of p a ≡ u = (coding p).given u a fit at in
+      subst (λ n. HoldsAt (range_with_len (w + w) n) a u) (fits_long (types_of p) (input_slots (slots_of p)) u fit) (code_at u (w + w) a (λ k lt. input_bits w x y (code_of u) k)) in
+      let given : inputs_of p a ≡ u = (coding p stands.booleans).given u a fit at in
       let holds : is_step p (state_of p a) (inputs_of p a) (next_of p a) ≡ true =
       ap (λ s. is_step p s (inputs_of p a) (next_of p a)) first ∙ ap (λ v. is_step p (state_of p x) v (next_of p a)) given ∙ ap (is_step p (state_of p x) u) second ∙ step in
       let found = (stands.step.meets a).1 holds in

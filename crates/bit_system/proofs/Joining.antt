@@ -90,6 +90,7 @@ module _ (p : Program) (shared : Shared) (vars : ℕ) (is : IsShared p shared) (
   -- the system of a specification's clauses stands for it
   stands_by : (spec : ResolvedItem) (c : Claim) → IsClaim p spec c → StandsFor p spec (system_by shared vars c)
   stands_by spec c claim = record {
+    booleans = is.booleans;
     bits = is.width;
     room = omega (arith, is.steps.room, is.above, most);
     first = is.states.init;
@@ -134,6 +135,7 @@ all_built p shared vars layout specs claims systems is most layout_is specs_are 
     let made = map (system_by shared vars) claims in
     let long : length made ≡ length claims = length-map claims (system_by shared vars) in
     let built : IsBuilt p record { layout = layout; systems = made } = record {
+      booleans = is.booleans;
       layout = layout_is;
       each_one = long ∙ each_long (IsClaim p) (specifications_of p) claims own;
       stands = λ j spec at. all_stand p shared vars is most (specifications_of p) claims own j spec at;

@@ -1,5 +1,5 @@
 -- What conditions tell of states and steps.
-use Rattle.std.proofs.Common.{◌≡◌, ◌∙◌, ℕ, Bool, true, false, cond, refl, ◌&&◌, List, [], ◌∷◌, map, ap, sym, length}
+use Rattle.std.proofs.Common.{◌≡◌, ◌∙◌, ℕ, Bool, true, false, not, cond, refl, ◌&&◌, List, [], ◌∷◌, map, ap, sym, length}
 use Rattle.std.specs.List.{filter, list_all}
 use Rattle.bit_graph.specs.declared.edge.Edge.{Edge}
 use Rattle.bit_graph.specs.declared.edge.Node.{Node}
@@ -12,10 +12,11 @@ use Rattle.smv_scope.specs.declared.slot.Slot.{Slot}
 use Rattle.smv_resolve.specs.declared.node.Node as scope
 use Rattle.smv_resolve.specs.Items.{ResolvedItem, item_by, items_of}
 use Rattle.smv_resolve.specs.Resolved.{parts_of}
-use Rattle.smv_scope.specs.Slots.{slots_of}
+use Rattle.smv_scope.specs.Slots.{is_input, slots_of}
+use Rattle.smv_declared.specs.Types.{types_of}
 use Rattle.smv_meaning.specs.declared.typed.Typed.{Typed}
-use Rattle.smv_meaning.specs.declared.value.Outcome.{Outcome}
-use Rattle.smv_meaning.specs.Runs.{allows_always, allows_first, allows_step, are_inputs, input_slots, is_first_state, is_state, is_step, is_true, keeps_frozen, meets_invariants, state_slots}
+use Rattle.smv_meaning.specs.declared.outcome.Outcome.{Outcome}
+use Rattle.smv_meaning.specs.Runs.{allows_always, allows_first, allows_step, are_inputs, has_booleans_alone, input_slots, is_first_state, is_state, is_step, is_true, keeps_frozen, meets_invariants, state_slots}
 use Rattle.smv_meaning.specs.Tables.{always_allowed, first_allowed, outcome_at, outcomes_of, step_allowed}
 use Rattle.smv_meaning.specs.Values.{outcome_in}
 use Rattle.smv_meaning.proofs.Tables.{outcome_at-map}
@@ -24,7 +25,7 @@ use Rattle.bit_expr.specs.declared.when.When.{When}
 use Rattle.bit_expr.specs.declared.when.When.TheVariants.{First, Always, Step}
 use Rattle.bit_expr.specs.declared.truths.Truth.{Truth}
 use Rattle.bit_expr.specs.Edges.{all_asked, all_kept, all_told, is_one, state_under}
-use Rattle.bit_expr.proofs.Fitting.{bits_fit}
+use Rattle.bit_expr.proofs.Fitting.{bits_fit, filtered_boolean}
 use Rattle.bit_expr.proofs.MoreNodes.{all_stand_kept, tells_each_kept}
 use Rattle.bit_system.specs.declared.states.StateTruths.{StateTruths}
 use Rattle.bit_system.specs.Coding.{input_width}
@@ -39,6 +40,16 @@ module _ (g h : List Node) (extends : Extends g h) where
     width = tells.width;
     truths = tells_each_kept g h extends state.truths _ tells.truths;
   }
+
+-- values of bits are those of a state, or of inputs, where the program has booleans alone
+module _ (p : Program) (booleans : has_booleans_alone p ≡ true) (v : ℕ → Bool) (bits : List Edge) where
+  pub state_fits : length bits ≡ length (state_slots (slots_of p)) → is_state p (state_under v bits) ≡ true
+  state_fits long =
+      bits_fit (types_of p) v (state_slots (slots_of p)) bits (filtered_boolean (types_of p) (λ (slot : Slot). not (is_input slot.kind)) (slots_of p) booleans) long
+
+  pub inputs_fit : length bits ≡ length (input_slots (slots_of p)) → are_inputs p (state_under v bits) ≡ true
+  inputs_fit long =
+      bits_fit (types_of p) v (input_slots (slots_of p)) bits (filtered_boolean (types_of p) (λ (slot : Slot). is_input slot.kind) (slots_of p) booleans) long
 
 -- the same lists under other names
 pub asked_as : (v : ℕ → Bool) (when : When) (there here first second : List Truth) (items list : List Item) → first ≡ there → second ≡ here → list ≡ items
@@ -62,7 +73,7 @@ module _ (g : List Node) (typed : Typed) (v : ℕ → Bool) (c : Consistent v g)
         ap (λ (here : List Outcome). first_allowed here typed.items) (tells.truths.told v c)
         ∙ first_asked (slots_of program) typed.nodes s typed.items
         ∙ ap (list_all (allows_first (slots_of program) s)) typed.resolved
-        ∙ ap (λ (b : Bool). b && list_all (allows_first (slots_of program) s) (items_of program)) (sym (bits_fit v (state_slots (slots_of program)) state.bits tells.width))
+        ∙ ap (λ (b : Bool). b && list_all (allows_first (slots_of program) s) (items_of program)) (sym (state_fits program typed.booleans v state.bits tells.width))
 
     -- what is asked of both states of a step
     pub always_told : all_asked Always (all_told v state.truths) (all_told v state.truths) typed.items ≡ meets_invariants program s
@@ -92,9 +103,9 @@ module _ (g : List Node) (typed : Typed) (v : ℕ → Bool) (c : Consistent v g)
 
     fitting : true ≡ (is_state program f && are_inputs program u && is_state program t)
     fitting =
-        ap (λ (b : Bool). b && true && true) (sym (bits_fit v (state_slots (slots_of program)) from.bits from_tells.width))
-        ∙ ap (λ (b : Bool). is_state program f && b && true) (sym (bits_fit v (input_slots (slots_of program)) inputs width))
-        ∙ ap (λ (b : Bool). is_state program f && are_inputs program u && b) (sym (bits_fit v (state_slots (slots_of program)) to.bits to_tells.width))
+        ap (λ (b : Bool). b && true && true) (sym (state_fits program typed.booleans v from.bits from_tells.width))
+        ∙ ap (λ (b : Bool). is_state program f && b && true) (sym (inputs_fit program typed.booleans v inputs width))
+        ∙ ap (λ (b : Bool). is_state program f && are_inputs program u && b) (sym (state_fits program typed.booleans v to.bits to_tells.width))
 
     and_assoc : (a b x y : Bool) → ((((true && a) && b) && x) && y) ≡ (((true && a) && b) && (x && y))
     and_assoc true true true y = refl
@@ -147,7 +158,7 @@ just_told g typed state tells v c =
     ap (λ (os : List Outcome). map (λ (x : Item). is_true (outcome_at os x.value)) (filter (λ (x : Item). is_justice x.kind) typed.items)) (tells.truths.told v c)
     ∙ just_all slots typed.nodes s typed.items
     ∙ ap (λ (xs : List ResolvedItem). map (resolved_true slots typed.nodes s) (filter (λ (x : ResolvedItem). is_justice x.kind) xs)) typed.resolved
-    ∙ ap (λ (b : Bool). map (λ (x : ResolvedItem). b && resolved_true slots typed.nodes s x) (justices_of p)) (sym (bits_fit v (state_slots slots) state.bits tells.width))
+    ∙ ap (λ (b : Bool). map (λ (x : ResolvedItem). b && resolved_true slots typed.nodes s x) (justices_of p)) (sym (state_fits p typed.booleans v state.bits tells.width))
 
 -- the state is one in which the item's value is FALSE
 pub broken_told : (g : List Node) (typed : Typed) (state : StateTruths) → TellsState g typed state → (v : ℕ → Bool) → Consistent v g → (spec : Item) (o : Outcome) → o ≡ outcome_at (all_told v state.truths) spec.value
@@ -157,4 +168,4 @@ broken_told g typed state tells v c spec o o_is =
     let slots = slots_of p in
     let s = state_under v state.bits in
     ap (is_one false) (o_is ∙ ap (λ (os : List Outcome). outcome_at os spec.value) (tells.truths.told v c) ∙ outcome_at-map slots s [] [] (parts_of typed.nodes) spec.value)
-    ∙ ap (λ (b : Bool). b && is_one false (outcome_in slots s (item_by typed.nodes spec).value)) (sym (bits_fit v (state_slots slots) state.bits tells.width))
+    ∙ ap (λ (b : Bool). b && is_one false (outcome_in slots s (item_by typed.nodes spec).value)) (sym (state_fits p typed.booleans v state.bits tells.width))

@@ -1,9 +1,9 @@
 -- The systems of a program: one for each of its specifications.
-use Rattle.std.specs.Prelude.{◌≡◌, ℕ, ◌+◌, ◌<◌, List, [], length, Some, slice_get, slice_index_or}
+use Rattle.std.specs.Prelude.{◌≡◌, ℕ, ◌+◌, ◌<◌, true, List, [], length, Some, slice_get, slice_index_or}
 use Rattle.clause_core.specs.Systems.{TransitionSystem}
 use Rattle.smv_tree.specs.declared.tree.Program.{Program}
 use Rattle.smv_resolve.specs.Items.{ResolvedItem}
-use Rattle.smv_meaning.specs.Runs.{specifications_of}
+use Rattle.smv_meaning.specs.Runs.{has_booleans_alone, specifications_of}
 use Rattle.bit_system.specs.declared.widths.Layout.{Layout}
 use Rattle.bit_system.specs.declared.widths.BuildStop.{BuildStop}
 use Rattle.bit_system.specs.declared.widths.BuildStop.TheVariants.{TooManyBits, NoMemory}
@@ -46,6 +46,7 @@ pub record IsLike (a b : TransitionSystem) : Type 0 where
 -- The systems are those of the program: one for each specification, in their order, which stands for the program and that
 -- specification. All are the same but for their bad and good clauses.
 pub record IsBuilt (p : Program) (b : BitProgram) : Type 0 where
+  pub booleans : has_booleans_alone p ≡ true
   pub layout : b.layout ≡ layout_of p
   pub each_one : length b.systems ≡ length (specifications_of p)
   pub stands : (j : ℕ) (spec : ResolvedItem) → slice_get (specifications_of p) j ≡ Some spec → StandsFor p spec (system_of b j)

@@ -1,10 +1,10 @@
 -- What the systems of a program are made of: what they share, and the clauses of each specification.
-use Rattle.std.specs.Prelude.{◌≡◌, ℕ, ◌*◌, ◌≤◌, not, List, [], ◌∷◌, All}
+use Rattle.std.specs.Prelude.{◌≡◌, ℕ, ◌*◌, ◌≤◌, true, not, List, [], ◌∷◌, All}
 use Rattle.clause_core.specs.Literals.{Within}
 use Rattle.clause_core.specs.Systems.{Gives, Opposed, TransitionSystem}
 use Rattle.smv_tree.specs.declared.tree.Program.{Program}
 use Rattle.smv_resolve.specs.Items.{ResolvedItem}
-use Rattle.smv_meaning.specs.Runs.{is_first_state, is_step}
+use Rattle.smv_meaning.specs.Runs.{has_booleans_alone, is_first_state, is_step}
 use Rattle.bit_clauses.specs.declared.deciding.Decided.{Decided}
 use Rattle.bit_clauses.specs.Deciding.{Decides}
 use Rattle.bit_clauses.specs.Gated.{DefinesAll}
@@ -45,6 +45,7 @@ Each R (x ∷ xs) (y ∷ ys) = R x y × Each R xs ys
 
 -- what all systems share
 pub record IsShared (p : Program) (shared : Shared) : Type 0 where
+  pub booleans : has_booleans_alone p ≡ true
   pub width : shared.width ≡ state_width p
   pub steps : IsStepSide p shared.steps
   pub states : IsStateSide p shared.states

@@ -10,7 +10,7 @@ use Rattle.smv_resolve.specs.declared.item.ItemKind.{ItemKind}
 use Rattle.smv_resolve.specs.declared.item.ItemKind.TheVariants as item
 use Rattle.smv_resolve.specs.Items.{ResolvedItem, items_of}
 use Rattle.smv_scope.specs.Slots.{slots_of}
-use Rattle.smv_meaning.specs.Runs.{is_first_state, is_state, is_step, is_true, IsFirstState, IsStep}
+use Rattle.smv_meaning.specs.Runs.{has_booleans_alone, is_first_state, is_state, is_step, is_true, IsFirstState, IsStep}
 use Rattle.smv_meaning.specs.Values.{outcome_in}
 use Rattle.bit_expr.specs.Edges.{is_one}
 use Rattle.bit_clauses.specs.Deciding.{Decides}
@@ -40,6 +40,7 @@ just_values p = map (λ (x : ResolvedItem). λ (b : ℕ → Bool). is_just_in p 
 -- The clauses of first states, steps, bad and good states say what the program says of the states that the bits are, alone and
 -- by unit propagation: from the bits of a state, and of a step from those of both states and of the inputs.
 pub record StandsFor (p : Program) (spec : ResolvedItem) (sys : TransitionSystem) : Type 0 where
+  pub booleans : has_booleans_alone p ≡ true
   pub bits : sys.state_bits ≡ state_width p
   pub room : named_width p ≤ sys.all_bits
   pub first : Decides (state_width p) sys.init (λ x. is_first_state p (state_of p x))

@@ -33,7 +33,7 @@ module _ (p : Program) (spec : ResolvedItem) (sys : TransitionSystem) (stands : 
   -- where no bad state is reached in so many steps, no run of so many steps breaks it
   cause_says : (effort : Effort) (systems : List TransitionSystem) (history : List Entry) (j : ℕ) → system_at systems j ≡ sys → (cause : Cause) → IsCause systems (prover_effort effort) history j cause → SaysOfRuns p spec cause
   cause_says effort systems history j same (Conflicts drawn budget) c = tt
-  cause_says effort systems history j same (Frames n) c = unbroken_within p spec sys (agreeing p spec sys stands) (coding p) n (subst (λ (s : TransitionSystem). NeverBadWithin s n) same c.3)
+  cause_says effort systems history j same (Frames n) c = unbroken_within p spec sys (agreeing p spec sys stands) (coding p stands.booleans) n (subst (λ (s : TransitionSystem). NeverBadWithin s n) same c.3)
 
 module _ (p : Program) (effort : Effort) (spec : ResolvedItem) (systems : List TransitionSystem) (history : List Entry) (j : ℕ) (stand : StandForAll p systems (asked_with effort p spec))
     (asked : slice_get (asked_with effort p spec) j ≡ Some spec) (lawful : IsLawful (limits_of (prover_effort effort)) (first_of systems (prover_effort effort)) history) where

@@ -1,6 +1,6 @@
 -- The last truths are those of the operands.
 use Rattle.std.proofs.Common.{ap, sym, ◌∙◌}
-use Rattle.smv_meaning.specs.Values.{applied}
+use Rattle.smv_meaning.specs.Outcomes.{applied}
 use Rattle.smv_resolve.proofs.Parts.{last_of-map}
 use Rattle.bit_expr.specs.Edges.{all_told, told}
 use Rattle.bit_expr.proofs.MoreNodes.{last_stand, tells_along}

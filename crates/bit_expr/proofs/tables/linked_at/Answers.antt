@@ -1,8 +1,8 @@
 -- An operator over two nodes says what it gives of what these say.
 use Rattle.std.proofs.Common.{ap, ◌∙◌, ◌∷◌, []}
-use Rattle.smv_meaning.specs.declared.value.Outcome.{Outcome}
+use Rattle.smv_meaning.specs.declared.outcome.Outcome.{Outcome}
 use Rattle.smv_meaning.specs.Tables.{outcome_at}
-use Rattle.smv_meaning.specs.Values.{applied}
+use Rattle.smv_meaning.specs.Outcomes.{applied}
 use Rattle.bit_expr.specs.Edges.{all_told, told}
 use Rattle.bit_expr.proofs.tables.linked_at.Goals as goal
 

@@ -2,7 +2,7 @@
 use Rattle.std.proofs.Common.{subst, sym}
 use Rattle.smv_value.specs.declared.operator.Operator.{Operator}
 use Rattle.smv_value.specs.declared.operator.Operator.TheVariants as operator
-use Rattle.smv_meaning.specs.Values.{applied}
+use Rattle.smv_meaning.specs.Outcomes.{applied}
 use Rattle.bit_expr.specs.Edges.{TellsTruth, all_told}
 use Rattle.bit_expr.proofs.Telling.{told_here, told_of}
 use Rattle.bit_expr.proofs.Untold.{bounded_untold, temporal_untold}

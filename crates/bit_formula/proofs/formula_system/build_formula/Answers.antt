@@ -73,6 +73,7 @@ returns c =
     ∙ ap (λ n. laid_out (state_width p) n c.deref.result.now) c.in_ok-given.ensures ∙ ap (laid_out (state_width p) (input_width p)) c.deref.ensures.value in
     let below : AtomsBelow (length c.as_slice.result.now) (unfolded formula) = search rules in
     let stands : standing.StandsForFormula p spec record { reads = reads; layout = c.in_ok-layout.layout; system = joint.system; formula = formula; atoms = joint.atoms.items } = record {
+      booleans = typed.booleans;
       parts = parts;
       reads = c.in_ok-reads.ensures;
       layout = layout_is;

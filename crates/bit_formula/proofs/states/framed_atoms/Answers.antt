@@ -1,7 +1,7 @@
 -- The atoms are the parts of their nodes.
 use Rattle.std.proofs.Common.{◌∙◌, ℕ, List, map, ap}
 use Rattle.smv_scope.specs.Slots.{slots_of}
-use Rattle.smv_meaning.specs.declared.value.Outcome.{Outcome}
+use Rattle.smv_meaning.specs.declared.outcome.Outcome.{Outcome}
 use Rattle.smv_meaning.specs.Runs.{is_true}
 use Rattle.smv_meaning.specs.Tables.{outcome_at}
 use Rattle.bit_expr.specs.declared.truths.Truth.{Truth}

@@ -7,4 +7,4 @@ use Rattle.bit_system.proofs.coding.Built.encode.Goals as goal
 
 pub returns-clause-code : goal.returns-clause-code
 returns-clause-code c = λ p built is.
-    ap (λ (bits : List Bool). state_of p (assignment_of bits)) (c.from_vec.ensures ∙ c.in_ok-values.ensures ∙ ap (map truth_value) c.as_slice.ensures) ∙ list_back p c.args.s.now is
+    ap (λ (bits : List Bool). state_of p (assignment_of bits)) (c.from_vec.ensures ∙ c.in_ok-values.ensures ∙ ap (map truth_value) c.as_slice.ensures) ∙ list_back p built.booleans c.args.s.now is

@@ -1,0 +1,5 @@
+//! A stand-in.
+#![tactic(auto)]
+
+/// Nothing.
+pub fn nothing() {}
