@@ -1,5 +1,2 @@
-pub mod Tables
-pub mod Items
-pub mod Choosing
 pub mod Operating
-pub mod Turns
+pub mod Choosing

@@ -1,7 +1,1 @@
-pub mod Values
-pub mod Runs
-pub mod Tables
-pub mod Answers
-pub mod Paths
-pub mod Formulas
-pub mod Lassos
+pub mod Outcomes

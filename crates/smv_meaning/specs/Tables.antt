@@ -2,16 +2,16 @@
 use Rattle.std.specs.Prelude.{ℕ, Bool, List, [], ◌∷◌, map, Option, None, Some, slice_index_or}
 use Rattle.std.specs.List.{list_all}
 use Rattle.smv_value.specs.declared.value.Value.{Value}
-use Rattle.smv_value.specs.declared.value.Value.TheVariants as value
 use Rattle.smv_resolve.specs.declared.item.Item.{Item}
 use Rattle.smv_resolve.specs.declared.node.Node.{Node}
 use Rattle.smv_resolve.specs.declared.node.Node.TheVariants as node
 use Rattle.smv_scope.specs.declared.slot.Slot.{Slot}
 use Rattle.smv_resolve.specs.Resolved.{last_of, parts_of}
 use Rattle.smv_scope.specs.Slots.{item_of}
-use Rattle.smv_meaning.specs.declared.value.Outcome.{Outcome}
-use Rattle.smv_meaning.specs.declared.value.Outcome.TheVariants.{Values}
-use Rattle.smv_meaning.specs.Values.{applied, nothing, one, outcome}
+use Rattle.smv_meaning.specs.declared.outcome.Outcome.{Outcome}
+use Rattle.smv_meaning.specs.declared.outcome.Outcome.TheVariants.{Nothing}
+use Rattle.smv_meaning.specs.Outcomes.{applied, one, valued}
+use Rattle.smv_meaning.specs.Values.{outcome}
 use Rattle.smv_meaning.specs.Runs.{asks_first, asks_always, asks_step}
 
 -- the outcomes of nodes in the state s, with the inputs u and the next state t
@@ -20,17 +20,17 @@ outcomes_of slots s u t nodes = map (outcome slots s u t) (parts_of nodes)
 
 -- the outcome of the node of this number
 abbrev pub outcome_at : List Outcome → ℕ → Outcome
-outcome_at outcomes k = slice_index_or outcomes k nothing
+outcome_at outcomes k = slice_index_or outcomes k Nothing
 
 abbrev pub target_at : List Outcome → Option ℕ → Outcome
-target_at outcomes None = nothing
+target_at outcomes None = Nothing
 target_at outcomes (Some k) = outcome_at outcomes k
 
 -- the outcome of a node, where these are the outcomes of the nodes before it, here and in the next state
 abbrev pub outcome_by : List Slot → List Value → List Value → List Outcome → List Outcome → Node → Outcome
-outcome_by slots s u here later (node.Constant place b) = one (value.Bool b)
-outcome_by slots s u here later (node.Slot place n) = Values (item_of slots s u n)
-outcome_by slots s u here later (node.Whole place i) = nothing
+outcome_by slots s u here later (node.Constant place v) = one v
+outcome_by slots s u here later (node.Slot place n) = valued (item_of slots s u n)
+outcome_by slots s u here later (node.Whole place i) = Nothing
 outcome_by slots s u here later (node.Named place naming a) = outcome_at here a
 outcome_by slots s u here later (node.Next place a) = outcome_at later a
 outcome_by slots s u here later (node.Operand a) = outcome_at here a

@@ -2,20 +2,20 @@
 
 ghost use Rattle.std.specs.Prelude.{◌≡◌, ◌∷◌, [], ℕ, List, take, IfOk, IsSome, Some};
 ghost use Rattle.smv_value.specs.declared.value.Value.{Value};
-ghost use Rattle.smv_value.specs.Results.{result_of};
 ghost use Rattle.smv_resolve.specs.Resolved.{part_of};
 ghost use Rattle.smv_scope.specs.Slots.{item_of};
 ghost use Rattle.smv_scope.specs.Targets.{seen};
 ghost use Rattle.smv_meaning.specs.Answers.{Evaluates};
 ghost use Rattle.smv_meaning.specs.Paths.{instance_at, whole_of};
 ghost use Rattle.smv_meaning.specs.Tables.{outcome_at, outcome_by, outcomes_of};
-ghost use Rattle.smv_meaning.specs.Values.{applied, choice, failed, given, one, operated, outcome, truth};
+ghost use Rattle.smv_meaning.specs.Values.{outcome};
 
-use crate::{Inputs, Outcome, Path, State, Typed};
+use crate::outcome::{one, valued};
+use crate::{Inputs, Outcome, Path, State, Typed, applied};
 use smv_resolve::{Node, ResolveStop, Single, first, last, resolve_expression};
 use smv_scope::{NameTarget, Scope, Slot, member_target};
-use smv_tree::{Expr, Place, VariableKind};
-use smv_value::{FaultRule, Operator, Value, apply};
+use smv_tree::{Expr, VariableKind};
+use smv_value::Value;
 use std::alloc::{AllocError, Global};
 
 /// The outcome of an expression that stands in the instance of this path, in a state with inputs and the next state; each of
@@ -61,6 +61,7 @@ fn whole_of(target: NameTarget<'_>) -> Option<usize>
         NameTarget::Slot(_) => None,
         NameTarget::Given { .. } => None,
         NameTarget::Defined { .. } => None,
+        NameTarget::Symbol(_) => None,
         NameTarget::Unknown => None,
         NameTarget::TooFar => None,
     }
@@ -103,7 +104,7 @@ fn outcome_of(
     ensures { IfOk result (λ o. o ≡ outcome slots.now s.now u.now next.now (part_of single.now.nodes single.now.root)) }
 {
     let outcomes = outcomes(alloc, slots, single.nodes.as_slice(), s, u, next)?;
-    Ok(outcome_at(outcomes.as_slice(), single.root))
+    outcome_at(alloc, outcomes.as_slice(), single.root)
 }
 
 /// The outcome of each node, in a state with inputs and the next state; each of these is empty where there is none.
@@ -164,12 +165,12 @@ fn outcomes_before(
 }
 
 /// The outcome of the node of this number.
-pub fn outcome_at(outcomes: &[Outcome], k: usize) -> Outcome
-    ensures { result ≡ outcome_at outcomes.now k }
+pub fn outcome_at(alloc: Global, outcomes: &[Outcome], k: usize) -> Result<Outcome, AllocError>
+    ensures { IfOk result (λ o. o ≡ outcome_at outcomes.now k) }
 {
     match outcomes.get(k) {
-        None => Outcome::Values(None),
-        Some(outcome) => *outcome,
+        None => Ok(Outcome::Nothing),
+        Some(outcome) => outcome.copied(alloc),
     }
 }
 
@@ -186,128 +187,18 @@ fn outcome_by(
     ensures { IfOk result (λ o. o ≡ outcome_by slots.now s.now u.now here.now later.now node.now) }
 {
     match *node {
-        Node::Constant(_, b) => Ok(Outcome::Values(Some(Value::Bool(b)))),
-        Node::Slot(_, n) => Ok(Outcome::Values(item_of(slots, s, u, n))),
-        Node::Whole(..) => Ok(Outcome::Values(None)),
-        Node::Named(_, _, a) | Node::Operand(a) => Ok(outcome_at(here, a)),
-        Node::Next(_, a) => Ok(outcome_at(later, a)),
+        Node::Constant(_, v) => Ok(one(v)),
+        Node::Slot(_, n) => Ok(valued(item_of(slots, s, u, n))),
+        Node::Whole(..) => Ok(Outcome::Nothing),
+        Node::Named(_, _, a) | Node::Operand(a) => outcome_at(alloc, here, a),
+        Node::Next(_, a) => outcome_at(alloc, later, a),
         Node::Apply(place, operator, count) => applied(alloc, operator, place, last(here, count)),
         Node::Link(place, operator, a, b) => {
-            let operands = [outcome_at(here, a), outcome_at(here, b)];
+            let left = outcome_at(alloc, here, a)?;
+            let right = outcome_at(alloc, here, b)?;
+            let operands = [left, right];
             applied(alloc, operator, place, &operands)
         }
-    }
-}
-
-// An operator at this place over the outcomes of its operands.
-fn applied(
-    alloc: Global,
-    operator: Operator,
-    place: Place,
-    operands: &[Outcome],
-) -> Result<Outcome, AllocError>
-    ensures { IfOk result (λ o. o ≡ applied operator place operands.now) }
-{
-    match operator {
-        Operator::Choice => Ok(choice(place, operands)),
-        other => operated(alloc, other, place, operands),
-    }
-}
-
-// An operator over operands that have one value each, or the first fault. One or two operands need no memory.
-fn operated(
-    alloc: Global,
-    operator: Operator,
-    place: Place,
-    operands: &[Outcome],
-) -> Result<Outcome, AllocError>
-    ensures { IfOk result (λ o. o ≡ operated (λ vs. given place (result_of operator vs)) [] operands.now) }
-{
-    match operands {
-        [Outcome::Values(Some(a))] => Ok(given(place, apply(operator, &[*a]))),
-        [Outcome::Values(Some(a)), Outcome::Values(Some(b))] => {
-            Ok(given(place, apply(operator, &[*a, *b])))
-        }
-        _ => gathered(alloc, operator, place, operands),
-    }
-}
-
-// The same, over however many operands.
-fn gathered(
-    alloc: Global,
-    operator: Operator,
-    place: Place,
-    operands: &[Outcome],
-) -> Result<Outcome, AllocError>
-    ensures { IfOk result (λ o. o ≡ operated (λ vs. given place (result_of operator vs)) [] operands.now) }
-{
-    let mut values = Vec::new(alloc);
-    for operand in operands {
-        match *operand {
-            Outcome::Values(Some(v)) => values.push(v)?,
-            Outcome::Values(None) => return Ok(Outcome::Values(None)),
-            Outcome::Fault(rule, at) => return Ok(Outcome::Fault(rule, at)),
-        }
-    }
-    Ok(given(place, apply(operator, values.as_slice())))
-}
-
-// What an operator gives of single values, at this place.
-fn given(place: Place, answer: Result<Option<Value>, FaultRule>) -> Outcome
-    ensures { result ≡ given place answer }
-{
-    match answer {
-        Ok(v) => Outcome::Values(v),
-        Err(rule) => Outcome::Fault(rule, place),
-    }
-}
-
-// The branch of the first condition that is TRUE, or a last branch that has none.
-fn choice(place: Place, operands: &[Outcome]) -> Outcome
-    ensures { result ≡ choice place operands.now }
-{
-    let mut at = 0;
-    while at + 1 < operands.len() {
-        match truth(operands[at]) {
-            Some(true) => return operands[at + 1],
-            Some(false) => at += 2,
-            None => return failed(operands[at]),
-        }
-    }
-    match operands.get(at) {
-        None => Outcome::Fault(FaultRule::CaseOpen, place),
-        Some(last) => *last,
-    }
-}
-
-pub fn truth(outcome: Outcome) -> Option<bool>
-    ensures { result ≡ truth outcome }
-{
-    match outcome {
-        Outcome::Values(Some(v)) => truth_of(v),
-        Outcome::Values(None) => None,
-        Outcome::Fault(..) => None,
-    }
-}
-
-fn truth_of(v: Value) -> Option<bool>
-    ensures { result ≡ truth (one v) }
-{
-    match v {
-        Value::Bool(b) => Some(b),
-        Value::Int(_) => None,
-        Value::Sym(_) => None,
-        Value::Word { .. } => None,
-    }
-}
-
-// The fault, or nothing.
-fn failed(outcome: Outcome) -> Outcome
-    ensures { result ≡ failed outcome }
-{
-    match outcome {
-        Outcome::Values(_) => Outcome::Values(None),
-        Outcome::Fault(rule, place) => Outcome::Fault(rule, place),
     }
 }
 

@@ -2,18 +2,8 @@
 //! (NuSMV 2.6 User Manual, chapter 2). The definitions are in `specs/`; the calls here compute what they say.
 #![tactic(auto)]
 
-mod evaluation;
-mod formulas;
-mod law;
-mod meets;
-mod readers;
-mod typed;
-mod value;
+mod operators;
+mod outcome;
 
-pub use evaluation::{eval, instance_at, outcomes};
-pub use formulas::{is_over_formulas, is_temporal};
-pub use law::lassos;
-pub use meets::{meets_init, meets_inv, meets_step};
-pub use readers::{input_slots, is_claim, slots, specifications, state_slots};
-pub use typed::Typed;
-pub use value::{Inputs, Outcome, Path, State};
+pub use operators::applied;
+pub use outcome::Outcome;
