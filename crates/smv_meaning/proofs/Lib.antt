@@ -1,2 +1,6 @@
-pub mod Operating
+pub mod Tables
+pub mod Items
 pub mod Choosing
+pub mod Operating
+pub mod Turns
+pub mod FaultTables

@@ -1,12 +1,10 @@
 -- Faults of items: an evaluation that stops, or a value that is assigned and is none of the variable's type (an own choice of this
 -- project).
-use Rattle.std.specs.Prelude.{◌≡◌, Bool, true, false, not, List, Option, None, Some, option_and_then, slice_get, if◌then◌else◌}
+use Rattle.std.specs.Prelude.{◌≡◌, ℕ, Bool, true, false, not, List, Option, None, Some, option_and_then, slice_get, if◌then◌else◌}
 use Rattle.std.specs.List.{list_all}
 use Rattle.std.specs.Option.{is_none}
 use Rattle.smv_tree.specs.declared.place.Place.{Place}
 use Rattle.smv_tree.specs.declared.tree.Program.{Program}
-use Rattle.smv_tree.specs.declared.tree.AssignmentKind.TheVariants as side
-use Rattle.smv_tree.specs.declared.tree.ConstraintKind.TheVariants as asked
 use Rattle.smv_tree.specs.declared.tree.SpecificationKind.TheVariants as claim
 use Rattle.smv_value.specs.declared.value.FaultRule.{FaultRule}
 use Rattle.smv_value.specs.declared.value.FaultRule.TheVariants as fault
@@ -23,8 +21,7 @@ use Rattle.value_types.specs.Types.{is_of_type}
 use Rattle.smv_meaning.specs.declared.outcome.Outcome.{Outcome}
 use Rattle.smv_meaning.specs.declared.outcome.Outcome.TheVariants.{Values}
 use Rattle.smv_meaning.specs.Formulas.{fault_in, formula_fault}
-use Rattle.smv_meaning.specs.Runs.{are_inputs, is_state}
-use Rattle.smv_meaning.specs.Values.{outcome, outcome_in}
+use Rattle.smv_meaning.specs.Runs.{are_inputs, is_state, item_outcome}
 
 -- the slot that is assigned: a variable, by its name or as a parameter was given it
 abbrev pub slot_assigned : Resolved → Option ℕ
@@ -34,7 +31,7 @@ slot_assigned other = None
 
 -- its type, where these are the types of all slots
 abbrev pub type_assigned : List ValueType → Option Resolved → Option ValueType
-type_assigned types target = option_and_then (option_and_then target slot_assigned) (slice_get types)
+type_assigned types target = option_and_then (slice_get types) (option_and_then slot_assigned target)
 
 -- some value is none of the type
 abbrev pub is_outside : Option ValueType → Outcome → Bool
@@ -46,21 +43,17 @@ is_outside declared e = false
 abbrev pub fault_of_value : Option ValueType → Place → Outcome → Option (FaultRule × Place)
 fault_of_value declared begins e = if is_outside declared e then Some (fault.OutOfRange, begins) else fault_in e
 
--- the fault of a value in the state, or the step, of which an item of this kind speaks; of a temporal formula the first of its parts'
-abbrev pub fault_by : List Slot → List Value → List Value → List Value → Option ValueType → Place → Resolved → ItemKind → Option (FaultRule × Place)
-fault_by slots s u t declared begins e (item.Assignment side.Init) = fault_of_value declared begins (outcome_in slots s e)
-fault_by slots s u t declared begins e (item.Assignment side.Next) = fault_of_value declared begins (outcome slots s u t e)
-fault_by slots s u t declared begins e (item.Assignment side.Current) = fault_of_value declared begins (outcome_in slots s e)
-fault_by slots s u t declared begins e (item.Constraint asked.Init) = fault_in (outcome_in slots s e)
-fault_by slots s u t declared begins e (item.Constraint asked.Invar) = fault_in (outcome_in slots s e)
-fault_by slots s u t declared begins e (item.Constraint asked.Trans) = fault_in (outcome slots s u t e)
-fault_by slots s u t declared begins e (item.Constraint asked.Justice) = fault_in (outcome_in slots s e)
-fault_by slots s u t declared begins e (item.Specification claim.Invariant) = fault_in (outcome_in slots s e)
-fault_by slots s u t declared begins e (item.Specification claim.Temporal) = formula_fault slots s u e
+-- an item of this kind speaks of paths
+abbrev pub speaks_of_paths : ItemKind → Bool
+speaks_of_paths (item.Specification claim.Temporal) = true
+speaks_of_paths other = false
 
--- the fault of an item at a valuation: the state s, the inputs u and the next state t, where these are the types of all slots
+-- The fault of an item at a valuation: in the state s, or in the step from it with the inputs u to the state t, of which the item
+-- speaks. Of a temporal formula it is the first of its parts'.
 abbrev pub item_fault : List ValueType → List Slot → List Value → List Value → List Value → ResolvedItem → Option (FaultRule × Place)
-item_fault types slots s u t x = fault_by slots s u t (type_assigned types x.target) x.begins x.value x.kind
+item_fault types slots s u t x =
+    if speaks_of_paths x.kind then formula_fault slots s u x.value
+    else fault_of_value (type_assigned types x.target) x.begins (item_outcome slots s u t x.value x.kind)
 
 -- no item faults, specifications among them, in any state or step of the declared types, reached or not
 abbrev pub IsFaultFree : Program → Type 0

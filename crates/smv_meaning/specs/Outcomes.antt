@@ -41,7 +41,7 @@ truth_of other = None
 
 -- TRUE or FALSE
 abbrev pub truth : Outcome → Option Bool
-truth o = option_and_then (value_in o) truth_of
+truth o = option_and_then truth_of (value_in o)
 
 -- the fault, or nothing
 abbrev pub failed : Outcome → Outcome

@@ -1,5 +1,5 @@
 -- States, first states, steps and runs of a program, and what breaks an invariant (NuSMV 2.6 User Manual, 2.3, 2.4.2).
-use Rattle.std.specs.Prelude.{◌≡◌, ℕ, ◌+◌, ◌<◌, Bool, true, false, not, ◌&&◌, ◌||◌, ◌==◌, List, [], length, filter, Option, None, Some, IsTrue, slice_get, slice_index_or, unwrap_or}
+use Rattle.std.specs.Prelude.{◌≡◌, ℕ, ◌+◌, ◌<◌, Bool, true, false, not, ◌&&◌, ◌||◌, ◌==◌, List, [], length, filter, Option, None, Some, IsTrue, slice_get, slice_index_or, unwrap_or, if◌then◌else◌}
 use Rattle.std.specs.List.{list_all, list_any, zip}
 use Rattle.std.specs.Option.{is_some}
 use Rattle.smv_tree.specs.declared.tree.Program.{Program}
@@ -167,16 +167,22 @@ is_given (Values vs) = true
 is_given (Fault rule place) = true
 is_given Nothing = false
 
--- What an item assigns has one value in a state. The value that it gets has values or faults in the state, or the step, of which the
--- item speaks; what is asked for is TRUE or FALSE or faults there, and so are the parts of a temporal formula.
+-- an item of this kind speaks of a step, and not of a state
+abbrev pub speaks_of_step : ItemKind → Bool
+speaks_of_step (item.Assignment side.Next) = true
+speaks_of_step (item.Constraint asked.Trans) = true
+speaks_of_step other = false
+
+-- the outcome of the value of an item of this kind: in the state s, or in the step from it with the inputs u to the state t
+abbrev pub item_outcome : List Slot → List Value → List Value → List Value → Resolved → ItemKind → Outcome
+item_outcome slots s u t e kind = if speaks_of_step kind then outcome slots s u t e else outcome_in slots s e
+
+-- What an item assigns has one value in a state, and what it gets has values or faults. What is asked for or claimed is TRUE or FALSE
+-- or faults; so are the parts of a temporal formula.
 abbrev pub is_known_by : List Slot → List Value → List Value → List Value → Option Resolved → Resolved → ItemKind → Bool
-is_known_by slots s u t target e (item.Assignment side.Init) = is_single (outcome_of_target slots s target) && is_given (outcome_in slots s e)
-is_known_by slots s u t target e (item.Assignment side.Next) = is_single (outcome_of_target slots s target) && is_given (outcome slots s u t e)
-is_known_by slots s u t target e (item.Assignment side.Current) = is_single (outcome_of_target slots s target) && is_given (outcome_in slots s e)
-is_known_by slots s u t target e (item.Constraint asked.Init) = is_known (outcome_in slots s e)
-is_known_by slots s u t target e (item.Constraint asked.Invar) = is_known (outcome_in slots s e)
-is_known_by slots s u t target e (item.Constraint asked.Trans) = is_known (outcome slots s u t e)
-is_known_by slots s u t target e (item.Constraint asked.Justice) = is_known (outcome_in slots s e)
+is_known_by slots s u t target e (item.Assignment which) =
+    is_single (outcome_of_target slots s target) && is_given (item_outcome slots s u t e (item.Assignment which))
+is_known_by slots s u t target e (item.Constraint which) = is_known (item_outcome slots s u t e (item.Constraint which))
 is_known_by slots s u t target e (item.Specification claim.Invariant) = is_known (outcome_in slots s e)
 is_known_by slots s u t target e (item.Specification claim.Temporal) = is_known_formula slots s u e
 

@@ -1,21 +1,23 @@
 //! The values of expressions.
 
-ghost use Rattle.std.specs.Prelude.{◌≡◌, ◌∷◌, [], ℕ, List, take, IfOk, IsSome, Some};
+ghost use Rattle.std.specs.Prelude.{◌≡◌, [], ℕ, List, IfOk, IsSome, Some};
+ghost use Rattle.std.specs.Option.{option_copied};
 ghost use Rattle.smv_value.specs.declared.value.Value.{Value};
 ghost use Rattle.smv_resolve.specs.Resolved.{part_of};
 ghost use Rattle.smv_scope.specs.Slots.{item_of};
-ghost use Rattle.smv_scope.specs.Targets.{seen};
+ghost use Rattle.smv_scope.specs.Targets.{seen as seen_target};
 ghost use Rattle.smv_meaning.specs.Answers.{Evaluates};
 ghost use Rattle.smv_meaning.specs.Paths.{instance_at, whole_of};
-ghost use Rattle.smv_meaning.specs.Tables.{outcome_at, outcome_by, outcomes_of};
+ghost use Rattle.smv_meaning.specs.Tables.{outcome_at, outcome_by, outcomes_of, seen};
 ghost use Rattle.smv_meaning.specs.Values.{outcome};
 
 use crate::outcome::{one, valued};
 use crate::{Inputs, Outcome, Path, State, Typed, applied};
-use smv_resolve::{Node, ResolveStop, Single, first, last, resolve_expression};
+use smv_resolve::{Node, ResolveStop, first, last, resolve_expression};
 use smv_scope::{NameTarget, Scope, Slot, member_target};
 use smv_tree::{Expr, VariableKind};
 use smv_value::Value;
+use sqlite_items::at;
 use std::alloc::{AllocError, Global};
 
 /// The outcome of an expression that stands in the instance of this path, in a state with inputs and the next state; each of
@@ -54,7 +56,7 @@ pub fn instance_at(typed: &Typed, path: &Path) -> Option<usize>
 
 // The instance that a target is.
 fn whole_of(target: NameTarget<'_>) -> Option<usize>
-    ensures { result ≡ whole_of (seen target.entry) }
+    ensures { result ≡ whole_of (seen_target target.entry) }
 {
     match target {
         NameTarget::Whole(at) => Some(at),
@@ -80,11 +82,11 @@ fn eval_at(
     ensures { Evaluates scope.now.program at e.now s.now u.now next.now result }
 {
     let single = resolve_expression(alloc, scope, at, e)?;
-    let slots = scope.slots.as_slice();
     let outcome = outcome_of(
         alloc,
-        slots,
-        &single,
+        scope.slots.as_slice(),
+        single.nodes.as_slice(),
+        single.root,
         s.as_slice(),
         u.as_slice(),
         next.as_slice(),
@@ -92,19 +94,20 @@ fn eval_at(
     Ok(outcome)
 }
 
-// The outcome of an expression that is a node of a list.
-fn outcome_of(
+// The outcome of the node of this number, in a state with inputs and the next state.
+pub fn outcome_of(
     alloc: Global,
     slots: &[Slot],
-    single: &Single,
+    nodes: &[Node],
+    root: usize,
     s: &[Value],
     u: &[Value],
     next: &[Value],
 ) -> Result<Outcome, AllocError>
-    ensures { IfOk result (λ o. o ≡ outcome slots.now s.now u.now next.now (part_of single.now.nodes single.now.root)) }
+    ensures { IfOk result (λ o. o ≡ outcome slots.now s.now u.now next.now (part_of nodes.now root)) }
 {
-    let outcomes = outcomes(alloc, slots, single.nodes.as_slice(), s, u, next)?;
-    outcome_at(alloc, outcomes.as_slice(), single.root)
+    let outcomes = outcomes(alloc, slots, nodes, s, u, next)?;
+    copy_at(alloc, outcomes.as_slice(), root)
 }
 
 /// The outcome of each node, in a state with inputs and the next state; each of these is empty where there is none.
@@ -164,11 +167,18 @@ fn outcomes_before(
     Ok(made)
 }
 
-/// The outcome of the node of this number.
-pub fn outcome_at(alloc: Global, outcomes: &[Outcome], k: usize) -> Result<Outcome, AllocError>
+/// The outcome of the node of this number, if there is one.
+pub fn outcome_at(outcomes: &[Outcome], k: usize) -> Option<&Outcome>
+    ensures { seen (option_copied result) ≡ outcome_at outcomes.now k }
+{
+    at(outcomes, k)
+}
+
+// A copy of it.
+fn copy_at(alloc: Global, outcomes: &[Outcome], k: usize) -> Result<Outcome, AllocError>
     ensures { IfOk result (λ o. o ≡ outcome_at outcomes.now k) }
 {
-    match outcomes.get(k) {
+    match outcome_at(outcomes, k) {
         None => Ok(Outcome::Nothing),
         Some(outcome) => outcome.copied(alloc),
     }
@@ -190,12 +200,12 @@ fn outcome_by(
         Node::Constant(_, v) => Ok(one(v)),
         Node::Slot(_, n) => Ok(valued(item_of(slots, s, u, n))),
         Node::Whole(..) => Ok(Outcome::Nothing),
-        Node::Named(_, _, a) | Node::Operand(a) => outcome_at(alloc, here, a),
-        Node::Next(_, a) => outcome_at(alloc, later, a),
+        Node::Named(_, _, a) | Node::Operand(a) => copy_at(alloc, here, a),
+        Node::Next(_, a) => copy_at(alloc, later, a),
         Node::Apply(place, operator, count) => applied(alloc, operator, place, last(here, count)),
         Node::Link(place, operator, a, b) => {
-            let left = outcome_at(alloc, here, a)?;
-            let right = outcome_at(alloc, here, b)?;
+            let left = copy_at(alloc, here, a)?;
+            let right = copy_at(alloc, here, b)?;
             let operands = [left, right];
             applied(alloc, operator, place, &operands)
         }

@@ -2,8 +2,24 @@
 //! (NuSMV 2.6 User Manual, chapter 2). The definitions are in `specs/`; the calls here compute what they say.
 #![tactic(auto)]
 
+mod evaluation;
+mod formulas;
+mod item_faults;
+mod law;
+mod meets;
 mod operators;
 mod outcome;
+mod readers;
+mod states;
+mod typed;
 
+pub use evaluation::{eval, instance_at, outcome_at, outcomes};
+pub use formulas::{is_over_formulas, is_temporal};
+pub use item_faults::faults;
+pub use law::lassos;
+pub use meets::{meets_init, meets_inv, meets_step};
 pub use operators::applied;
 pub use outcome::Outcome;
+pub use readers::{input_slots, is_claim, slots, specifications, state_slots};
+pub use states::{Inputs, Path, State};
+pub use typed::Typed;

@@ -146,10 +146,11 @@ fn choice(alloc: Global, place: Place, operands: &[Outcome]) -> Result<Outcome, 
 {
     let mut at = 0;
     while at + 1 < operands.len() {
-        match operands[at].truth() {
+        let condition = &operands[at];
+        match condition.truth() {
             Some(true) => return operands[at + 1].copied(alloc),
             Some(false) => at += 2,
-            None => return Ok(failed(&operands[at])),
+            None => return Ok(failed(condition)),
         }
     }
     match operands.get(at) {
