@@ -59,6 +59,7 @@ fn unknown_in_section(
         Section::Definitions(definitions) => {
             unknown_in_definitions(alloc, scope, at, definitions.as_slice())
         }
+        Section::Constants(_) => Ok(()),
         Section::Assignments(assignments) => {
             unknown_in_assignments(alloc, scope, at, assignments.as_slice())
         }
@@ -95,6 +96,12 @@ fn unknown_in_type(
 {
     match declared {
         TypeExpr::Boolean(_) => Ok(()),
+        TypeExpr::Word(_, _, width) => unknown_in_expression(alloc, scope, at, width),
+        TypeExpr::Range(_, low, high) => {
+            unknown_in_expression(alloc, scope, at, low)?;
+            unknown_in_expression(alloc, scope, at, high)
+        }
+        TypeExpr::Enumeration(..) => Ok(()),
         TypeExpr::Instance(_, _, given) => unknown_in_all(alloc, scope, at, given.as_slice()),
     }
 }

@@ -41,7 +41,8 @@ use std::alloc::Global;
 ///
 /// - `TooManyInstances`: there are more than 100000. At the name of `main`, with no detail.
 /// - `UnknownName`: an identifier of a name leads nowhere, or one before others to no instance (2.3.13). At the identifier; it is
-///   the detail.
+///   the detail. Names stand in expressions, in what instances are given, and in the bounds and widths of types. The elements of
+///   an enumeration are no names.
 /// - `DefineCycle`: a definition leads to itself, by definitions and by what parameters were given (2.3.2). At the definition;
 ///   the detail is its name.
 ///

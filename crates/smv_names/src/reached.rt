@@ -180,7 +180,6 @@ fn judge_use(
     ensures { Gives result (use_verdict which uses.now.program.now n variable.now variable.now.declared) }
 {
     match &variable.declared {
-        TypeExpr::Boolean(_) => Ok(()),
         TypeExpr::Instance(place, name, given) => {
             let target = module_named(uses.program.modules.as_slice(), uses.numbers, name.as_str());
             match which {
@@ -208,6 +207,7 @@ fn judge_use(
                 }
             }
         }
+        _ => Ok(()),
     }
 }
 

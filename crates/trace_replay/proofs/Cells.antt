@@ -45,8 +45,8 @@ text_read Boolean text v e = elim (cases_Bool (bytes_eq text (codes "TRUE"))) [
   ]
 ]
 
-cell_told : (c : Column) (b : Binding) (v : Value) → cell_read c b ≡ Some v → b ≡ binding_of c v
-cell_told c b v e = elim (cases_Bool (bytes_eq c.name b.name)) [
+cell_told : (c : Column) (b : Binding) (v : Value) → cell_read terms c b ≡ Some v → b ≡ binding_of terms c v
+cell_told terms c b v e = elim (cases_Bool (bytes_eq c.name b.name)) [
   | inl hit ↦
       let name : c.name ≡ b.name = (bytes_eq-Decides c.name b.name).0 hit in
       let text : b.value ≡ value_text [] v = text_read c.declared b.value v (sym (cond-true (bytes_eq c.name b.name) (value_read c.declared b.value) None hit) ∙ e) in
@@ -70,15 +70,15 @@ in_front-parts (Some v) None vs e = absurd (let never : ⊥ = cc in never)
 in_front-parts (Some v) (Some ws) vs e = record { first = v; more = ws; is_first = refl; are_more = refl; all = let same : v ∷ ws ≡ vs = cc in same }
 
 -- a row tells only the values of which it is made
-pub row_told : (cs : List Column) (bs : List Binding) (vs : List Value) → row_read cs bs ≡ Some vs → bindings_of cs vs ≡ bs
-row_told [] [] vs e = refl
-row_told [] (b ∷ bs) vs e = absurd (let never : ⊥ = cc in never)
-row_told (c ∷ cs) [] vs e = absurd (let never : ⊥ = cc in never)
-row_told (c ∷ cs) (b ∷ bs) vs e =
-    let parts = in_front-parts (cell_read c b) (row_read cs bs) vs e in
-    ap (bindings_of (c ∷ cs)) (sym parts.all)
-    ∙ ap (λ (x : Binding). x ∷ bindings_of cs parts.more) (sym (cell_told c b parts.first parts.is_first))
-    ∙ ap (λ (xs : List Binding). b ∷ xs) (row_told cs bs parts.more parts.are_more)
+pub row_told : (terms : Terms) (cs : List Column) (bs : List Binding) (vs : List Value) → row_read terms cs bs ≡ Some vs → bindings_of terms cs vs ≡ bs
+row_told terms [] [] vs e = refl
+row_told terms [] (b ∷ bs) vs e = absurd (let never : ⊥ = cc in never)
+row_told terms (c ∷ cs) [] vs e = absurd (let never : ⊥ = cc in never)
+row_told terms (c ∷ cs) (b ∷ bs) vs e =
+    let parts = in_front-parts (cell_read terms c b) (row_read terms cs bs) vs e in
+    ap (bindings_of terms (c ∷ cs)) (sym parts.all)
+    ∙ ap (λ (x : Binding). x ∷ bindings_of terms cs parts.more) (sym (cell_told terms c b parts.first parts.is_first))
+    ∙ ap (λ (xs : List Binding). b ∷ xs) (row_told terms cs bs parts.more parts.are_more)
 
 module _ (p : Program) where
   cell_back : (slot : Slot) (v : Value) → in_type v slot.declared ≡ true → cell_read (column_of p slot) (binding_of (column_of p slot) v) ≡ Some v
@@ -87,17 +87,17 @@ module _ (p : Program) where
       ∙ value_read-text slot.declared v h
 
   row_made : (slots : List Slot) (s : List Value) → length slots ≡ length s → list_all (λ (pair : Slot × Value). in_type pair.1 pair.0.declared) (zip slots s) ≡ true
-      → row_read (map (column_of p) slots) (bindings_of (map (column_of p) slots) s) ≡ Some s
+      → row_read (terms_of p) (map (column_of p) slots) (bindings_of (terms_of p) (map (column_of p) slots) s) ≡ Some s
   row_made [] [] long h = refl
   row_made [] (v ∷ s) long h = absurd (let never : ⊥ = omega (arith, long) in never)
   row_made (slot ∷ slots) [] long h = absurd (let never : ⊥ = omega (arith, long) in never)
   row_made (slot ∷ slots) (v ∷ s) long h =
       let both = and_parts (in_type v slot.declared) (list_all (λ (pair : Slot × Value). in_type pair.1 pair.0.declared) (zip slots s)) h in
-      ap (λ (o : Option Value). in_front o (row_read (map (column_of p) slots) (bindings_of (map (column_of p) slots) s))) (cell_back slot v both.0)
+      ap (λ (o : Option Value). in_front o (row_read (terms_of p) (map (column_of p) slots) (bindings_of (terms_of p) (map (column_of p) slots) s))) (cell_back slot v both.0)
       ∙ ap (in_front (Some v)) (row_made slots s (omega (arith, long)) both.1)
 
   -- and it tells these, if they are of the types of the slots
-  pub row_back : (slots : List Slot) (s : List Value) → fits slots s ≡ true → row_read (map (column_of p) slots) (bindings_of (map (column_of p) slots) s) ≡ Some s
+  pub row_back : (slots : List Slot) (s : List Value) → fits slots s ≡ true → row_read (terms_of p) (map (column_of p) slots) (bindings_of (terms_of p) (map (column_of p) slots) s) ≡ Some s
   row_back slots s h =
       let both = and_parts (eqb (length slots) (length s)) (list_all (λ (pair : Slot × Value). in_type pair.1 pair.0.declared) (zip slots s)) h in
       row_made slots s (eqb-true (length slots) (length s) both.0) both.1

@@ -92,7 +92,7 @@ some_each p t fit =
     let top : ltb 0 (max 1 (length t.states)) ≡ true = lt-ltb 0 (max 1 (length t.states)) (omega arith) in
     let told : is_some (state_read p t 0) ≡ true = sym (cond-true (ltb 0 (max 1 (length t.states))) (is_some (state_read p t 0)) true top) ∙ first in
     let value = is_there (state_read p t 0) told in
-    let row = line_row (state_columns p) (slice_get t.states 0) value.0 value.1 in
+    let row = line_row (terms_of p) (state_columns p) (slice_get t.states 0) value.0 value.1 in
     slice_get_within t.states 0 row.0 row.1
 
 module _ (p : Program) (spec : ResolvedItem) (t : Trace) where

@@ -43,13 +43,13 @@ all_numbers f q (suc n) h =
 
 module _ (p : Program) where
   row_formed : (slots : List Slot) (vs : List Value) → list_all has_name (map (column_of p) slots) ≡ true → list_all (λ (pair : Slot × Value). in_type pair.1 pair.0.declared) (zip slots vs) ≡ true
-      → list_all is_binding (bindings_of (map (column_of p) slots) vs) ≡ true
+      → list_all is_binding (bindings_of (terms_of p) (map (column_of p) slots) vs) ≡ true
   row_formed [] vs named typed = refl
   row_formed (x ∷ slots) [] named typed = refl
   row_formed (x ∷ slots) (v ∷ vs) named typed =
       let a = and_parts (has_name (column_of p x)) (list_all has_name (map (column_of p) slots)) named in
       let b = and_parts (in_type v x.declared) (list_all (λ (pair : Slot × Value). in_type pair.1 pair.0.declared) (zip slots vs)) typed in
-      and_from (is_name (column_of p x).name && is_value (value_text [] v)) (list_all is_binding (bindings_of (map (column_of p) slots) vs))
+      and_from (is_name (column_of p x).name && is_value (value_text [] v)) (list_all is_binding (bindings_of (terms_of p) (map (column_of p) slots) vs))
       (and_from (is_name (column_of p x).name) (is_value (value_text [] v)) a.0 (value_formed x.declared v b.0))
       (row_formed slots vs a.1 b.1)
 
@@ -57,39 +57,39 @@ module _ (p : Program) where
   AllFit slots rows = (k : ℕ) → k < length rows → fits slots (at_time rows k) ≡ true
 
   module _ (slots : List Slot) (named : list_all has_name (map (column_of p) slots) ≡ true) where
-    told_formed : (rows : List (List Value)) (i : ℕ) (o : Option (List Value)) (bs : List Binding) → AllFit slots rows → slice_get rows i ≡ o → option_map (bindings_of (map (column_of p) slots)) o ≡ Some bs → list_all is_binding bs ≡ true
+    told_formed : (rows : List (List Value)) (i : ℕ) (o : Option (List Value)) (bs : List Binding) → AllFit slots rows → slice_get rows i ≡ o → option_map (bindings_of (terms_of p) (map (column_of p) slots)) o ≡ Some bs → list_all is_binding bs ≡ true
     told_formed rows i None bs fit here e = absurd (let never : ⊥ = cc in never)
     told_formed rows i (Some vs) bs fit here e =
         let within = slice_get_within rows i vs here in
         let same : at_time rows i ≡ vs = get_or_from_slice_get rows i vs [] here in
         let fits_here : fits slots vs ≡ true = ap (fits slots) (sym same) ∙ fit i within in
         let typed = (and_parts (eqb (length slots) (length vs)) (list_all (λ (pair : Slot × Value). in_type pair.1 pair.0.declared) (zip slots vs)) fits_here).1 in
-        let is : bindings_of (map (column_of p) slots) vs ≡ bs = cc in
+        let is : bindings_of (terms_of p) (map (column_of p) slots) vs ≡ bs = cc in
         subst (λ (l : List Binding). list_all is_binding l ≡ true) is (row_formed slots vs named typed)
 
-    rows_formed : (rows : List (List Value)) (i : ℕ) (bs : List Binding) → AllFit slots rows → slice_get (map (bindings_of (map (column_of p) slots)) rows) i ≡ Some bs → list_all is_binding bs ≡ true
-    rows_formed rows i bs fit e = told_formed rows i (slice_get rows i) bs fit refl (sym (slice_get-map (bindings_of (map (column_of p) slots)) rows i) ∙ e)
+    rows_formed : (rows : List (List Value)) (i : ℕ) (bs : List Binding) → AllFit slots rows → slice_get (map (bindings_of (terms_of p) (map (column_of p) slots)) rows) i ≡ Some bs → list_all is_binding bs ≡ true
+    rows_formed rows i bs fit e = told_formed rows i (slice_get rows i) bs fit refl (sym (slice_get-map (bindings_of (terms_of p) (map (column_of p) slots)) rows i) ∙ e)
 
   given_formed : (slots : List Slot) → list_all has_name (map (column_of p) slots) ≡ true → (rows : List (List Value)) (i : ℕ) (bs : List Binding) → AllFit slots rows
-      → slice_get (given_rows (map (column_of p) slots) rows) i ≡ Some bs → list_all is_binding bs ≡ true
+      → slice_get (given_rows (terms_of p) (map (column_of p) slots) rows) i ≡ Some bs → list_all is_binding bs ≡ true
   given_formed [] named rows i bs fit e = absurd (let never : ⊥ = cc in never)
   given_formed (x ∷ slots) named rows i bs fit e = rows_formed (x ∷ slots) named rows i bs fit e
 
-  given_few : (slots : List Slot) (rows : List (List Value)) → length (given_rows (map (column_of p) slots) rows) ≤ length rows
+  given_few : (slots : List Slot) (rows : List (List Value)) → length (given_rows (terms_of p) (map (column_of p) slots) rows) ≤ length rows
   given_few [] rows = omega arith
-  given_few (x ∷ slots) rows = let long = length-map rows (bindings_of (map (column_of p) (x ∷ slots))) in omega (arith, long)
+  given_few (x ∷ slots) rows = let long = length-map rows (bindings_of (terms_of p) (map (column_of p) (x ∷ slots))) in omega (arith, long)
 
   states_formed : list_all has_name (state_columns p) ≡ true → (rows : List (List Value)) (i : ℕ) (bs : List Binding) → ((k : ℕ) → k < length rows → is_state p (at_time rows k) ≡ true)
-      → slice_get (map (bindings_of (state_columns p)) rows) i ≡ Some bs → list_all is_binding bs ≡ true
+      → slice_get (map (bindings_of (terms_of p) (state_columns p)) rows) i ≡ Some bs → list_all is_binding bs ≡ true
   unfolding state_columns
   states_formed named rows i bs fit e = rows_formed (state_slots (slots_of p)) named rows i bs fit e
 
   inputs_formed : list_all has_name (input_columns p) ≡ true → (rows : List (List Value)) (i : ℕ) (bs : List Binding) → ((k : ℕ) → k < length rows → are_inputs p (at_time rows k) ≡ true)
-      → slice_get (given_rows (input_columns p) rows) i ≡ Some bs → list_all is_binding bs ≡ true
+      → slice_get (given_rows (terms_of p) (input_columns p) rows) i ≡ Some bs → list_all is_binding bs ≡ true
   unfolding input_columns
   inputs_formed named rows i bs fit e = given_formed (input_slots (slots_of p)) named rows i bs fit e
 
-  inputs_few : (rows : List (List Value)) → length (given_rows (input_columns p) rows) ≤ length rows
+  inputs_few : (rows : List (List Value)) → length (given_rows (terms_of p) (input_columns p) rows) ≤ length rows
   unfolding input_columns
   inputs_few rows = given_few (input_slots (slots_of p)) rows
 
@@ -115,7 +115,7 @@ module _ (p : Program) (states inputs : List (List Value)) (run : IsRun p states
       → list_all in_form (entries_of number (run_trace p states inputs)) ≡ true
   run_readable number small few held_named given_named =
       let t = run_trace p states inputs in
-      let counted = length-map states (bindings_of (state_columns p)) in
+      let counted = length-map states (bindings_of (terms_of p) (state_columns p)) in
       let given_few = inputs_few p inputs in
       let lines : list_all in_form (moments t) ≡ true =
       all_numbers (moment_entries t) in_form (max (length t.states) (length t.inputs)) (λ i below.
@@ -147,7 +147,7 @@ module _ (p : Program) (w : Lasso) (is : IsLasso p w) where
       → list_all in_form (entries_of number (lasso_trace p w)) ≡ true
   lasso_readable number small few held_named given_named =
       let t = lasso_trace p w in
-      let counted = length-map w.states (bindings_of (state_columns p)) in
+      let counted = length-map w.states (bindings_of (terms_of p) (state_columns p)) in
       let given_few = inputs_few p w.inputs in
       let lines : list_all in_form (moments t) ≡ true =
       all_numbers (moment_entries t) in_form (max (length t.states) (length t.inputs)) (λ i below.

@@ -65,12 +65,12 @@ module _ (p : Program) (spec : ResolvedItem) (w : Lasso) (v : Violates p spec w)
   inputs_are i lt = (typed i (omega (arith, lt, v.lasso.lasso.long))).1
 
   counted : length t.states ≡ length states
-  counted = length-map states (bindings_of (state_columns p))
+  counted = length-map states (bindings_of (terms_of p) (state_columns p))
 
   told_inputs : each_input_told p t ≡ inputs
   told_inputs =
       let long : length t.states ≡ length inputs = counted ∙ v.lasso.lasso.long in
-      ap (λ n. map (read_at (input_columns p) (given_rows (input_columns p) inputs)) (range_with_len 0 n)) long ∙ inputs_again p inputs inputs_are
+      ap (λ n. map (read_at (terms_of p) (input_columns p) (given_rows (terms_of p) (input_columns p) inputs)) (range_with_len 0 n)) long ∙ inputs_again p inputs inputs_are
 
   told_is : lasso_told p t ≡ w
   told_is =
@@ -87,7 +87,7 @@ module _ (p : Program) (spec : ResolvedItem) (w : Lasso) (v : Violates p spec w)
             cond-false (ltb i (max 1 (length t.states))) (is_some (state_read p t i)) true (le-ltb i (max 1 (length t.states)) (omega (arith, counted, past, some)))
       ])
       (let long : length inputs ≡ length t.states = sym (counted ∙ v.lasso.lasso.long) in
-      subst (λ n. each_fit (input_columns p) (given_rows (input_columns p) inputs) n i ≡ true) long (each_inputs_fitting p inputs inputs_are i))
+      subst (λ n. each_fit (terms_of p) (input_columns p) (given_rows (terms_of p) (input_columns p) inputs) n i ≡ true) long (each_inputs_fitting p inputs inputs_are i))
 
   inv_passes : (i : ℕ) → stays p states i ≡ true
   inv_passes i = unasked (ltb i (length states)) (meets_invariants p (at_time states i)) (λ e. (typed i (ltb-true i (length states) e)).2)
@@ -157,14 +157,14 @@ module _ (p : Program) (spec : ResolvedItem) (t : Trace) (all : (r : ReplayRule)
   parts : (i : ℕ) → (state_fits p t i ≡ true) × (each_input_fits p t i ≡ true)
   parts i = and_parts (state_fits p t i) (each_input_fits p t i) (all rule.Values i)
 
-  state_is : (i : ℕ) → i < length t.states → is_some (line_read (state_columns p) (slice_get t.states i)) ≡ true
+  state_is : (i : ℕ) → i < length t.states → is_some (line_read (terms_of p) (state_columns p) (slice_get t.states i)) ≡ true
   state_is i below = at_some (ltb i (max 1 (length t.states))) (is_some (state_read p t i)) (parts i).0 (lt-ltb i (max 1 (length t.states)) (omega (arith, below)))
 
-  states_are : map (bindings_of (state_columns p)) (states_told p t) ≡ t.states
-  states_are = rows_back (state_columns p) t.states state_is
+  states_are : map (bindings_of (terms_of p) (state_columns p)) (states_told p t) ≡ t.states
+  states_are = rows_back (terms_of p) (state_columns p) t.states state_is
 
-  given_are : given_rows (input_columns p) (each_input_told p t) ≡ t.inputs
-  given_are = each_inputs_back (input_columns p) t.inputs (length t.states) (λ i. (parts i).1)
+  given_are : given_rows (terms_of p) (input_columns p) (each_input_told p t) ≡ t.inputs
+  given_are = each_inputs_back (terms_of p) (input_columns p) t.inputs (length t.states) (λ i. (parts i).1)
 
   start_is : (o : Option ℕ) → ((i : ℕ) → goes_back p (states_told p t) (each_input_told p t) o i ≡ true) → o ≡ Some (unwrap_or o 0)
   start_is None h = absurd (let e : false ≡ true = h 0 in let never : ⊥ = cc in never)
@@ -174,8 +174,8 @@ module _ (p : Program) (spec : ResolvedItem) (t : Trace) (all : (r : ReplayRule)
   told_as =
       let made : List (List Binding) → List (List Binding) → Option ℕ → Trace = λ a b c. record { states = a; inputs = b; start = c } in
       ap (λ (a : List (List Binding)). made a t.inputs t.start) (sym states_are)
-      ∙ ap (λ (b : List (List Binding)). made (map (bindings_of (state_columns p)) (states_told p t)) b t.start) (sym given_are)
-      ∙ ap (λ (c : Option ℕ). made (map (bindings_of (state_columns p)) (states_told p t)) (given_rows (input_columns p) (each_input_told p t)) c) (start_is t.start (all rule.Loop))
+      ∙ ap (λ (b : List (List Binding)). made (map (bindings_of (terms_of p) (state_columns p)) (states_told p t)) b t.start) (sym given_are)
+      ∙ ap (λ (c : Option ℕ). made (map (bindings_of (terms_of p) (state_columns p)) (states_told p t)) (given_rows (terms_of p) (input_columns p) (each_input_told p t)) c) (start_is t.start (all rule.Loop))
 
   pub shows_violated : ShowsViolated p spec t
   shows_violated = record { lasso = lasso_told p t; told = told_as; violates = violates p spec t all }

@@ -34,21 +34,21 @@ has_name c = is_name c.name
 -- From values to bindings, in a language without symbols.
 
 abbrev pub binding_of : Column → Value → Binding
-binding_of c v = record { name = c.name; value = value_text [] v }
+binding_of terms c v = record { name = c.name; value = value_text [] v }
 
 abbrev pub bindings_of : List Column → List Value → List Binding
-bindings_of [] vs = []
-bindings_of (c ∷ cs) [] = []
-bindings_of (c ∷ cs) (v ∷ vs) = binding_of c v ∷ bindings_of cs vs
+bindings_of terms [] vs = []
+bindings_of terms (c ∷ cs) [] = []
+bindings_of terms (c ∷ cs) (v ∷ vs) = binding_of terms c v ∷ bindings_of terms cs vs
 
 -- the inputs of steps; nothing is told of them where there are no input slots
 abbrev pub given_rows : List Column → List (List Value) → List (List Binding)
-given_rows [] inputs = []
-given_rows (c ∷ cs) inputs = map (bindings_of (c ∷ cs)) inputs
+given_rows terms [] inputs = []
+given_rows terms (c ∷ cs) inputs = map (bindings_of terms (c ∷ cs)) inputs
 
 -- the trace of a run
 abbrev pub run_trace : Program → List (List Value) → List (List Value) → Trace
-run_trace p states inputs = record { states = map (bindings_of (state_columns p)) states; inputs = given_rows (input_columns p) inputs; start = None }
+run_trace p states inputs = record { states = map (bindings_of (terms_of p) (state_columns p)) states; inputs = given_rows (terms_of p) (input_columns p) inputs; start = None }
 
 -- From bindings to values.
 
@@ -60,7 +60,7 @@ value_read Boolean text =
     else None
 
 abbrev pub cell_read : Column → Binding → Option Value
-cell_read c b = if bytes_eq c.name b.name then value_read c.declared b.value else None
+cell_read terms c b = if bytes_eq c.name b.name then value_read c.declared b.value else None
 
 abbrev pub in_front : Option Value → Option (List Value) → Option (List Value)
 in_front None vs = None
@@ -69,25 +69,25 @@ in_front (Some v) (Some vs) = Some (v ∷ vs)
 
 -- one value of its type for each slot, where the names are just those of the slots, in their order
 abbrev pub row_read : List Column → List Binding → Option (List Value)
-row_read [] [] = Some []
-row_read [] (b ∷ bs) = None
-row_read (c ∷ cs) [] = None
-row_read (c ∷ cs) (b ∷ bs) = in_front (cell_read c b) (row_read cs bs)
+row_read terms [] [] = Some []
+row_read terms [] (b ∷ bs) = None
+row_read terms (c ∷ cs) [] = None
+row_read terms (c ∷ cs) (b ∷ bs) = in_front (cell_read terms c b) (row_read terms cs bs)
 
 abbrev pub line_read : List Column → Option (List Binding) → Option (List Value)
-line_read cs None = None
-line_read cs (Some bs) = row_read cs bs
+line_read terms cs None = None
+line_read terms cs (Some bs) = row_read terms cs bs
 
 -- the values of the state of this number, and of the inputs of the step from it, if the trace tells them
 abbrev pub state_read : Program → Trace → ℕ → Option (List Value)
-state_read p t i = line_read (state_columns p) (slice_get t.states i)
+state_read p t i = line_read (terms_of p) (state_columns p) (slice_get t.states i)
 
 abbrev pub inputs_read : Program → Trace → ℕ → Option (List Value)
-inputs_read p t i = line_read (input_columns p) (slice_get t.inputs i)
+inputs_read p t i = line_read (terms_of p) (input_columns p) (slice_get t.inputs i)
 
 -- the values of each state, and of the inputs of each step; no values where the trace does not tell them
 abbrev pub states_told : Program → Trace → List (List Value)
-states_told p t = map (λ (bs : List Binding). unwrap_or (row_read (state_columns p) bs) []) t.states
+states_told p t = map (λ (bs : List Binding). unwrap_or (row_read (terms_of p) (state_columns p) bs) []) t.states
 
 abbrev pub inputs_told : Program → Trace → List (List Value)
 inputs_told p t = map (λ (i : ℕ). unwrap_or (inputs_read p t i) []) (range_with_len 0 (length t.states - 1))

@@ -1,0 +1,4 @@
+pub mod Starts
+pub mod Apart
+pub mod Codes
+pub mod OfReading
