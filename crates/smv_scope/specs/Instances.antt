@@ -17,8 +17,8 @@ instance_as at v (Some m) = record { of_module = m; parent = Some (record { inst
 
 -- the instance that a variable of this type is, if it is one
 abbrev pub child : List Module → ℕ → ℕ → TypeExpr → List Instance
-child modules at v (written.Boolean place) = []
 child modules at v (written.Instance place name given) = instance_as at v (module_named modules name)
+child modules at v other = []
 
 -- the instances that these variables are, the first of which has number v in the instance of number `at`
 abbrev pub children_from : List Module → ℕ → ℕ → List (VariableKind × Variable) → List Instance

@@ -2,6 +2,7 @@ pub mod Modules
 pub mod Symbols
 pub mod Instances
 pub mod Slots
+pub mod Enumerated
 pub mod Lookup
 pub mod Targets
 pub mod Paths

@@ -17,14 +17,16 @@ use Rattle.smv_scope.specs.declared.instance.Parent.{Parent}
 use Rattle.smv_scope.specs.Modules.{parameters_of, variables_of, definitions_of}
 use Rattle.smv_scope.specs.Instances.{instances_of, child_number, module_at}
 use Rattle.smv_scope.specs.Slots.{slot_number}
+use Rattle.smv_scope.specs.Enumerated.{symbol_number}
 
 -- What a name leads to: a slot; an instance; an expression that a parameter of an instance was given, in the instance that
--- gives it; the body of a definition of an instance. Or it leads nowhere, or by more parameters than are followed.
+-- gives it; the body of a definition of an instance; a symbol. Or it leads nowhere, or by more parameters than are followed.
 pub data Target : Type 0 where
   Slot : (n : ℕ) → Target
   Whole : (at : ℕ) → Target
   Given : (at k owner : ℕ) → Expr → Target
   Defined : (at k : ℕ) → Expr → Target
+  Symbol : (n : ℕ) → Target
   Unknown : Target
   TooFar : Target
 
@@ -38,8 +40,8 @@ instance_target (Some i) = Target.Whole i
 
 -- a variable of an instance is a slot, or an instance
 abbrev pub typed_target : Program → ℕ → ℕ → TypeExpr → Target
-typed_target p at v (written.Boolean place) = slot_target (slot_number p at v)
 typed_target p at v (written.Instance place name given) = instance_target (child_number p at v)
+typed_target p at v other = slot_target (slot_number p at v)
 
 abbrev pub variable_target : Program → ℕ → ℕ → Option (VariableKind × Variable) → Target
 variable_target p at v None = Target.Unknown
@@ -68,8 +70,8 @@ member_target p at name = member_of_module p at (module_at p at) name
 
 -- what an instance is given
 abbrev pub arguments_with : TypeExpr → List Expr
-arguments_with (written.Boolean place) = []
 arguments_with (written.Instance place name given) = given
+arguments_with other = []
 
 abbrev pub arguments_in : Option (VariableKind × Variable) → List Expr
 arguments_in None = []
@@ -99,16 +101,25 @@ parent_of (Some x) = x.parent
 abbrev pub parent_at : Program → ℕ → Option Parent
 parent_at p at = parent_of (slice_get (instances_of p) at)
 
--- the parameter of this number, or else the member of this name
+abbrev pub symbol_target : Option ℕ → Target
+symbol_target None = Target.Unknown
+symbol_target (Some n) = Target.Symbol n
+
+-- what a name leads to in its module, or else the symbol of this name, which a name of the module hides
+abbrev pub or_symbol : Program → List ℕ → Target → Target
+or_symbol p name Target.Unknown = symbol_target (symbol_number p name)
+or_symbol p name other = other
+
+-- the parameter of this number, or else the member of this name, or else the symbol
 abbrev pub parameter_or_member : Program → ℕ → List ℕ → Option ℕ → Target
 parameter_or_member p at name (Some k) = given_by p at k (parent_at p at)
-parameter_or_member p at name None = member_target p at name
+parameter_or_member p at name None = or_symbol p name (member_target p at name)
 
 abbrev pub own_of_module : Program → ℕ → Option ℕ → List ℕ → Target
 own_of_module p at None name = Target.Unknown
 own_of_module p at (Some m) name = parameter_or_member p at name (position (λ (x : Parameter). bytes_eq name x.name) (parameters_of p m))
 
--- an own name of an instance: a parameter, a variable or a definition of its module
+-- an own name of an instance: a parameter, a variable or a definition of its module, or a symbol
 abbrev pub own_target : Program → ℕ → List ℕ → Target
 own_target p at name = own_of_module p at (module_at p at) name
 

@@ -8,7 +8,6 @@ use Rattle.smv_tree.specs.declared.tree.TypeExpr.{TypeExpr}
 use Rattle.smv_tree.specs.declared.tree.TypeExpr.TheVariants as written
 use Rattle.smv_scope.specs.declared.instance.Instance.{Instance}
 use Rattle.smv_scope.specs.declared.slot.Slot.{Slot}
-use Rattle.smv_scope.specs.declared.slot.ValueType.TheVariants.{Boolean}
 use Rattle.smv_scope.specs.Modules.{variables_of}
 use Rattle.smv_scope.specs.Instances.{instances_of}
 
@@ -18,8 +17,8 @@ is_input other = false
 
 -- the slots of a variable of this type: one for a value, none for an instance; they are numbered below
 abbrev pub slots_with : ℕ → ℕ → VariableKind → TypeExpr → List Slot
-slots_with at v kind (written.Boolean place) = record { instance = at; variable = v; kind = kind; declared = Boolean; index = 0 } ∷ []
 slots_with at v kind (written.Instance place name given) = []
+slots_with at v kind other = record { instance = at; variable = v; kind = kind; declared = 0; index = 0 } ∷ []
 
 -- the slots of these variables, the first of which has number v in the instance of number `at`
 abbrev pub slots_from : ℕ → ℕ → List (VariableKind × Variable) → List Slot
@@ -31,14 +30,14 @@ abbrev pub slots_below : Program → ℕ → List Instance → List Slot
 slots_below p n [] = []
 slots_below p n (x ∷ xs) = slots_from n 0 (variables_of p x.of_module) ++ slots_below p (n + 1) xs
 
--- Each slot with its index: its number among the inputs, or among the slots of the state. So many of the state, and so many
--- inputs, stand before these.
+-- Each slot with its own number, and its index: its number among the inputs, or among the slots of the state. So many of the
+-- state, and so many inputs, stand before these.
 abbrev pub indexed : ℕ → ℕ → List Slot → List Slot
 indexed held inputs [] = []
 indexed held inputs (x ∷ xs) =
     if is_input x.kind
-    then record x { index = inputs } ∷ indexed held (inputs + 1) xs
-    else record x { index = held } ∷ indexed (held + 1) inputs xs
+    then record x { declared = held + inputs; index = inputs } ∷ indexed held (inputs + 1) xs
+    else record x { declared = held + inputs; index = held } ∷ indexed (held + 1) inputs xs
 
 -- the slots of a program
 abbrev pub slots_of : Program → List Slot

@@ -12,6 +12,7 @@ seen (found.Slot n) = Target.Slot n
 seen (found.Whole i) = Target.Whole i
 seen (found.Given at k owner e) = Target.Given at k owner e.now
 seen (found.Defined at k e) = Target.Defined at k e.now
+seen (found.Symbol n) = Target.Symbol n
 seen found.Unknown = Target.Unknown
 seen found.TooFar = Target.TooFar
 

@@ -5,6 +5,7 @@ ghost use Rattle.smv_scope.specs.Answers.{LaysOut};
 ghost use Rattle.smv_scope.specs.declared.layout.LayoutStop.TheVariants.{NoMemory};
 
 use crate::Scope;
+use crate::enumerated::{symbol_numbers, symbols_of};
 use crate::instances::instances_of;
 use crate::slots::slots_of;
 use crate::symbols::{child_numbers, module_numbers, slot_numbers, symbol_tables};
@@ -38,6 +39,8 @@ pub fn lay_out(alloc: Global, program: Program) -> Result<Scope, LayoutStop>
     let symbols = symbol_tables(alloc, &program)?;
     let slot_numbers = slot_numbers(alloc, slots.as_slice())?;
     let child_numbers = child_numbers(alloc, tree.as_slice())?;
+    let symbol_names = symbols_of(alloc, program.modules.as_slice(), tree.as_slice())?;
+    let symbol_numbers = symbol_numbers(alloc, symbol_names.as_slice())?;
     Ok(Scope {
         program,
         tree,
@@ -45,5 +48,7 @@ pub fn lay_out(alloc: Global, program: Program) -> Result<Scope, LayoutStop>
         symbols,
         slot_numbers,
         child_numbers,
+        symbol_names,
+        symbol_numbers,
     })
 }

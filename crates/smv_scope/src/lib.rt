@@ -2,6 +2,7 @@
 //! (NuSMV 2.6 User Manual, 2.3). The definitions are in `specs/`.
 #![tactic(auto)]
 
+mod enumerated;
 mod instance;
 mod instances;
 mod layout;
@@ -17,11 +18,12 @@ mod target;
 pub use instance::{Instance, Parent};
 pub use layout::{LayoutStop, lay_out};
 pub use lookup::{
-    DEPTH_LIMIT, arguments_by, instance_of, member_target, name_target, own_target, start_target,
+    DEPTH_LIMIT, arguments_by, instance_of, member_target, module_at, name_target, own_target,
+    start_target, symbol_number,
 };
-pub use modules::{definitions_of, sections_of, variables_in};
+pub use modules::{definitions_of, sections_of, variable_at, variables_in};
 pub use paths::{path_of, slot_name};
 pub use scope::Scope;
-pub use slot::{Slot, ValueType};
+pub use slot::Slot;
 pub use symbols::{ModuleNumbers, Spot, SymbolTable, module_numbers, number_first};
 pub use target::{NameTarget, Shared};

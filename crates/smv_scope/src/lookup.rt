@@ -8,7 +8,8 @@ ghost use Rattle.smv_tree.specs.declared.tree.VariableKind.{VariableKind};
 ghost use Rattle.smv_scope.specs.Modules.{variables_of, definitions_of};
 ghost use Rattle.smv_scope.specs.Instances.{module_at, child_number};
 ghost use Rattle.smv_scope.specs.Slots.{slot_number};
-ghost use Rattle.smv_scope.specs.Lookup.{slot_target, instance_target, typed_target, variable_target, definition_target, named_target, member_target, arguments_with, arguments_by, given_by, parent_at, own_target, start_target, members_target, name_target_by, as_instance, depth_limit, instance_by_node, instance_within, name_target};
+ghost use Rattle.smv_scope.specs.Enumerated.{symbol_number};
+ghost use Rattle.smv_scope.specs.Lookup.{slot_target, instance_target, symbol_target, or_symbol, typed_target, variable_target, definition_target, named_target, member_target, arguments_with, arguments_by, given_by, parent_at, own_target, start_target, members_target, name_target_by, as_instance, depth_limit, instance_by_node, instance_within, name_target};
 ghost use Rattle.smv_scope.specs.Targets.{seen};
 
 use crate::modules::{
@@ -159,7 +160,7 @@ pub fn start_target<'a>(scope: &'a Scope, instance: usize, start: &Start) -> Nam
     }
 }
 
-/// An own name of an instance: a parameter, a variable or a definition of its module.
+/// An own name of an instance: a parameter, a variable or a definition of its module, or else a symbol.
 pub fn own_target<'a>(scope: &'a Scope, instance: usize, name: &str) -> NameTarget<'a>
     ensures { seen result ≡ own_target scope.now.program instance name.now }
 {
@@ -168,7 +169,17 @@ pub fn own_target<'a>(scope: &'a Scope, instance: usize, name: &str) -> NameTarg
     };
     match parameter_named(scope, m, name) {
         Some(k) => given_by(scope, instance, k, parent_at(scope, instance)),
-        None => member_target(scope, instance, name),
+        None => or_symbol(scope, name, member_target(scope, instance, name)),
+    }
+}
+
+// What a name leads to in its module, or else the symbol of this name.
+fn or_symbol<'a>(scope: &'a Scope, name: &str, target: NameTarget<'a>) -> NameTarget<'a>
+    ensures { seen result ≡ or_symbol scope.now.program name.now (seen target.entry) }
+{
+    match target {
+        NameTarget::Unknown => symbol_target(symbol_number(scope, name)),
+        other => other,
     }
 }
 
@@ -212,8 +223,8 @@ fn arguments_with(declared: &TypeExpr) -> &[Expr]
     ensures { result.now ≡ arguments_with declared.now }
 {
     match declared {
-        TypeExpr::Boolean(_) => &[],
         TypeExpr::Instance(_, _, given) => given.as_slice(),
+        _ => &[],
     }
 }
 
@@ -273,8 +284,8 @@ fn typed_target<'a>(
     ensures { seen result ≡ typed_target scope.now.program instance v declared.now }
 {
     match declared {
-        TypeExpr::Boolean(_) => slot_target(slot_number(scope, instance, v)),
         TypeExpr::Instance(_, _, _) => instance_target(child_number(scope, instance, v)),
+        _ => slot_target(slot_number(scope, instance, v)),
     }
 }
 
@@ -294,6 +305,22 @@ fn instance_target<'a>(instance: Option<usize>) -> NameTarget<'a>
         None => NameTarget::Unknown,
         Some(i) => NameTarget::Whole(i),
     }
+}
+
+fn symbol_target<'a>(symbol: Option<usize>) -> NameTarget<'a>
+    ensures { seen result ≡ symbol_target symbol }
+{
+    match symbol {
+        None => NameTarget::Unknown,
+        Some(n) => NameTarget::Symbol(n),
+    }
+}
+
+/// The number of the symbol of this name, if there is one.
+pub fn symbol_number(scope: &Scope, name: &str) -> Option<usize>
+    ensures { result ≡ symbol_number scope.now.program name.now }
+{
+    scope.symbol_numbers.get(name).copied()
 }
 
 // The number of the slot of a variable of an instance.

@@ -2,12 +2,6 @@
 
 use smv_tree::VariableKind;
 
-/// The type of a value (manual 2.1).
-#[derive(Clone, Copy, Debug, PartialEq, Eq)]
-pub enum ValueType {
-    Boolean,
-}
-
 /// A variable of an instance that has a value.
 #[derive(Clone, Copy, Debug, PartialEq, Eq)]
 pub struct Slot {
@@ -16,7 +10,8 @@ pub struct Slot {
     /// The number of the variable among those of the instance's module.
     pub variable: usize,
     pub kind: VariableKind,
-    pub declared: ValueType,
+    /// Its number among all slots, by which a table of types has its type.
+    pub declared: usize,
     /// Its number among the inputs, or among the slots of the state.
     pub index: usize,
 }

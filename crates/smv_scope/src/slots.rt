@@ -6,7 +6,7 @@ ghost use Rattle.smv_scope.specs.Modules.{variables_in};
 ghost use Rattle.smv_scope.specs.Slots.{slots_with, slots_from, slots_below, indexed};
 
 use crate::modules::{sections_of, variables_of};
-use crate::{Instance, Slot, ValueType};
+use crate::{Instance, Slot};
 use smv_tree::{Program, Section, TypeExpr, VariableKind};
 use sqlite_items::Items;
 use std::alloc::{AllocError, Global};
@@ -23,7 +23,7 @@ pub fn slots_of(
     indexed(alloc, all.as_slice())
 }
 
-// Each slot with its number among the inputs, or among the slots of the state.
+// Each slot with its own number, and with that among the inputs, or among the slots of the state.
 fn indexed(alloc: Global, slots: &[Slot]) -> Result<Items<Slot>, AllocError>
     ensures { IfOk result (λ all. all ≡ indexed 0 0 slots.now) }
 {
@@ -33,12 +33,14 @@ fn indexed(alloc: Global, slots: &[Slot]) -> Result<Items<Slot>, AllocError>
     for slot in slots {
         if slot.kind == VariableKind::Input {
             all.push(Slot {
+                declared: held + inputs,
                 index: inputs,
                 ..*slot
             })?;
             inputs += 1;
         } else {
             all.push(Slot {
+                declared: held + inputs,
                 index: held,
                 ..*slot
             })?;
@@ -90,13 +92,13 @@ fn push_slot(
     ensures { OnOk result (all.new ≡ all.old ++ slots_with at v kind declared.now) }
 {
     match declared {
-        TypeExpr::Boolean(_) => all.push(Slot {
+        TypeExpr::Instance(_, _, _) => Ok(()),
+        _ => all.push(Slot {
             instance: at,
             variable: v,
             kind,
-            declared: ValueType::Boolean,
+            declared: 0,
             index: 0,
         }),
-        TypeExpr::Instance(_, _, _) => Ok(()),
     }
 }

@@ -126,7 +126,7 @@ fn definition_numbers(
 }
 
 // A name that has no number yet gets this one.
-fn note_name(
+pub(crate) fn note_name(
     alloc: Global,
     table: &mut IndexMap<String, usize>,
     name: &str,

@@ -22,6 +22,8 @@ pub enum NameTarget<'a> {
         definition: usize,
         body: &'a Expr,
     },
+    /// The symbol of this number.
+    Symbol(usize),
     /// The name leads nowhere.
     Unknown,
     /// It leads by more parameters than are followed.

@@ -1,5 +1,5 @@
 use Rattle.std.proofs.Common.{ap, ◌∙◌}
-use Rattle.smv_scope.specs.Lookup.{own_of_module, parameter_or_member, given_by}
+use Rattle.smv_scope.specs.Lookup.{own_of_module, parameter_or_member, given_by, or_symbol}
 use Rattle.smv_scope.proofs.lookup.own_target.Goals as goal
 
 pub returns-in-Some-parameter_named : goal.returns-in-Some-parameter_named
@@ -12,6 +12,6 @@ returns-in-Some-parameter_named c =
 pub returns-in-None : goal.returns-in-None
 returns-in-None c =
     let p = c.args.scope.now.program in
-    c.member_target.ensures
+    c.or_symbol.ensures ∙ ap (or_symbol p c.args.name.now) c.member_target.ensures
     ∙ ap (parameter_or_member p c.args.instance c.args.name.now) c.in-None.ensures
     ∙ ap (λ o. own_of_module p c.args.instance o c.args.name.now) c.in-Some.ensures
