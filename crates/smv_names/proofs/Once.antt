@@ -12,7 +12,7 @@ use Rattle.smv_tree.specs.declared.tree.TypeExpr.TheVariants as written
 use Rattle.smv_tree.specs.declared.tree.Expr.{Expr}
 use Rattle.smv_names.specs.declared.reached.UseRule.{UseRule}
 use Rattle.smv_names.specs.declared.reached.UseRule.TheVariants as asked
-use Rattle.smv_names.specs.Verdicts.{Verdict, Exactly, Claim, Then, Each}
+use Rattle.smv_verdicts.specs.Verdicts.{Verdict, Exactly, Claim, Then, Each}
 use Rattle.smv_names.specs.Declarations.{declared_refusal}
 use Rattle.smv_names.specs.Reached.{named_type, use_verdict, section_verdict, modules_verdict, uses_verdict}
 use Rattle.smv_names.specs.Defined.{Entry, entry_verdict, entries_verdict, entry_graph, entries_of, definitions_verdict}

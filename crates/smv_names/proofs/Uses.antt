@@ -12,7 +12,7 @@ use Rattle.smv_tree.specs.declared.tree.TypeExpr.{TypeExpr}
 use Rattle.smv_tree.specs.declared.tree.TypeExpr.TheVariants as written
 use Rattle.smv_scope.specs.Modules.{module_named}
 use Rattle.smv_names.specs.declared.reached.UseRule.TheVariants as asked
-use Rattle.smv_names.specs.Verdicts.{Each}
+use Rattle.smv_verdicts.specs.Verdicts.{Each}
 use Rattle.smv_names.specs.Reached.{Reaches, ReachesFrom, module_graph, module_of_type, modules_in, modules_used, some_only, use_verdict, section_verdict, modules_verdict, uses_verdict}
 
 module _ (p : Program) (acyclic : Acyclic (module_graph p)) where

@@ -20,7 +20,7 @@ use Rattle.smv_scope.specs.Modules.{sections_of}
 use Rattle.smv_tree.specs.Occurring.{names_in}
 use Rattle.smv_scope.specs.Instances.{instances_of}
 use Rattle.smv_scope.specs.Lookup.{Target, as_instance, depth_limit, instance_within, member_target, own_target}
-use Rattle.smv_names.specs.Verdicts.{first_of, or_else, detailed}
+use Rattle.smv_verdicts.specs.Verdicts.{first_of, or_else, detailed}
 
 -- an identifier that leads nowhere
 abbrev pub unknown_last : Identifier → Target → Option Identifier

@@ -19,7 +19,7 @@ use Rattle.smv_scope.specs.Modules.{module_named, main_number, parameters_of}
 use Rattle.smv_scope.specs.Instances.{instances_of, most_instances}
 use Rattle.smv_names.specs.declared.reached.UseRule.{UseRule}
 use Rattle.smv_names.specs.declared.reached.UseRule.TheVariants as asked
-use Rattle.smv_names.specs.Verdicts.{Verdict, Claim, Each, Then, plain, detailed}
+use Rattle.smv_verdicts.specs.Verdicts.{Verdict, Claim, Each, Then, plain, detailed}
 
 abbrev pub some_only : Option ℕ → List ℕ
 some_only None = []

@@ -10,14 +10,14 @@ ghost use Rattle.smv_scope.specs.Targets.{seen};
 ghost use Rattle.smv_tree.specs.Occurring.{read};
 ghost use Rattle.smv_names.specs.Lent.{read_some};
 ghost use Rattle.smv_names.specs.Named.{unknown_before, unknown_from, unknown_identifier, unknown_in_all, unknown_in_assignment, unknown_in_expression, unknown_in_name, unknown_in_section, unknown_in_sections, unknown_in_type, unknown_last, unknown_members, unknown_names};
-ghost use Rattle.smv_names.specs.Verdicts.{Judges, first_of};
+ghost use Rattle.smv_verdicts.specs.Verdicts.{Judges, first_of};
 
-use crate::refusals::refuse_name;
 use smv_scope::{NameTarget, Scope, instance_of, member_target, own_target, sections_of};
 use smv_tree::{
     Assignment, Definition, Expr, Identifier, Name, Rule, Section, Start, TextStop, TypeExpr,
     Variable, names_in,
 };
+use smv_verdicts::refuse_name;
 use std::alloc::Global;
 
 /// Each name of each instance leads somewhere.

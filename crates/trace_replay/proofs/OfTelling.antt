@@ -12,7 +12,7 @@ use Rattle.smv_value.specs.declared.value.Value.{Value}
 use Rattle.trace_replay.specs.declared.columns.Column.{Column}
 use Rattle.trace_replay.specs.declared.entry.Binding.{Binding}
 use Rattle.trace_replay.specs.declared.trace.Trace.{Trace}
-use Rattle.trace_replay.specs.Rows.{cell_read, in_front, input_columns, inputs_read, line_read, row_read, state_columns, state_read}
+use Rattle.trace_replay.specs.Rows.{Terms, cell_read, in_front, input_columns, inputs_read, line_read, row_read, state_columns, state_read, terms_of}
 use Rattle.trace_replay.specs.Tests.{due_beside, inputs_due, inputs_fit, state_fits, values_fit}
 
 -- values behind others

@@ -13,17 +13,18 @@ use Rattle.smv_value.specs.declared.value.Value.{Value}
 use Rattle.smv_value.specs.declared.value.Value.TheVariants as value
 use Rattle.smv_resolve.specs.Items.{ResolvedItem}
 use Rattle.smv_scope.specs.Slots.{slots_of}
-use Rattle.smv_meaning.specs.declared.value.Outcome.{Outcome}
-use Rattle.smv_meaning.specs.declared.value.Outcome.TheVariants.{Fault, Values}
+use Rattle.smv_meaning.specs.declared.outcome.Outcome.{Outcome}
+use Rattle.smv_meaning.specs.declared.outcome.Outcome.TheVariants.{Fault, Nothing, Values}
 use Rattle.smv_meaning.specs.Runs.{IsRun, at_time, is_step}
-use Rattle.smv_meaning.specs.Values.{one, outcome_in}
+use Rattle.smv_meaning.specs.Outcomes.{one}
+use Rattle.smv_meaning.specs.Values.{outcome_in}
 use Rattle.trace_replay.specs.declared.columns.Column.{Column}
 use Rattle.trace_replay.specs.declared.entry.Binding.{Binding}
 use Rattle.trace_replay.specs.declared.rule.ReplayRule.{ReplayRule}
 use Rattle.trace_replay.specs.declared.rule.ReplayRule.TheVariants as rule
 use Rattle.trace_replay.specs.declared.trace.Trace.{Trace}
 use Rattle.trace_replay.specs.Lassos.{due_each}
-use Rattle.trace_replay.specs.Rows.{bindings_of, given_rows, input_columns, inputs_read, inputs_told, line_read, row_read, run_trace, state_columns, state_read, states_told}
+use Rattle.trace_replay.specs.Rows.{Terms, bindings_of, given_rows, input_columns, inputs_read, inputs_told, line_read, row_read, run_trace, state_columns, state_read, states_told, terms_of}
 use Rattle.trace_replay.specs.Tests.{ShowsBroken, due_beside, inputs_fit, is_false, passes, starts_at, state_fits}
 use Rattle.trace_replay.proofs.Cells.{row_told}
 use Rattle.trace_replay.proofs.OfTelling.{is_there, line_row, some_state}
@@ -54,12 +55,14 @@ no_rows [] h = refl
 no_rows (x ∷ xs) h = absurd (let never : ⊥ = omega (arith, h) in never)
 
 false_is : (o : Outcome) → is_false o ≡ true → o ≡ one (value.Bool false)
-false_is (Values None) h = absurd (let never : ⊥ = cc in never)
-false_is (Values (Some (value.Bool true))) h = absurd (let never : ⊥ = cc in never)
-false_is (Values (Some (value.Bool false))) h = refl
-false_is (Values (Some (value.Int z))) h = absurd (let never : ⊥ = cc in never)
-false_is (Values (Some (value.Sym n))) h = absurd (let never : ⊥ = cc in never)
-false_is (Values (Some (value.Word s w b))) h = absurd (let never : ⊥ = cc in never)
+false_is Nothing h = absurd (let never : ⊥ = cc in never)
+false_is (Values []) h = absurd (let never : ⊥ = cc in never)
+false_is (Values (value.Bool true ∷ [])) h = absurd (let never : ⊥ = cc in never)
+false_is (Values (value.Bool false ∷ [])) h = refl
+false_is (Values (value.Int z ∷ [])) h = absurd (let never : ⊥ = cc in never)
+false_is (Values (value.Sym n ∷ [])) h = absurd (let never : ⊥ = cc in never)
+false_is (Values (value.Word s w b ∷ [])) h = absurd (let never : ⊥ = cc in never)
+false_is (Values (v ∷ w ∷ vs)) h = absurd (let never : ⊥ = cc in never)
 false_is (Fault f place) h = absurd (let never : ⊥ = cc in never)
 
 -- whether the inputs of a number are told as they should be, by the columns, where so many are due: beside the states of a run, and

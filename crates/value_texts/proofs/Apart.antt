@@ -107,7 +107,7 @@ boolean_once names true false e = absurd (let never : ⊥ = cc in never)
 boolean_once names false true e = absurd (let never : ⊥ = cc in never)
 boolean_once names false false e = refl
 
-same_behind : (front s t : List ℕ) → front ++ s ≡ front ++ t → s ≡ t
+pub same_behind : (front s t : List ℕ) → front ++ s ≡ front ++ t → s ≡ t
 same_behind [] s t e = e
 same_behind (b ∷ front) s t e = same_behind front s t (let same : front ++ s ≡ front ++ t = cc in same)
 

@@ -4,9 +4,10 @@ use Rattle.std.specs.Fmt.{decimal, signed_decimal}
 use Rattle.std.specs.List.{range_with_len}
 use Rattle.smv_value.specs.declared.value.Value.{Value}
 use Rattle.smv_value.specs.Results.{is_int}
+use Rattle.value_types.specs.declared.value_type.Element.{Element}
 use Rattle.value_types.specs.declared.value_type.ValueType.{ValueType}
 use Rattle.value_types.specs.Codes.{count, value_at}
-use Rattle.value_types.specs.Types.{is_of_type, is_type}
+use Rattle.value_types.specs.Types.{element_value, is_of_type}
 use Rattle.value_texts.specs.Told.{told_text}
 
 -- this is a value that is told so
@@ -33,6 +34,9 @@ pub record IsReading (names : List (List ℕ)) (t : ValueType) : Type 0 where
 abbrev pub IsRead : List (List ℕ) → ValueType → List ℕ → Option Value → Type 0
 IsRead names t text None = (v : Value) → is_of_type v t ≡ true → told_text names v ≡ text → ⊥
 IsRead names t text (Some v) = (is_of_type v t ≡ true) × (told_text names v ≡ text)
+
+abbrev pub is_element_told : List (List ℕ) → List ℕ → Element → Bool
+is_element_told names text e = bytes_eq (told_text names (element_value e)) text
 
 -- the integer of 32 bits is printed so, or none is
 abbrev pub IsIntRead : List ℕ → Option ℤ → Type 0

@@ -2,11 +2,11 @@
 
 ghost use Rattle.std.specs.Prelude.{◌≡◌, ◌++◌, ℕ, List, true, bytes_eq, string_bytes, IfOk};
 ghost use Rattle.std.specs.Fmt.{signed_decimal};
+ghost use Rattle.smv_value.specs.declared.value.Value.TheVariants as value;
 ghost use Rattle.smv_value.specs.Results.{is_value};
 ghost use Rattle.value_types.specs.declared.value_type.ValueType.TheVariants as type;
-ghost use Rattle.value_types.specs.Types.{element_value, is_type};
-ghost use Rattle.value_texts.specs.Told.{told_text};
-ghost use Rattle.value_texts.specs.Read.{IsIntRead, IsNumberRead, IsRead, value_read, word_front};
+ghost use Rattle.value_types.specs.Types.{element_value, is_between, is_type};
+ghost use Rattle.value_texts.specs.Read.{IsIntRead, IsNumberRead, IsRead, is_element_told, value_read, word_front};
 
 use crate::Symbols;
 use crate::symbols::is_symbol_text;
@@ -99,11 +99,17 @@ fn between(low: i32, high: i32, number: Option<i32>) -> Option<Value>
     ensures { (names : List (List ℕ)) (text : List ℕ) → IsIntRead text number → IsRead names (type.Range low high) text result }
 {
     let z = number?;
-    if low <= z && z <= high {
+    if is_between(low, high, z) {
         Some(Value::Int(i64::from(z)))
     } else {
         None
     }
+}
+
+fn is_between(low: i32, high: i32, z: i32) -> bool
+    ensures { result ≡ is_between low high (value.Int z) }
+{
+    low <= z && z <= high
 }
 
 fn word_read(
@@ -166,7 +172,7 @@ fn element_read(
 fn is_element_text(symbols: &Symbols, number: Option<i32>, e: Element, text: &str) -> bool
     requires read { IsIntRead text.now number }
     requires typed { is_value (element_value e) ≡ true }
-    ensures { result ≡ bytes_eq (told_text symbols.now.names.now (element_value e)) text.now }
+    ensures { result ≡ is_element_told symbols.now.names.now text.now e }
 {
     match e {
         Element::Int(z) => is_int_text(number, z),

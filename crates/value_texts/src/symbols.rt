@@ -1,7 +1,8 @@
 //! Symbols by their names.
 
-ghost use Rattle.std.specs.Prelude.{◌≡◌, ◌+◌, ℕ, List, bytes_eq, replicate, IfOk};
+ghost use Rattle.std.specs.Prelude.{◌≡◌, ◌+◌, ◌==◌, ℕ, List, bytes_eq, replicate, IfOk};
 ghost use Rattle.std.specs.HashMap.{get_by_text};
+ghost use Rattle.std.specs.List.{list_all};
 ghost use Rattle.value_texts.specs.Told.{begins_identifier, is_named, is_number, is_proper, number_of, symbol_text};
 
 use indexmap::IndexMap;
@@ -74,7 +75,7 @@ fn marks(alloc: Global, count: usize) -> Result<Text, AllocError>
 {
     let mut text = String::new(alloc);
     for k in 0..count {
-        text.push('$')?;
+        text.push_str("$")?;
     }
     Text::from_str(alloc, text.as_str())
 }
@@ -98,5 +99,11 @@ pub fn is_symbol_text(symbols: &Symbols, n: u32, text: &str) -> bool
 fn are_marks(count: usize, text: &str) -> bool
     ensures { result ≡ bytes_eq (replicate count 36) text.now }
 {
-    text.len() == count && text.as_bytes().iter().all(|b| *b == b'$')
+    text.len() == count && are_all_marks(text.as_bytes())
+}
+
+fn are_all_marks(text: &[u8]) -> bool
+    ensures { result ≡ list_all (λ b. b == 36) text.now }
+{
+    text.iter().all(|b| *b == b'$')
 }

@@ -1,6 +1,6 @@
 -- The rows so far.
 use Rattle.std.proofs.Common.{◌≡◌, map, take}
-use Rattle.trace_replay.specs.Rows.{bindings_of}
+use Rattle.trace_replay.specs.Rows.{bindings_of, terms_of}
 use Rattle.trace_replay.proofs.run.rows_of.Given as goal
 
 abbrev pub invariant-loop-row : goal.invariant-loop-row

@@ -1,6 +1,7 @@
 -- There are more bindings than columns, or fewer.
 use Rattle.std.proofs.Common.{sym}
 use Rattle.trace_replay.proofs.OfTelling.{row_read-uneven}
+use Rattle.trace_replay.specs.Rows.{terms_of}
 use Rattle.trace_replay.proofs.telling.row_read.Goals as goal
 
 pub returns-then-columns-bindings : goal.returns-then-columns-bindings

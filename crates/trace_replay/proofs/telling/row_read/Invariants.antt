@@ -1,6 +1,6 @@
 -- The values so far, and those that are left.
 use Rattle.std.proofs.Common.{◌≡◌, drop}
-use Rattle.trace_replay.specs.Rows.{row_read}
+use Rattle.trace_replay.specs.Rows.{row_read, terms_of}
 use Rattle.trace_replay.proofs.OfTelling.{behind}
 use Rattle.trace_replay.proofs.telling.row_read.Given as goal
 

@@ -3,7 +3,7 @@ use Rattle.std.proofs.Common.{◌≡◌, ◌∙◌, inl, inr, ◌<◌, ◌≤◌
 use Rattle.std.specs.List.{range_with_len}
 use Rattle.std.proofs.lemmas.Bool.{cases_lt}
 use Rattle.std.proofs.lemmas.List.{take_all}
-use Rattle.trace_replay.specs.Rows.{inputs_read, state_columns, state_read}
+use Rattle.trace_replay.specs.Rows.{inputs_read, state_columns, state_read, terms_of}
 use Rattle.trace_replay.specs.Telling.{AreInputs}
 use Rattle.trace_replay.specs.Tests.{values_fit}
 use Rattle.trace_replay.proofs.OfTelling.{fits_here, fits_past, numbers_more, numbers_same, row_told, rows_more, some_state}

@@ -2,7 +2,7 @@
 use Rattle.std.proofs.Common.{◌≡◌, ◌<◌, ◌-◌, ℕ, List, [], map, min, length, take, true, unwrap_or}
 use Rattle.std.specs.List.{range_with_len}
 use Rattle.trace_replay.specs.declared.entry.Binding.{Binding}
-use Rattle.trace_replay.specs.Rows.{inputs_read, row_read, state_columns}
+use Rattle.trace_replay.specs.Rows.{inputs_read, row_read, state_columns, terms_of}
 use Rattle.trace_replay.specs.Tests.{values_fit}
 use Rattle.trace_replay.proofs.telling.tell.Given as goal
 

@@ -4,7 +4,7 @@ use Rattle.std.specs.List.{range_with_len}
 use Rattle.std.proofs.lemmas.Bool.{cases_lt}
 use Rattle.std.proofs.lemmas.List.{take_all}
 use Rattle.trace_replay.specs.Lassos.{AreEachInputs, each_value_fits}
-use Rattle.trace_replay.specs.Rows.{inputs_read, state_columns, state_read}
+use Rattle.trace_replay.specs.Rows.{inputs_read, state_columns, state_read, terms_of}
 use Rattle.trace_replay.specs.Telling.{FirstFailing}
 use Rattle.trace_replay.proofs.OfTelling.{row_told, rows_more}
 use Rattle.trace_replay.proofs.OfLassos.{each_fails_past, each_fits_here, each_fits_past, each_more, some_each}

@@ -3,7 +3,7 @@ use Rattle.std.proofs.Common.{◌≡◌, ◌<◌, ℕ, List, [], map, take, true
 use Rattle.std.specs.List.{range_with_len}
 use Rattle.trace_replay.specs.declared.entry.Binding.{Binding}
 use Rattle.trace_replay.specs.Lassos.{each_value_fits}
-use Rattle.trace_replay.specs.Rows.{inputs_read, row_read, state_columns}
+use Rattle.trace_replay.specs.Rows.{inputs_read, row_read, state_columns, terms_of}
 use Rattle.trace_replay.proofs.telling.tell_lasso.Given as goal
 
 abbrev pub invariant-loop-i : goal.invariant-loop-i

@@ -2,7 +2,7 @@
 
 ghost use Rattle.std.specs.Prelude.{◌≡◌, MatchBool, None, Some};
 ghost use Rattle.smv_tree.specs.declared.refusal.TextStop.TheVariants.{Refused};
-ghost use Rattle.smv_names.specs.Verdicts.{Judges, plain, detailed};
+ghost use Rattle.smv_verdicts.specs.Verdicts.{Judges, plain, detailed};
 
 use plain_text::Text;
 use smv_tree::{Place, Refusal, Rule, TextStop};
@@ -19,8 +19,8 @@ pub fn refused(rule: Rule, place: Place) -> TextStop
     })
 }
 
-// The refusal by a rule, at a place, for a name.
-pub(crate) fn refuse_name(
+/// The refusal by a rule, at a place, for a name. `NoMemory` comes where memory was refused.
+pub fn refuse_name(
     alloc: Global,
     rule: Rule,
     place: Place,
@@ -39,8 +39,8 @@ pub(crate) fn refuse_name(
 /// The place of a refusal that speaks of the whole source: its first byte.
 pub const START: Place = Place { line: 1, column: 1 };
 
-// The refusal by a rule, at a place, for a name, where what it refuses is so.
-pub(crate) fn refuse_by(
+/// The refusal by a rule, at a place, for a name, where what it refuses is so.
+pub fn refuse_by(
     alloc: Global,
     is_so: bool,
     rule: Rule,
