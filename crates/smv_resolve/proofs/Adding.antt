@@ -13,6 +13,7 @@ use Rattle.smv_resolve.specs.declared.resolve.ResolveStop.{ResolveStop}
 use Rattle.smv_resolve.specs.declared.resolve.ResolveStop.TheVariants as stop
 use Rattle.smv_resolve.specs.Resolved.{Resolved, resolved, part_of, is_stuck}
 use Rattle.smv_resolve.specs.Items.{ResolvedItem, resolved_assignment, target_by, item_by, is_stuck_item, first_stuck}
+use Rattle.smv_resolve.specs.FirstPlaces.{first_place}
 use Rattle.smv_resolve.specs.Finding.{Grows}
 use Rattle.smv_resolve.proofs.Growing.{Grows-two}
 use Rattle.smv_resolve.specs.Listing.{IsRoot, StandsTarget, AllStand, Added, Adds}
@@ -29,8 +30,8 @@ target_stands old new g (Some k) s = omega (arith, s, g.longer)
 
 item_kept : (old new : List Node) → Grows old new → (x : Item) → StandsTarget old x.target → x.value < length old → item_by new x ≡ item_by old x
 item_kept old new g x s l =
-    ap (λ (t : Option Resolved). let r : ResolvedItem = record { at = x.at; kind = x.kind; place = x.place; target = t; value = part_of new x.value } in r) (target_kept old new g x.target s)
-    ∙ ap (λ (v : Resolved). let r : ResolvedItem = record { at = x.at; kind = x.kind; place = x.place; target = target_by old x.target; value = v } in r) (g.kept x.value l)
+    ap (λ (t : Option Resolved). let r : ResolvedItem = record { at = x.at; kind = x.kind; place = x.place; begins = x.begins; target = t; value = part_of new x.value } in r) (target_kept old new g x.target s)
+    ∙ ap (λ (v : Resolved). let r : ResolvedItem = record { at = x.at; kind = x.kind; place = x.place; begins = x.begins; target = target_by old x.target; value = v } in r) (g.kept x.value l)
 
 items_kept : (old new : List Node) → Grows old new → (xs : List Item) → AllStand old xs → map (item_by new) xs ≡ map (item_by old) xs
 unfolding AllStand
@@ -116,26 +117,26 @@ rests_halt old now new one before items after last whole all these rest stop.NoM
 -- the items of one assignment, of one constraint or specification
 
 item_is : (nodes : List Node) (x : Item) (t : Option Resolved) (v : Resolved) → target_by nodes x.target ≡ t → part_of nodes x.value ≡ v →
-    item_by nodes x ≡ record { at = x.at; kind = x.kind; place = x.place; target = t; value = v }
+    item_by nodes x ≡ record { at = x.at; kind = x.kind; place = x.place; begins = x.begins; target = t; value = v }
 item_is nodes x t v e f =
-    ap (λ (u : Option Resolved). let r : ResolvedItem = record { at = x.at; kind = x.kind; place = x.place; target = u; value = part_of nodes x.value } in r) e
-    ∙ ap (λ (u : Resolved). let r : ResolvedItem = record { at = x.at; kind = x.kind; place = x.place; target = t; value = u } in r) f
+    ap (λ (u : Option Resolved). let r : ResolvedItem = record { at = x.at; kind = x.kind; place = x.place; begins = x.begins; target = u; value = part_of nodes x.value } in r) e
+    ∙ ap (λ (u : Resolved). let r : ResolvedItem = record { at = x.at; kind = x.kind; place = x.place; begins = x.begins; target = t; value = u } in r) f
 
 pub added_assignment : (p : Program) (at : ℕ) (a : Assignment) (old mid new : List Node) (before after : List Item) (target value : ℕ) →
     Grows old mid → Grows mid new → AllStand old before → IsRoot p mid at a.target target → IsRoot p new at a.value value →
-    after ≡ before ++ record { at = at; kind = item.Assignment a.kind; place = a.place; target = Some target; value = value } ∷ [] →
+    after ≡ before ++ record { at = at; kind = item.Assignment a.kind; place = a.place; begins = first_place a.value; target = Some target; value = value } ∷ [] →
     Added old new before after (resolved_assignment p at a ∷ [])
 added_assignment p at a old mid new before after target value g h s t v e =
-    let x : Item = record { at = at; kind = item.Assignment a.kind; place = a.place; target = Some target; value = value } in
+    let x : Item = record { at = at; kind = item.Assignment a.kind; place = a.place; begins = first_place a.value; target = Some target; value = value } in
     added_one old new before after x (resolved_assignment p at a) (Grows-two g h) s e
     (item_is new x (Some (resolved p at a.target)) (resolved p at a.value) (ap (λ r. Some r) (h.kept target t.stands ∙ t.is)) v.is)
     (or_from (is_stuck (resolved p at a.target)) (is_stuck (resolved p at a.value)) t.clear v.clear)
 
-pub added_plain : (p : Program) (at : ℕ) (kind : ItemKind) (place : Place) (e : Expr) (old new : List Node) (before after : List Item) (value : ℕ) →
+pub added_plain : (p : Program) (at : ℕ) (kind : ItemKind) (place begins : Place) (e : Expr) (old new : List Node) (before after : List Item) (value : ℕ) →
     Grows old new → AllStand old before → IsRoot p new at e value →
-    after ≡ before ++ record { at = at; kind = kind; place = place; target = None; value = value } ∷ [] →
-    Added old new before after (record { at = at; kind = kind; place = place; target = None; value = resolved p at e } ∷ [])
-added_plain p at kind place e old new before after value g s v f =
-    let x : Item = record { at = at; kind = kind; place = place; target = None; value = value } in
-    added_one old new before after x (record { at = at; kind = kind; place = place; target = None; value = resolved p at e }) g s f
+    after ≡ before ++ record { at = at; kind = kind; place = place; begins = begins; target = None; value = value } ∷ [] →
+    Added old new before after (record { at = at; kind = kind; place = place; begins = begins; target = None; value = resolved p at e } ∷ [])
+added_plain p at kind place begins e old new before after value g s v f =
+    let x : Item = record { at = at; kind = kind; place = place; begins = begins; target = None; value = value } in
+    added_one old new before after x (record { at = at; kind = kind; place = place; begins = begins; target = None; value = resolved p at e }) g s f
     (item_is new x None (resolved p at e) refl v.is) v.clear

@@ -5,6 +5,7 @@ pub mod Growing
 pub mod Knowing
 pub mod Levels
 pub mod NodesOf
+pub mod FirstPlaces
 pub mod Sharing
 pub mod Whole
 pub mod Opening

@@ -1,8 +1,9 @@
 -- What each node is over its parts.
-use Rattle.std.proofs.Common.{◌≡◌, ℕ, Bool, List, [], ◌∷◌, ◌++◌, map, refl, ap, sym, ◌∙◌}
+use Rattle.std.proofs.Common.{◌≡◌, ℕ, List, [], ◌∷◌, ◌++◌, map, refl, ap, sym, ◌∙◌}
 use Rattle.std.proofs.lemmas.Simd.{map-map}
 use Rattle.smv_tree.specs.declared.place.Place.{Place}
 use Rattle.smv_value.specs.declared.operator.Operator.{Operator}
+use Rattle.smv_value.specs.declared.value.Value.{Value}
 use Rattle.smv_tree.specs.declared.tree.Name.{Name}
 use Rattle.smv_tree.specs.declared.tree.Program.{Program}
 use Rattle.smv_tree.specs.declared.tree.Expr.{Expr}
@@ -26,10 +27,10 @@ operands-map operand g beside below d =
     ∙ ap (λ (xs : List Resolved). map (λ e. operand (g e) d) beside ++ xs) (map-map (λ e. opened (operand e) d) g below)
 
 module _ (p : Program) (at n d : ℕ) where
-  pub levelled-constant : (place : Place) (b : Bool) → levelled p n at (expr.Bool place b) d ≡ Resolved.Constant place b
+  pub levelled-constant : (place : Place) (v : Value) → levelled p n at (expr.Constant place v) d ≡ Resolved.Constant place v
   unfolding resolved_over
-  levelled-constant place b =
-      ap (λ e. levelled p n at e d) (sym (expr.rolls-Bool place b)) ∙ ap (λ f. f d) (fold-roll-Expr Levelled (resolved_node p (followed p n) at) (Expr-F.Bool place b))
+  levelled-constant place v =
+      ap (λ e. levelled p n at e d) (sym (expr.rolls-Constant place v)) ∙ ap (λ f. f d) (fold-roll-Expr Levelled (resolved_node p (followed p n) at) (Expr-F.Constant place v))
 
   pub levelled-name : (name : Name) → levelled p n at (expr.Name name) d ≡ lowered (levels_before p at name) (resolved_name p (followed p n) at name) d
   unfolding resolved_over

@@ -17,7 +17,8 @@ use Rattle.smv_scope.specs.declared.instance.Parent.{Parent}
 use Rattle.smv_scope.specs.Modules.{parameters_of, variables_of, definitions_of}
 use Rattle.smv_scope.specs.Instances.{child_number, module_at}
 use Rattle.smv_scope.specs.Slots.{slot_number}
-use Rattle.smv_scope.specs.Lookup.{Target, slot_target, instance_target, typed_target, variable_target, body_target, definition_target, named_target, member_of_module, member_target, arguments_by, argument_target, given_by, parent_at, parameter_or_member, own_of_module, start_target, behind_instance, members_target, before_members, whole_only, name_target_by, instance_within, depth_limit, name_target}
+use Rattle.smv_scope.specs.Enumerated.{symbol_number}
+use Rattle.smv_scope.specs.Lookup.{Target, slot_target, instance_target, typed_target, variable_target, body_target, definition_target, named_target, member_of_module, member_target, arguments_by, argument_target, given_by, parent_at, symbol_target, or_symbol, parameter_or_member, own_of_module, start_target, behind_instance, members_target, before_members, whole_only, name_target_by, instance_within, depth_limit, name_target}
 use Rattle.smv_resolve.specs.Resolved.{Resolved}
 use Rattle.smv_resolve.specs.Finding.{definition_in, shared_target, below_target}
 
@@ -27,6 +28,7 @@ Right p (Target.Given at k owner e) = given_by p at k (parent_at p at) ≡ Targe
 Right p (Target.Defined at k e) = definition_in p at k (module_at p at) ≡ Target.Defined at k e
 Right p (Target.Slot n) = Unit {0}
 Right p (Target.Whole i) = Unit {0}
+Right p (Target.Symbol n) = Unit {0}
 Right p Target.Unknown = Unit {0}
 Right p Target.TooFar = Unit {0}
 
@@ -40,6 +42,9 @@ right_instance p (Some n) = tt
 
 right_typed : (p : Program) (at v : ℕ) (t : TypeExpr) → Right p (typed_target p at v t)
 right_typed p at v (written.Boolean place) = right_slot p (slot_number p at v)
+right_typed p at v (written.Word place signed width) = right_slot p (slot_number p at v)
+right_typed p at v (written.Range place low high) = right_slot p (slot_number p at v)
+right_typed p at v (written.Enumeration place elements) = right_slot p (slot_number p at v)
 right_typed p at v (written.Instance place name given) = right_instance p (child_number p at v)
 
 right_variable : (p : Program) (at v : ℕ) (o : Option (VariableKind × Variable)) → Right p (variable_target p at v o)
@@ -74,8 +79,21 @@ right_given : (p : Program) (at k : ℕ) (o : Option Parent) → parent_at p at 
 right_given p at k None e = tt
 right_given p at k (Some parent) e = right_argument p at k parent (slice_get (arguments_by p parent) k) e refl
 
+right_symbol : (p : Program) (o : Option ℕ) → Right p (symbol_target o)
+right_symbol p None = tt
+right_symbol p (Some n) = tt
+
+right_or_symbol : (p : Program) (name : List ℕ) (t : Target) → Right p t → Right p (or_symbol p name t)
+right_or_symbol p name (Target.Slot n) r = r
+right_or_symbol p name (Target.Whole i) r = r
+right_or_symbol p name (Target.Given at k owner e) r = r
+right_or_symbol p name (Target.Defined at k e) r = r
+right_or_symbol p name (Target.Symbol n) r = r
+right_or_symbol p name Target.Unknown r = right_symbol p (symbol_number p name)
+right_or_symbol p name Target.TooFar r = r
+
 right_parameter : (p : Program) (at : ℕ) (name : List ℕ) (o : Option ℕ) → Right p (parameter_or_member p at name o)
-right_parameter p at name None = right_member p at name
+right_parameter p at name None = right_or_symbol p name (member_target p at name) (right_member p at name)
 right_parameter p at name (Some k) = right_given p at k (parent_at p at) refl
 
 right_own_of : (p : Program) (at : ℕ) (name : List ℕ) (o : Option ℕ) → Right p (own_of_module p at o name)
@@ -91,6 +109,7 @@ right_behind p go h (Target.Slot n) = tt
 right_behind p go h (Target.Whole i) = h i
 right_behind p go h (Target.Given at k owner e) = tt
 right_behind p go h (Target.Defined at k e) = tt
+right_behind p go h (Target.Symbol n) = tt
 right_behind p go h Target.Unknown = tt
 right_behind p go h Target.TooFar = tt
 
@@ -104,6 +123,7 @@ right_whole p go h (Target.Slot n) = tt
 right_whole p go h (Target.Whole i) = h i
 right_whole p go h (Target.Given at k owner e) = tt
 right_whole p go h (Target.Defined at k e) = tt
+right_whole p go h (Target.Symbol n) = tt
 right_whole p go h Target.Unknown = tt
 right_whole p go h Target.TooFar = tt
 
@@ -113,6 +133,7 @@ right_before p given go g h (Target.Slot n) = tt
 right_before p given go g h (Target.Whole i) = h i
 right_before p given go g h (Target.Given at k owner e) = g owner e
 right_before p given go g h (Target.Defined at k e) = tt
+right_before p given go g h (Target.Symbol n) = tt
 right_before p given go g h Target.Unknown = tt
 right_before p given go g h Target.TooFar = tt
 

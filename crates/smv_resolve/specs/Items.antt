@@ -15,31 +15,34 @@ use Rattle.smv_resolve.specs.declared.item.ItemKind.TheVariants as item
 use Rattle.smv_resolve.specs.declared.node.Node.{Node}
 use Rattle.smv_scope.specs.Modules.{sections_of}
 use Rattle.smv_scope.specs.Instances.{instances_of}
+use Rattle.smv_resolve.specs.FirstPlaces.{first_place}
 use Rattle.smv_resolve.specs.Resolved.{Resolved, resolved, part_of, is_stuck}
 
--- An item with its expressions resolved: the instance that it stands in, what it is, its place, what it assigns, if it
--- assigns something, and the value that is assigned, asked for or claimed.
+-- An item with its expressions resolved: the instance that it stands in, what it is, its place, where its value begins, what it
+-- assigns, if it assigns something, and the value that is assigned, asked for or claimed.
 pub record ResolvedItem : Type 0 where
   pub at : ℕ
   pub kind : ItemKind
   pub place : Place
+  pub begins : Place
   pub target : Option Resolved
   pub value : Resolved
 
 abbrev pub resolved_assignment : Program → ℕ → Assignment → ResolvedItem
 resolved_assignment p at a =
-    record { at = at; kind = item.Assignment a.kind; place = a.place; target = Some (resolved p at a.target); value = resolved p at a.value }
+    record { at = at; kind = item.Assignment a.kind; place = a.place; begins = first_place a.value; target = Some (resolved p at a.target); value = resolved p at a.value }
 
 abbrev pub resolved_constraint : Program → ℕ → Constraint → ResolvedItem
-resolved_constraint p at c = record { at = at; kind = item.Constraint c.kind; place = c.place; target = None; value = resolved p at c.formula }
+resolved_constraint p at c = record { at = at; kind = item.Constraint c.kind; place = c.place; begins = first_place c.formula; target = None; value = resolved p at c.formula }
 
 abbrev pub resolved_specification : Program → ℕ → Specification → ResolvedItem
-resolved_specification p at s = record { at = at; kind = item.Specification s.kind; place = s.place; target = None; value = resolved p at s.formula }
+resolved_specification p at s = record { at = at; kind = item.Specification s.kind; place = s.place; begins = first_place s.formula; target = None; value = resolved p at s.formula }
 
 -- the items of a section in the instance of this number
 abbrev pub items_in : Program → ℕ → Section → List ResolvedItem
 items_in p at (section.Variables kind vs) = []
 items_in p at (section.Definitions ds) = []
+items_in p at (section.Constants names) = []
 items_in p at (section.Assignments as') = map (resolved_assignment p at) as'
 items_in p at (section.Constraint c) = resolved_constraint p at c ∷ []
 items_in p at (section.Specification s) = resolved_specification p at s ∷ []
@@ -59,7 +62,7 @@ target_by nodes (Some k) = Some (part_of nodes k)
 
 -- an item whose expressions are nodes
 abbrev pub item_by : List Node → Item → ResolvedItem
-item_by nodes x = record { at = x.at; kind = x.kind; place = x.place; target = target_by nodes x.target; value = part_of nodes x.value }
+item_by nodes x = record { at = x.at; kind = x.kind; place = x.place; begins = x.begins; target = target_by nodes x.target; value = part_of nodes x.value }
 
 abbrev pub is_stuck_target : Option Resolved → Bool
 is_stuck_target None = false

@@ -1,5 +1,6 @@
 pub mod Levels
 pub mod Resolved
+pub mod FirstPlaces
 pub mod Finding
 pub mod Pending
 pub mod Items

@@ -7,6 +7,8 @@ use Rattle.smv_tree.specs.declared.tree.Name.{Name}
 use Rattle.smv_tree.specs.declared.tree.Start.{Start}
 use Rattle.smv_tree.specs.declared.tree.Start.TheVariants as start
 use Rattle.smv_value.specs.declared.operator.Operator.{Operator}
+use Rattle.smv_value.specs.declared.value.Value.{Value}
+use Rattle.smv_value.specs.declared.value.Value.TheVariants as value
 use Rattle.smv_tree.specs.declared.tree.Expr.{Expr, Expr-F, fold-Expr}
 use Rattle.smv_resolve.specs.declared.node.Naming.{Naming}
 use Rattle.smv_resolve.specs.declared.node.Naming.TheVariants as naming
@@ -18,7 +20,7 @@ use Rattle.smv_resolve.specs.Levels.{levels_before}
 mutual
   -- An expression without names. Each part keeps the place of the node that it is.
   pub data Resolved : Type 0 where
-    Constant : Place → Bool → Resolved
+    Constant : Place → Value → Resolved
     -- the slot of this number
     Slot : Place → (n : ℕ) → Resolved
     -- the instance of this number, which has no value
@@ -64,6 +66,7 @@ resolved_target below place (Target.Slot n) = Resolved.Slot place n
 resolved_target below place (Target.Whole i) = Resolved.Whole place i
 resolved_target below place (Target.Given at k owner e) = Resolved.Named place naming.Given (below owner e)
 resolved_target below place (Target.Defined at k e) = Resolved.Named place naming.Defined (below at e)
+resolved_target below place (Target.Symbol n) = Resolved.Constant place (value.Sym n)
 resolved_target below place Target.Unknown = Resolved.Stuck
 resolved_target below place Target.TooFar = Resolved.Stuck
 
@@ -83,7 +86,7 @@ resolved_name p follow at name levels = resolved_target (λ owner e. opened (fol
 -- A node in the instance of this number, over its parts. A level is opened by `(`, by `next`, by each operand that stands a
 -- level below, and by each name that is followed, before a dot or behind it, where `follow` resolves what it stands for.
 abbrev pub resolved_node : Program → (ℕ → Expr → Levelled) → ℕ → Expr-F Levelled → Levelled
-resolved_node p follow at (Expr-F.Bool place b) levels = Resolved.Constant place b
+resolved_node p follow at (Expr-F.Constant place v) levels = Resolved.Constant place v
 resolved_node p follow at (Expr-F.Name name) levels = lowered (levels_before p at name) (resolved_name p follow at name) levels
 resolved_node p follow at (Expr-F.Group place e) levels = opened e levels
 resolved_node p follow at (Expr-F.Next place e) levels = Resolved.Next place (opened e levels)
@@ -111,7 +114,7 @@ resolved p at e = levelled p depth_limit at e depth_limit
 -- some part is stuck
 abbrev mutual
   pub is_stuck : Resolved → Bool
-  is_stuck (Resolved.Constant place b) = false
+  is_stuck (Resolved.Constant place v) = false
   is_stuck (Resolved.Slot place n) = false
   is_stuck (Resolved.Whole place i) = false
   is_stuck (Resolved.Named place naming r) = is_stuck r
@@ -134,7 +137,7 @@ last_of count xs = drop (length xs - count) xs
 -- What a node is, where these are the nodes before it. The operands of an operator are the nodes right before it; a link of a
 -- chain names its two.
 abbrev pub resolved_by : List Resolved → Node → Resolved
-resolved_by parts (node.Constant place b) = Resolved.Constant place b
+resolved_by parts (node.Constant place v) = Resolved.Constant place v
 resolved_by parts (node.Slot place n) = Resolved.Slot place n
 resolved_by parts (node.Whole place i) = Resolved.Whole place i
 resolved_by parts (node.Named place naming a) = Resolved.Named place naming (part_at parts a)

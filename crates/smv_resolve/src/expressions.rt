@@ -2,6 +2,7 @@
 
 ghost use Rattle.std.specs.Prelude.{◌≡◌, ℕ, OnOk};
 ghost use Rattle.smv_tree.specs.declared.tree.Expr.{Expr};
+ghost use Rattle.smv_value.specs.declared.value.Value.TheVariants.{Sym};
 ghost use Rattle.smv_resolve.specs.Resolved.{Resolved, operands_of, opened, lowered, levelled, followed, resolved_name, resolved_links, resolved_operands, place_of_start};
 ghost use Rattle.smv_resolve.specs.Levels.{levels_before};
 ghost use Rattle.smv_resolve.specs.Finding.{Grows, AllKnown, Finds, IsKept, IsShared};
@@ -11,7 +12,7 @@ use crate::work::{Found, Halt, Work, keep, push, push_apply, recall};
 use crate::{Naming, Node};
 use smv_scope::{NameTarget, Scope, Shared, name_target};
 use smv_tree::{Expr, Name, Place, Start};
-use smv_value::Operator;
+use smv_value::{Operator, Value};
 
 /// The node of an expression that stands in the instance of this number, where `depth` levels may be opened. Memory is refused
 /// where more than `room` nodes stand one in another, as the stack would not hold the way to them.
@@ -34,7 +35,7 @@ pub fn find(
     }
     let room = room - 1;
     match e {
-        Expr::Bool(place, value) => find_constant(scope, work, depth, *place, *value),
+        Expr::Constant(place, value) => find_constant(scope, work, depth, *place, *value),
         Expr::Name(name) => find_name(scope, work, room, depth, at, name),
         Expr::Group(_, inner) => find_below(scope, work, room, depth, at, inner.get()),
         Expr::Next(place, a) => find_next(scope, work, room, depth, at, *place, a.get()),
@@ -86,7 +87,7 @@ fn find_constant(
     work: &mut Work,
     _depth: usize,
     place: Place,
-    value: bool,
+    value: Value,
 ) -> Result<Found, Halt>
     requires { AllKnown _scope.now.program work.old }
     ensures known { OnOk result (AllKnown _scope.now.program work.new) }
@@ -111,6 +112,25 @@ fn find_slot(
 {
     let node = push(work, Node::Slot(place, n))?;
     Ok(Found { node, height: 0 })
+}
+
+// A symbol is a constant. Memory is refused where there are more symbols than a value can tell apart.
+fn find_symbol(
+    scope: &Scope,
+    work: &mut Work,
+    depth: usize,
+    place: Place,
+    n: usize,
+) -> Result<Found, Halt>
+    requires { AllKnown scope.now.program work.old }
+    ensures known { OnOk result (AllKnown scope.now.program work.new) }
+    ensures grows { OnOk result (Grows work.old.nodes work.new.nodes) }
+    ensures finds { Finds work.new.nodes depth (λ names d. Resolved.Constant place (Sym n)) result }
+{
+    if n > u32::MAX as usize {
+        return Err(Halt::NoMemory);
+    }
+    find_constant(scope, work, depth, place, Value::Sym(n as u32))
 }
 
 fn find_whole(
@@ -287,6 +307,7 @@ fn find_target(
             let naming = Naming::Defined;
             find_named(scope, work, room, depth, place, naming, shared, of, body)
         }
+        NameTarget::Symbol(n) => find_symbol(scope, work, depth, place, n),
         NameTarget::Unknown | NameTarget::TooFar => Err(Halt::Stuck),
     }
 }

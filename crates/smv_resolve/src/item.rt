@@ -17,6 +17,8 @@ pub struct Item {
     pub at: usize,
     pub kind: ItemKind,
     pub place: Place,
+    /// Where the value begins that is assigned, asked for or claimed: the place of its first token.
+    pub begins: Place,
     /// The node of what is assigned, if something is.
     pub target: Option<usize>,
     /// The node of the value that is assigned, asked for or claimed.

@@ -4,6 +4,7 @@
 
 mod dots;
 mod expressions;
+mod first_places;
 mod item;
 mod listing;
 mod node;
@@ -12,6 +13,7 @@ mod resolve;
 mod tables;
 mod work;
 
+pub use first_places::first_place;
 pub use item::{Item, ItemKind};
 pub use node::{Naming, Node};
 pub use resolve::{Resolution, ResolveStop, Single, resolve_expression, resolve_items};

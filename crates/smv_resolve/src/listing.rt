@@ -8,6 +8,7 @@ ghost use Rattle.smv_resolve.specs.Items.{resolved_assignment, resolved_constrai
 ghost use Rattle.smv_resolve.specs.Listing.{FindsRoot, AllStand, Adds};
 
 use crate::expressions::find;
+use crate::first_places::first_place;
 use crate::pending::find_named;
 use crate::work::{Halt, Work};
 use crate::{Item, ItemKind, ResolveStop};
@@ -114,7 +115,7 @@ fn add_section(
     ensures adds { Adds work.old.nodes work.new.nodes items.old items.new (items_in scope.now.program at section.now) result }
 {
     match section {
-        Section::Variables(..) | Section::Definitions(_) => {
+        Section::Variables(..) | Section::Definitions(_) | Section::Constants(_) => {
             add_assignments(scope, work, items, at, &[])
         }
         Section::Assignments(list) => add_assignments(scope, work, items, at, list.as_slice()),
@@ -161,6 +162,7 @@ fn add_assignment(
         at,
         kind: ItemKind::Assignment(a.kind),
         place: a.place,
+        begins: first_place(&a.value),
         target: Some(target),
         value,
     };
@@ -186,6 +188,7 @@ fn add_constraint(
         at,
         kind: ItemKind::Constraint(c.kind),
         place: c.place,
+        begins: first_place(&c.formula),
         target: None,
         value,
     };
@@ -211,6 +214,7 @@ fn add_specification(
         at,
         kind: ItemKind::Specification(s.kind),
         place: s.place,
+        begins: first_place(&s.formula),
         target: None,
         value,
     };

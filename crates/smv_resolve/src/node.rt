@@ -1,7 +1,7 @@
 //! Expressions without names, as lists of nodes.
 
 use smv_tree::Place;
-use smv_value::Operator;
+use smv_value::{Operator, Value};
 
 /// How a name stands for an expression.
 #[derive(Clone, Copy, Debug, PartialEq, Eq)]
@@ -16,7 +16,7 @@ pub enum Naming {
 /// several expressions name stands there once.
 #[derive(Clone, Copy, Debug)]
 pub enum Node {
-    Constant(Place, bool),
+    Constant(Place, Value),
     /// The slot of this number.
     Slot(Place, usize),
     /// The instance of this number.

@@ -128,6 +128,7 @@ fn push_name<'a>(
     match name_target(scope, at, name) {
         NameTarget::Slot(_) => Ok(true),
         NameTarget::Whole(_) => Ok(true),
+        NameTarget::Symbol(_) => Ok(true),
         NameTarget::Given {
             at: of,
             parameter,

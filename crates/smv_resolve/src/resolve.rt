@@ -4,7 +4,7 @@ ghost use Rattle.std.specs.Prelude.{◌≡◌};
 ghost use Rattle.smv_resolve.specs.Answers.{ResolvesItems, ResolvesOne};
 ghost use Rattle.smv_resolve.specs.declared.resolve.ResolveStop.TheVariants.{NoMemory};
 
-use crate::expressions::place_of_start;
+use crate::first_places::first_place;
 use crate::listing::{add_instances, find_root};
 use crate::work::no_work;
 use crate::{Item, Node};
@@ -59,7 +59,7 @@ pub fn resolve_items(alloc: Global, scope: &Scope) -> Result<Resolution, Resolve
     })
 }
 
-/// An expression that stands in the instance of this number. Stuck names its own place.
+/// An expression that stands in the instance of this number. Stuck names the place of its first token.
 pub fn resolve_expression(
     alloc: Global,
     scope: &Scope,
@@ -69,21 +69,9 @@ pub fn resolve_expression(
     ensures { ResolvesOne scope.now.program at e.now result }
 {
     let mut work = no_work(alloc);
-    let root = find_root(scope, &mut work, at, e, place_of(e))?;
+    let root = find_root(scope, &mut work, at, e, first_place(e))?;
     Ok(Single {
         nodes: work.nodes,
         root,
     })
-}
-
-// The place of an expression; that of a chain is where its first operand stands.
-fn place_of(e: &Expr) -> Place {
-    match e {
-        Expr::Bool(place, _)
-        | Expr::Group(place, _)
-        | Expr::Next(place, _)
-        | Expr::Apply(place, _, _, _) => *place,
-        Expr::Name(name) => place_of_start(&name.start),
-        Expr::Chain(first, _) => place_of(first.get()),
-    }
 }

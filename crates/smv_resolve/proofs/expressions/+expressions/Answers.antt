@@ -1,6 +1,7 @@
 use Rattle.std.proofs.Common.{ℕ, arith, rules, sym, ap, ◌∙◌}
 use Rattle.std.proofs.lemmas.Result.{err_from_is_err_and}
 use Rattle.smv_tree.specs.declared.tree.Expr.{Expr}
+use Rattle.smv_value.specs.declared.value.Value.TheVariants as value
 use Rattle.smv_scope.specs.Lookup.{name_target}
 use Rattle.smv_resolve.specs.Resolved.{Resolved, Levelled, opened, followed, levelled, resolved_name, resolved_target, place_of_start}
 use Rattle.smv_resolve.proofs.Growing.{Grows-self, Grows-two}
@@ -9,10 +10,10 @@ use Rattle.smv_resolve.proofs.Levels.{finds_along, none_opened, found_opened, ha
 use Rattle.smv_resolve.proofs.Sharing.{shared_given, shared_defined}
 use Rattle.smv_resolve.proofs.expressions.+expressions.Goals as goal
 
-pub find-returns-in-Bool-clause-finds : goal.find-returns-in-Bool-clause-finds
-find-returns-in-Bool-clause-finds t c =
+pub find-returns-in-Constant-clause-finds : goal.find-returns-in-Constant-clause-finds
+find-returns-in-Constant-clause-finds t c =
     finds_along c.find_constant.new.work.nodes c.args.depth _ (λ n. levelled c.args.scope.now.program n c.args.at c.args.e.now) c.find_constant.result
-    (λ n d. ap (λ e. levelled c.args.scope.now.program n c.args.at e d) c.in-Bool.is ∙ levelled-constant c.args.scope.now.program c.args.at n d _ _)
+    (λ n d. ap (λ e. levelled c.args.scope.now.program n c.args.at e d) c.in-Constant.is ∙ levelled-constant c.args.scope.now.program c.args.at n d _ _)
     c.find_constant.ensures.finds
 
 pub find-returns-in-Name-clause-finds : goal.find-returns-in-Name-clause-finds
@@ -51,6 +52,13 @@ find_target-returns-in-Slot-clause-finds t c =
     (λ k d. resolved_target (λ owner e. opened (followed c.args.scope.now.program k owner e) d) (place_of_start c.args.name.now.start) (name_target c.args.scope.now.program c.args.at c.args.name.now)) c.find_slot.result
     (λ k d. ap (resolved_target (λ owner e. opened (followed c.args.scope.now.program k owner e) d) (place_of_start c.args.name.now.start)) (sym c.in-Slot.ensures) ∙ ap (λ place. Resolved.Slot place c.in-Slot.n) (sym c.place_of_start-place.ensures))
     c.find_slot.ensures.finds
+
+pub find_target-returns-in-Symbol-clause-finds : goal.find_target-returns-in-Symbol-clause-finds
+find_target-returns-in-Symbol-clause-finds t c =
+    finds_along c.find_symbol.new.work.nodes c.args.depth _
+    (λ k d. resolved_target (λ owner e. opened (followed c.args.scope.now.program k owner e) d) (place_of_start c.args.name.now.start) (name_target c.args.scope.now.program c.args.at c.args.name.now)) c.find_symbol.result
+    (λ k d. ap (resolved_target (λ owner e. opened (followed c.args.scope.now.program k owner e) d) (place_of_start c.args.name.now.start)) (sym c.in-Symbol.ensures) ∙ ap (λ place. Resolved.Constant place (value.Sym c.in-Symbol.n)) (sym c.place_of_start-place.ensures))
+    c.find_symbol.ensures.finds
 
 pub find_target-returns-in-Whole-clause-finds : goal.find_target-returns-in-Whole-clause-finds
 find_target-returns-in-Whole-clause-finds t c =

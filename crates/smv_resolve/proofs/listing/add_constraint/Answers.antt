@@ -1,4 +1,5 @@
 use Rattle.smv_resolve.specs.declared.item.ItemKind.TheVariants as item
+use Rattle.smv_resolve.specs.FirstPlaces.{first_place}
 use Rattle.smv_resolve.proofs.Adding.{stand_more, added_plain}
 use Rattle.smv_resolve.proofs.listing.add_constraint.Goals as goal
 
@@ -9,5 +10,6 @@ returns-clause-stand c =
 
 pub returns-clause-adds : goal.returns-clause-adds
 returns-clause-adds c =
-    added_plain c.args.scope.now.program c.args.at (item.Constraint c.args.c.now.kind) c.args.c.now.place c.args.c.now.formula c.args.work.now.nodes c.find_root.new.work.nodes
-    c.args.items.now c.push.new.self c.in_ok-value.value c.in_ok-value.ensures.grows c.requires.stand c.in_ok-value.ensures.finds c.in_ok-push.ensures.ok
+    added_plain c.args.scope.now.program c.args.at (item.Constraint c.args.c.now.kind) c.args.c.now.place (first_place c.args.c.now.formula) c.args.c.now.formula c.args.work.now.nodes c.find_root.new.work.nodes
+    c.args.items.now c.push.new.self c.in_ok-value.value c.in_ok-value.ensures.grows c.requires.stand c.in_ok-value.ensures.finds
+    (rw (← c.first_place.ensures) c.in_ok-push.ensures.ok)
