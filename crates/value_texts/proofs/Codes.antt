@@ -1,5 +1,5 @@
 -- The value of a type that is told so is the only one.
-use Rattle.std.proofs.Common.{◌≡◌, ℕ, zero, suc, ◌+◌, ◌<◌, Bool, true, false, List, length, get_or, Option, None, Some, position, bytes_eq, refl, sym, ap, subst, ◌∙◌, arith}
+use Rattle.std.proofs.Common.{◌≡◌, ℕ, zero, suc, ◌+◌, ◌<◌, Bool, true, false, List, length, get_or, Option, None, Some, Result, Ok, Err, IfOk, position, bytes_eq, refl, sym, ap, subst, ◌∙◌, arith}
 use Rattle.std.specs.List.{list_any, position_or_len, range_with_len}
 use Rattle.std.proofs.lemmas.List.Folds.{list_any_at}
 use Rattle.std.proofs.lemmas.List.FromFn.{get_or-range_with_len, length-range_with_len}
@@ -14,6 +14,21 @@ use Rattle.value_types.proofs.Elements.{position_found}
 use Rattle.value_texts.specs.Told.{told_text}
 use Rattle.value_texts.specs.Read.{IsRead, IsReading, is_told, value_of_code, value_read}
 use Rattle.value_texts.proofs.Apart.{told_once}
+
+module _ (names : List (List ℕ)) (t : ValueType) where
+  told_by : (text : List ℕ) (v : Value) (o : Option ℕ) → position (λ (c : ℕ). is_told names text (value_at t c)) (range_with_len 0 (count t)) ≡ o → value_of_code t o ≡ Some v → told_text names v ≡ text
+  told_by text v None is e = absurd (let never : ⊥ = cc in never)
+  told_by text v (Some k) is e =
+      let all = range_with_len 0 (count t) in
+      let parts = position-Some (λ (c : ℕ). is_told names text (value_at t c)) all k 0 is in
+      let within : k < count t = let long = length-range_with_len 0 (count t) in omega (arith, parts.0, long) in
+      let here : get_or all k 0 ≡ k = get_or-range_with_len 0 (count t) k 0 within ∙ (let z : 0 + k ≡ k = omega arith in z) in
+      (bytes_eq-Decides (told_text names v) text).0 (ap (is_told names text) (sym e) ∙ ap (λ (c : ℕ). is_told names text (value_at t c)) (sym here) ∙ parts.1)
+
+  -- what is read is told so, also of what is no type
+  pub read_told : (text : List ℕ) (v : Value) → value_read names t text ≡ Some v → told_text names v ≡ text
+  unfolding value_read
+  read_told text v e = told_by text v (position (λ (c : ℕ). is_told names text (value_at t c)) (range_with_len 0 (count t))) refl e
 
 module _ (names : List (List ℕ)) (t : ValueType) (typed : is_type t ≡ true) where
   abbrev all : List ℕ
@@ -78,3 +93,8 @@ module _ (names : List (List ℕ)) (t : ValueType) (typed : is_type t ≡ true) 
   pub read_is : (text : List ℕ) (o : Option Value) → IsRead names t text o → o ≡ value_read names t text
   read_is text None h = none_read text h (value_read names t text) refl
   read_is text (Some v) h = sym (subst (λ (s : List ℕ). value_read names t s ≡ Some v) h.1 (read_back v h.0))
+
+  -- the same of what a call gives
+  pub all_read : {E : Type 0} (text : List ℕ) (r : Result (Option Value) E) → IfOk r (IsRead names t text) → IfOk r (λ o. o ≡ value_read names t text)
+  all_read text (Ok o) h = read_is text o h
+  all_read text (Err e) h = h

@@ -20,8 +20,8 @@ value_at (e ∷ es) zero d h lt = (and_parts (is_value (element_value e)) (list_
 value_at (e ∷ es) (suc i) d h lt = value_at es i d (and_parts (is_value (element_value e)) (list_all (λ (x : Element). is_value (element_value x)) es) h).1 (omega (arith, lt))
 
 -- the element of an index is a value
-pub element_typed : (es : List Element) (i : ℕ) (e : Element) → is_type (type.Enumeration es) ≡ true → i < length es → e ≡ get_or es i e → is_value (element_value e) ≡ true
-element_typed es i e typed lt is = ap (λ (x : Element). is_value (element_value x)) is ∙ value_at es i e (and_parts (is_distinct es) (list_all (λ (x : Element). is_value (element_value x)) es) typed).1 lt
+pub element_typed : (es : List Element) (i : ℕ) (d : Element) → is_type (type.Enumeration es) ≡ true → i < length es → is_value (element_value (get_or es i d)) ≡ true
+element_typed es i d typed lt = value_at es i d (and_parts (is_distinct es) (list_all (λ (x : Element). is_value (element_value x)) es) typed).1 lt
 
 or_true : (a b : Bool) → b ≡ true → (a || b) ≡ true
 or_true true b h = refl
@@ -29,12 +29,10 @@ or_true false b h = h
 
 module _ (names : List (List ℕ)) (text : List ℕ) where
   -- one element more is not told so
-  pub one_more : (es : List Element) (i : ℕ) (e : Element) → i < length es → e ≡ get_or es i e → list_any (is_element_told names text) (take i es) ≡ false → is_element_told names text e ≡ false
+  pub one_more : (es : List Element) (i : ℕ) (d : Element) → i < length es → list_any (is_element_told names text) (take i es) ≡ false → is_element_told names text (get_or es i d) ≡ false
       → list_any (is_element_told names text) (take (i + 1) es) ≡ false
-  one_more es i e lt is before here =
-      list_any_more (is_element_told names text) es i e lt
-      ∙ ap (λ b. b || is_element_told names text (get_or es i e)) before
-      ∙ ap (is_element_told names text) (sym is) ∙ here
+  one_more es i d lt before here =
+      list_any_more (is_element_told names text) es i d lt ∙ ap (λ b. b || is_element_told names text (get_or es i d)) before ∙ here
 
   told_among : (es : List Element) (v : Value) → list_any (is_element v) es ≡ true → told_text names v ≡ text → list_any (is_element_told names text) es ≡ true
   told_among [] v h e = absurd (let never : ⊥ = cc in never)
@@ -52,8 +50,7 @@ module _ (names : List (List ℕ)) (text : List ℕ) where
   none_told es none v h e = let some = told_among es v h e in let never : ⊥ = cc in never
 
   -- this element is
-  pub element_told : (es : List Element) (i : ℕ) (e : Element) → i < length es → e ≡ get_or es i e → is_element_told names text e ≡ true → IsRead names (type.Enumeration es) text (Some (element_value e))
-  element_told es i e lt is told = (
-    list_any_at (is_element (element_value e)) es i e lt (ap (is_element (element_value e)) (sym is) ∙ element_same e),
-    (bytes_eq-Decides (told_text names (element_value e)) text).0 told,
-  )
+  pub element_told : (es : List Element) (i : ℕ) (d : Element) → i < length es → is_element_told names text (get_or es i d) ≡ true → IsRead names (type.Enumeration es) text (Some (element_value (get_or es i d)))
+  element_told es i d lt told =
+      let e = get_or es i d in
+      (list_any_at (is_element (element_value e)) es i d lt (element_same e), (bytes_eq-Decides (told_text names (element_value e)) text).0 told)

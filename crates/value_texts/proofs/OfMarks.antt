@@ -6,10 +6,10 @@ use Rattle.std.proofs.lemmas.Bool.{and_from, and_parts, eq-eqb, eqb-true}
 use Rattle.std.proofs.lemmas.Bool.Decides.{same_from_decides}
 use Rattle.std.proofs.lemmas.Slice.Eq.{bytes_eq-Decides}
 
-abbrev all_marks : List ℕ → Bool
+abbrev pub all_marks : List ℕ → Bool
 all_marks text = list_all (λ b. eqb b 36) text
 
-abbrev marks : ℕ → List ℕ
+abbrev pub marks : ℕ → List ℕ
 marks n = replicate n 36
 
 are_marks : (text : List ℕ) → all_marks text ≡ true → marks (length text) ≡ text

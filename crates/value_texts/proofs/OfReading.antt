@@ -2,12 +2,14 @@
 use Rattle.std.proofs.Common.{◌≡◌, ◌≢◌, inl, inr, ℕ, ◌<◌, ◌^◌, Bool, true, false, not, List, [], ◌∷◌, ◌++◌, Option, None, Some, Result, Ok, bytes_eq, codes, refl, sym, ap, subst, ◌∙◌, arith, ℤ, pos, negsuc}
 use Rattle.std.specs.Fmt.{decimal, signed_decimal}
 use Rattle.std.specs.Prelude.{int_le}
-use Rattle.std.specs.Int.{int_eq}
 use Rattle.std.specs.Str.Parse.{ParsesSigned, ParsesUnsigned}
-use Rattle.std.proofs.lemmas.Bool.{and_parts, cases_Bool}
-use Rattle.std.proofs.lemmas.Bool.Decides.{Decides-int_eq, nat_tests, same_from_decides}
+use Rattle.std.proofs.lemmas.Bool.{and_parts, cases_Bool, eq-eqb, eqb-true}
+use Rattle.std.proofs.lemmas.Bool.Decides.{nat_tests, same_from_decides}
 use Rattle.std.specs.Int.RustNames.{FitsSigned}
 use mir.Syntax.{w32}
+use mir.Val.{SFits, of_z, to_z}
+use lib.Dec.{eqb}
+use Rattle.std.proofs.lemmas.Int.{to_z-of_z}
 use lib.Signed.{mag}
 use Rattle.std.proofs.lemmas.Fmt.{parse-decimal_wide, parse-signed_decimal}
 use Rattle.std.proofs.lemmas.Slice.Eq.{bytes_eq-Decides}
@@ -78,13 +80,26 @@ no_word names s w bits digits read not_one v h told =
     let never : ⊥ = cc in never
 
 -- an integer's text is that of another one only where they are one
-pub int_text : (k z : ℤ) (text : List ℕ) → IsIntRead text (Some k) → is_int z ≡ true → int_eq k z ≡ bytes_eq (signed_decimal z) text
-int_text k z text read h = same_from_decides (int_eq k z) (bytes_eq (signed_decimal z) text)
-    (λ e. ap signed_decimal (sym ((Decides-int_eq k z).0 e)) ∙ read.1, λ e. (Decides-int_eq k z).1 (int_once k z read.0 h (read.1 ∙ sym e)))
+pub int_text : (k z : ℤ) (text : List ℕ) → IsIntRead text (Some k) → SFits w32 z → eqb (of_z w32 k) (of_z w32 z) ≡ bytes_eq (signed_decimal z) text
+int_text k z text read small_z = same_from_decides (eqb (of_z w32 k) (of_z w32 z)) (bytes_eq (signed_decimal z) text)
+    (
+      λ e.
+        let bits : of_z w32 k ≡ of_z w32 z = eqb-true (of_z w32 k) (of_z w32 z) e in
+        let same : k ≡ z = sym (to_z-of_z w32 k (fits k read.0)) ∙ ap (to_z w32) bits ∙ to_z-of_z w32 z small_z in
+        ap signed_decimal (sym same) ∙ read.1,
+      λ e. eq-eqb (of_z w32 k) (of_z w32 z) (ap (of_z w32) (int_once k z read.0 (int_of z small_z) (read.1 ∙ sym e))),
+    )
     (bytes_eq-Decides (signed_decimal z) text)
 
-pub no_int_text : (z : ℤ) (text : List ℕ) → IsIntRead text None → is_int z ≡ true → false ≡ bytes_eq (signed_decimal z) text
-no_int_text z text read h = elim (cases_Bool (bytes_eq (signed_decimal z) text)) [
-  | inl yes ↦ absurd (read z h ((bytes_eq-Decides (signed_decimal z) text).0 yes))
-  | inr differ ↦ sym differ
-]
+-- an integer of 32 bits that crosses a call
+abbrev pub passed : ℤ → ℤ
+passed z = to_z w32 (of_z w32 z)
+
+pub between_passed : (low high z : ℤ) → SFits w32 low → SFits w32 high → SFits w32 z → is_between (passed low) (passed high) (value.Int (passed z)) ≡ is_between low high (value.Int z)
+between_passed low high z a b c =
+    ap (λ (x : ℤ). is_between x (passed high) (value.Int (passed z))) (to_z-of_z w32 low a)
+    ∙ ap (λ (x : ℤ). is_between low x (value.Int (passed z))) (to_z-of_z w32 high b)
+    ∙ ap (λ (x : ℤ). is_between low high (value.Int x)) (to_z-of_z w32 z c)
+
+pub range_passed : (low high : ℤ) → SFits w32 low → SFits w32 high → type.Range (passed low) (passed high) ≡ type.Range low high
+range_passed low high a b = ap (λ (x : ℤ). type.Range x (passed high)) (to_z-of_z w32 low a) ∙ ap (type.Range low) (to_z-of_z w32 high b)
