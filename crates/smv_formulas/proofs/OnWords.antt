@@ -9,7 +9,8 @@ use Rattle.smv_scope.specs.Slots.{slots_of}
 use Rattle.smv_resolve.specs.Resolved.{Resolved, part_at}
 use Rattle.smv_meaning.specs.Lassos.{Lasso, Holds, place_at}
 use Rattle.smv_meaning.specs.Runs.{at_time}
-use Rattle.smv_meaning.specs.Values.{one, outcome}
+use Rattle.smv_meaning.specs.Outcomes.{one}
+use Rattle.smv_meaning.specs.Values.{outcome}
 use Rattle.ltl_meaning.specs.declared.word.Word.{Word}
 use Rattle.ltl_meaning.specs.Lasso.{on, place}
 use Rattle.ltl_meaning.specs.Temporal.{Temporal}

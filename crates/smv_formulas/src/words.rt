@@ -9,8 +9,7 @@ ghost use Rattle.smv_formulas.specs.Says.{atom_parts};
 ghost use Rattle.smv_formulas.specs.Words.{IsWordOf, truths_at};
 
 use ltl_meaning::word::{AtomSet, Word};
-use smv_meaning::{Inputs, Outcome, State, Typed, outcomes, slots};
-use smv_value::Value;
+use smv_meaning::{Inputs, Outcome, State, Typed, outcome_at, outcomes, slots};
 use sqlite_items::Items;
 use std::alloc::{AllocError, Global};
 
@@ -70,8 +69,11 @@ fn atoms_at(
 fn is_true_at(outcomes: &[Outcome], k: usize) -> bool
     ensures { result ≡ is_true (outcome_at outcomes.now k) }
 {
-    match outcomes.get(k) {
-        Some(Outcome::Values(Some(Value::Bool(b)))) => *b,
-        _ => false,
+    match outcome_at(outcomes, k) {
+        None => false,
+        Some(outcome) => match outcome.truth() {
+            Some(b) => b,
+            None => false,
+        },
     }
 }

@@ -3,9 +3,9 @@ use Rattle.std.proofs.Common.{Bool, true, false, Option, None, Some, ◌≡◌, 
 use Rattle.std.proofs.lemmas.List.{drop_more, get_or_default}
 use Rattle.smv_tree.specs.declared.place.Place.{Place}
 use Rattle.smv_value.specs.declared.value.FaultRule.TheVariants as fault
-use Rattle.smv_meaning.specs.declared.value.Outcome.{Outcome}
-use Rattle.smv_meaning.specs.declared.value.Outcome.TheVariants.{Fault}
-use Rattle.smv_meaning.specs.Values.{choice, failed, taken, truth}
+use Rattle.smv_meaning.specs.declared.outcome.Outcome.{Outcome}
+use Rattle.smv_meaning.specs.declared.outcome.Outcome.TheVariants.{Fault}
+use Rattle.smv_meaning.specs.Outcomes.{choice, failed, taken, truth}
 
 two_more : (xs : List Outcome) (i : ℕ) (d : Outcome) → i + 1 < length xs → drop i xs ≡ get_or xs i d ∷ get_or xs (i + 1) d ∷ drop (i + 2) xs
 two_more xs i d l =

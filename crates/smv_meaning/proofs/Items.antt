@@ -8,7 +8,7 @@ use Rattle.smv_resolve.specs.declared.node.Node.{Node}
 use Rattle.smv_scope.specs.declared.slot.Slot.{Slot}
 use Rattle.smv_resolve.specs.Items.{ResolvedItem, item_by, target_by}
 use Rattle.smv_resolve.specs.Resolved.{parts_of, part_of}
-use Rattle.smv_meaning.specs.declared.value.Outcome.{Outcome}
+use Rattle.smv_meaning.specs.declared.outcome.Outcome.{Outcome}
 use Rattle.smv_meaning.specs.Runs.{allows_first, allows_always, allows_step, asks_first, asks_always, asks_step, is_claim, outcome_of_target}
 use Rattle.smv_meaning.specs.Tables.{always_allowed, first_allowed, outcome_at, outcomes_of, step_allowed, target_at}
 use Rattle.smv_meaning.specs.Values.{outcome}

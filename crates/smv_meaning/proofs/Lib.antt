@@ -3,3 +3,4 @@ pub mod Items
 pub mod Choosing
 pub mod Operating
 pub mod Turns
+pub mod FaultTables

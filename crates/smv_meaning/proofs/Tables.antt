@@ -1,5 +1,5 @@
 -- The outcome of one node more.
-use Rattle.std.proofs.Common.{◌≡◌, ◌∙◌, ℕ, ◌+◌, ◌<◌, ◌≤◌, List, [], ◌∷◌, ◌++◌, map, take, length, get_or, refl, sym, ap}
+use Rattle.std.proofs.Common.{◌≡◌, ◌∙◌, ℕ, zero, suc, ◌+◌, ◌<◌, ◌≤◌, List, [], ◌∷◌, ◌++◌, map, take, length, get_or, slice_get, refl, sym, ap}
 use Rattle.std.proofs.Math.ListN.{get_or-map}
 use Rattle.std.proofs.lemmas.List.{map-append, take-map, take_more}
 use Rattle.smv_value.specs.declared.value.Value.{Value}
@@ -8,18 +8,25 @@ use Rattle.smv_resolve.specs.declared.node.Node.TheVariants as node
 use Rattle.smv_scope.specs.declared.slot.Slot.{Slot}
 use Rattle.smv_resolve.specs.Resolved.{Resolved, operands_of, last_of, parts_of, part_at, resolved_by}
 use Rattle.smv_resolve.proofs.Parts.{last_of-map, parts_of-push, parts_of-take}
-use Rattle.smv_meaning.specs.declared.value.Outcome.{Outcome}
-use Rattle.smv_meaning.specs.Tables.{outcome_at, outcome_by, outcomes_of}
-use Rattle.smv_meaning.specs.Values.{applied, outcome, outcomes}
+use Rattle.smv_meaning.specs.declared.outcome.Outcome.{Outcome}
+use Rattle.smv_meaning.specs.declared.outcome.Outcome.TheVariants.{Nothing}
+use Rattle.smv_meaning.specs.Tables.{outcome_at, outcome_by, outcomes_of, seen}
+use Rattle.smv_meaning.specs.Outcomes.{applied}
+use Rattle.smv_meaning.specs.Values.{outcome, outcomes}
 
 outcomes-map : (slots : List Slot) (s u t : List Value) (rs : List Resolved) → outcomes slots s u t (operands_of rs) ≡ map (outcome slots s u t) rs
 outcomes-map slots s u t [] = refl
 outcomes-map slots s u t (r ∷ rs) = ap (λ (os : List Outcome). outcome slots s u t r ∷ os) (outcomes-map slots s u t rs)
 
+seen_or : (os : List Outcome) (k : ℕ) → seen (slice_get os k) ≡ get_or os k Nothing
+seen_or [] k = refl
+seen_or (o ∷ os) zero = refl
+seen_or (o ∷ os) (suc k) = seen_or os k
+
 module _ (slots : List Slot) (s u t : List Value) where
   -- the outcome of a part stands at its number
   pub outcome_at-map : (parts : List Resolved) (k : ℕ) → outcome_at (map (outcome slots s u t) parts) k ≡ outcome slots s u t (part_at parts k)
-  outcome_at-map parts k = get_or-map (outcome slots s u t) parts k Resolved.Stuck
+  outcome_at-map parts k = seen_or (map (outcome slots s u t) parts) k ∙ get_or-map (outcome slots s u t) parts k Resolved.Stuck
 
 module _ (slots : List Slot) (s u t : List Value) (parts : List Resolved) where
   abbrev here : List Outcome

@@ -7,7 +7,7 @@ use Rattle.smv_resolve.specs.declared.resolve.ResolveStop.{ResolveStop}
 use Rattle.smv_resolve.specs.declared.resolve.ResolveStop.TheVariants as stop
 use Rattle.smv_resolve.specs.Resolved.{resolved, is_stuck}
 use Rattle.smv_scope.specs.Slots.{slots_of}
-use Rattle.smv_meaning.specs.declared.value.Outcome.{Outcome}
+use Rattle.smv_meaning.specs.declared.outcome.Outcome.{Outcome}
 use Rattle.smv_meaning.specs.Values.{outcome}
 
 -- the outcome of the expression in the instance of this number, in the state s with the inputs u and the next state t; or

@@ -22,7 +22,8 @@ use Rattle.ltl_meaning.specs.declared.node.BinaryOperator.{BinaryOperator}
 use Rattle.ltl_meaning.specs.Truth.{Moment, FinallyWithin, GloballyWithin, OnceWithin, HistoricallyWithin, unary_truth, binary_truth}
 use Rattle.smv_meaning.specs.Formulas.{is_temporal, has_some_temporal}
 use Rattle.smv_meaning.specs.Runs.{IsFirstState, IsStep, at_time}
-use Rattle.smv_meaning.specs.Values.{one, outcome, outcome_in}
+use Rattle.smv_meaning.specs.Outcomes.{one}
+use Rattle.smv_meaning.specs.Values.{outcome, outcome_in}
 
 -- states, with the inputs of the step from each, the last of which goes on to the state at `start`
 pub record Lasso : Type 0 where

@@ -1,7 +1,9 @@
+pub mod Outcomes
 pub mod Values
+pub mod Formulas
 pub mod Runs
+pub mod Faults
 pub mod Tables
 pub mod Answers
 pub mod Paths
-pub mod Formulas
 pub mod Lassos

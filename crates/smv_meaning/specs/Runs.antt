@@ -1,6 +1,6 @@
 -- States, first states, steps and runs of a program, and what breaks an invariant (NuSMV 2.6 User Manual, 2.3, 2.4.2).
-use Rattle.std.specs.Prelude.{◌≡◌, ℕ, ◌+◌, ◌<◌, Bool, true, false, not, ◌&&◌, ◌||◌, ◌==◌, List, [], length, filter, Option, None, Some, IsTrue, slice_index_or, unwrap_or}
-use Rattle.std.specs.List.{list_all, zip}
+use Rattle.std.specs.Prelude.{◌≡◌, ℕ, ◌+◌, ◌<◌, Bool, true, false, not, ◌&&◌, ◌||◌, ◌==◌, List, [], length, filter, Option, None, Some, IsTrue, slice_get, slice_index_or, unwrap_or, if◌then◌else◌}
+use Rattle.std.specs.List.{list_all, list_any, zip}
 use Rattle.std.specs.Option.{is_some}
 use Rattle.smv_tree.specs.declared.tree.Program.{Program}
 use Rattle.smv_tree.specs.declared.tree.AssignmentKind.TheVariants as side
@@ -14,20 +14,22 @@ use Rattle.smv_value.specs.Results.{same}
 use Rattle.smv_resolve.specs.declared.item.ItemKind.{ItemKind}
 use Rattle.smv_resolve.specs.declared.item.ItemKind.TheVariants as item
 use Rattle.smv_scope.specs.declared.slot.Slot.{Slot}
-use Rattle.smv_scope.specs.declared.slot.ValueType.{ValueType}
-use Rattle.smv_scope.specs.declared.slot.ValueType.TheVariants.{Boolean}
 use Rattle.smv_resolve.specs.Items.{ResolvedItem, items_of}
 use Rattle.smv_resolve.specs.Resolved.{Resolved}
 use Rattle.smv_scope.specs.Slots.{slots_of, is_input}
-use Rattle.smv_meaning.specs.declared.value.Outcome.{Outcome}
-use Rattle.smv_meaning.specs.declared.value.Outcome.TheVariants.{Values}
-use Rattle.smv_meaning.specs.Formulas.{is_known_formula}
-use Rattle.smv_meaning.specs.Values.{nothing, one, outcome, outcome_in, truth}
+use Rattle.smv_declared.specs.Types.{types_of}
+use Rattle.value_types.specs.declared.value_type.ValueType.{ValueType}
+use Rattle.value_types.specs.Types.{is_of_type}
+use Rattle.smv_meaning.specs.declared.outcome.Outcome.{Outcome}
+use Rattle.smv_meaning.specs.declared.outcome.Outcome.TheVariants.{Fault, Nothing, Values}
+use Rattle.smv_meaning.specs.Formulas.{is_known, is_known_formula}
+use Rattle.smv_meaning.specs.Outcomes.{one, truth, value_in}
+use Rattle.smv_meaning.specs.Values.{outcome, outcome_in}
 
--- the value is one of the type's (manual 2.1, Types Overview)
-abbrev pub in_type : Value → ValueType → Bool
-in_type (value.Bool b) Boolean = true
-in_type v declared = false
+-- the value is one of the type's, if there is a type (manual 2.1, Types Overview)
+abbrev pub in_type : Option ValueType → Value → Bool
+in_type (Some t) v = is_of_type v t
+in_type None v = false
 
 -- the slots of a state, and the input slots
 abbrev pub state_slots : List Slot → List Slot
@@ -36,21 +38,26 @@ state_slots slots = filter (λ (slot : Slot). not (is_input slot.kind)) slots
 abbrev pub input_slots : List Slot → List Slot
 input_slots slots = filter (λ (slot : Slot). is_input slot.kind) slots
 
--- one value of its type for each of these slots
-abbrev pub fits : List Slot → List Value → Bool
-fits slots s = (length slots == length s) && list_all (λ (pair : Slot × Value). in_type pair.1 pair.0.declared) (zip slots s)
+-- one value of its type for each of these slots, where these are the types of all slots
+abbrev pub fits : List ValueType → List Slot → List Value → Bool
+fits types slots s =
+    (length slots == length s) && list_all (λ (pair : Slot × Value). in_type (slice_get types pair.0.declared) pair.1) (zip slots s)
 
--- the variable has the value of the expression; what has no value meets nothing
+-- the value is among those of the expression; what faults has none
+abbrev pub is_among : Option Value → Outcome → Bool
+is_among (Some v) (Values ws) = list_any (same v) ws
+is_among v e = false
+
+-- the variable has a value of the expression
 abbrev pub takes : Outcome → Outcome → Bool
-takes (Values (Some v)) (Values (Some w)) = same v w
-takes x e = false
+takes x e = is_among (value_in x) e
 
 -- the outcome of what is assigned, in a state; nothing has none
 abbrev pub outcome_of_target : List Slot → List Value → Option Resolved → Outcome
-outcome_of_target slots s None = nothing
+outcome_of_target slots s None = Nothing
 outcome_of_target slots s (Some target) = outcome_in slots s target
 
--- the outcome is TRUE
+-- the outcome is TRUE; a fault is not
 abbrev pub is_true : Outcome → Bool
 is_true o = unwrap_or (truth o) false
 
@@ -116,11 +123,11 @@ keeps_frozen slots s t = list_all (λ (x : (Slot × Value) × Value). keeps x.0.
 
 -- values of their types for the slots of a state
 abbrev pub is_state : Program → List Value → Bool
-is_state p s = fits (state_slots (slots_of p)) s
+is_state p s = fits (types_of p) (state_slots (slots_of p)) s
 
 -- values of their types for the input slots
 abbrev pub are_inputs : Program → List Value → Bool
-are_inputs p u = fits (input_slots (slots_of p)) u
+are_inputs p u = fits (types_of p) (input_slots (slots_of p)) u
 
 -- a state with what the program asks of a first one
 abbrev pub is_first_state : Program → List Value → Bool
@@ -150,28 +157,39 @@ pub record IsRun (p : Program) (states inputs : List (List Value)) : Type 0 wher
   pub first : IsFirstState p (at_time states 0)
   pub steps : (i : ℕ) → i < length inputs → IsStep p (at_time states i) (at_time inputs i) (at_time states (i + 1))
 
--- TRUE or FALSE, and no fault
-abbrev pub is_known : Outcome → Bool
-is_known o = is_some (truth o)
+-- one value
+abbrev pub is_single : Outcome → Bool
+is_single o = is_some (value_in o)
 
--- what an item assigns has a value in a state, and its own value is TRUE or FALSE in the state, or the step, of which it speaks; so are
--- the parts of a temporal formula
+-- values or a fault
+abbrev pub is_given : Outcome → Bool
+is_given (Values vs) = true
+is_given (Fault rule place) = true
+is_given Nothing = false
+
+-- an item of this kind speaks of a step, and not of a state
+abbrev pub speaks_of_step : ItemKind → Bool
+speaks_of_step (item.Assignment side.Next) = true
+speaks_of_step (item.Constraint asked.Trans) = true
+speaks_of_step other = false
+
+-- the outcome of the value of an item of this kind: in the state s, or in the step from it with the inputs u to the state t
+abbrev pub item_outcome : List Slot → List Value → List Value → List Value → Resolved → ItemKind → Outcome
+item_outcome slots s u t e kind = if speaks_of_step kind then outcome slots s u t e else outcome_in slots s e
+
+-- What an item assigns has one value in a state, and what it gets has values or faults. What is asked for or claimed is TRUE or FALSE
+-- or faults; so are the parts of a temporal formula.
 abbrev pub is_known_by : List Slot → List Value → List Value → List Value → Option Resolved → Resolved → ItemKind → Bool
-is_known_by slots s u t target e (item.Assignment side.Init) = is_known (outcome_of_target slots s target) && is_known (outcome_in slots s e)
-is_known_by slots s u t target e (item.Assignment side.Next) = is_known (outcome_of_target slots s target) && is_known (outcome slots s u t e)
-is_known_by slots s u t target e (item.Assignment side.Current) = is_known (outcome_of_target slots s target) && is_known (outcome_in slots s e)
-is_known_by slots s u t target e (item.Constraint asked.Init) = is_known (outcome_in slots s e)
-is_known_by slots s u t target e (item.Constraint asked.Invar) = is_known (outcome_in slots s e)
-is_known_by slots s u t target e (item.Constraint asked.Trans) = is_known (outcome slots s u t e)
-is_known_by slots s u t target e (item.Constraint asked.Justice) = is_known (outcome_in slots s e)
+is_known_by slots s u t target e (item.Assignment which) =
+    is_single (outcome_of_target slots s target) && is_given (item_outcome slots s u t e (item.Assignment which))
+is_known_by slots s u t target e (item.Constraint which) = is_known (item_outcome slots s u t e (item.Constraint which))
 is_known_by slots s u t target e (item.Specification claim.Invariant) = is_known (outcome_in slots s e)
 is_known_by slots s u t target e (item.Specification claim.Temporal) = is_known_formula slots s u e
 
 abbrev pub is_known_item : List Slot → List Value → List Value → List Value → ResolvedItem → Bool
 is_known_item slots s u t x = is_known_by slots s u t x.target x.value x.kind
 
--- So is each item of the program in all states and steps, reached or not: no item is without a value, since its kinds fit, and
--- none faults.
+-- So is each item of the program in all states and steps, reached or not, since its kinds fit.
 abbrev pub AllKnown : Program → Type 0
 AllKnown p = (s u t : List Value) → is_state p s ≡ true → are_inputs p u ≡ true → is_state p t ≡ true →
     list_all (is_known_item (slots_of p) s u t) (items_of p) ≡ true

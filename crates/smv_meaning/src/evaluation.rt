@@ -1,21 +1,23 @@
 //! The values of expressions.
 
-ghost use Rattle.std.specs.Prelude.{◌≡◌, ◌∷◌, [], ℕ, List, take, IfOk, IsSome, Some};
+ghost use Rattle.std.specs.Prelude.{◌≡◌, [], ℕ, List, IfOk, IsSome, Some};
+ghost use Rattle.std.specs.Option.{option_copied};
 ghost use Rattle.smv_value.specs.declared.value.Value.{Value};
-ghost use Rattle.smv_value.specs.Results.{result_of};
 ghost use Rattle.smv_resolve.specs.Resolved.{part_of};
 ghost use Rattle.smv_scope.specs.Slots.{item_of};
-ghost use Rattle.smv_scope.specs.Targets.{seen};
+ghost use Rattle.smv_scope.specs.Targets.{seen as seen_target};
 ghost use Rattle.smv_meaning.specs.Answers.{Evaluates};
 ghost use Rattle.smv_meaning.specs.Paths.{instance_at, whole_of};
-ghost use Rattle.smv_meaning.specs.Tables.{outcome_at, outcome_by, outcomes_of};
-ghost use Rattle.smv_meaning.specs.Values.{applied, choice, failed, given, one, operated, outcome, truth};
+ghost use Rattle.smv_meaning.specs.Tables.{outcome_at, outcome_by, outcomes_of, seen};
+ghost use Rattle.smv_meaning.specs.Values.{outcome};
 
-use crate::{Inputs, Outcome, Path, State, Typed};
-use smv_resolve::{Node, ResolveStop, Single, first, last, resolve_expression};
+use crate::outcome::{one, valued};
+use crate::{Inputs, Outcome, Path, State, Typed, applied};
+use smv_resolve::{Node, ResolveStop, first, last, resolve_expression};
 use smv_scope::{NameTarget, Scope, Slot, member_target};
-use smv_tree::{Expr, Place, VariableKind};
-use smv_value::{FaultRule, Operator, Value, apply};
+use smv_tree::{Expr, VariableKind};
+use smv_value::Value;
+use sqlite_items::at;
 use std::alloc::{AllocError, Global};
 
 /// The outcome of an expression that stands in the instance of this path, in a state with inputs and the next state; each of
@@ -54,13 +56,14 @@ pub fn instance_at(typed: &Typed, path: &Path) -> Option<usize>
 
 // The instance that a target is.
 fn whole_of(target: NameTarget<'_>) -> Option<usize>
-    ensures { result ≡ whole_of (seen target.entry) }
+    ensures { result ≡ whole_of (seen_target target.entry) }
 {
     match target {
         NameTarget::Whole(at) => Some(at),
         NameTarget::Slot(_) => None,
         NameTarget::Given { .. } => None,
         NameTarget::Defined { .. } => None,
+        NameTarget::Symbol(_) => None,
         NameTarget::Unknown => None,
         NameTarget::TooFar => None,
     }
@@ -79,11 +82,11 @@ fn eval_at(
     ensures { Evaluates scope.now.program at e.now s.now u.now next.now result }
 {
     let single = resolve_expression(alloc, scope, at, e)?;
-    let slots = scope.slots.as_slice();
     let outcome = outcome_of(
         alloc,
-        slots,
-        &single,
+        scope.slots.as_slice(),
+        single.nodes.as_slice(),
+        single.root,
         s.as_slice(),
         u.as_slice(),
         next.as_slice(),
@@ -91,19 +94,20 @@ fn eval_at(
     Ok(outcome)
 }
 
-// The outcome of an expression that is a node of a list.
-fn outcome_of(
+// The outcome of the node of this number, in a state with inputs and the next state.
+pub fn outcome_of(
     alloc: Global,
     slots: &[Slot],
-    single: &Single,
+    nodes: &[Node],
+    root: usize,
     s: &[Value],
     u: &[Value],
     next: &[Value],
 ) -> Result<Outcome, AllocError>
-    ensures { IfOk result (λ o. o ≡ outcome slots.now s.now u.now next.now (part_of single.now.nodes single.now.root)) }
+    ensures { IfOk result (λ o. o ≡ outcome slots.now s.now u.now next.now (part_of nodes.now root)) }
 {
-    let outcomes = outcomes(alloc, slots, single.nodes.as_slice(), s, u, next)?;
-    Ok(outcome_at(outcomes.as_slice(), single.root))
+    let outcomes = outcomes(alloc, slots, nodes, s, u, next)?;
+    copy_at(alloc, outcomes.as_slice(), root)
 }
 
 /// The outcome of each node, in a state with inputs and the next state; each of these is empty where there is none.
@@ -163,13 +167,20 @@ fn outcomes_before(
     Ok(made)
 }
 
-/// The outcome of the node of this number.
-pub fn outcome_at(outcomes: &[Outcome], k: usize) -> Outcome
-    ensures { result ≡ outcome_at outcomes.now k }
+/// The outcome of the node of this number, if there is one.
+pub fn outcome_at(outcomes: &[Outcome], k: usize) -> Option<&Outcome>
+    ensures { seen (option_copied result) ≡ outcome_at outcomes.now k }
 {
-    match outcomes.get(k) {
-        None => Outcome::Values(None),
-        Some(outcome) => *outcome,
+    at(outcomes, k)
+}
+
+// A copy of it.
+fn copy_at(alloc: Global, outcomes: &[Outcome], k: usize) -> Result<Outcome, AllocError>
+    ensures { IfOk result (λ o. o ≡ outcome_at outcomes.now k) }
+{
+    match outcome_at(outcomes, k) {
+        None => Ok(Outcome::Nothing),
+        Some(outcome) => outcome.copied(alloc),
     }
 }
 
@@ -186,128 +197,18 @@ fn outcome_by(
     ensures { IfOk result (λ o. o ≡ outcome_by slots.now s.now u.now here.now later.now node.now) }
 {
     match *node {
-        Node::Constant(_, b) => Ok(Outcome::Values(Some(Value::Bool(b)))),
-        Node::Slot(_, n) => Ok(Outcome::Values(item_of(slots, s, u, n))),
-        Node::Whole(..) => Ok(Outcome::Values(None)),
-        Node::Named(_, _, a) | Node::Operand(a) => Ok(outcome_at(here, a)),
-        Node::Next(_, a) => Ok(outcome_at(later, a)),
+        Node::Constant(_, v) => Ok(one(v)),
+        Node::Slot(_, n) => Ok(valued(item_of(slots, s, u, n))),
+        Node::Whole(..) => Ok(Outcome::Nothing),
+        Node::Named(_, _, a) | Node::Operand(a) => copy_at(alloc, here, a),
+        Node::Next(_, a) => copy_at(alloc, later, a),
         Node::Apply(place, operator, count) => applied(alloc, operator, place, last(here, count)),
         Node::Link(place, operator, a, b) => {
-            let operands = [outcome_at(here, a), outcome_at(here, b)];
+            let left = copy_at(alloc, here, a)?;
+            let right = copy_at(alloc, here, b)?;
+            let operands = [left, right];
             applied(alloc, operator, place, &operands)
         }
-    }
-}
-
-// An operator at this place over the outcomes of its operands.
-fn applied(
-    alloc: Global,
-    operator: Operator,
-    place: Place,
-    operands: &[Outcome],
-) -> Result<Outcome, AllocError>
-    ensures { IfOk result (λ o. o ≡ applied operator place operands.now) }
-{
-    match operator {
-        Operator::Choice => Ok(choice(place, operands)),
-        other => operated(alloc, other, place, operands),
-    }
-}
-
-// An operator over operands that have one value each, or the first fault. One or two operands need no memory.
-fn operated(
-    alloc: Global,
-    operator: Operator,
-    place: Place,
-    operands: &[Outcome],
-) -> Result<Outcome, AllocError>
-    ensures { IfOk result (λ o. o ≡ operated (λ vs. given place (result_of operator vs)) [] operands.now) }
-{
-    match operands {
-        [Outcome::Values(Some(a))] => Ok(given(place, apply(operator, &[*a]))),
-        [Outcome::Values(Some(a)), Outcome::Values(Some(b))] => {
-            Ok(given(place, apply(operator, &[*a, *b])))
-        }
-        _ => gathered(alloc, operator, place, operands),
-    }
-}
-
-// The same, over however many operands.
-fn gathered(
-    alloc: Global,
-    operator: Operator,
-    place: Place,
-    operands: &[Outcome],
-) -> Result<Outcome, AllocError>
-    ensures { IfOk result (λ o. o ≡ operated (λ vs. given place (result_of operator vs)) [] operands.now) }
-{
-    let mut values = Vec::new(alloc);
-    for operand in operands {
-        match *operand {
-            Outcome::Values(Some(v)) => values.push(v)?,
-            Outcome::Values(None) => return Ok(Outcome::Values(None)),
-            Outcome::Fault(rule, at) => return Ok(Outcome::Fault(rule, at)),
-        }
-    }
-    Ok(given(place, apply(operator, values.as_slice())))
-}
-
-// What an operator gives of single values, at this place.
-fn given(place: Place, answer: Result<Option<Value>, FaultRule>) -> Outcome
-    ensures { result ≡ given place answer }
-{
-    match answer {
-        Ok(v) => Outcome::Values(v),
-        Err(rule) => Outcome::Fault(rule, place),
-    }
-}
-
-// The branch of the first condition that is TRUE, or a last branch that has none.
-fn choice(place: Place, operands: &[Outcome]) -> Outcome
-    ensures { result ≡ choice place operands.now }
-{
-    let mut at = 0;
-    while at + 1 < operands.len() {
-        match truth(operands[at]) {
-            Some(true) => return operands[at + 1],
-            Some(false) => at += 2,
-            None => return failed(operands[at]),
-        }
-    }
-    match operands.get(at) {
-        None => Outcome::Fault(FaultRule::CaseOpen, place),
-        Some(last) => *last,
-    }
-}
-
-pub fn truth(outcome: Outcome) -> Option<bool>
-    ensures { result ≡ truth outcome }
-{
-    match outcome {
-        Outcome::Values(Some(v)) => truth_of(v),
-        Outcome::Values(None) => None,
-        Outcome::Fault(..) => None,
-    }
-}
-
-fn truth_of(v: Value) -> Option<bool>
-    ensures { result ≡ truth (one v) }
-{
-    match v {
-        Value::Bool(b) => Some(b),
-        Value::Int(_) => None,
-        Value::Sym(_) => None,
-        Value::Word { .. } => None,
-    }
-}
-
-// The fault, or nothing.
-fn failed(outcome: Outcome) -> Outcome
-    ensures { result ≡ failed outcome }
-{
-    match outcome {
-        Outcome::Values(_) => Outcome::Values(None),
-        Outcome::Fault(rule, place) => Outcome::Fault(rule, place),
     }
 }
 

@@ -4,16 +4,22 @@
 
 mod evaluation;
 mod formulas;
+mod item_faults;
 mod law;
 mod meets;
+mod operators;
+mod outcome;
 mod readers;
+mod states;
 mod typed;
-mod value;
 
-pub use evaluation::{eval, instance_at, outcomes};
+pub use evaluation::{eval, instance_at, outcome_at, outcomes};
 pub use formulas::{is_over_formulas, is_temporal};
+pub use item_faults::faults;
 pub use law::lassos;
 pub use meets::{meets_init, meets_inv, meets_step};
+pub use operators::applied;
+pub use outcome::Outcome;
 pub use readers::{input_slots, is_claim, slots, specifications, state_slots};
+pub use states::{Inputs, Path, State};
 pub use typed::Typed;
-pub use value::{Inputs, Outcome, Path, State};

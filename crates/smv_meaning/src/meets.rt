@@ -1,22 +1,25 @@
 //! First states and steps.
 
-ghost use Rattle.std.specs.Prelude.{◌≡◌, ◌&&◌, [], IfOk};
+ghost use Rattle.std.specs.Prelude.{◌≡◌, ◌&&◌, [], Some, IfOk, slice_get};
+ghost use Rattle.std.specs.Option.{option_copied};
 ghost use Rattle.std.specs.List.{list_all, zip};
 ghost use Rattle.smv_value.specs.declared.value.Value.{Value};
 ghost use Rattle.smv_scope.specs.declared.slot.Slot.{Slot};
 ghost use Rattle.smv_scope.specs.Slots.{slots_of};
 ghost use Rattle.smv_resolve.specs.Items.{items_of};
-ghost use Rattle.smv_meaning.specs.Runs.{allows_first, allows_step, are_inputs, asks_always, asks_first, asks_step, fits, in_type, is_first_state, is_frozen, is_state, is_step, is_true, keeps, keeps_frozen, meets_invariants, takes};
-ghost use Rattle.smv_meaning.specs.Tables.{always_allowed, first_allowed, outcomes_of, step_allowed, target_at};
+ghost use Rattle.smv_meaning.specs.Runs.{allows_first, allows_step, are_inputs, asks_always, asks_first, asks_step, fits, in_type, is_among, is_first_state, is_frozen, is_state, is_step, is_true, keeps, keeps_frozen, meets_invariants, takes};
+ghost use Rattle.smv_meaning.specs.Tables.{always_allowed, first_allowed, outcomes_of, seen, step_allowed, target_at};
 
-use crate::evaluation::{outcome_at, outcomes, truth};
+use crate::evaluation::{outcome_at, outcomes};
 use crate::readers::{input_slots, state_slots};
 use crate::{Inputs, Outcome, State, Typed};
 use smv_resolve::{Item, ItemKind};
-use smv_scope::{Slot, ValueType};
+use smv_scope::Slot;
 use smv_tree::{AssignmentKind, ConstraintKind, VariableKind};
 use smv_value::{Value, same};
+use sqlite_items::at;
 use std::alloc::{AllocError, Global};
+use value_types::ValueType;
 
 /// Whether the state is a first state of the program.
 pub fn meets_init(alloc: Global, typed: &Typed, s: &State) -> Result<bool, AllocError>
@@ -59,7 +62,7 @@ fn is_state(alloc: Global, typed: &Typed, s: &[Value]) -> Result<bool, AllocErro
     ensures { IfOk result (λ met. met ≡ is_state typed.now.scope.program s.now) }
 {
     let slots = state_slots(alloc, &typed.scope)?;
-    Ok(fits(slots.as_slice(), s))
+    Ok(fits(typed.types.as_slice(), slots.as_slice(), s))
 }
 
 // Whether there is one value of its type for each input slot.
@@ -67,7 +70,7 @@ fn are_inputs(alloc: Global, typed: &Typed, u: &[Value]) -> Result<bool, AllocEr
     ensures { IfOk result (λ met. met ≡ are_inputs typed.now.scope.program u.now) }
 {
     let slots = input_slots(alloc, &typed.scope)?;
-    Ok(fits(slots.as_slice(), u))
+    Ok(fits(typed.types.as_slice(), slots.as_slice(), u))
 }
 
 // Whether the values are two states with inputs.
@@ -168,28 +171,29 @@ fn all_allow_step(
     Ok(step_allowed(here.as_slice(), later.as_slice(), typed.items.as_slice()))
 }
 
-// Whether the values are one of its type for each slot.
-fn fits(slots: &[Slot], s: &[Value]) -> bool
-    ensures { result ≡ fits slots.now s.now }
+// Whether the values are one of its type for each slot, where these are the types of all slots.
+fn fits(types: &[ValueType], slots: &[Slot], s: &[Value]) -> bool
+    ensures { result ≡ fits types.now slots.now s.now }
 {
-    slots.len() == s.len() && all_in_type(slots, s)
+    slots.len() == s.len() && all_in_type(types, slots, s)
 }
 
-fn all_in_type(slots: &[Slot], s: &[Value]) -> bool
-    ensures { result ≡ list_all (λ (pair : Slot × Value). in_type pair.1 pair.0.declared) (zip slots.now s.now) }
+fn all_in_type(types: &[ValueType], slots: &[Slot], s: &[Value]) -> bool
+    ensures { result ≡ list_all (λ (pair : Slot × Value). in_type (slice_get types.now pair.0.declared) pair.1) (zip slots.now s.now) }
 {
     slots
         .iter()
         .zip(s)
-        .all(|(slot, v)| in_type(*v, slot.declared))
+        .all(|(slot, v)| in_type(types, slot.declared, *v))
 }
 
-fn in_type(v: Value, declared: ValueType) -> bool
-    ensures { result ≡ in_type v declared }
+// Whether the value is one of the type of this number.
+fn in_type(types: &[ValueType], number: usize, v: Value) -> bool
+    ensures { result ≡ in_type (slice_get types.now number) v }
 {
-    match (v, declared) {
-        (Value::Bool(_), ValueType::Boolean) => true,
-        _ => false,
+    match at(types, number) {
+        None => false,
+        Some(declared) => declared.contains(v),
     }
 }
 
@@ -218,36 +222,59 @@ fn step_allowed(here: &[Outcome], later: &[Outcome], items: &[Item]) -> bool
     ))
 }
 
-fn target_at(outcomes: &[Outcome], target: Option<usize>) -> Outcome
-    ensures { result ≡ target_at outcomes.now target }
+fn target_at(outcomes: &[Outcome], target: Option<usize>) -> Option<&Outcome>
+    ensures { seen (option_copied result) ≡ target_at outcomes.now target }
 {
     match target {
-        None => Outcome::Values(None),
+        None => None,
         Some(k) => outcome_at(outcomes, k),
     }
 }
 
-// Whether the variable has the value of the expression.
-fn takes(variable: Outcome, expression: Outcome) -> bool
-    ensures { result ≡ takes variable expression }
+// Whether the variable has a value of the expression.
+fn takes(variable: Option<&Outcome>, expression: Option<&Outcome>) -> bool
+    ensures { result ≡ takes (seen (option_copied variable.entry)) (seen (option_copied expression.entry)) }
 {
-    match (variable, expression) {
-        (Outcome::Values(Some(a)), Outcome::Values(Some(b))) => same(a, b),
-        _ => false,
-    }
-}
-
-fn is_true(outcome: Outcome) -> bool
-    ensures { result ≡ is_true outcome }
-{
-    match truth(outcome) {
-        Some(b) => b,
+    match variable {
         None => false,
+        Some(variable) => is_among(variable.value(), expression),
     }
 }
 
-fn asks_first(x: Outcome, e: Outcome, kind: ItemKind) -> bool
-    ensures { result ≡ asks_first x e kind }
+fn is_among(v: Option<Value>, expression: Option<&Outcome>) -> bool
+    ensures { result ≡ is_among v (seen (option_copied expression.entry)) }
+{
+    match (v, expression) {
+        (None, _) => false,
+        (Some(_), None) => false,
+        (Some(v), Some(expression)) => has(expression, v),
+    }
+}
+
+fn has(expression: &Outcome, v: Value) -> bool
+    ensures { result ≡ is_among (Some v) expression.now }
+{
+    match expression {
+        Outcome::Nothing => false,
+        Outcome::Values(values) => values.contains(v),
+        Outcome::Fault(..) => false,
+    }
+}
+
+fn is_true(outcome: Option<&Outcome>) -> bool
+    ensures { result ≡ is_true (seen (option_copied outcome.entry)) }
+{
+    match outcome {
+        None => false,
+        Some(outcome) => match outcome.truth() {
+            Some(b) => b,
+            None => false,
+        },
+    }
+}
+
+fn asks_first(x: Option<&Outcome>, e: Option<&Outcome>, kind: ItemKind) -> bool
+    ensures { result ≡ asks_first (seen (option_copied x.entry)) (seen (option_copied e.entry)) kind }
 {
     match kind {
         ItemKind::Assignment(AssignmentKind::Init | AssignmentKind::Current) => takes(x, e),
@@ -258,8 +285,8 @@ fn asks_first(x: Outcome, e: Outcome, kind: ItemKind) -> bool
     }
 }
 
-fn asks_always(x: Outcome, e: Outcome, kind: ItemKind) -> bool
-    ensures { result ≡ asks_always x e kind }
+fn asks_always(x: Option<&Outcome>, e: Option<&Outcome>, kind: ItemKind) -> bool
+    ensures { result ≡ asks_always (seen (option_copied x.entry)) (seen (option_copied e.entry)) kind }
 {
     match kind {
         ItemKind::Assignment(AssignmentKind::Current) => takes(x, e),
@@ -272,8 +299,8 @@ fn asks_always(x: Outcome, e: Outcome, kind: ItemKind) -> bool
     }
 }
 
-fn asks_step(x: Outcome, e: Outcome, kind: ItemKind) -> bool
-    ensures { result ≡ asks_step x e kind }
+fn asks_step(x: Option<&Outcome>, e: Option<&Outcome>, kind: ItemKind) -> bool
+    ensures { result ≡ asks_step (seen (option_copied x.entry)) (seen (option_copied e.entry)) kind }
 {
     match kind {
         ItemKind::Assignment(AssignmentKind::Next) => takes(x, e),

@@ -1,7 +1,8 @@
-//! A program with its instances, its slots and its items.
+//! A program with its instances, its slots, their types and its items.
 
 ghost use Rattle.std.specs.Prelude.{◌≡◌, map};
 ghost use Rattle.std.proofs.Props.{props};
+ghost use Rattle.smv_declared.specs.Types.{types_of};
 ghost use Rattle.smv_resolve.specs.Items.{item_by, items_of};
 ghost use Rattle.smv_resolve.proofs.Sets.{Resolved-set};
 ghost use Rattle.smv_meaning.specs.Runs.{AllKnown};
@@ -9,14 +10,18 @@ ghost use Rattle.smv_meaning.specs.Runs.{AllKnown};
 use smv_resolve::{Item, Node};
 use smv_scope::Scope;
 use sqlite_items::Items;
+use value_types::ValueType;
 
-/// A program with its instances, its slots, and its items in the order of the source, whose expressions are nodes of one list.
-/// What its items assign, ask for and claim is TRUE or FALSE in each state and step of the declared types.
+/// A program with its instances, its slots and their types, and its items in the order of the source, whose expressions are nodes
+/// of one list. What its items assign has values or faults in each state and step of the declared types; what they ask for and
+/// claim is TRUE or FALSE or faults there.
 #[derive(Debug, Drop)]
 pub struct Typed {
     pub scope: Scope,
+    pub types: Items<ValueType>,
     pub nodes: Items<Node>,
     pub items: Items<Item>,
     pub ghost known: { AllKnown scope.program } by { Prim.hlevel (props) },
+    pub ghost declared: { types ≡ types_of scope.program } by { Prim.hlevel (props) },
     pub ghost resolved: { map (item_by nodes) items ≡ items_of scope.program } by { Prim.hlevel (props, Resolved-set) },
 }

@@ -1,6 +1,6 @@
 -- One node more.
 use Rattle.std.proofs.Common.{◌∙◌, List, [], ◌∷◌, ◌++◌, sym, ap}
-use Rattle.smv_meaning.specs.declared.value.Outcome.{Outcome}
+use Rattle.smv_meaning.specs.declared.outcome.Outcome.{Outcome}
 use Rattle.smv_meaning.proofs.Tables.{outcomes_none, outcomes_next}
 use Rattle.smv_meaning.proofs.evaluation.nowhere.Goals as goal
 

@@ -1,7 +1,7 @@
 -- One node more.
 use Rattle.std.proofs.Common.{◌∙◌, ◌≤◌, List, [], ◌∷◌, ◌++◌, take, length, sym, ap, arith}
 use Rattle.std.proofs.lemmas.List.{take_all}
-use Rattle.smv_meaning.specs.declared.value.Outcome.{Outcome}
+use Rattle.smv_meaning.specs.declared.outcome.Outcome.{Outcome}
 use Rattle.smv_meaning.specs.Tables.{outcomes_of}
 use Rattle.smv_meaning.proofs.Tables.{outcomes_none, outcomes_next, outcomes_of-take}
 use Rattle.smv_meaning.proofs.evaluation.outcomes_before.Goals as goal
