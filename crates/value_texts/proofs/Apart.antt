@@ -72,8 +72,7 @@ word_shape s w (value.Word t u bits) h =
     let both = and_parts (alike s w t u) (is_word u bits) h in
     let same = and_parts (beq s t) (eqb w u) both.0 in
     let sign : t ≡ s = sym (beq_is s t same.0) in
-    let width : u ≡ w = sym (eqb-true w u same.1) in
-    (
+    let width : u ≡ w = sym (eqb-true w u same.1) in (
       bits,
       ap (λ (x : Bool). value.Word x u bits) sign ∙ ap (λ (x : ℕ). value.Word s x bits) width,
       subst (λ (x : ℕ). is_word x bits ≡ true) width both.1,

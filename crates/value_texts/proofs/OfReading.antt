@@ -81,14 +81,13 @@ no_word names s w bits digits read not_one v h told =
 
 -- an integer's text is that of another one only where they are one
 pub int_text : (k z : ℤ) (text : List ℕ) → IsIntRead text (Some k) → SFits w32 z → eqb (of_z w32 k) (of_z w32 z) ≡ bytes_eq (signed_decimal z) text
-int_text k z text read small_z = same_from_decides (eqb (of_z w32 k) (of_z w32 z)) (bytes_eq (signed_decimal z) text)
-    (
-      λ e.
-        let bits : of_z w32 k ≡ of_z w32 z = eqb-true (of_z w32 k) (of_z w32 z) e in
-        let same : k ≡ z = sym (to_z-of_z w32 k (fits k read.0)) ∙ ap (to_z w32) bits ∙ to_z-of_z w32 z small_z in
-        ap signed_decimal (sym same) ∙ read.1,
-      λ e. eq-eqb (of_z w32 k) (of_z w32 z) (ap (of_z w32) (int_once k z read.0 (int_of z small_z) (read.1 ∙ sym e))),
-    )
+int_text k z text read small_z = same_from_decides (eqb (of_z w32 k) (of_z w32 z)) (bytes_eq (signed_decimal z) text) (
+  λ e.
+      let bits : of_z w32 k ≡ of_z w32 z = eqb-true (of_z w32 k) (of_z w32 z) e in
+      let same : k ≡ z = sym (to_z-of_z w32 k (fits k read.0)) ∙ ap (to_z w32) bits ∙ to_z-of_z w32 z small_z in
+      ap signed_decimal (sym same) ∙ read.1,
+  λ e. eq-eqb (of_z w32 k) (of_z w32 z) (ap (of_z w32) (int_once k z read.0 (int_of z small_z) (read.1 ∙ sym e))),
+)
     (bytes_eq-Decides (signed_decimal z) text)
 
 -- an integer of 32 bits that crosses a call
