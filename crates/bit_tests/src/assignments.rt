@@ -5,7 +5,6 @@ use clause_core::{Bits, System};
 use smv_meaning::{State, Typed, meets_init, meets_step, outcomes, specifications};
 use smv_resolve::{Item, ItemKind};
 use smv_tree::ConstraintKind;
-use smv_value::Value;
 use std::alloc::{AllocError, Global};
 use std::test::Fail;
 
