@@ -1,7 +1,5 @@
+pub mod Assigning
 pub mod Judging
-pub mod Ordered
-pub mod Once
-pub mod Firsts
-pub mod SlotValues
-pub mod Operated
-pub mod Known
+pub mod Singles
+pub mod Evaluated
+pub mod Gathered
