@@ -246,7 +246,7 @@ range_fits (x ∷ y ∷ z ∷ xs) os k h e = absurd (mismatched k e)
 
 -- membership
 
-takes_parts : (a b : Kind) → takes a b ≡ true → (is_single a ≡ true) × (has_values b ≡ true)
+pub takes_parts : (a b : Kind) → takes a b ≡ true → (is_single a ≡ true) × (has_values b ≡ true)
 takes_parts kind.Boolean kind.Boolean e = (refl, refl)
 takes_parts kind.Boolean kind.BooleanSet e = (refl, refl)
 takes_parts (kind.Word s w) (kind.Word t v) e = (refl, refl)
@@ -305,7 +305,7 @@ is_boolean_kind : (k : Kind) → is_boolean k ≡ true → k ≡ kind.Boolean
 is_boolean_kind kind.Boolean e = refl
 is_boolean_kind k e = absurd (false≢true e)
 
-boolean_value : (v : Value) → is_among kind.Boolean v ≡ true → (b : Bool) × (v ≡ value.Bool b)
+pub boolean_value : (v : Value) → is_among kind.Boolean v ≡ true → (b : Bool) × (v ≡ value.Bool b)
 boolean_value (value.Bool b) e = (b, refl)
 boolean_value (value.Int z) e = absurd (false≢true e)
 boolean_value (value.Sym n) e = absurd (false≢true e)

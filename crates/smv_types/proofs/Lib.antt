@@ -3,3 +3,5 @@ pub mod Judging
 pub mod Singles
 pub mod Evaluated
 pub mod Gathered
+pub mod SlotValues
+pub mod Known
