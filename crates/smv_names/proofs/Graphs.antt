@@ -32,15 +32,12 @@ all_of n f [] h = All-nil (λ v. v < n)
 all_of n f (x ∷ xs) h = All-append (λ v. v < n) (f x) (flat_map f xs) (h x) (all_of n f xs h)
 
 type_within : (modules : List Module) (t : TypeExpr) → All (λ v. v < length modules) (module_of_type modules t)
-type_within modules (written.Boolean place) = All-nil (λ v. v < length modules)
 type_within modules (written.Instance place name given) = some_within (length modules) (module_named modules name) (named_within modules name)
+type_within modules other = All-nil (λ v. v < length modules)
 
 section_within : (modules : List Module) (s : Section) → All (λ v. v < length modules) (modules_in modules s)
 section_within modules (section.Variables kind vs) = all_of (length modules) (λ (v : Variable). module_of_type modules v.declared) vs (λ v. type_within modules v.declared)
-section_within modules (section.Definitions ds) = All-nil (λ v. v < length modules)
-section_within modules (section.Assignments as') = All-nil (λ v. v < length modules)
-section_within modules (section.Constraint c) = All-nil (λ v. v < length modules)
-section_within modules (section.Specification s) = All-nil (λ v. v < length modules)
+section_within modules other = All-nil (λ v. v < length modules)
 
 used_within : (modules : List Module) (m : Module) → All (λ v. v < length modules) (modules_used modules m)
 used_within modules m = all_of (length modules) (modules_in modules) m.sections (section_within modules)

@@ -34,9 +34,6 @@ no_position {A} xs = sym (position_is (λ (x : A). false) xs ∙ none_from 0 xs)
 pub no_entry : (entries : List Entry) (target : NameTarget) →
     ((at k owner : ℕ) (e : Bor Expr) → target ≡ found.Given at k owner e → ⊥) → ((at k : ℕ) (e : Bor Expr) → target ≡ found.Defined at k e → ⊥) →
     None ≡ position (is_entry (seen target)) entries
-no_entry entries (found.Slot n) g d = no_position entries
-no_entry entries (found.Whole i) g d = no_position entries
 no_entry entries (found.Given at k owner e) g d = absurd (g at k owner e refl)
 no_entry entries (found.Defined at k e) g d = absurd (d at k e refl)
-no_entry entries found.Unknown g d = no_position entries
-no_entry entries found.TooFar g d = no_position entries
+no_entry entries other g d = no_position entries

@@ -12,7 +12,7 @@ use Rattle.smv_tree.specs.declared.tree.TypeExpr.TheVariants as written
 use Rattle.smv_tree.specs.declared.tree.Expr.{Expr}
 use Rattle.smv_names.specs.declared.reached.UseRule.{UseRule}
 use Rattle.smv_names.specs.declared.reached.UseRule.TheVariants as asked
-use Rattle.smv_names.specs.Verdicts.{Verdict, Exactly, Claim, Then, Each}
+use Rattle.smv_verdicts.specs.Verdicts.{Verdict, Exactly, Claim, Then, Each}
 use Rattle.smv_names.specs.Declarations.{declared_refusal}
 use Rattle.smv_names.specs.Reached.{named_type, use_verdict, section_verdict, modules_verdict, uses_verdict}
 use Rattle.smv_names.specs.Defined.{Entry, entry_verdict, entries_verdict, entry_graph, entries_of, definitions_verdict}
@@ -54,15 +54,12 @@ one_named asked.Cyclic p n v place name given = one_claim _ _
 one_named asked.Miscounted p n v place name given = one_claim _ _
 
 one_use : (which : UseRule) (p : Program) (n : ℕ) (v : Variable) (t : TypeExpr) → One (use_verdict which p n v t)
-one_use which p n v (written.Boolean place) r s a b = a ∙ sym b
 one_use which p n v (written.Instance place name given) r s a b = one_named which p n v place name given r s a b
+one_use which p n v other r s a b = a ∙ sym b
 
 one_section : (which : UseRule) (p : Program) (n : ℕ) (x : Section) → One (section_verdict which p n x)
 one_section which p n (section.Variables kind vs) r s a b = one_each (λ (v : Variable). use_verdict which p n v v.declared) (λ v. one_use which p n v v.declared) vs r s a b
-one_section which p n (section.Definitions ds) r s a b = a ∙ sym b
-one_section which p n (section.Assignments as') r s a b = a ∙ sym b
-one_section which p n (section.Constraint c) r s a b = a ∙ sym b
-one_section which p n (section.Specification c) r s a b = a ∙ sym b
+one_section which p n other r s a b = a ∙ sym b
 
 one_modules : (which : UseRule) (p : Program) (n : ℕ) (ms : List Module) → One (modules_verdict which p n ms)
 one_modules which p n [] r s a b = a ∙ sym b

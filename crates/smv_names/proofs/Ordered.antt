@@ -5,7 +5,7 @@ use Rattle.smv_tree.specs.declared.refusal.TextStop.{TextStop}
 use Rattle.smv_tree.specs.declared.refusal.TextStop.TheVariants.{Refused, NoMemory}
 use Rattle.smv_tree.specs.declared.tree.Program.{Program}
 use Rattle.smv_names.specs.declared.reached.UseRule.TheVariants as asked
-use Rattle.smv_names.specs.Verdicts.{Verdict, Exactly, Then, Judges}
+use Rattle.smv_verdicts.specs.Verdicts.{Verdict, Exactly, Then, Judges}
 use Rattle.smv_names.specs.Declarations.{declared_refusal}
 use Rattle.smv_names.specs.Reached.{uses_verdict}
 use Rattle.smv_names.specs.Defined.{definitions_verdict}

@@ -4,7 +4,7 @@ use Rattle.std.proofs.Math.Seq.{drop-cons}
 use Rattle.smv_tree.specs.declared.refusal.Refusal.{Refusal}
 use Rattle.smv_tree.specs.declared.refusal.TextStop.{TextStop}
 use Rattle.smv_tree.specs.declared.refusal.TextStop.TheVariants.{Refused, NoMemory}
-use Rattle.smv_names.specs.Verdicts.{Verdict, Each, Then, Gives}
+use Rattle.smv_verdicts.specs.Verdicts.{Verdict, Each, Then, Gives}
 
 -- where nothing is said by the first, what the second says is said
 pub then_ok : (V W : Verdict) → V None → (r : Option Refusal) → W r → Then V W r

@@ -12,7 +12,7 @@ use Rattle.smv_tree.specs.declared.tree.TypeExpr.{TypeExpr}
 use Rattle.smv_tree.specs.declared.tree.TypeExpr.TheVariants as written
 use Rattle.smv_scope.specs.Modules.{module_named}
 use Rattle.smv_names.specs.declared.reached.UseRule.TheVariants as asked
-use Rattle.smv_names.specs.Verdicts.{Each}
+use Rattle.smv_verdicts.specs.Verdicts.{Each}
 use Rattle.smv_names.specs.Reached.{Reaches, ReachesFrom, module_graph, module_of_type, modules_in, modules_used, some_only, use_verdict, section_verdict, modules_verdict, uses_verdict}
 
 module _ (p : Program) (acyclic : Acyclic (module_graph p)) where
@@ -32,8 +32,8 @@ module _ (p : Program) (acyclic : Acyclic (module_graph p)) where
     no_cycle (Some k) used r = no_way_back n k (used k (0, (let lt : 0 < 1 = omega arith in lt), refl)) r
 
     use_allowed : (v : Variable) (t : TypeExpr) → Used (module_of_type p.modules t) → use_verdict asked.Cyclic p n v t None
-    use_allowed v (written.Boolean place) used = refl
     use_allowed v (written.Instance place name given) used = λ h. no_cycle (module_named p.modules name) used h.1
+    use_allowed v other used = refl
 
     first_used : {A : Type 0} (f : A → List ℕ) (x : A) (xs : List A) → Used (flat_map f (x ∷ xs)) → Used (f x)
     unfolding Used
@@ -52,10 +52,7 @@ module _ (p : Program) (acyclic : Acyclic (module_graph p)) where
 
     section_allowed : (s : Section) → Used (modules_in p.modules s) → section_verdict asked.Cyclic p n s None
     section_allowed (section.Variables kind vs) used = variables_allowed vs used
-    section_allowed (section.Definitions ds) used = refl
-    section_allowed (section.Assignments as') used = refl
-    section_allowed (section.Constraint c) used = refl
-    section_allowed (section.Specification s) used = refl
+    section_allowed other used = refl
 
     sections_allowed : (ss : List Section) → Used (flat_map (modules_in p.modules) ss) → Each (section_verdict asked.Cyclic p n) ss None
     sections_allowed [] used = refl

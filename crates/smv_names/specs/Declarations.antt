@@ -13,7 +13,7 @@ use Rattle.smv_tree.specs.declared.tree.Section.TheVariants as section
 use Rattle.smv_tree.specs.declared.tree.Variable.{Variable}
 use Rattle.smv_tree.specs.declared.tree.Definition.{Definition}
 use Rattle.smv_tree.specs.Places.{start}
-use Rattle.smv_names.specs.Verdicts.{or_else, first_of, plain, detailed}
+use Rattle.smv_verdicts.specs.Verdicts.{or_else, first_of, plain, detailed}
 
 -- an identifier at its place
 abbrev pub Named : Type 0

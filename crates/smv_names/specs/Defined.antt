@@ -12,7 +12,7 @@ use Rattle.smv_scope.specs.declared.instance.Parent.{Parent}
 use Rattle.smv_scope.specs.Modules.{definitions_of}
 use Rattle.smv_scope.specs.Instances.{instances_of}
 use Rattle.smv_scope.specs.Lookup.{Target, arguments_by, name_target}
-use Rattle.smv_names.specs.Verdicts.{Verdict, Claim, Then, detailed}
+use Rattle.smv_verdicts.specs.Verdicts.{Verdict, Claim, Then, detailed}
 use Rattle.smv_names.specs.Reached.{some_only}
 use Rattle.smv_tree.specs.Occurring.{names_in}
 

@@ -1,4 +1,3 @@
-pub mod Verdicts
 pub mod Declarations
 pub mod Reached
 pub mod Named

@@ -20,7 +20,7 @@ use Rattle.smv_scope.specs.Modules.{sections_of}
 use Rattle.smv_tree.specs.Occurring.{names_in}
 use Rattle.smv_scope.specs.Instances.{instances_of}
 use Rattle.smv_scope.specs.Lookup.{Target, as_instance, depth_limit, instance_within, member_target, own_target}
-use Rattle.smv_names.specs.Verdicts.{first_of, or_else, detailed}
+use Rattle.smv_verdicts.specs.Verdicts.{first_of, or_else, detailed}
 
 -- an identifier that leads nowhere
 abbrev pub unknown_last : Identifier → Target → Option Identifier
@@ -59,9 +59,12 @@ unknown_in_expression p at e = first_of (λ name. unknown_identifier (unknown_in
 abbrev pub unknown_in_all : Program → ℕ → List Expr → Option Refusal
 unknown_in_all p at es = first_of (unknown_in_expression p at) es
 
--- in what an instance of a type is given
+-- in the width of a word, in the bounds of a range, and in what an instance is given; the elements of an enumeration are no names
 abbrev pub unknown_in_type : Program → ℕ → TypeExpr → Option Refusal
 unknown_in_type p at (written.Boolean place) = None
+unknown_in_type p at (written.Word place signed width) = unknown_in_expression p at width
+unknown_in_type p at (written.Range place low high) = or_else (unknown_in_expression p at low) (unknown_in_expression p at high)
+unknown_in_type p at (written.Enumeration place elements) = None
 unknown_in_type p at (written.Instance place name given) = unknown_in_all p at given
 
 abbrev pub unknown_in_assignment : Program → ℕ → Assignment → Option Refusal
@@ -71,6 +74,7 @@ unknown_in_assignment p at a = or_else (unknown_in_expression p at a.target) (un
 abbrev pub unknown_in_section : Program → ℕ → Section → Option Refusal
 unknown_in_section p at (section.Variables kind vs) = first_of (λ (v : Variable). unknown_in_type p at v.declared) vs
 unknown_in_section p at (section.Definitions ds) = first_of (λ (d : Definition). unknown_in_expression p at d.body) ds
+unknown_in_section p at (section.Constants symbols) = None
 unknown_in_section p at (section.Assignments as') = first_of (unknown_in_assignment p at) as'
 unknown_in_section p at (section.Constraint c) = unknown_in_expression p at c.formula
 unknown_in_section p at (section.Specification s) = unknown_in_expression p at s.formula

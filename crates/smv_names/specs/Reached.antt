@@ -19,7 +19,7 @@ use Rattle.smv_scope.specs.Modules.{module_named, main_number, parameters_of}
 use Rattle.smv_scope.specs.Instances.{instances_of, most_instances}
 use Rattle.smv_names.specs.declared.reached.UseRule.{UseRule}
 use Rattle.smv_names.specs.declared.reached.UseRule.TheVariants as asked
-use Rattle.smv_names.specs.Verdicts.{Verdict, Claim, Each, Then, plain, detailed}
+use Rattle.smv_verdicts.specs.Verdicts.{Verdict, Claim, Each, Then, plain, detailed}
 
 abbrev pub some_only : Option ℕ → List ℕ
 some_only None = []
@@ -27,8 +27,8 @@ some_only (Some n) = n ∷ []
 
 -- the module that a type names
 abbrev pub module_of_type : List Module → TypeExpr → List ℕ
-module_of_type modules (written.Boolean place) = []
 module_of_type modules (written.Instance place name given) = some_only (module_named modules name)
+module_of_type modules other = []
 
 -- the modules that a section uses
 abbrev pub modules_in : List Module → Section → List ℕ
@@ -68,8 +68,8 @@ named_type asked.Cyclic p n v place name given = Claim (FromMain p n × ReachesF
 named_type asked.Miscounted p n v place name given = Claim (FromMain p n × Miscounted p given (module_named p.modules name)) (detailed rule.ArgumentCount place name)
 
 abbrev pub use_verdict : UseRule → Program → ℕ → Variable → TypeExpr → Verdict
-use_verdict which p n v (written.Boolean place) r = r ≡ None
 use_verdict which p n v (written.Instance place name given) r = named_type which p n v place name given r
+use_verdict which p n v other r = r ≡ None
 
 abbrev pub section_verdict : UseRule → Program → ℕ → Section → Verdict
 section_verdict which p n (section.Variables kind vs) r = Each (λ (v : Variable). use_verdict which p n v v.declared) vs r

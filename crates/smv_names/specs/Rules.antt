@@ -2,7 +2,7 @@
 use Rattle.std.specs.Prelude.{◌≡◌, Option}
 use Rattle.smv_tree.specs.declared.refusal.Refusal.{Refusal}
 use Rattle.smv_tree.specs.declared.tree.Program.{Program}
-use Rattle.smv_names.specs.Verdicts.{Verdict, Exactly, Then, or_else}
+use Rattle.smv_verdicts.specs.Verdicts.{Verdict, Exactly, Then, or_else}
 use Rattle.smv_names.specs.Declarations.{declared_refusal}
 use Rattle.smv_names.specs.declared.reached.UseRule.TheVariants as asked
 use Rattle.smv_names.specs.Reached.{too_many_instances, uses_verdict}

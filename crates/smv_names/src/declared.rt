@@ -9,12 +9,12 @@ ghost use Rattle.smv_tree.specs.declared.tree.Parameter.{Parameter};
 ghost use Rattle.smv_tree.specs.declared.tree.Variable.{Variable};
 ghost use Rattle.smv_names.specs.Declarations.{declared_names, declared_refusal, duplicate_modules, duplicate_names, first_parameter, has_module, main_parameters, names_declared_in, no_main, parameters_of_main, repeated};
 ghost use Rattle.smv_names.specs.Lent.{read_names};
-ghost use Rattle.smv_names.specs.Verdicts.{Judges, first_of};
+ghost use Rattle.smv_verdicts.specs.Verdicts.{Judges, first_of};
 
 use crate::known::add_name;
-use crate::refusals::{START, refuse_name, refused};
 use plain_text::Text;
 use smv_tree::{Definition, Module, Parameter, Place, Program, Rule, Section, TextStop, Variable};
+use smv_verdicts::{START, refuse_name, refused};
 use std::alloc::{AllocError, Global};
 use std::collections::HashSet;
 

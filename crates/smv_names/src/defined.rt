@@ -4,14 +4,14 @@ ghost use Rattle.std.specs.Prelude.{◌≡◌, ◌<◌, length};
 ghost use Rattle.digraph.specs.Cycles.{Closed};
 ghost use Rattle.smv_names.specs.Defined.{definitions_verdict, entries_verdict, entry_verdict};
 ghost use Rattle.smv_names.specs.Entries.{read_entries, read_entry};
-ghost use Rattle.smv_names.specs.Verdicts.{Gives};
+ghost use Rattle.smv_verdicts.specs.Verdicts.{Gives};
 
 use crate::entries::{Entry, entries_of, entry_graph};
 use crate::graph::is_acyclic;
-use crate::refusals::refuse_by;
 use digraph::reached_from;
 use smv_scope::Scope;
 use smv_tree::{Rule, TextStop};
+use smv_verdicts::refuse_by;
 use sqlite_items::Items;
 use std::alloc::Global;
 

@@ -103,11 +103,11 @@ fn push_module_of(
     ensures { OnOk result (used.new.items ≡ used.old.items ++ module_of_type modules.now declared.now) }
 {
     match declared {
-        TypeExpr::Boolean(_) => Ok(()),
         TypeExpr::Instance(_, name, _) => push_some(
             used,
             module_named(modules, numbers, name.as_str()),
         ),
+        _ => Ok(()),
     }
 }
 

@@ -12,8 +12,7 @@ mod names;
 mod numbers;
 mod order;
 mod reached;
-mod refusals;
 
 pub use law::are_names_judged_once;
 pub use order::check_names;
-pub use refusals::{START, refused};
+pub use smv_verdicts::{START, refused};

@@ -10,14 +10,14 @@ ghost use Rattle.smv_scope.specs.Targets.{seen};
 ghost use Rattle.smv_tree.specs.Occurring.{read};
 ghost use Rattle.smv_names.specs.Lent.{read_some};
 ghost use Rattle.smv_names.specs.Named.{unknown_before, unknown_from, unknown_identifier, unknown_in_all, unknown_in_assignment, unknown_in_expression, unknown_in_name, unknown_in_section, unknown_in_sections, unknown_in_type, unknown_last, unknown_members, unknown_names};
-ghost use Rattle.smv_names.specs.Verdicts.{Judges, first_of};
+ghost use Rattle.smv_verdicts.specs.Verdicts.{Judges, first_of};
 
-use crate::refusals::refuse_name;
 use smv_scope::{NameTarget, Scope, instance_of, member_target, own_target, sections_of};
 use smv_tree::{
     Assignment, Definition, Expr, Identifier, Name, Rule, Section, Start, TextStop, TypeExpr,
     Variable, names_in,
 };
+use smv_verdicts::refuse_name;
 use std::alloc::Global;
 
 /// Each name of each instance leads somewhere.
@@ -59,6 +59,7 @@ fn unknown_in_section(
         Section::Definitions(definitions) => {
             unknown_in_definitions(alloc, scope, at, definitions.as_slice())
         }
+        Section::Constants(_) => Ok(()),
         Section::Assignments(assignments) => {
             unknown_in_assignments(alloc, scope, at, assignments.as_slice())
         }
@@ -95,6 +96,12 @@ fn unknown_in_type(
 {
     match declared {
         TypeExpr::Boolean(_) => Ok(()),
+        TypeExpr::Word(_, _, width) => unknown_in_expression(alloc, scope, at, width),
+        TypeExpr::Range(_, low, high) => {
+            unknown_in_expression(alloc, scope, at, low)?;
+            unknown_in_expression(alloc, scope, at, high)
+        }
+        TypeExpr::Enumeration(..) => Ok(()),
         TypeExpr::Instance(_, _, given) => unknown_in_all(alloc, scope, at, given.as_slice()),
     }
 }

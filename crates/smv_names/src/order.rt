@@ -5,7 +5,7 @@ ghost use Rattle.smv_scope.specs.Modules.{main_number};
 ghost use Rattle.smv_scope.specs.Symbols.{AreNumbered};
 ghost use Rattle.smv_names.specs.Reached.{place_of_main, too_many_instances, uses_verdict};
 ghost use Rattle.smv_names.specs.Rules.{named_refusal, names_verdict};
-ghost use Rattle.smv_names.specs.Verdicts.{Gives, Judges, Then};
+ghost use Rattle.smv_verdicts.specs.Verdicts.{Gives, Judges, Then};
 ghost use Rattle.smv_names.specs.declared.reached.UseRule.TheVariants as asked;
 
 use crate::declared::declared;
@@ -13,9 +13,9 @@ use crate::defined::definitions;
 use crate::graph::module_named;
 use crate::names::unknown_names;
 use crate::reached::{UseRule, judge_cycles, judge_uses, module_uses};
-use crate::refusals::{START, refused};
 use smv_scope::{LayoutStop, ModuleNumbers, Scope, lay_out, module_numbers};
 use smv_tree::{Place, Program, Rule, TextStop};
+use smv_verdicts::{START, refused};
 use std::alloc::Global;
 
 /// The program with its instances and its slots, where it breaks no rule of names; else the first rule that it breaks, at that
@@ -41,7 +41,8 @@ use std::alloc::Global;
 ///
 /// - `TooManyInstances`: there are more than 100000. At the name of `main`, with no detail.
 /// - `UnknownName`: an identifier of a name leads nowhere, or one before others to no instance (2.3.13). At the identifier; it is
-///   the detail.
+///   the detail. Names stand in expressions, in what instances are given, and in the bounds and widths of types. The elements of
+///   an enumeration are no names.
 /// - `DefineCycle`: a definition leads to itself, by definitions and by what parameters were given (2.3.2). At the definition;
 ///   the detail is its name.
 ///

@@ -8,14 +8,14 @@ ghost use Rattle.smv_tree.specs.declared.tree.Variable.{Variable};
 ghost use Rattle.smv_scope.specs.Symbols.{AreNumbered};
 ghost use Rattle.smv_names.specs.Marks.{MarksFromMain, MarksReach};
 ghost use Rattle.smv_names.specs.Reached.{Miscounted, ReachesFrom, module_graph, section_verdict, use_verdict, uses_verdict};
-ghost use Rattle.smv_names.specs.Verdicts.{Each, Gives};
+ghost use Rattle.smv_verdicts.specs.Verdicts.{Each, Gives};
 ghost use Rattle.smv_names.specs.declared.reached.UseRule.TheVariants as asked;
 
 use crate::graph::{is_acyclic, module_graph, module_named};
-use crate::refusals::refuse_by;
 use digraph::reached_from;
 use smv_scope::ModuleNumbers;
 use smv_tree::{Program, Rule, Section, TextStop, TypeExpr, Variable};
+use smv_verdicts::refuse_by;
 use sqlite_items::Items;
 use std::alloc::{AllocError, Global};
 
@@ -180,7 +180,6 @@ fn judge_use(
     ensures { Gives result (use_verdict which uses.now.program.now n variable.now variable.now.declared) }
 {
     match &variable.declared {
-        TypeExpr::Boolean(_) => Ok(()),
         TypeExpr::Instance(place, name, given) => {
             let target = module_named(uses.program.modules.as_slice(), uses.numbers, name.as_str());
             match which {
@@ -208,6 +207,7 @@ fn judge_use(
                 }
             }
         }
+        _ => Ok(()),
     }
 }
 

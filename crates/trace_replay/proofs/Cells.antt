@@ -1,59 +1,35 @@
 -- Bindings tell just the values of which they are made.
-use Rattle.std.proofs.Common.{◌≡◌, inl, inr, ℕ, true, false, List, [], ◌∷◌, length, map, codes, Option, None, Some, refl, sym, ap, ◌∙◌, arith, bytes_eq}
+use Rattle.std.proofs.Common.{◌≡◌, inl, inr, ℕ, zero, suc, true, false, List, [], ◌∷◌, length, map, slice_get, Option, None, Some, refl, sym, ap, ◌∙◌, arith, bytes_eq}
 use lib.Dec.{eqb}
 use Rattle.std.specs.List.{list_all, zip}
 use Rattle.std.proofs.lemmas.Bool.{and_parts, cases_Bool, cond-false, cond-true, eqb-true}
 use Rattle.std.proofs.lemmas.Slice.Eq.{bytes_eq-Decides}
 use Rattle.smv_tree.specs.declared.tree.Program.{Program}
 use Rattle.smv_value.specs.declared.value.Value.{Value}
-use Rattle.smv_value.specs.declared.value.Value.TheVariants as value
-use Rattle.smv_value.specs.Texts.{value_text}
+use Rattle.value_types.specs.declared.value_type.ValueType.{ValueType}
+use Rattle.value_types.specs.Types.{is_type}
+use Rattle.value_texts.specs.Told.{told_text}
+use Rattle.value_texts.proofs.Codes.{read_told, reading}
 use Rattle.smv_scope.specs.declared.slot.Slot.{Slot}
-use Rattle.smv_scope.specs.declared.slot.ValueType.{ValueType}
-use Rattle.smv_scope.specs.declared.slot.ValueType.TheVariants.{Boolean}
 use Rattle.smv_meaning.specs.Runs.{fits, in_type}
 use Rattle.trace_replay.specs.declared.columns.Column.{Column}
 use Rattle.trace_replay.specs.declared.entry.Binding.{Binding}
-use Rattle.trace_replay.specs.Rows.{binding_of, bindings_of, cell_read, column_of, in_front, row_read, value_read}
+use Rattle.trace_replay.specs.Rows.{AreTypes, Terms, binding_of, bindings_of, cell_read, column_of, in_front, row_read, terms_of, typed_read}
 
--- a value is read from its text
-value_read-text : (d : ValueType) (v : Value) → in_type v d ≡ true → value_read d (value_text [] v) ≡ Some v
-value_read-text Boolean (value.Bool true) h = refl
-value_read-text Boolean (value.Bool false) h = refl
-value_read-text Boolean (value.Int z) h = absurd (let never : ⊥ = cc in never)
-value_read-text Boolean (value.Sym n) h = absurd (let never : ⊥ = cc in never)
-value_read-text Boolean (value.Word s w b) h = absurd (let never : ⊥ = cc in never)
+typed_told : (names : List (List ℕ)) (t : Option ValueType) (text : List ℕ) (v : Value) → typed_read names t text ≡ Some v → told_text names v ≡ text
+typed_told names None text v e = absurd (let never : ⊥ = cc in never)
+typed_told names (Some t) text v e = read_told names t text v e
 
-some_same : (v w : Value) → Some v ≡ Some w → v ≡ w
-some_same v w e = cc
-
--- and only from it
-text_read : (d : ValueType) (text : List ℕ) (v : Value) → value_read d text ≡ Some v → text ≡ value_text [] v
-text_read Boolean text v e = elim (cases_Bool (bytes_eq text (codes "TRUE"))) [
-  | inl hit ↦
-      let is : Some (value.Bool true) ≡ Some v = sym (cond-true (bytes_eq text (codes "TRUE")) (Some (value.Bool true)) _ hit) ∙ e in
-      (bytes_eq-Decides text (codes "TRUE")).0 hit ∙ ap (value_text []) (some_same (value.Bool true) v is)
-  | inr never ↦ elim (cases_Bool (bytes_eq text (codes "FALSE"))) [
-    | inl hit ↦
-        let is : Some (value.Bool false) ≡ Some v =
-        sym (cond-false (bytes_eq text (codes "TRUE")) (Some (value.Bool true)) _ never ∙ cond-true (bytes_eq text (codes "FALSE")) (Some (value.Bool false)) None hit) ∙ e in
-        (bytes_eq-Decides text (codes "FALSE")).0 hit ∙ ap (value_text []) (some_same (value.Bool false) v is)
-    | inr neither ↦
-        let is : None ≡ Some v =
-        sym (cond-false (bytes_eq text (codes "TRUE")) (Some (value.Bool true)) _ never ∙ cond-false (bytes_eq text (codes "FALSE")) (Some (value.Bool false)) None neither) ∙ e in
-        absurd (let clash : ⊥ = cc in clash)
-  ]
-]
-
-cell_told : (c : Column) (b : Binding) (v : Value) → cell_read c b ≡ Some v → b ≡ binding_of c v
-cell_told c b v e = elim (cases_Bool (bytes_eq c.name b.name)) [
+cell_told : (terms : Terms) (c : Column) (b : Binding) (v : Value) → cell_read terms c b ≡ Some v → b ≡ binding_of terms c v
+cell_told terms c b v e = elim (cases_Bool (bytes_eq c.name b.name)) [
   | inl hit ↦
       let name : c.name ≡ b.name = (bytes_eq-Decides c.name b.name).0 hit in
-      let text : b.value ≡ value_text [] v = text_read c.declared b.value v (sym (cond-true (bytes_eq c.name b.name) (value_read c.declared b.value) None hit) ∙ e) in
+      let read : Option Value = typed_read terms.names (slice_get terms.types c.declared) b.value in
+      let text : b.value ≡ told_text terms.names v = sym (typed_told terms.names (slice_get terms.types c.declared) b.value v (sym (cond-true (bytes_eq c.name b.name) read None hit) ∙ e)) in
       let made : List ℕ → List ℕ → Binding = λ n x. record { name = n; value = x } in
       ap (λ (n : List ℕ). made n b.value) (sym name) ∙ ap (λ (x : List ℕ). made c.name x) text
   | inr never ↦
-      let is : None ≡ Some v = sym (cond-false (bytes_eq c.name b.name) (value_read c.declared b.value) None never) ∙ e in
+      let is : None ≡ Some v = sym (cond-false (bytes_eq c.name b.name) (typed_read terms.names (slice_get terms.types c.declared) b.value) None never) ∙ e in
       absurd (let clash : ⊥ = cc in clash)
 ]
 
@@ -70,34 +46,46 @@ in_front-parts (Some v) None vs e = absurd (let never : ⊥ = cc in never)
 in_front-parts (Some v) (Some ws) vs e = record { first = v; more = ws; is_first = refl; are_more = refl; all = let same : v ∷ ws ≡ vs = cc in same }
 
 -- a row tells only the values of which it is made
-pub row_told : (cs : List Column) (bs : List Binding) (vs : List Value) → row_read cs bs ≡ Some vs → bindings_of cs vs ≡ bs
-row_told [] [] vs e = refl
-row_told [] (b ∷ bs) vs e = absurd (let never : ⊥ = cc in never)
-row_told (c ∷ cs) [] vs e = absurd (let never : ⊥ = cc in never)
-row_told (c ∷ cs) (b ∷ bs) vs e =
-    let parts = in_front-parts (cell_read c b) (row_read cs bs) vs e in
-    ap (bindings_of (c ∷ cs)) (sym parts.all)
-    ∙ ap (λ (x : Binding). x ∷ bindings_of cs parts.more) (sym (cell_told c b parts.first parts.is_first))
-    ∙ ap (λ (xs : List Binding). b ∷ xs) (row_told cs bs parts.more parts.are_more)
+pub row_told : (terms : Terms) (cs : List Column) (bs : List Binding) (vs : List Value) → row_read terms cs bs ≡ Some vs → bindings_of terms cs vs ≡ bs
+row_told terms [] [] vs e = refl
+row_told terms [] (b ∷ bs) vs e = absurd (let never : ⊥ = cc in never)
+row_told terms (c ∷ cs) [] vs e = absurd (let never : ⊥ = cc in never)
+row_told terms (c ∷ cs) (b ∷ bs) vs e =
+    let parts = in_front-parts (cell_read terms c b) (row_read terms cs bs) vs e in
+    ap (bindings_of terms (c ∷ cs)) (sym parts.all)
+    ∙ ap (λ (x : Binding). x ∷ bindings_of terms cs parts.more) (sym (cell_told terms c b parts.first parts.is_first))
+    ∙ ap (λ (xs : List Binding). b ∷ xs) (row_told terms cs bs parts.more parts.are_more)
 
-module _ (p : Program) where
-  cell_back : (slot : Slot) (v : Value) → in_type v slot.declared ≡ true → cell_read (column_of p slot) (binding_of (column_of p slot) v) ≡ Some v
+-- a type among types
+pub among_types : (types : List ValueType) (n : ℕ) (t : ValueType) → list_all is_type types ≡ true → slice_get types n ≡ Some t → is_type t ≡ true
+among_types [] n t all e = absurd (let never : ⊥ = cc in never)
+among_types (x ∷ types) zero t all e = let same : x ≡ t = cc in ap is_type (sym same) ∙ (and_parts (is_type x) (list_all is_type types) all).0
+among_types (x ∷ types) (suc n) t all e = among_types types n t (and_parts (is_type x) (list_all is_type types) all).1 e
+
+typed_back : (names : List (List ℕ)) (t : Option ValueType) (v : Value) → ((x : ValueType) → t ≡ Some x → is_type x ≡ true) → in_type t v ≡ true → typed_read names t (told_text names v) ≡ Some v
+typed_back names None v typed h = absurd (let never : ⊥ = cc in never)
+typed_back names (Some t) v typed h = (reading names t (typed t refl)).back v h
+
+module _ (p : Program) (types : AreTypes p) where
+  cell_back : (slot : Slot) (v : Value) → in_type (slice_get (terms_of p).types slot.declared) v ≡ true → cell_read (terms_of p) (column_of p slot) (binding_of (terms_of p) (column_of p slot) v) ≡ Some v
   cell_back slot v h =
-      cond-true (bytes_eq (column_of p slot).name (column_of p slot).name) (value_read slot.declared (value_text [] v)) None ((bytes_eq-Decides (column_of p slot).name (column_of p slot).name).1 refl)
-      ∙ value_read-text slot.declared v h
+      let names = (terms_of p).names in
+      let t = slice_get (terms_of p).types slot.declared in
+      cond-true (bytes_eq (column_of p slot).name (column_of p slot).name) (typed_read names t (told_text names v)) None ((bytes_eq-Decides (column_of p slot).name (column_of p slot).name).1 refl)
+      ∙ typed_back names t v (λ x is. among_types (terms_of p).types slot.declared x types is) h
 
-  row_made : (slots : List Slot) (s : List Value) → length slots ≡ length s → list_all (λ (pair : Slot × Value). in_type pair.1 pair.0.declared) (zip slots s) ≡ true
-      → row_read (map (column_of p) slots) (bindings_of (map (column_of p) slots) s) ≡ Some s
+  row_made : (slots : List Slot) (s : List Value) → length slots ≡ length s → list_all (λ (pair : Slot × Value). in_type (slice_get (terms_of p).types pair.0.declared) pair.1) (zip slots s) ≡ true
+      → row_read (terms_of p) (map (column_of p) slots) (bindings_of (terms_of p) (map (column_of p) slots) s) ≡ Some s
   row_made [] [] long h = refl
   row_made [] (v ∷ s) long h = absurd (let never : ⊥ = omega (arith, long) in never)
   row_made (slot ∷ slots) [] long h = absurd (let never : ⊥ = omega (arith, long) in never)
   row_made (slot ∷ slots) (v ∷ s) long h =
-      let both = and_parts (in_type v slot.declared) (list_all (λ (pair : Slot × Value). in_type pair.1 pair.0.declared) (zip slots s)) h in
-      ap (λ (o : Option Value). in_front o (row_read (map (column_of p) slots) (bindings_of (map (column_of p) slots) s))) (cell_back slot v both.0)
+      let both = and_parts (in_type (slice_get (terms_of p).types slot.declared) v) (list_all (λ (pair : Slot × Value). in_type (slice_get (terms_of p).types pair.0.declared) pair.1) (zip slots s)) h in
+      ap (λ (o : Option Value). in_front o (row_read (terms_of p) (map (column_of p) slots) (bindings_of (terms_of p) (map (column_of p) slots) s))) (cell_back slot v both.0)
       ∙ ap (in_front (Some v)) (row_made slots s (omega (arith, long)) both.1)
 
   -- and it tells these, if they are of the types of the slots
-  pub row_back : (slots : List Slot) (s : List Value) → fits slots s ≡ true → row_read (map (column_of p) slots) (bindings_of (map (column_of p) slots) s) ≡ Some s
+  pub row_back : (slots : List Slot) (s : List Value) → fits (terms_of p).types slots s ≡ true → row_read (terms_of p) (map (column_of p) slots) (bindings_of (terms_of p) (map (column_of p) slots) s) ≡ Some s
   row_back slots s h =
-      let both = and_parts (eqb (length slots) (length s)) (list_all (λ (pair : Slot × Value). in_type pair.1 pair.0.declared) (zip slots s)) h in
+      let both = and_parts (eqb (length slots) (length s)) (list_all (λ (pair : Slot × Value). in_type (slice_get (terms_of p).types pair.0.declared) pair.1) (zip slots s)) h in
       row_made slots s (eqb-true (length slots) (length s) both.0) both.1

@@ -12,27 +12,28 @@ use Rattle.trace_replay.specs.declared.rule.Replayed.{Replayed}
 use Rattle.trace_replay.specs.declared.rule.Replayed.TheVariants.{Accepted, Rejected}
 use Rattle.trace_replay.specs.declared.trace.Trace.{Trace}
 use Rattle.trace_replay.specs.Lassos.{IsLassoReplay, IsReplayOf, Shows, ShowsViolated}
+use Rattle.trace_replay.specs.Rows.{AreTypes}
 use Rattle.trace_replay.specs.Tests.{IsReplay, ShowsBroken}
 use Rattle.trace_replay.proofs.Broken.{broken_passes}
 use Rattle.trace_replay.proofs.Shows.{shows}
 use Rattle.trace_replay.proofs.Violated.{shows_violated, violated_passes}
 
-accepted : (p : Program) (spec : ResolvedItem) (t : Trace) (r : Replayed) → IsReplay p spec t r → (r ≡ Accepted) ↔ ShowsBroken p spec t
-accepted p spec t Accepted h = (λ e. shows p spec t h, λ b. refl)
-accepted p spec t (Rejected rule n) h =
-    (λ e. absurd (let never : ⊥ = cc in never), λ b. absurd (let e = sym h.fails ∙ broken_passes p spec t b rule n in let never : ⊥ = cc in never))
+accepted : (p : Program) → AreTypes p → (spec : ResolvedItem) (t : Trace) (r : Replayed) → IsReplay p spec t r → (r ≡ Accepted) ↔ ShowsBroken p spec t
+accepted p types spec t Accepted h = (λ e. shows p spec t h, λ b. refl)
+accepted p types spec t (Rejected rule n) h =
+    (λ e. absurd (let never : ⊥ = cc in never), λ b. absurd (let e = sym h.fails ∙ broken_passes p types spec t b rule n in let never : ⊥ = cc in never))
 
-lasso_accepted : (p : Program) (spec : ResolvedItem) (t : Trace) (r : Replayed) → IsLassoReplay p spec t r → (r ≡ Accepted) ↔ ShowsViolated p spec t
-lasso_accepted p spec t Accepted h = (λ e. shows_violated p spec t h, λ v. refl)
-lasso_accepted p spec t (Rejected rule n) h =
-    (λ e. absurd (let never : ⊥ = cc in never), λ v. absurd (h.fails (violated_passes p spec t v rule n)))
+lasso_accepted : (p : Program) → AreTypes p → (spec : ResolvedItem) (t : Trace) (r : Replayed) → IsLassoReplay p spec t r → (r ≡ Accepted) ↔ ShowsViolated p spec t
+lasso_accepted p types spec t Accepted h = (λ e. shows_violated p spec t h, λ v. refl)
+lasso_accepted p types spec t (Rejected rule n) h =
+    (λ e. absurd (let never : ⊥ = cc in never), λ v. absurd (h.fails (violated_passes p types spec t v rule n)))
 
 -- the same of a specification of either kind
-shown : (kind : ItemKind) (p : Program) (spec : ResolvedItem) (t : Trace) (r : Replayed) → IsReplayOf kind p spec t r → Shows kind p spec t r
-shown (item.Specification claim.Temporal) p spec t r h = lasso_accepted p spec t r h
-shown (item.Specification claim.Invariant) p spec t r h = accepted p spec t r h
-shown (item.Assignment kind) p spec t r h = accepted p spec t r h
-shown (item.Constraint kind) p spec t r h = accepted p spec t r h
+shown : (kind : ItemKind) (p : Program) → AreTypes p → (spec : ResolvedItem) (t : Trace) (r : Replayed) → IsReplayOf kind p spec t r → Shows kind p spec t r
+shown (item.Specification claim.Temporal) p types spec t r h = lasso_accepted p types spec t r h
+shown (item.Specification claim.Invariant) p types spec t r h = accepted p types spec t r h
+shown (item.Assignment kind) p types spec t r h = accepted p types spec t r h
+shown (item.Constraint kind) p types spec t r h = accepted p types spec t r h
 
 -- the specification of a number
 at_number : (f : Item → ResolvedItem) (xs : List Item) (ys : List ResolvedItem) (k : ℕ) (d : Item) → map f xs ≡ ys → k < length ys → slice_get ys k ≡ Some (f (get_or xs k d))
@@ -57,16 +58,16 @@ module _ {E : Type 0} (p : Program) (f : Item → ResolvedItem) (xs : List Item)
   pub judged_at : IfOk r (IsReplayOf at.kind p at t) → IfOk r (λ y. IfSome (slice_get ys k) (λ x. IsReplayOf x.kind p x t y))
   judged_at h = at_spec (λ x y. IsReplayOf x.kind p x t y) (slice_get ys k) at r (at_number f xs ys k d same within) h
 
-  pub shown_at : IfOk r (IsReplayOf at.kind p at t) → IfOk r (λ y. IfSome (slice_get ys k) (λ x. Shows x.kind p x t y))
-  shown_at h =
+  pub shown_at : AreTypes p → IfOk r (IsReplayOf at.kind p at t) → IfOk r (λ y. IfSome (slice_get ys k) (λ x. Shows x.kind p x t y))
+  shown_at types h =
       at_spec (λ x y. Shows x.kind p x t y) (slice_get ys k) at r (at_number f xs ys k d same within)
-      (on_ok (IsReplayOf at.kind p at t) (Shows at.kind p at t) r (λ y. shown at.kind p at t y) h)
+      (on_ok (IsReplayOf at.kind p at t) (Shows at.kind p at t) r (λ y. shown at.kind p types at t y) h)
 
   -- the same of the trace of a run
   pub run_judged_at : IfOk r (IsReplay p at t) → IfOk r (λ y. IfSome (slice_get ys k) (λ x. IsReplay p x t y))
   run_judged_at h = at_spec (λ x y. IsReplay p x t y) (slice_get ys k) at r (at_number f xs ys k d same within) h
 
-  pub run_shown_at : IfOk r (IsReplay p at t) → IfOk r (λ y. IfSome (slice_get ys k) (λ x. (y ≡ Accepted) ↔ ShowsBroken p x t))
-  run_shown_at h =
+  pub run_shown_at : AreTypes p → IfOk r (IsReplay p at t) → IfOk r (λ y. IfSome (slice_get ys k) (λ x. (y ≡ Accepted) ↔ ShowsBroken p x t))
+  run_shown_at types h =
       at_spec (λ x y. (y ≡ Accepted) ↔ ShowsBroken p x t) (slice_get ys k) at r (at_number f xs ys k d same within)
-      (on_ok (IsReplay p at t) (λ y. (y ≡ Accepted) ↔ ShowsBroken p at t) r (λ y. accepted p at t y) h)
+      (on_ok (IsReplay p at t) (λ y. (y ≡ Accepted) ↔ ShowsBroken p at t) r (λ y. accepted p types at t y) h)

@@ -10,6 +10,7 @@ pub mod OfWords
 pub mod OfTexts
 pub mod OfReading
 pub mod LawsOfReading
+pub mod OfForms
 pub mod Readable
 pub mod OfLassos
 pub mod Violated

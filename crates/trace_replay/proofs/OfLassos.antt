@@ -15,17 +15,18 @@ use Rattle.smv_resolve.specs.declared.node.Node.{Node}
 use Rattle.smv_resolve.specs.Items.{ResolvedItem, item_by, items_of}
 use Rattle.smv_resolve.specs.Resolved.{last_of}
 use Rattle.smv_scope.specs.Slots.{slots_of}
-use Rattle.smv_meaning.specs.declared.value.Outcome.{Outcome}
-use Rattle.smv_meaning.specs.declared.value.Outcome.TheVariants.{Fault, Values}
+use Rattle.smv_meaning.specs.declared.outcome.Outcome.{Outcome}
+use Rattle.smv_meaning.specs.declared.outcome.Outcome.TheVariants.{Fault, Nothing, Values}
 use Rattle.smv_meaning.specs.Lassos.{Lasso, IsLasso, MeetsJustice, Violates, Holds}
 use Rattle.smv_meaning.specs.Runs.{at_time, is_first_state, is_step, is_true}
-use Rattle.smv_meaning.specs.Values.{one, outcome_in}
+use Rattle.smv_meaning.specs.Outcomes.{one}
+use Rattle.smv_meaning.specs.Values.{outcome_in}
 use Rattle.trace_replay.specs.declared.columns.Column.{Column}
 use Rattle.trace_replay.specs.declared.rule.ReplayRule.{ReplayRule}
 use Rattle.trace_replay.specs.declared.rule.ReplayRule.TheVariants as rule
 use Rattle.trace_replay.specs.declared.trace.Trace.{Trace}
 use Rattle.trace_replay.specs.Lassos.{LassoPasses, LassoFailsFirst, due_each, each_input_fits, each_input_told, each_value_fits, goes_back, is_fair, is_justice, is_loop, is_met, justices_of, lasso_told}
-use Rattle.trace_replay.specs.Rows.{input_columns, inputs_read, state_columns, state_read, states_told}
+use Rattle.trace_replay.specs.Rows.{input_columns, inputs_read, state_columns, state_read, states_told, terms_of}
 use Rattle.trace_replay.specs.Telling.{FirstFailing}
 use Rattle.trace_replay.specs.Tests.{begins, goes_on, rank, state_fits, stays}
 use Rattle.trace_replay.proofs.OfTelling.{is_there, line_row}
@@ -92,7 +93,7 @@ some_each p t fit =
     let top : ltb 0 (max 1 (length t.states)) ≡ true = lt-ltb 0 (max 1 (length t.states)) (omega arith) in
     let told : is_some (state_read p t 0) ≡ true = sym (cond-true (ltb 0 (max 1 (length t.states))) (is_some (state_read p t 0)) true top) ∙ first in
     let value = is_there (state_read p t 0) told in
-    let row = line_row (state_columns p) (slice_get t.states 0) value.0 value.1 in
+    let row = line_row (terms_of p) (state_columns p) (slice_get t.states 0) value.0 value.1 in
     slice_get_within t.states 0 row.0 row.1
 
 module _ (p : Program) (spec : ResolvedItem) (t : Trace) where
@@ -347,12 +348,14 @@ kept test (y ∷ ys) zero x h is so = (0, kept_first (test y) y (filter test ys)
 kept test (y ∷ ys) (suc k) x h is so = let r = kept test ys k x (omega (arith, h)) is so in kept_behind (test y) y (filter test ys) x r.0 r.1
 
 true_is : (o : Outcome) → is_true o ≡ true → o ≡ one (value.Bool true)
-true_is (Values None) h = absurd (let never : ⊥ = cc in never)
-true_is (Values (Some (value.Bool true))) h = refl
-true_is (Values (Some (value.Bool false))) h = absurd (let never : ⊥ = cc in never)
-true_is (Values (Some (value.Int z))) h = absurd (let never : ⊥ = cc in never)
-true_is (Values (Some (value.Sym n))) h = absurd (let never : ⊥ = cc in never)
-true_is (Values (Some (value.Word s w b))) h = absurd (let never : ⊥ = cc in never)
+true_is Nothing h = absurd (let never : ⊥ = cc in never)
+true_is (Values []) h = absurd (let never : ⊥ = cc in never)
+true_is (Values (value.Bool true ∷ [])) h = refl
+true_is (Values (value.Bool false ∷ [])) h = absurd (let never : ⊥ = cc in never)
+true_is (Values (value.Int z ∷ [])) h = absurd (let never : ⊥ = cc in never)
+true_is (Values (value.Sym n ∷ [])) h = absurd (let never : ⊥ = cc in never)
+true_is (Values (value.Word s w b ∷ [])) h = absurd (let never : ⊥ = cc in never)
+true_is (Values (v ∷ w ∷ vs)) h = absurd (let never : ⊥ = cc in never)
 true_is (Fault f place) h = absurd (let never : ⊥ = cc in never)
 
 module _ (p : Program) (spec : ResolvedItem) (t : Trace) (all : (r : ReplayRule) (i : ℕ) → LassoPasses p spec t r i) where

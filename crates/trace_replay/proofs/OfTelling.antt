@@ -12,7 +12,7 @@ use Rattle.smv_value.specs.declared.value.Value.{Value}
 use Rattle.trace_replay.specs.declared.columns.Column.{Column}
 use Rattle.trace_replay.specs.declared.entry.Binding.{Binding}
 use Rattle.trace_replay.specs.declared.trace.Trace.{Trace}
-use Rattle.trace_replay.specs.Rows.{cell_read, in_front, input_columns, inputs_read, line_read, row_read, state_columns, state_read}
+use Rattle.trace_replay.specs.Rows.{Terms, cell_read, in_front, input_columns, inputs_read, line_read, row_read, state_columns, state_read, terms_of}
 use Rattle.trace_replay.specs.Tests.{due_beside, inputs_due, inputs_fit, state_fits, values_fit}
 
 -- values behind others
@@ -25,31 +25,31 @@ in_front-none None vs h = refl
 in_front-none (Some v) vs h = ap (in_front (Some v)) h
 
 -- there are as many bindings as columns where they tell values
-pub row_read-uneven : (cs : List Column) (bs : List Binding) → length cs ≢ length bs → row_read cs bs ≡ None
-row_read-uneven [] [] h = absurd (h refl)
-row_read-uneven [] (b ∷ bs) h = refl
-row_read-uneven (c ∷ cs) [] h = refl
-row_read-uneven (c ∷ cs) (b ∷ bs) h = in_front-none (cell_read c b) (row_read cs bs) (row_read-uneven cs bs (λ e. h (ap suc e)))
+pub row_read-uneven : (terms : Terms) (cs : List Column) (bs : List Binding) → length cs ≢ length bs → row_read terms cs bs ≡ None
+row_read-uneven terms [] [] h = absurd (h refl)
+row_read-uneven terms [] (b ∷ bs) h = refl
+row_read-uneven terms (c ∷ cs) [] h = refl
+row_read-uneven terms (c ∷ cs) (b ∷ bs) h = in_front-none (cell_read terms c b) (row_read terms cs bs) (row_read-uneven terms cs bs (λ e. h (ap suc e)))
 
 -- a line that tells values is there
-pub line_row : (cs : List Column) (o : Option (List Binding)) (s : List Value) → line_read cs o ≡ Some s → (bs : List Binding) × (o ≡ Some bs) × (row_read cs bs ≡ Some s)
-line_row cs None s e = absurd (let no : ⊥ = cc in no)
-line_row cs (Some bs) s e = (bs, refl, e)
+pub line_row : (terms : Terms) (cs : List Column) (o : Option (List Binding)) (s : List Value) → line_read terms cs o ≡ Some s → (bs : List Binding) × (o ≡ Some bs) × (row_read terms cs bs ≡ Some s)
+line_row terms cs None s e = absurd (let no : ⊥ = cc in no)
+line_row terms cs (Some bs) s e = (bs, refl, e)
 
 abbrev pub row_told : List Column → List Binding → List Value
-row_told cs bs = unwrap_or (row_read cs bs) []
+row_told terms cs bs = unwrap_or (row_read terms cs bs) []
 
 -- one row more
-pub rows_more : (cs : List Column) (rows : List (List Binding)) (made : List (List Value)) (i : ℕ) (s : List Value) → line_read cs (slice_get rows i) ≡ Some s
-    → made ≡ map (row_told cs) (take i rows) → made ++ s ∷ [] ≡ map (row_told cs) (take (i + 1) rows)
-rows_more cs rows made i s e so_far =
-    let r = line_row cs (slice_get rows i) s e in
+pub rows_more : (terms : Terms) (cs : List Column) (rows : List (List Binding)) (made : List (List Value)) (i : ℕ) (s : List Value) → line_read terms cs (slice_get rows i) ≡ Some s
+    → made ≡ map (row_told terms cs) (take i rows) → made ++ s ∷ [] ≡ map (row_told terms cs) (take (i + 1) rows)
+rows_more terms cs rows made i s e so_far =
+    let r = line_row terms cs (slice_get rows i) s e in
     let within : i < length rows = slice_get_within rows i r.0 r.1 in
-    let here : s ≡ row_told cs (get_or rows i r.0) = sym (ap (row_told cs) (get_or_from_slice_get rows i r.0 r.0 r.1) ∙ ap (λ (o : Option (List Value)). unwrap_or o []) r.2) in
+    let here : s ≡ row_told terms cs (get_or rows i r.0) = sym (ap (row_told terms cs) (get_or_from_slice_get rows i r.0 r.0 r.1) ∙ ap (λ (o : Option (List Value)). unwrap_or o []) r.2) in
     ap (λ (l : List (List Value)). l ++ s ∷ []) so_far
-    ∙ ap (λ (x : List Value). map (row_told cs) (take i rows) ++ x ∷ []) here
-    ∙ sym (map-append (row_told cs) (take i rows) (get_or rows i r.0 ∷ []))
-    ∙ ap (map (row_told cs)) (sym (take_more rows i r.0 within))
+    ∙ ap (λ (x : List Value). map (row_told terms cs) (take i rows) ++ x ∷ []) here
+    ∙ sym (map-append (row_told terms cs) (take i rows) (get_or rows i r.0 ∷ []))
+    ∙ ap (map (row_told terms cs)) (sym (take_more rows i r.0 within))
 
 pub is_there : {A : Type 0} (o : Option A) → is_some o ≡ true → (x : A) × (o ≡ Some x)
 is_there None h = absurd (let no : ⊥ = cc in no)
@@ -89,7 +89,7 @@ module _ (p : Program) (t : Trace) where
       let top : ltb 0 (max 1 (length t.states)) ≡ true = lt-ltb 0 (max 1 (length t.states)) (omega arith) in
       let told : is_some (state_read p t 0) ≡ true = sym (cond-true (ltb 0 (max 1 (length t.states))) (is_some (state_read p t 0)) true top) ∙ first in
       let value = is_there (state_read p t 0) told in
-      let row = line_row (state_columns p) (slice_get t.states 0) value.0 value.1 in
+      let row = line_row (terms_of p) (state_columns p) (slice_get t.states 0) value.0 value.1 in
       slice_get_within t.states 0 row.0 row.1
 
 -- what a function gives of the numbers below both

@@ -13,17 +13,18 @@ use Rattle.smv_value.specs.declared.value.Value.{Value}
 use Rattle.smv_value.specs.declared.value.Value.TheVariants as value
 use Rattle.smv_resolve.specs.Items.{ResolvedItem}
 use Rattle.smv_scope.specs.Slots.{slots_of}
-use Rattle.smv_meaning.specs.declared.value.Outcome.{Outcome}
-use Rattle.smv_meaning.specs.declared.value.Outcome.TheVariants.{Fault, Values}
+use Rattle.smv_meaning.specs.declared.outcome.Outcome.{Outcome}
+use Rattle.smv_meaning.specs.declared.outcome.Outcome.TheVariants.{Fault, Nothing, Values}
 use Rattle.smv_meaning.specs.Runs.{IsRun, at_time, is_step}
-use Rattle.smv_meaning.specs.Values.{one, outcome_in}
+use Rattle.smv_meaning.specs.Outcomes.{one}
+use Rattle.smv_meaning.specs.Values.{outcome_in}
 use Rattle.trace_replay.specs.declared.columns.Column.{Column}
 use Rattle.trace_replay.specs.declared.entry.Binding.{Binding}
 use Rattle.trace_replay.specs.declared.rule.ReplayRule.{ReplayRule}
 use Rattle.trace_replay.specs.declared.rule.ReplayRule.TheVariants as rule
 use Rattle.trace_replay.specs.declared.trace.Trace.{Trace}
 use Rattle.trace_replay.specs.Lassos.{due_each}
-use Rattle.trace_replay.specs.Rows.{bindings_of, given_rows, input_columns, inputs_read, inputs_told, line_read, row_read, run_trace, state_columns, state_read, states_told}
+use Rattle.trace_replay.specs.Rows.{Terms, bindings_of, given_rows, input_columns, inputs_read, inputs_told, line_read, row_read, run_trace, state_columns, state_read, states_told, terms_of}
 use Rattle.trace_replay.specs.Tests.{ShowsBroken, due_beside, inputs_fit, is_false, passes, starts_at, state_fits}
 use Rattle.trace_replay.proofs.Cells.{row_told}
 use Rattle.trace_replay.proofs.OfTelling.{is_there, line_row, some_state}
@@ -54,123 +55,125 @@ no_rows [] h = refl
 no_rows (x ∷ xs) h = absurd (let never : ⊥ = omega (arith, h) in never)
 
 false_is : (o : Outcome) → is_false o ≡ true → o ≡ one (value.Bool false)
-false_is (Values None) h = absurd (let never : ⊥ = cc in never)
-false_is (Values (Some (value.Bool true))) h = absurd (let never : ⊥ = cc in never)
-false_is (Values (Some (value.Bool false))) h = refl
-false_is (Values (Some (value.Int z))) h = absurd (let never : ⊥ = cc in never)
-false_is (Values (Some (value.Sym n))) h = absurd (let never : ⊥ = cc in never)
-false_is (Values (Some (value.Word s w b))) h = absurd (let never : ⊥ = cc in never)
+false_is Nothing h = absurd (let never : ⊥ = cc in never)
+false_is (Values []) h = absurd (let never : ⊥ = cc in never)
+false_is (Values (value.Bool true ∷ [])) h = absurd (let never : ⊥ = cc in never)
+false_is (Values (value.Bool false ∷ [])) h = refl
+false_is (Values (value.Int z ∷ [])) h = absurd (let never : ⊥ = cc in never)
+false_is (Values (value.Sym n ∷ [])) h = absurd (let never : ⊥ = cc in never)
+false_is (Values (value.Word s w b ∷ [])) h = absurd (let never : ⊥ = cc in never)
+false_is (Values (v ∷ w ∷ vs)) h = absurd (let never : ⊥ = cc in never)
 false_is (Fault f place) h = absurd (let never : ⊥ = cc in never)
 
 -- whether the inputs of a number are told as they should be, by the columns, where so many are due: beside the states of a run, and
 -- beside those of a lasso
 abbrev pub fits_due : List Column → List (List Binding) → ℕ → ℕ → Bool
-fits_due cs rows m i = cond (ltb i m) (is_some (line_read cs (slice_get rows i))) (cond (eqb i m) (leb (length rows) i) true)
+fits_due terms cs rows m i = cond (ltb i m) (is_some (line_read terms cs (slice_get rows i))) (cond (eqb i m) (leb (length rows) i) true)
 
 abbrev pub fit : List Column → List (List Binding) → ℕ → ℕ → Bool
-fit cs rows n i = fits_due cs rows (due_beside cs n) i
+fit terms cs rows n i = fits_due terms cs rows (due_beside cs n) i
 
 abbrev pub each_fit : List Column → List (List Binding) → ℕ → ℕ → Bool
-each_fit cs rows n i = fits_due cs rows (due_each cs n) i
+each_fit terms cs rows n i = fits_due terms cs rows (due_each cs n) i
 
 abbrev pub read_at : List Column → List (List Binding) → ℕ → List Value
-read_at cs rows i = unwrap_or (line_read cs (slice_get rows i)) []
+read_at terms cs rows i = unwrap_or (line_read terms cs (slice_get rows i)) []
 
 -- From a trace that passes to a run.
-module _ (cs : List Column) where
+module _ (terms : Terms) (cs : List Column) where
   abbrev told : List Binding → List Value
-  told bs = unwrap_or (row_read cs bs) []
+  told bs = unwrap_or (row_read terms cs bs) []
 
   some_equal : (xs ys : List Binding) → Some xs ≡ Some ys → xs ≡ ys
   some_equal xs ys e = cc
 
-  line_back : (o : Option (List Binding)) (bs : List Binding) → o ≡ Some bs → is_some (line_read cs o) ≡ true → bindings_of cs (unwrap_or (line_read cs o) []) ≡ bs
+  line_back : (o : Option (List Binding)) (bs : List Binding) → o ≡ Some bs → is_some (line_read terms cs o) ≡ true → bindings_of terms cs (unwrap_or (line_read terms cs o) []) ≡ bs
   line_back o bs here h =
-      let value = is_there (line_read cs o) h in
-      let row = line_row cs o value.0 value.1 in
-      ap (bindings_of cs) (ap (λ (x : Option (List Value)). unwrap_or x []) value.1) ∙ row_told cs row.0 value.0 row.2 ∙ some_equal row.0 bs (sym row.1 ∙ here)
+      let value = is_there (line_read terms cs o) h in
+      let row = line_row terms cs o value.0 value.1 in
+      ap (bindings_of terms cs) (ap (λ (x : Option (List Value)). unwrap_or x []) value.1) ∙ row_told terms cs row.0 value.0 row.2 ∙ some_equal row.0 bs (sym row.1 ∙ here)
 
   -- rows that all tell values are those of the values
-  pub rows_back : (rows : List (List Binding)) → ((i : ℕ) → i < length rows → is_some (line_read cs (slice_get rows i)) ≡ true) → map (bindings_of cs) (map told rows) ≡ rows
-  rows_back rows h = same_lists (map (bindings_of cs) (map told rows)) rows
-      (length-map (map told rows) (bindings_of cs) ∙ length-map rows told)
+  pub rows_back : (rows : List (List Binding)) → ((i : ℕ) → i < length rows → is_some (line_read terms cs (slice_get rows i)) ≡ true) → map (bindings_of terms cs) (map told rows) ≡ rows
+  rows_back rows h = same_lists (map (bindings_of terms cs) (map told rows)) rows
+      (length-map (map told rows) (bindings_of terms cs) ∙ length-map rows told)
       (λ k d below.
-      let within : k < length rows = omega (arith, below, length-map (map told rows) (bindings_of cs), length-map rows told) in
+      let within : k < length rows = omega (arith, below, length-map (map told rows) (bindings_of terms cs), length-map rows told) in
       let here : slice_get rows k ≡ Some (get_or rows k d) = slice_get-get_or rows k d within in
-      let is : is_some (line_read cs (Some (get_or rows k d))) ≡ true = ap (λ (o : Option (List Binding)). is_some (line_read cs o)) (sym here) ∙ h k within in
-      get_or_default (map (bindings_of cs) (map told rows)) k d (bindings_of cs (told d)) below
-      ∙ get_or-map (bindings_of cs) (map told rows) k (told d) ∙ ap (bindings_of cs) (get_or-map told rows k d)
+      let is : is_some (line_read terms cs (Some (get_or rows k d))) ≡ true = ap (λ (o : Option (List Binding)). is_some (line_read terms cs o)) (sym here) ∙ h k within in
+      get_or_default (map (bindings_of terms cs) (map told rows)) k d (bindings_of terms cs (told d)) below
+      ∙ get_or-map (bindings_of terms cs) (map told rows) k (told d) ∙ ap (bindings_of terms cs) (get_or-map told rows k d)
       ∙ line_back (Some (get_or rows k d)) (get_or rows k d) refl is)
 
   -- the same of the rows at numbers
-  numbers_back : (rows : List (List Binding)) (m : ℕ) → length rows ≡ m → ((i : ℕ) → i < m → is_some (line_read cs (slice_get rows i)) ≡ true)
-      → map (bindings_of cs) (map (read_at cs rows) (range_with_len 0 m)) ≡ rows
+  numbers_back : (rows : List (List Binding)) (m : ℕ) → length rows ≡ m → ((i : ℕ) → i < m → is_some (line_read terms cs (slice_get rows i)) ≡ true)
+      → map (bindings_of terms cs) (map (read_at terms cs rows) (range_with_len 0 m)) ≡ rows
   numbers_back rows m long h =
-      let len = length-map-range_with_len (read_at cs rows) 0 m in
-      let both = length-map (map (read_at cs rows) (range_with_len 0 m)) (bindings_of cs) in
-      same_lists (map (bindings_of cs) (map (read_at cs rows) (range_with_len 0 m))) rows (both ∙ len ∙ sym long)
+      let len = length-map-range_with_len (read_at terms cs rows) 0 m in
+      let both = length-map (map (read_at terms cs rows) (range_with_len 0 m)) (bindings_of terms cs) in
+      same_lists (map (bindings_of terms cs) (map (read_at terms cs rows) (range_with_len 0 m))) rows (both ∙ len ∙ sym long)
       (λ k d below.
       let within : k < m = omega (arith, below, both, len) in
       let inside : k < length rows = omega (arith, within, long) in
       let here : slice_get rows k ≡ Some (get_or rows k d) = slice_get-get_or rows k d inside in
-      get_or_default (map (bindings_of cs) (map (read_at cs rows) (range_with_len 0 m))) k d (bindings_of cs []) below
-      ∙ get_or-map (bindings_of cs) (map (read_at cs rows) (range_with_len 0 m)) k []
-      ∙ ap (bindings_of cs) (get_or-map-range_with_len (read_at cs rows) 0 m k k [] within (omega arith))
+      get_or_default (map (bindings_of terms cs) (map (read_at terms cs rows) (range_with_len 0 m))) k d (bindings_of terms cs []) below
+      ∙ get_or-map (bindings_of terms cs) (map (read_at terms cs rows) (range_with_len 0 m)) k []
+      ∙ ap (bindings_of terms cs) (get_or-map-range_with_len (read_at terms cs rows) 0 m k k [] within (omega arith))
       ∙ line_back (slice_get rows k) (get_or rows k d) here (h k within))
 
 -- rows that all tell values, as many as are due
-due_back : (cs : List Column) (rows : List (List Binding)) (m : ℕ) → ((i : ℕ) → fits_due cs rows m i ≡ true) → map (bindings_of cs) (map (read_at cs rows) (range_with_len 0 m)) ≡ rows
-due_back cs rows m h =
+due_back : (terms : Terms) (cs : List Column) (rows : List (List Binding)) (m : ℕ) → ((i : ℕ) → fits_due terms cs rows m i ≡ true) → map (bindings_of terms cs) (map (read_at terms cs rows) (range_with_len 0 m)) ≡ rows
+due_back terms cs rows m h =
     let most : length rows ≤ m =
     leb-true (length rows) m
-    (sym (cond-false (ltb m m) (is_some (line_read cs (slice_get rows m))) _ (le-ltb m m (omega arith))
+    (sym (cond-false (ltb m m) (is_some (line_read terms cs (slice_get rows m))) _ (le-ltb m m (omega arith))
     ∙ cond-true (eqb m m) (leb (length rows) m) true (eq-eqb m m refl)) ∙ h m) in
-    let each : (i : ℕ) → i < m → is_some (line_read cs (slice_get rows i)) ≡ true =
-    λ i below. sym (cond-true (ltb i m) (is_some (line_read cs (slice_get rows i))) _ (lt-ltb i m below)) ∙ h i in
+    let each : (i : ℕ) → i < m → is_some (line_read terms cs (slice_get rows i)) ≡ true =
+    λ i below. sym (cond-true (ltb i m) (is_some (line_read terms cs (slice_get rows i))) _ (lt-ltb i m below)) ∙ h i in
     let least : m ≤ length rows = elim (cases_lt (length rows) m) [
       | inl short ↦
-          let value = is_there (line_read cs (slice_get rows (length rows))) (each (length rows) short) in
-          let row = line_row cs (slice_get rows (length rows)) value.0 value.1 in
+          let value = is_there (line_read terms cs (slice_get rows (length rows))) (each (length rows) short) in
+          let row = line_row terms cs (slice_get rows (length rows)) value.0 value.1 in
           let within : length rows < length rows = slice_get_within rows (length rows) row.0 row.1 in
           absurd (let never : ⊥ = omega (arith, within) in never)
       | inr enough ↦ enough
     ] in
-    numbers_back cs rows m (omega (arith, most, least)) each
+    numbers_back terms cs rows m (omega (arith, most, least)) each
 
-inputs_back : (cs : List Column) (rows : List (List Binding)) (n : ℕ) → ((i : ℕ) → fit cs rows n i ≡ true) → given_rows cs (map (read_at cs rows) (range_with_len 0 (n - 1))) ≡ rows
-inputs_back [] rows n h = sym (no_rows rows (leb-true (length rows) 0 (h 0)))
-inputs_back (c ∷ cs) rows n h = due_back (c ∷ cs) rows (n - 1) h
+inputs_back : (terms : Terms) (cs : List Column) (rows : List (List Binding)) (n : ℕ) → ((i : ℕ) → fit terms cs rows n i ≡ true) → given_rows terms cs (map (read_at terms cs rows) (range_with_len 0 (n - 1))) ≡ rows
+inputs_back terms [] rows n h = sym (no_rows rows (leb-true (length rows) 0 (h 0)))
+inputs_back terms (c ∷ cs) rows n h = due_back terms (c ∷ cs) rows (n - 1) h
 
 -- the same beside the states of a lasso
-pub each_inputs_back : (cs : List Column) (rows : List (List Binding)) (n : ℕ) → ((i : ℕ) → each_fit cs rows n i ≡ true) → given_rows cs (map (read_at cs rows) (range_with_len 0 n)) ≡ rows
-each_inputs_back [] rows n h = sym (no_rows rows (leb-true (length rows) 0 (h 0)))
-each_inputs_back (c ∷ cs) rows n h = due_back (c ∷ cs) rows n h
+pub each_inputs_back : (terms : Terms) (cs : List Column) (rows : List (List Binding)) (n : ℕ) → ((i : ℕ) → each_fit terms cs rows n i ≡ true) → given_rows terms cs (map (read_at terms cs rows) (range_with_len 0 n)) ≡ rows
+each_inputs_back terms [] rows n h = sym (no_rows rows (leb-true (length rows) 0 (h 0)))
+each_inputs_back terms (c ∷ cs) rows n h = due_back terms (c ∷ cs) rows n h
 
 module _ (p : Program) (spec : ResolvedItem) (t : Trace) (all : (r : ReplayRule) (i : ℕ) → passes p spec t r i ≡ true) where
   some : 0 < length t.states
   some = some_state p t (all rule.Values 0)
 
-  state_is : (i : ℕ) → i < length t.states → is_some (line_read (state_columns p) (slice_get t.states i)) ≡ true
+  state_is : (i : ℕ) → i < length t.states → is_some (line_read (terms_of p) (state_columns p) (slice_get t.states i)) ≡ true
   state_is i below =
       let both = and_parts (state_fits p t i) (inputs_fit p t i) (all rule.Values i) in
       at_some (ltb i (max 1 (length t.states))) (is_some (state_read p t i)) both.0 (lt-ltb i (max 1 (length t.states)) (omega (arith, below)))
 
-  states_back : map (bindings_of (state_columns p)) (states_told p t) ≡ t.states
-  states_back = rows_back (state_columns p) t.states state_is
+  states_back : map (bindings_of (terms_of p) (state_columns p)) (states_told p t) ≡ t.states
+  states_back = rows_back (terms_of p) (state_columns p) t.states state_is
 
-  given_back : given_rows (input_columns p) (inputs_told p t) ≡ t.inputs
-  given_back = inputs_back (input_columns p) t.inputs (length t.states) (λ i. (and_parts (state_fits p t i) (inputs_fit p t i) (all rule.Values i)).1)
+  given_back : given_rows (terms_of p) (input_columns p) (inputs_told p t) ≡ t.inputs
+  given_back = inputs_back (terms_of p) (input_columns p) t.inputs (length t.states) (λ i. (and_parts (state_fits p t i) (inputs_fit p t i) (all rule.Values i)).1)
 
   told_as : t ≡ run_trace p (states_told p t) (inputs_told p t)
   told_as =
       let made : List (List Binding) → List (List Binding) → Option ℕ → Trace = λ a b c. record { states = a; inputs = b; start = c } in
       ap (λ (a : List (List Binding)). made a t.inputs t.start) (sym states_back)
-      ∙ ap (λ (b : List (List Binding)). made (map (bindings_of (state_columns p)) (states_told p t)) b t.start) (sym given_back)
-      ∙ ap (λ (c : Option ℕ). made (map (bindings_of (state_columns p)) (states_told p t)) (given_rows (input_columns p) (inputs_told p t)) c) (none_of t.start (all rule.Loop))
+      ∙ ap (λ (b : List (List Binding)). made (map (bindings_of (terms_of p) (state_columns p)) (states_told p t)) b t.start) (sym given_back)
+      ∙ ap (λ (c : Option ℕ). made (map (bindings_of (terms_of p) (state_columns p)) (states_told p t)) (given_rows (terms_of p) (input_columns p) (inputs_told p t)) c) (none_of t.start (all rule.Loop))
 
   long : length (states_told p t) ≡ length (inputs_told p t) + 1
   long =
-      let a : length (states_told p t) ≡ length t.states = length-map t.states (told (state_columns p)) in
+      let a : length (states_told p t) ≡ length t.states = length-map t.states (told (terms_of p) (state_columns p)) in
       let b : length (inputs_told p t) ≡ length t.states - 1 = length-map-range_with_len (λ (i : ℕ). unwrap_or (inputs_read p t i) []) 0 (length t.states - 1) in
       let c = some in
       omega (arith, a, b, c)

@@ -23,7 +23,7 @@ use Rattle.trace_replay.specs.declared.rule.ReplayRule.{ReplayRule}
 use Rattle.trace_replay.specs.declared.rule.ReplayRule.TheVariants as rule
 use Rattle.trace_replay.specs.declared.trace.Trace.{Trace}
 use Rattle.trace_replay.specs.Lassos.{LassoPasses, ShowsViolated, each_input_fits, each_input_told, each_value_fits, goes_back, is_fair, is_justice, is_loop, is_met, justices_of, lasso_told, lasso_trace}
-use Rattle.trace_replay.specs.Rows.{bindings_of, given_rows, input_columns, line_read, state_columns, state_read, states_told}
+use Rattle.trace_replay.specs.Rows.{AreTypes, bindings_of, given_rows, input_columns, line_read, state_columns, state_read, states_told, terms_of}
 use Rattle.trace_replay.specs.Tests.{begins, goes_on, state_fits, stays}
 use Rattle.trace_replay.proofs.Broken.{each_inputs_fitting, inputs_again, states_again, states_back, step_parts}
 use Rattle.trace_replay.proofs.OfLassos.{violates}
@@ -38,7 +38,7 @@ kind_is (item.Assignment kind) h = absurd (let never : ⊥ = cc in never)
 kind_is (item.Specification kind) h = absurd (let never : ⊥ = cc in never)
 
 -- From a lasso to a trace that passes.
-module _ (p : Program) (spec : ResolvedItem) (w : Lasso) (v : Violates p spec w) where
+module _ (p : Program) (types : AreTypes p) (spec : ResolvedItem) (w : Lasso) (v : Violates p spec w) where
   abbrev t : Trace
   t = lasso_trace p w
 
@@ -65,29 +65,29 @@ module _ (p : Program) (spec : ResolvedItem) (w : Lasso) (v : Violates p spec w)
   inputs_are i lt = (typed i (omega (arith, lt, v.lasso.lasso.long))).1
 
   counted : length t.states ≡ length states
-  counted = length-map states (bindings_of (state_columns p))
+  counted = length-map states (bindings_of (terms_of p) (state_columns p))
 
   told_inputs : each_input_told p t ≡ inputs
   told_inputs =
       let long : length t.states ≡ length inputs = counted ∙ v.lasso.lasso.long in
-      ap (λ n. map (read_at (input_columns p) (given_rows (input_columns p) inputs)) (range_with_len 0 n)) long ∙ inputs_again p inputs inputs_are
+      ap (λ n. map (read_at (terms_of p) (input_columns p) (given_rows (terms_of p) (input_columns p) inputs)) (range_with_len 0 n)) long ∙ inputs_again p types inputs inputs_are
 
   told_is : lasso_told p t ≡ w
   told_is =
-      ap (λ (ss : List (List Value)). let u : Lasso = record { states = ss; inputs = each_input_told p t; start = w.start } in u) (states_again p states (λ i lt. (typed i lt).0))
+      ap (λ (ss : List (List Value)). let u : Lasso = record { states = ss; inputs = each_input_told p t; start = w.start } in u) (states_again p types states (λ i lt. (typed i lt).0))
       ∙ ap (λ (us : List (List Value)). let u : Lasso = record { states = states; inputs = us; start = w.start } in u) told_inputs
 
   values_pass : (i : ℕ) → each_value_fits p t i ≡ true
   values_pass i =
       and_from (state_fits p t i) (each_input_fits p t i)
       (elim (cases_lt i (length states)) [
-        | inl below ↦ unless (ltb i (max 1 (length t.states))) (is_some (state_read p t i)) (ap (λ (o : Option (List Value)). is_some o) (states_back p states i below (typed i below).0))
+        | inl below ↦ unless (ltb i (max 1 (length t.states))) (is_some (state_read p t i)) (ap (λ (o : Option (List Value)). is_some o) (states_back p types states i below (typed i below).0))
         | inr past ↦
             let some = v.lasso.lasso.inside in
             cond-false (ltb i (max 1 (length t.states))) (is_some (state_read p t i)) true (le-ltb i (max 1 (length t.states)) (omega (arith, counted, past, some)))
       ])
       (let long : length inputs ≡ length t.states = sym (counted ∙ v.lasso.lasso.long) in
-      subst (λ n. each_fit (input_columns p) (given_rows (input_columns p) inputs) n i ≡ true) long (each_inputs_fitting p inputs inputs_are i))
+      subst (λ n. each_fit (terms_of p) (input_columns p) (given_rows (terms_of p) (input_columns p) inputs) n i ≡ true) long (each_inputs_fitting p types inputs inputs_are i))
 
   inv_passes : (i : ℕ) → stays p states i ≡ true
   inv_passes i = unasked (ltb i (length states)) (meets_invariants p (at_time states i)) (λ e. (typed i (ltb-true i (length states) e)).2)
@@ -149,22 +149,22 @@ module _ (p : Program) (spec : ResolvedItem) (w : Lasso) (v : Violates p spec w)
   lasso_passes : (r : ReplayRule) (i : ℕ) → LassoPasses p spec t r i
   lasso_passes r i = as_told r i (subst (λ (u : Lasso). Passes u r i) (sym told_is) (passes r i))
 
-pub violated_passes : (p : Program) (spec : ResolvedItem) (t : Trace) → ShowsViolated p spec t → (r : ReplayRule) (i : ℕ) → LassoPasses p spec t r i
-violated_passes p spec t h r i = subst (λ (x : Trace). LassoPasses p spec x r i) (sym h.told) (lasso_passes p spec h.lasso h.violates r i)
+pub violated_passes : (p : Program) → AreTypes p → (spec : ResolvedItem) (t : Trace) → ShowsViolated p spec t → (r : ReplayRule) (i : ℕ) → LassoPasses p spec t r i
+violated_passes p types spec t h r i = subst (λ (x : Trace). LassoPasses p spec x r i) (sym h.told) (lasso_passes p types spec h.lasso h.violates r i)
 
 -- From a trace that passes to a lasso.
 module _ (p : Program) (spec : ResolvedItem) (t : Trace) (all : (r : ReplayRule) (i : ℕ) → LassoPasses p spec t r i) where
   parts : (i : ℕ) → (state_fits p t i ≡ true) × (each_input_fits p t i ≡ true)
   parts i = and_parts (state_fits p t i) (each_input_fits p t i) (all rule.Values i)
 
-  state_is : (i : ℕ) → i < length t.states → is_some (line_read (state_columns p) (slice_get t.states i)) ≡ true
+  state_is : (i : ℕ) → i < length t.states → is_some (line_read (terms_of p) (state_columns p) (slice_get t.states i)) ≡ true
   state_is i below = at_some (ltb i (max 1 (length t.states))) (is_some (state_read p t i)) (parts i).0 (lt-ltb i (max 1 (length t.states)) (omega (arith, below)))
 
-  states_are : map (bindings_of (state_columns p)) (states_told p t) ≡ t.states
-  states_are = rows_back (state_columns p) t.states state_is
+  states_are : map (bindings_of (terms_of p) (state_columns p)) (states_told p t) ≡ t.states
+  states_are = rows_back (terms_of p) (state_columns p) t.states state_is
 
-  given_are : given_rows (input_columns p) (each_input_told p t) ≡ t.inputs
-  given_are = each_inputs_back (input_columns p) t.inputs (length t.states) (λ i. (parts i).1)
+  given_are : given_rows (terms_of p) (input_columns p) (each_input_told p t) ≡ t.inputs
+  given_are = each_inputs_back (terms_of p) (input_columns p) t.inputs (length t.states) (λ i. (parts i).1)
 
   start_is : (o : Option ℕ) → ((i : ℕ) → goes_back p (states_told p t) (each_input_told p t) o i ≡ true) → o ≡ Some (unwrap_or o 0)
   start_is None h = absurd (let e : false ≡ true = h 0 in let never : ⊥ = cc in never)
@@ -174,8 +174,8 @@ module _ (p : Program) (spec : ResolvedItem) (t : Trace) (all : (r : ReplayRule)
   told_as =
       let made : List (List Binding) → List (List Binding) → Option ℕ → Trace = λ a b c. record { states = a; inputs = b; start = c } in
       ap (λ (a : List (List Binding)). made a t.inputs t.start) (sym states_are)
-      ∙ ap (λ (b : List (List Binding)). made (map (bindings_of (state_columns p)) (states_told p t)) b t.start) (sym given_are)
-      ∙ ap (λ (c : Option ℕ). made (map (bindings_of (state_columns p)) (states_told p t)) (given_rows (input_columns p) (each_input_told p t)) c) (start_is t.start (all rule.Loop))
+      ∙ ap (λ (b : List (List Binding)). made (map (bindings_of (terms_of p) (state_columns p)) (states_told p t)) b t.start) (sym given_are)
+      ∙ ap (λ (c : Option ℕ). made (map (bindings_of (terms_of p) (state_columns p)) (states_told p t)) (given_rows (terms_of p) (input_columns p) (each_input_told p t)) c) (start_is t.start (all rule.Loop))
 
   pub shows_violated : ShowsViolated p spec t
   shows_violated = record { lasso = lasso_told p t; told = told_as; violates = violates p spec t all }

@@ -29,7 +29,7 @@ use Rattle.trace_replay.specs.Tests.{IsEarlier, IsReplay, ShowsBroken, begins, g
 
 -- the trace of a lasso
 abbrev pub lasso_trace : Program → Lasso → Trace
-lasso_trace p w = record { states = map (bindings_of (state_columns p)) w.states; inputs = given_rows (input_columns p) w.inputs; start = Some w.start }
+lasso_trace p w = record { states = map (bindings_of (terms_of p) (state_columns p)) w.states; inputs = given_rows (terms_of p) (input_columns p) w.inputs; start = Some w.start }
 
 -- how many lines of inputs there are beside so many states: one for each; none without input slots
 abbrev pub due_each : List Column → ℕ → ℕ

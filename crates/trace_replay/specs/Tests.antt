@@ -1,13 +1,12 @@
 -- The replay of a trace of an invariant: its tests, in their order, with the number of each. A test whose evaluation faults fails.
-use Rattle.std.specs.Prelude.{◌≡◌, ◌⊎◌, ℕ, ◌+◌, ◌-◌, ◌<◌, ◌==◌, nat_le, nat_lt, max, Bool, true, false, not, ◌&&◌, ◌||◌, if◌then◌else◌, List, [], ◌∷◌, length, codes, Option, None, Some, slice_get}
+use Rattle.std.specs.Prelude.{◌≡◌, ◌⊎◌, ℕ, ◌+◌, ◌-◌, ◌<◌, ◌==◌, nat_le, nat_lt, max, Bool, true, false, not, ◌&&◌, ◌||◌, if◌then◌else◌, List, [], ◌∷◌, length, codes, Option, None, Some, slice_get, unwrap_or}
 use Rattle.std.specs.Option.{is_some}
 use Rattle.smv_tree.specs.declared.tree.Program.{Program}
 use Rattle.smv_value.specs.declared.value.Value.{Value}
-use Rattle.smv_value.specs.declared.value.Value.TheVariants as value
 use Rattle.smv_resolve.specs.Items.{ResolvedItem}
 use Rattle.smv_scope.specs.Slots.{slots_of}
-use Rattle.smv_meaning.specs.declared.value.Outcome.{Outcome}
-use Rattle.smv_meaning.specs.declared.value.Outcome.TheVariants.{Values}
+use Rattle.smv_meaning.specs.declared.outcome.Outcome.{Outcome}
+use Rattle.smv_meaning.specs.Outcomes.{truth}
 use Rattle.smv_meaning.specs.Values.{outcome_in}
 use Rattle.smv_meaning.specs.Runs.{Breaks, at_time, is_first_state, is_step, meets_invariants, specifications_of}
 use Rattle.trace_replay.specs.declared.columns.Column.{Column}
@@ -58,8 +57,7 @@ inputs_fit p t i =
 
 -- the specification is FALSE
 abbrev pub is_false : Outcome → Bool
-is_false (Values (Some (value.Bool false))) = true
-is_false other = false
+is_false o = not (unwrap_or (truth o) true)
 
 abbrev pub starts_at : Option ℕ → ℕ → Bool
 starts_at None i = false

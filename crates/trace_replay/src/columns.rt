@@ -1,19 +1,20 @@
-//! The names and types of slots.
+//! The names of slots, and by what values are told.
 
 ghost use Rattle.std.specs.Prelude.{◌≡◌, map, IfOk};
-ghost use Rattle.trace_replay.specs.Rows.{column_of, input_columns, state_columns};
+ghost use Rattle.trace_replay.specs.Rows.{column_of, input_columns, state_columns, terms_of};
 
 use plain_text::Text;
 use smv_meaning::{Typed, input_slots, state_slots};
-use smv_scope::{Scope, Slot, ValueType, slot_name};
+use smv_scope::{Scope, Slot, slot_name};
 use sqlite_items::Items;
 use std::alloc::{AllocError, Global};
+use value_texts::Symbols;
 
-/// The name and the type of a slot.
+/// The name of a slot, and the number of its type.
 #[derive(Debug, Drop)]
 pub struct Column {
     pub name: Text,
-    pub declared: ValueType,
+    pub declared: usize,
 }
 
 /// Those of the slots of a state.
@@ -43,4 +44,15 @@ fn columns_of(alloc: Global, scope: &Scope, slots: &[Slot]) -> Result<Items<Colu
         })?;
     }
     Ok(Items::from_vec(columns))
+}
+
+/// The names of symbols.
+#[tactic(auto, unfolding(crate::specs::Rows::terms_of))]
+pub fn symbols(typed: &Typed) -> Symbols<'_>
+    ensures { result.names.now ≡ (terms_of typed.now.scope.program).names }
+{
+    Symbols {
+        names: typed.scope.symbol_names.as_slice(),
+        numbers: &typed.scope.symbol_numbers,
+    }
 }

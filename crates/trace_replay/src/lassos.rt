@@ -19,7 +19,6 @@ use smv_formulas::{formula_of, word_of};
 use smv_meaning::{Inputs, Outcome, State, Typed, meets_step};
 use smv_resolve::{Item, ItemKind, first, last};
 use smv_tree::ConstraintKind;
-use smv_value::Value;
 use sqlite_items::Items;
 use std::alloc::{AllocError, Global};
 
@@ -136,19 +135,20 @@ fn is_met(alloc: Global, typed: &Typed, item: &Item, states: &[State]) -> Result
     ensures { IfOk result (λ met. met ≡ list_any (λ (s : List Value). is_true (outcome_in (slots_of typed.now.scope.program) s (item_by typed.now.nodes item.now).value)) states.now) }
 {
     for state in states {
-        if is_true(outcome_in(alloc, typed, item, state)?) {
+        let outcome = outcome_in(alloc, typed, item, state)?;
+        if is_true(&outcome) {
             return Ok(true);
         }
     }
     Ok(false)
 }
 
-fn is_true(outcome: Outcome) -> bool
-    ensures { result ≡ is_true outcome }
+fn is_true(outcome: &Outcome) -> bool
+    ensures { result ≡ is_true outcome.now }
 {
-    match outcome {
-        Outcome::Values(Some(Value::Bool(b))) => b,
-        _ => false,
+    match outcome.truth() {
+        None => false,
+        Some(b) => b,
     }
 }
 

@@ -18,7 +18,6 @@ use smv_meaning::{
 };
 use smv_resolve::{Item, ItemKind};
 use smv_tree::SpecificationKind;
-use smv_value::Value;
 use std::alloc::{AllocError, Global};
 
 /// What comes of the tests of a trace of the specification of this number, counted from 1: it is accepted, or rejected by the
@@ -190,7 +189,8 @@ fn failing_spec(
     requires { 0 < length states.now }
     ensures { IfOk result (IsFirstFailing (ends typed.now.scope.program (item_by typed.now.nodes spec.now) states.now)) }
 {
-    if is_false(outcome_in(alloc, typed, spec, &states[states.len() - 1])?) {
+    let outcome = outcome_in(alloc, typed, spec, &states[states.len() - 1])?;
+    if is_false(&outcome) {
         return Ok(None);
     }
     Ok(Some(0))
@@ -208,16 +208,16 @@ pub fn outcome_in(
     let nodes = typed.nodes.as_slice();
     let all = outcomes(alloc, slots(typed), nodes, state.as_slice(), &[], &[])?;
     match all.get(spec.value) {
-        None => Ok(Outcome::Values(None)),
-        Some(outcome) => Ok(*outcome),
+        None => Ok(Outcome::Nothing),
+        Some(outcome) => outcome.copied(alloc),
     }
 }
 
-fn is_false(outcome: Outcome) -> bool
-    ensures { result ≡ is_false outcome }
+fn is_false(outcome: &Outcome) -> bool
+    ensures { result ≡ is_false outcome.now }
 {
-    match outcome {
-        Outcome::Values(Some(Value::Bool(b))) => !b,
-        _ => false,
+    match outcome.truth() {
+        None => false,
+        Some(b) => !b,
     }
 }

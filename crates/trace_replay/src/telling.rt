@@ -2,17 +2,17 @@
 
 ghost use Rattle.std.specs.Prelude.{◌≡◌, slice_get, IfOk};
 ghost use Rattle.trace_replay.specs.Lassos.{AreEachInputs, IsLassoTelling, due_each};
-ghost use Rattle.trace_replay.specs.Rows.{cell_read, input_columns, line_read, row_read, state_columns, state_read, value_read};
+ghost use Rattle.trace_replay.specs.Rows.{cell_read, input_columns, line_read, row_read, state_columns, state_read, terms_of, typed_read};
 ghost use Rattle.trace_replay.specs.Telling.{AreInputs, IsTelling};
 ghost use Rattle.trace_replay.specs.Tests.{due_beside};
 
-use crate::columns::{Column, input_columns, state_columns};
+use crate::columns::{Column, input_columns, state_columns, symbols};
 use crate::{Binding, Trace};
 use smv_meaning::{Inputs, State, Typed};
-use smv_scope::ValueType;
 use smv_value::Value;
 use sqlite_items::Items;
 use std::alloc::{AllocError, Global};
+use value_texts::value_read;
 
 /// The states that a trace tells, and the inputs of each step.
 #[derive(Debug, Drop)]
@@ -95,7 +95,7 @@ fn state_at(
     requires { columns.now ≡ state_columns typed.now.scope.program }
     ensures { IfOk result (λ read. read ≡ state_read typed.now.scope.program trace.now i) }
 {
-    line_read(alloc, columns, trace.states.as_slice(), i)
+    line_read(alloc, typed, columns, trace.states.as_slice(), i)
 }
 
 // The inputs of the step of this number; none are told where none are due.
@@ -110,7 +110,7 @@ fn inputs_at(
     ensures { IfOk result (AreInputs typed.now.scope.program trace.now i) }
 {
     let due = due_beside(columns, trace.states.len());
-    let read = line_read(alloc, columns, trace.inputs.as_slice(), i)?;
+    let read = line_read(alloc, typed, columns, trace.inputs.as_slice(), i)?;
     if i < due {
         return Ok(read);
     }
@@ -135,7 +135,7 @@ fn each_input_at(
     ensures { IfOk result (AreEachInputs typed.now.scope.program trace.now i) }
 {
     let due = due_each(columns, trace.states.len());
-    let read = line_read(alloc, columns, trace.inputs.as_slice(), i)?;
+    let read = line_read(alloc, typed, columns, trace.inputs.as_slice(), i)?;
     if i < due {
         return Ok(read);
     }
@@ -168,32 +168,34 @@ fn due_beside(columns: &[Column], states: usize) -> usize
 // The values that the line of this number tells, if there is one.
 fn line_read(
     alloc: Global,
+    typed: &Typed,
     columns: &[Column],
     lines: &[Items<Binding>],
     i: usize,
 ) -> Result<Option<Items<Value>>, AllocError>
-    ensures { IfOk result (λ read. read ≡ line_read columns.now (slice_get lines.now i)) }
+    ensures { IfOk result (λ read. read ≡ line_read (terms_of typed.now.scope.program) columns.now (slice_get lines.now i)) }
 {
     match lines.get(i) {
         None => Ok(None),
-        Some(bindings) => row_read(alloc, columns, bindings.as_slice()),
+        Some(bindings) => row_read(alloc, typed, columns, bindings.as_slice()),
     }
 }
 
 // One value of its type for each slot, where the names are just those of the slots, in their order.
 fn row_read(
     alloc: Global,
+    typed: &Typed,
     columns: &[Column],
     bindings: &[Binding],
 ) -> Result<Option<Items<Value>>, AllocError>
-    ensures { IfOk result (λ read. read ≡ row_read columns.now bindings.now) }
+    ensures { IfOk result (λ read. read ≡ row_read (terms_of typed.now.scope.program) columns.now bindings.now) }
 {
     if columns.len() != bindings.len() {
         return Ok(None);
     }
     let mut values = Vec::new(alloc);
     for i in 0..columns.len() {
-        match cell_read(&columns[i], &bindings[i]) {
+        match cell_read(alloc, typed, &columns[i], &bindings[i])? {
             None => return Ok(None),
             Some(value) => values.push(value)?,
         }
@@ -201,26 +203,32 @@ fn row_read(
     Ok(Some(Items::from_vec(values)))
 }
 
-fn cell_read(column: &Column, binding: &Binding) -> Option<Value>
-    ensures { result ≡ cell_read column.now binding.now }
+fn cell_read(
+    alloc: Global,
+    typed: &Typed,
+    column: &Column,
+    binding: &Binding,
+) -> Result<Option<Value>, AllocError>
+    ensures { IfOk result (λ read. read ≡ cell_read (terms_of typed.now.scope.program) column.now binding.now) }
 {
     if !column.name.is(&binding.name) {
-        return None;
+        return Ok(None);
     }
-    value_read(column.declared, binding.value.as_str())
+    typed_read(alloc, typed, column.declared, binding.value.as_str())
 }
 
-// The value of this type that is printed so.
-fn value_read(declared: ValueType, text: &str) -> Option<Value>
-    ensures { result ≡ value_read declared text.now }
+// The value of the type of this number that is told so.
+#[tactic(auto, unfolding(crate::specs::Rows::terms_of))]
+fn typed_read(
+    alloc: Global,
+    typed: &Typed,
+    n: usize,
+    text: &str,
+) -> Result<Option<Value>, AllocError>
+    ensures { IfOk result (λ read. read ≡ typed_read (terms_of typed.now.scope.program).names (slice_get (terms_of typed.now.scope.program).types n) text.now) }
 {
-    match declared {
-        ValueType::Boolean => if text == "TRUE" {
-            Some(Value::Bool(true))
-        } else if text == "FALSE" {
-            Some(Value::Bool(false))
-        } else {
-            None
-        },
+    match typed.types.get(n) {
+        None => Ok(None),
+        Some(declared) => value_read(alloc, &symbols(typed), declared, text),
     }
 }

@@ -2,7 +2,7 @@
 use Rattle.std.proofs.Common.{◌≡◌, drop, []}
 use Rattle.smv_tree.specs.declared.tree.Module.{Module}
 use Rattle.smv_tree.specs.declared.refusal.Rule.TheVariants as rule
-use Rattle.smv_names.specs.Verdicts.{first_of}
+use Rattle.smv_verdicts.specs.Verdicts.{first_of}
 use Rattle.smv_names.specs.Declarations.{repeated, declared_names, duplicate_names}
 use Rattle.smv_names.proofs.declared.duplicate_names.Given as goal
 

@@ -1,6 +1,6 @@
 -- What is left of the modules gives the refusal of all.
 use Rattle.std.proofs.Common.{◌≡◌, drop}
-use Rattle.smv_names.specs.Verdicts.{first_of}
+use Rattle.smv_verdicts.specs.Verdicts.{first_of}
 use Rattle.smv_names.specs.Declarations.{parameters_of_main, main_parameters}
 use Rattle.smv_names.proofs.declared.main_parameters.Given as goal
 

@@ -2,7 +2,7 @@
 use Rattle.std.proofs.Common.{◌≡◌, drop}
 use Rattle.smv_tree.specs.declared.tree.Name.{Name}
 use Rattle.smv_tree.specs.Occurring.{read}
-use Rattle.smv_names.specs.Verdicts.{first_of}
+use Rattle.smv_verdicts.specs.Verdicts.{first_of}
 use Rattle.smv_names.specs.Named.{unknown_identifier, unknown_in_name}
 use Rattle.smv_names.proofs.names.unknown_among.Given as goal
 

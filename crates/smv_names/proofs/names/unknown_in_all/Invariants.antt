@@ -1,6 +1,6 @@
 -- What is left of the expressions gives the refusal of all.
 use Rattle.std.proofs.Common.{◌≡◌, drop}
-use Rattle.smv_names.specs.Verdicts.{first_of}
+use Rattle.smv_verdicts.specs.Verdicts.{first_of}
 use Rattle.smv_names.specs.Named.{unknown_in_expression}
 use Rattle.smv_names.proofs.names.unknown_in_all.Given as goal
 

@@ -1,7 +1,7 @@
 -- What is left of the variables gives the refusal of all.
 use Rattle.std.proofs.Common.{◌≡◌, drop}
 use Rattle.smv_tree.specs.declared.tree.Variable.{Variable}
-use Rattle.smv_names.specs.Verdicts.{first_of}
+use Rattle.smv_verdicts.specs.Verdicts.{first_of}
 use Rattle.smv_names.specs.Named.{unknown_in_type}
 use Rattle.smv_names.proofs.names.unknown_in_variables.Given as goal
 

@@ -2,7 +2,7 @@
 use Rattle.std.proofs.Common.{◌≡◌, drop}
 use Rattle.smv_scope.specs.declared.instance.Instance.{Instance}
 use Rattle.smv_scope.specs.Modules.{sections_of}
-use Rattle.smv_names.specs.Verdicts.{first_of}
+use Rattle.smv_verdicts.specs.Verdicts.{first_of}
 use Rattle.smv_names.specs.Named.{first_instance, unknown_in_sections, unknown_names}
 use Rattle.smv_names.proofs.names.unknown_names.Given as goal
 

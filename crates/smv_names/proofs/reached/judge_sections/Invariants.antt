@@ -2,7 +2,7 @@
 use Rattle.std.proofs.Common.{Option, drop}
 use Rattle.smv_tree.specs.declared.refusal.Refusal.{Refusal}
 use Rattle.smv_names.specs.Reached.{section_verdict}
-use Rattle.smv_names.specs.Verdicts.{Each}
+use Rattle.smv_verdicts.specs.Verdicts.{Each}
 use Rattle.smv_names.proofs.reached.judge_sections.Given as goal
 
 abbrev pub invariant-loop-section : goal.invariant-loop-section

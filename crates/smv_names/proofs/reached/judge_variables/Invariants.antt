@@ -3,7 +3,7 @@ use Rattle.std.proofs.Common.{Option, drop}
 use Rattle.smv_tree.specs.declared.refusal.Refusal.{Refusal}
 use Rattle.smv_tree.specs.declared.tree.Variable.{Variable}
 use Rattle.smv_names.specs.Reached.{use_verdict}
-use Rattle.smv_names.specs.Verdicts.{Each}
+use Rattle.smv_verdicts.specs.Verdicts.{Each}
 use Rattle.smv_names.proofs.reached.judge_variables.Given as goal
 
 abbrev pub invariant-loop-variable : goal.invariant-loop-variable

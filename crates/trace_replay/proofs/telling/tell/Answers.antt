@@ -3,7 +3,7 @@ use Rattle.std.proofs.Common.{◌≡◌, ◌∙◌, inl, inr, ◌<◌, ◌≤◌
 use Rattle.std.specs.List.{range_with_len}
 use Rattle.std.proofs.lemmas.Bool.{cases_lt}
 use Rattle.std.proofs.lemmas.List.{take_all}
-use Rattle.trace_replay.specs.Rows.{inputs_read, state_columns, state_read}
+use Rattle.trace_replay.specs.Rows.{inputs_read, state_columns, state_read, terms_of}
 use Rattle.trace_replay.specs.Telling.{AreInputs}
 use Rattle.trace_replay.specs.Tests.{values_fit}
 use Rattle.trace_replay.proofs.OfTelling.{fits_here, fits_past, numbers_more, numbers_same, row_told, rows_more, some_state}
@@ -19,7 +19,7 @@ loop-i-preserved c =
     let given = subst (AreInputs p t i) c.in-Some-2.is c.in_ok-given-2.ensures in
     record {
       fit = below_more (λ j. values_fit p t j ≡ true) i c.loop-i.invariant.fit (fits_here p t i c.in-Some.state told given.0);
-      states = c.in_ok-push.ensures.items ∙ rows_more (state_columns p) t.states c.loop-i.states.items i c.in-Some.state told c.loop-i.invariant.states;
+      states = c.in_ok-push.ensures.items ∙ rows_more (terms_of p) (state_columns p) t.states c.loop-i.states.items i c.in-Some.state told c.loop-i.invariant.states;
       inputs = elim c.if-i-rows.branch [
         | then-i-rows+in_ok-push-2 w ↦ numbers_more (λ (j : ℕ). unwrap_or (inputs_read p t j) []) c.loop-i.inputs.items c.if-i-rows.inputs.items i (length t.states - 1) c.in-Some-2.given (ap (λ v. v.items) w.inputs-is ∙ w.in_ok-push-2.ensures.items) c.loop-i.invariant.inputs given.1 (omega (arith, w.if-i-rows.true, ap length c.as_slice-rows.ensures))
         | else-i-rows w ↦ numbers_same (λ (j : ℕ). unwrap_or (inputs_read p t j) []) c.loop-i.inputs.items c.if-i-rows.inputs.items i (length t.states - 1) (ap (λ v. v.items) w.inputs-is) c.loop-i.invariant.inputs (omega (arith, w.if-i-rows.false, ap length c.as_slice-rows.ensures))
@@ -38,6 +38,6 @@ returns c =
     let steps : min i (length t.states - 1) ≡ length t.states - 1 = omega arith in
     record {
       fit = fit;
-      states = c.from_vec.ensures ∙ c.loop-i.invariant.states ∙ ap (map (row_told (state_columns p))) (take_all i t.states all);
+      states = c.from_vec.ensures ∙ c.loop-i.invariant.states ∙ ap (map (row_told (terms_of p) (state_columns p))) (take_all i t.states all);
       inputs = c.from_vec-2.ensures ∙ c.loop-i.invariant.inputs ∙ ap (λ n. map (λ (j : ℕ). unwrap_or (inputs_read p t j) []) (range_with_len 0 n)) steps;
     }

@@ -4,7 +4,7 @@ use Rattle.std.specs.List.{range_with_len}
 use Rattle.std.proofs.lemmas.Bool.{cases_lt}
 use Rattle.std.proofs.lemmas.List.{take_all}
 use Rattle.trace_replay.specs.Lassos.{AreEachInputs, each_value_fits}
-use Rattle.trace_replay.specs.Rows.{inputs_read, state_columns, state_read}
+use Rattle.trace_replay.specs.Rows.{inputs_read, state_columns, state_read, terms_of}
 use Rattle.trace_replay.specs.Telling.{FirstFailing}
 use Rattle.trace_replay.proofs.OfTelling.{row_told, rows_more}
 use Rattle.trace_replay.proofs.OfLassos.{each_fails_past, each_fits_here, each_fits_past, each_more, some_each}
@@ -19,7 +19,7 @@ loop-i-preserved c =
     let given = subst (AreEachInputs p t i) c.in-Some-2.is c.in_ok-given-2.ensures in
     record {
       fit = below_more (λ j. each_value_fits p t j ≡ true) i c.loop-i.invariant.fit (each_fits_here p t i c.in-Some.state told given.0);
-      states = c.in_ok-push.ensures.items ∙ rows_more (state_columns p) t.states c.loop-i.states.items i c.in-Some.state told c.loop-i.invariant.states;
+      states = c.in_ok-push.ensures.items ∙ rows_more (terms_of p) (state_columns p) t.states c.loop-i.states.items i c.in-Some.state told c.loop-i.invariant.states;
       inputs = each_more (λ (j : ℕ). unwrap_or (inputs_read p t j) []) c.loop-i.inputs.items _ i c.in-Some-2.given c.in_ok-push-2.ensures.items c.loop-i.invariant.inputs given.1;
     }
 
@@ -48,6 +48,6 @@ returns c =
     let all : length t.states ≤ c.loop-i.i = omega (arith, end) in
     record {
       fit = fit;
-      states = c.from_vec.ensures ∙ c.loop-i.invariant.states ∙ ap (map (row_told (state_columns p))) (take_all i t.states all);
+      states = c.from_vec.ensures ∙ c.loop-i.invariant.states ∙ ap (map (row_told (terms_of p) (state_columns p))) (take_all i t.states all);
       inputs = c.from_vec-2.ensures ∙ c.loop-i.invariant.inputs ∙ ap (λ n. map (λ (j : ℕ). unwrap_or (inputs_read p t j) []) (range_with_len 0 n)) exact;
     }
