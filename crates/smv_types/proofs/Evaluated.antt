@@ -1,5 +1,5 @@
 -- Outcomes of operands of fitting kinds, and what operators give of them.
-use Rattle.std.proofs.Common.{◌≡◌, ◌∙◌, ℕ, IsTrue, Bool, true, false, ◌&&◌, cond, ◌⊎◌, inl, inr, Option, None, Some, Result, Ok, Err, List, [], ◌∷◌, ◌++◌, ℤ, refl, sym, ap, subst, append_assoc, append-nil}
+use Rattle.std.proofs.Common.{◌≡◌, ◌∙◌, Bool, true, false, ◌&&◌, cond, ◌⊎◌, inl, inr, Option, None, Some, Result, Ok, Err, List, [], ◌∷◌, ◌++◌, ℤ, refl, sym, ap, subst, append_assoc, append-nil}
 use Rattle.std.specs.List.{list_all}
 use Rattle.std.proofs.lemmas.Bool.{and_parts, false≢true}
 use Rattle.smv_tree.specs.declared.place.Place.{Place}
@@ -12,14 +12,14 @@ use Rattle.smv_value.specs.Results.{result_of}
 use Rattle.smv_kinds.specs.declared.kind.Kind.{Kind}
 use Rattle.smv_kinds.specs.declared.kind.Kind.TheVariants as kind
 use Rattle.smv_kinds.specs.declared.kind.Operand.{Operand}
-use Rattle.smv_kinds.specs.Constants.{are_integers, constant_given, constant_of, constant_of_one, constant_of_two, integer_in, is_constant, value_in as value_of_result}
+use Rattle.smv_kinds.specs.Constants.{are_integers, constant_given, constant_of_one, constant_of_two, integer_in, is_constant, value_in as value_of_result}
 use Rattle.smv_kinds.specs.Kinds.{kind_given}
 use Rattle.smv_kind_laws.specs.Values.{AreOperands, Gives, IsOperand, gives_value, is_of_kind}
 use Rattle.smv_kind_laws.proofs.Giving.{values_given}
 use Rattle.smv_kind_laws.proofs.Told.{constant_is_given}
 use Rattle.smv_meaning.specs.declared.outcome.Outcome.{Outcome}
 use Rattle.smv_meaning.specs.declared.outcome.Outcome.TheVariants.{Fault, Nothing, Values}
-use Rattle.smv_meaning.specs.Outcomes.{applied, given, one, operated, value_in}
+use Rattle.smv_meaning.specs.Outcomes.{applied, given, one, operated}
 use Rattle.smv_types.specs.Kinds.{has_values}
 use Rattle.smv_types.proofs.Singles.{AllOne, IsOne, all_one, is_single}
 

@@ -1,5 +1,5 @@
 -- Sets, membership and choices over operands of fitting kinds.
-use Rattle.std.proofs.Common.{◌≡◌, ◌∙◌, ℕ, zero, suc, IsTrue, Bool, true, false, ◌&&◌, cond, ◌⊎◌, inl, inr, Option, None, Some, Ok, List, [], ◌∷◌, ◌++◌, ℤ, pos, negsuc, ◌+ℤ◌, ◌-ℤ◌, ◌≤ℤ◌, ◌<ℤ◌, refl, sym, ap, subst, arith}
+use Rattle.std.proofs.Common.{◌≡◌, ◌∙◌, ℕ, zero, suc, IsTrue, Bool, true, false, ◌&&◌, inl, inr, Option, None, Some, Ok, List, [], ◌∷◌, ◌++◌, ℤ, pos, negsuc, ◌+ℤ◌, ◌-ℤ◌, ◌≤ℤ◌, ◌<ℤ◌, refl, sym, ap, subst, arith}
 use Rattle.std.specs.Prelude.{is_some}
 use Rattle.std.specs.List.{fold, list_all, list_any}
 use Rattle.std.proofs.lemmas.Bool.{and_parts, false≢true}
@@ -15,7 +15,7 @@ use Rattle.smv_kinds.specs.declared.kind.Interval.{Interval}
 use Rattle.smv_kinds.specs.declared.kind.Kind.{Kind}
 use Rattle.smv_kinds.specs.declared.kind.Kind.TheVariants as kind
 use Rattle.smv_kinds.specs.declared.kind.Operand.{Operand}
-use Rattle.smv_kinds.specs.Kinds.{boolean_if, branch, chosen, chosen_after, element_of, given, indexed, integers_of, is_boolean, is_integer, joined, kind_given, kind_if, members, range_of, ranged, set_of, takes, two}
+use Rattle.smv_kinds.specs.Kinds.{boolean_if, branch, chosen, chosen_after, given, indexed, integers_of, is_boolean, is_integer, joined, kind_given, kind_if, members, range_of, ranged, set_of, takes, two}
 use Rattle.smv_kind_laws.specs.Values.{HasAll, IsOperand, branches, is_among, is_of_kind}
 use Rattle.smv_kind_laws.proofs.Fitting.{among, given_is, integer_value, kind_if_is, mismatched}
 use Rattle.smv_kind_laws.proofs.Members.{all_branches, all_members, range_has}
@@ -23,10 +23,10 @@ use Rattle.value_sets.specs.Members.{counted_up, run}
 use Rattle.smv_meaning.specs.declared.outcome.Outcome.{Outcome}
 use Rattle.smv_meaning.specs.declared.outcome.Outcome.TheVariants.{Fault, Nothing, Values}
 use Rattle.smv_meaning.specs.Formulas.{is_temporal}
-use Rattle.smv_meaning.specs.Outcomes.{applied, choice, included, one, ranged as ranged_outcome, truth, two as two_outcomes, united}
+use Rattle.smv_meaning.specs.Outcomes.{applied, choice, included, one, ranged as ranged_outcome, two as two_outcomes, united}
 use Rattle.smv_types.specs.Kinds.{has_values}
 use Rattle.smv_types.proofs.Singles.{integer_single, is_single}
-use Rattle.smv_types.proofs.Evaluated.{AllKnown, Fits, Has, Known, gives_one, single_has, value_fits}
+use Rattle.smv_types.proofs.Evaluated.{AllKnown, Fits, Known, gives_one, value_fits}
 
 both_hold : (a b : Bool) → a ≡ true → b ≡ true → (a && b) ≡ true
 both_hold a b e f = rw (e, f) refl

@@ -7,10 +7,9 @@ use Rattle.std.proofs.Common.{Option, Some}
 use Rattle.smv_value.specs.declared.operator.Operator.{Operator}
 use Rattle.value_types.specs.declared.value_type.ValueType.{ValueType}
 use Rattle.smv_kinds.specs.declared.kind.Operand.{Operand}
-use Rattle.smv_kinds.specs.declared.kind.Kind.TheVariants as kind
 use Rattle.smv_scope.specs.declared.slot.Slot.{Slot}
 use Rattle.smv_resolve.specs.declared.node.Node.{Node}
-use Rattle.smv_resolve.specs.Resolved.{Operands, Resolved, last_of, operands_of, part_at, parts_of, resolved_by}
+use Rattle.smv_resolve.specs.Resolved.{Resolved, last_of, operands_of, part_at, parts_of, resolved_by}
 use Rattle.smv_resolve.proofs.Parts.{parts_of-next}
 use Rattle.smv_verdicts.specs.Verdicts.{or_else}
 use Rattle.smv_types.specs.declared.judged.Judged.{Judged}
@@ -226,5 +225,5 @@ notes_more slots types o rs k new within h =
     notes_same (λ c. or_else (operands_refusal slots types o 0 c (operands_of (take k rs))) (kind_refusal slots types (under_operand o k c) (part_at rs k)))
     (λ c. operands_refusal slots types o 0 c (operands_of (take (k + 1) rs))) new
     (λ c. let zero_first : 0 + k ≡ k = omega arith in
-      ap (λ m. or_else (operands_refusal slots types o 0 c (operands_of (take k rs))) (kind_refusal slots types (under_operand o m c) (part_at rs k))) (sym zero_first)
-      ∙ sym (operand_more slots types o c 0 rs k within)) h
+    ap (λ m. or_else (operands_refusal slots types o 0 c (operands_of (take k rs))) (kind_refusal slots types (under_operand o m c) (part_at rs k))) (sym zero_first)
+    ∙ sym (operand_more slots types o c 0 rs k within)) h

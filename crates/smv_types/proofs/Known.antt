@@ -1,5 +1,5 @@
 -- A program that breaks no rule of kinds gives values of fitting kinds, or faults, wherever its items speak of a value.
-use Rattle.std.proofs.Common.{◌≡◌, ◌∙◌, ℕ, zero, suc, ◌+◌, IsTrue, Bool, true, false, not, ◌&&◌, cond, ◌==◌, List, [], ◌∷◌, length, Option, None, Some, Ok, Err, slice_get, ℤ, inl, inr, refl, sym, ap, subst}
+use Rattle.std.proofs.Common.{◌≡◌, ◌∙◌, ℕ, ◌+◌, Bool, true, false, not, ◌&&◌, cond, ◌==◌, List, [], ◌∷◌, length, Option, None, Some, Ok, Err, slice_get, ℤ, inl, inr, refl, sym, ap, subst}
 use Rattle.std.specs.Prelude.{◌||◌, nat_le}
 use Rattle.std.specs.List.{list_all}
 use Rattle.std.proofs.lemmas.Bool.{and_parts, cases_Bool, false≢true}
@@ -8,7 +8,6 @@ use Rattle.smv_tree.specs.declared.refusal.Refusal.{Refusal}
 use Rattle.smv_tree.specs.declared.tree.Program.{Program}
 use Rattle.smv_tree.specs.declared.tree.AssignmentKind.{AssignmentKind}
 use Rattle.smv_tree.specs.declared.tree.AssignmentKind.TheVariants as side
-use Rattle.smv_tree.specs.declared.tree.ConstraintKind.{ConstraintKind}
 use Rattle.smv_tree.specs.declared.tree.ConstraintKind.TheVariants as asked
 use Rattle.smv_tree.specs.declared.tree.SpecificationKind.TheVariants as claim
 use Rattle.smv_tree.specs.declared.tree.VariableKind.{VariableKind}
@@ -26,7 +25,7 @@ use Rattle.smv_kinds.specs.declared.kind.KindRule.TheVariants as rule
 use Rattle.smv_kinds.specs.declared.kind.Operand.{Operand}
 use Rattle.smv_kinds.specs.Constants.{constant_given, integer_in}
 use Rattle.smv_kinds.specs.Contexts.{kind_in_context, makes_set, takes_sets}
-use Rattle.smv_kinds.specs.Kinds.{Given, booleans, bounded_by, given, greatest_bound, inverted, is_boolean, kind_given, kind_if, kind_of_value, logical, next_kind, one as one_kind, operands_of_temporal, takes, two as two_kinds}
+use Rattle.smv_kinds.specs.Kinds.{Given, booleans, bounded_by, given, greatest_bound, inverted, is_boolean, kind_given, kind_if, kind_of_value, logical, next_kind, operands_of_temporal, takes}
 use Rattle.smv_kind_laws.specs.Values.{is_of_kind}
 use Rattle.smv_kind_laws.proofs.Told.{next_is_same, value_has_kind}
 use Rattle.smv_resolve.specs.declared.item.ItemKind.{ItemKind}
@@ -41,14 +40,13 @@ use Rattle.smv_declared.specs.Types.{types_of}
 use Rattle.smv_declared.proofs.Kept.{types_kept}
 use Rattle.smv_meaning.specs.declared.outcome.Outcome.{Outcome}
 use Rattle.smv_meaning.specs.declared.outcome.Outcome.TheVariants.{Fault, Nothing, Values}
-use Rattle.smv_meaning.specs.Outcomes.{applied, one, value_in, valued}
+use Rattle.smv_meaning.specs.Outcomes.{applied, one, valued}
 use Rattle.smv_meaning.specs.Values.{outcome, outcome_in, outcomes}
 use Rattle.smv_meaning.specs.Formulas.{are_known_formulas, is_known, is_known_formula, is_over_formulas, is_propositional, is_temporal}
-use Rattle.smv_meaning.specs.Runs.{AllKnown as AllItemsKnown, are_inputs, is_given, is_known_by, is_known_item, is_single as has_one, is_state, item_outcome}
+use Rattle.smv_meaning.specs.Runs.{AllKnown as AllItemsKnown, are_inputs, is_given, is_known_by, is_known_item, is_single as has_one, is_state}
 use Rattle.smv_verdicts.specs.Verdicts.{first_of, or_else}
-use Rattle.smv_types.specs.Kinds.{Context, all_told, assignment_refusal, constant_here, context_of_constraint, context_of_side, formula_refusal, given_refusal, has_values, input_here, is_assignable, is_input_slot, item_refusal, kind_in, kind_of_slot, kind_refusal, kinds_broken, left_refusal, misused, next_broken, next_here, no_boolean, no_taker, no_value, of_kind, of_path, of_state, of_step, operands_refusal, refusal_by_kind, slot_takes, takes_assignment, target_refusal, temporal_at, temporal_here, told, too_many_slots, under_name, under_next, under_operand}
+use Rattle.smv_types.specs.Kinds.{Context, all_told, assignment_refusal, context_of_side, formula_refusal, given_refusal, has_values, input_here, is_assignable, is_input_slot, item_refusal, kind_in, kind_of_slot, kind_refusal, kinds_broken, left_refusal, misused, next_broken, next_here, no_taker, no_value, of_kind, of_path, of_state, of_step, operands_refusal, refusal_by_kind, slot_takes, takes_assignment, target_refusal, temporal_at, temporal_here, told, too_many_slots, under_name, under_next, under_operand}
 use Rattle.smv_types.specs.Judged.{of_name}
-use Rattle.smv_types.proofs.Singles.{is_single}
 use Rattle.smv_types.proofs.Evaluated.{AllKnown, Fits, Has, Known, constant_fits}
 use Rattle.smv_types.proofs.Gathered.{applied_fits, boolean_value, takes_parts}
 use Rattle.smv_types.proofs.SlotValues.{slot_value}
@@ -441,8 +439,8 @@ module _ (p : Program) (typed : list_all is_type (types_of p) ≡ true) where
         both_true _ _ (by_kind x.place x.target x.value x.kind (first_none (item_refusal S T x) _ free)) (items_known xs (second_none (item_refusal S T x) _ free))
 
 -- no rule of types and kinds is broken, so all is known
-pub all_known : (p : Program) → or_else (declared_refusal p) (or_else (too_many_slots p) (misused p)) ≡ None → AllItemsKnown p
-all_known p free s u t state inputs next =
-    let typed = types_kept p (first_none (declared_refusal p) _ free) in
-    let used = second_none (too_many_slots p) (misused p) (second_none (declared_refusal p) (or_else (too_many_slots p) (misused p)) free) in
+pub all_known : (p : Program) → declared_refusal p ≡ None → or_else (too_many_slots p) (misused p) ≡ None → AllItemsKnown p
+all_known p declared free s u t state inputs next =
+    let typed = types_kept p declared in
+    let used = second_none (too_many_slots p) (misused p) free in
     items_known p typed s u t state inputs next (items_of p) used

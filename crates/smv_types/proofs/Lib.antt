@@ -5,3 +5,5 @@ pub mod Evaluated
 pub mod Gathered
 pub mod SlotValues
 pub mod Known
+pub mod Once
+pub mod Ordered

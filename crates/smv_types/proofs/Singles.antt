@@ -1,20 +1,20 @@
 -- Operators that give one value take one of each operand.
-use Rattle.std.proofs.Common.{◌≡◌, ℕ, IsTrue, Bool, true, false, ◌&&◌, ◌||◌, cond, ◌⊎◌, inl, inr, Option, None, Some, Ok, Err, List, [], ◌∷◌, ℤ, refl}
+use Rattle.std.proofs.Common.{◌≡◌, ℕ, Bool, true, false, ◌&&◌, ◌||◌, cond, ◌⊎◌, inl, inr, Option, None, Some, Ok, Err, List, [], ◌∷◌, ℤ, refl}
 use Rattle.std.specs.Prelude.{is_some}
 use Rattle.std.specs.List.{list_all}
 use Rattle.std.proofs.lemmas.Bool.{and_parts, false≢true}
 use Rattle.smv_value.specs.declared.operator.Operator.{Operator}
 use Rattle.smv_value.specs.declared.operator.Operator.TheVariants as operator
-use Rattle.smv_value.specs.Results.{alike, is_width, natural}
+use Rattle.smv_value.specs.Results.{is_width, natural}
 use Rattle.smv_kinds.specs.declared.kind.Interval.{Interval}
 use Rattle.smv_kinds.specs.declared.kind.Kind.{Kind}
 use Rattle.smv_kinds.specs.declared.kind.Kind.TheVariants as kind
 use Rattle.smv_kinds.specs.declared.kind.KindRule.{KindRule}
 use Rattle.smv_kinds.specs.declared.kind.KindRule.TheVariants as rule
 use Rattle.smv_kinds.specs.declared.kind.Operand.{Operand}
-use Rattle.smv_kinds.specs.Intervals.{absolute_interval, corners, division_interval, interval, opposite_interval, sum_interval}
+use Rattle.smv_kinds.specs.Intervals.{absolute_interval, corners, division_interval, opposite_interval, sum_interval}
 use Rattle.std.specs.Int.{int_max, int_min}
-use Rattle.smv_kinds.specs.Kinds.{Given, bits_from, boolean_if, concatenated, constant_in, constant_within, constant_word, constant_word_of, counted, extended_by, fit, given, integers_of, integers_in, inverted, is_amount, is_boolean, is_integer, is_ordered, is_set, kind_given, kind_if, logical, mismatch, of_integer, of_integers, of_interval, of_intervals, of_number, of_numbers, of_word, one, resized_to, selected, shifted, size, three_told, to_boolean, to_word, two, two_told, with_amount, with_sign}
+use Rattle.smv_kinds.specs.Kinds.{Given, bits_from, boolean_if, concatenated, constant_within, constant_word, constant_word_of, extended_by, fit, given, integers_of, inverted, is_amount, is_boolean, is_integer, is_ordered, is_set, kind_given, logical, mismatch, of_integer, of_integers, of_interval, of_intervals, of_number, of_numbers, of_word, one, resized_to, selected, shifted, size, three_told, to_boolean, to_word, two, two_told, with_amount, with_sign}
 use Rattle.smv_kind_laws.specs.Values.{gives_value}
 use Rattle.smv_kind_laws.proofs.Fitting.{asked_is, kind_if_is, mismatched}
 

@@ -1,5 +1,5 @@
 -- Each slot of a program has a value of its type in each state, or among the inputs of each step.
-use Rattle.std.proofs.Common.{◌≡◌, ◌∙◌, ℕ, zero, suc, ◌+◌, ◌<◌, IsTrue, Bool, true, false, not, ◌&&◌, ◌||◌, cond, ◌==◌, List, [], ◌∷◌, length, filter, Option, None, Some, slice_get, ℤ, refl, sym, ap, subst, arith}
+use Rattle.std.proofs.Common.{◌≡◌, ◌∙◌, ℕ, zero, suc, ◌+◌, Bool, true, false, not, ◌&&◌, ◌||◌, cond, ◌==◌, List, [], ◌∷◌, length, filter, Option, None, Some, slice_get, ℤ, refl, sym, ap, subst, arith}
 use Rattle.std.specs.Prelude.{int_le}
 use Rattle.std.specs.List.{list_all, list_any, zip}
 use Rattle.std.proofs.lemmas.Bool.{and_parts, and_from, eqb-true, false≢true}
@@ -18,7 +18,7 @@ use Rattle.value_types.specs.Types.{element_value, is_distinct, is_element, is_o
 use Rattle.value_types.proofs.Elements.{element_is}
 use Rattle.value_types.proofs.Hulls.{in_interval}
 use Rattle.value_types.proofs.Ranges.{within_int}
-use Rattle.smv_kind_laws.specs.Values.{is_among, is_in_some, is_of_kind}
+use Rattle.smv_kind_laws.specs.Values.{is_in_some, is_of_kind}
 use Rattle.smv_scope.specs.declared.slot.Slot.{Slot}
 use Rattle.smv_scope.specs.Instances.{instances_of}
 use Rattle.smv_scope.specs.Slots.{given_to, indexed, is_input, slots_below, slots_of}

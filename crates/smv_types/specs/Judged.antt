@@ -8,7 +8,6 @@ use Rattle.smv_kinds.specs.declared.kind.Operand.{Operand}
 use Rattle.smv_kinds.specs.declared.kind.Kind.TheVariants as kind
 use Rattle.smv_scope.specs.declared.slot.Slot.{Slot}
 use Rattle.smv_resolve.specs.Resolved.{Resolved, part_at}
-use Rattle.smv_verdicts.specs.Verdicts.{detailed, plain}
 use Rattle.smv_types.specs.declared.judged.Judged.{Judged}
 use Rattle.smv_types.specs.declared.judged.Notes.{Notes}
 use Rattle.smv_types.specs.declared.judged.Violation.{Violation}

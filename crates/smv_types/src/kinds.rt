@@ -64,7 +64,12 @@ fn judge(slots: &[Slot], node: Node, operands: &[Operand], table: &[Judged]) -> 
         Node::Slot(place, n) => judge_slot(slots, place, n),
         Node::Whole(place, _) => judge_whole(place),
         Node::Named(place, naming, a) => {
-            judge_named(place, naming, judged_at(table, a), told_at(operands, a).kind)
+            judge_named(
+                place,
+                naming,
+                judged_at(table, a),
+                told_at(operands, a).kind,
+            )
         }
         Node::Next(place, a) => judge_next(place, judged_at(table, a), told_at(operands, a).kind),
         Node::Operand(a) => judged_at(table, a),

@@ -6,6 +6,11 @@
 mod items;
 mod judged;
 mod kinds;
+mod law;
 mod limits;
 mod notes;
+mod order;
 mod told;
+
+pub use law::is_judged_once;
+pub use order::check;

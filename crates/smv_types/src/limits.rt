@@ -3,9 +3,9 @@
 ghost use Rattle.smv_types.specs.Kinds.{too_many_slots};
 ghost use Rattle.smv_verdicts.specs.Verdicts.{Judges};
 
-use smv_verdicts::{START, refused};
 use smv_scope::Scope;
 use smv_tree::{Rule, TextStop};
+use smv_verdicts::{START, refused};
 
 /// A program has at most this many slots.
 const MOST_SLOTS: usize = 65536;

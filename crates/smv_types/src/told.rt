@@ -11,7 +11,8 @@ ghost use Rattle.smv_kinds.specs.Constants.{constant_given, integer_in};
 ghost use Rattle.smv_kinds.specs.Kinds.{kind_given, kind_of_value};
 
 use smv_kinds::{
-    Discrete, Interval, Kind, KindRule, Operand, constant_given, kind_given, kind_of_value, next_kind,
+    Discrete, Interval, Kind, KindRule, Operand, constant_given, kind_given, kind_of_value,
+    next_kind,
 };
 use smv_resolve::{Node, last};
 use smv_scope::Slot;

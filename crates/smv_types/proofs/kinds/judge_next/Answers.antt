@@ -12,7 +12,7 @@ pub returns : goal.returns
 returns c = λ slots types r h k.
     let broken = next_broken c.args.place (next_kind (told slots types r).kind) in
     let whole = notes_same (λ x. as_refusal c.next_broken.result) (λ x. broken) c.everywhere-whole.result
-      (λ x. c.next_broken.ensures ∙ ap (λ j. next_broken c.args.place (next_kind j)) k) c.everywhere-whole.ensures in
+    (λ x. c.next_broken.ensures ∙ ap (λ j. next_broken c.args.place (next_kind j)) k) c.everywhere-whole.ensures in
     let own = c.both.ensures (λ x. next_here x c.args.place) (λ x. broken) c.next_here.ensures whole in
     unassigned slots types (Resolved.Next c.args.place r) c.noted.result c.args.place c.both-2.result c.noted.ensures refl
     (c.both-2.ensures (λ x. kind_refusal slots types (under_next x) r) (λ x. or_else (next_here x c.args.place) broken) (c.under_next.ensures (λ x. kind_refusal slots types x r) h.notes) own)

@@ -1,5 +1,5 @@
 -- What is told of an operator follows from what is told of its operands.
-use Rattle.std.proofs.Common.{◌∙◌, ap}
+use Rattle.std.proofs.Common.{◌∙◌}
 use Rattle.smv_types.proofs.Judging.{applied_last, applied_two}
 use Rattle.smv_types.proofs.told.told.Goals as goal
 
