@@ -3,4 +3,4 @@ use Rattle.smv_types.proofs.Known.{all_known}
 use Rattle.smv_types.proofs.order.with_kinds.Goals as goal
 
 pub invariant_of-result-clause-known : goal.invariant_of-result-clause-known
-invariant_of-result-clause-known c = all_known c.args.scope.program c.in_ok-kinds.ensures
+invariant_of-result-clause-known c = all_known c.args.scope.program c.in_ok-types.ensures.judged c.in_ok-kinds.ensures
