@@ -1,6 +1,6 @@
 -- From what an operator gives of one, two or three values to what the table promises.
-use Rattle.std.proofs.Common.{◌≡◌, ℕ, Bool, true, false, not, ◌&&◌, cond, List, [], ◌∷◌, ℤ, pos, refl, sym, ap, subst, ◌∙◌}
-use Rattle.std.specs.Prelude.{Option, None, Some, Result, Ok, Err, IfSome, count_by}
+use Rattle.std.proofs.Common.{◌≡◌, ◌<◌, ◌≤◌, ℕ, Bool, true, false, not, ◌&&◌, cond, List, [], ◌∷◌, length, get_or, ℤ, pos, refl, sym, ap, subst, ◌∙◌, arith}
+use Rattle.std.specs.Prelude.{Option, None, Some, Result, Ok, Err, IfOk, IfSome, count_by}
 use Rattle.std.specs.List.{list_all}
 use Rattle.smv_value.specs.declared.operator.Operator.{Operator}
 use Rattle.smv_value.specs.declared.operator.Operator.TheVariants as operator
@@ -11,10 +11,10 @@ use Rattle.smv_value.specs.Results.{fault_if, fault_of, integer, is_int, is_true
 use Rattle.value_types.proofs.Elements.{and_left, and_right}
 use Rattle.bit_graph.specs.declared.edge.Edge.{Edge}
 use Rattle.bit_graph.specs.declared.edge.Node.{Node}
-use Rattle.bit_graph.specs.Meaning.{Consistent, edge_value}
+use Rattle.bit_graph.specs.Meaning.{Consistent, Denotes, Stands, edge_value}
 use Rattle.bit_operators.specs.declared.symbolic.Symbolic.{Symbolic}
 use Rattle.bit_operators.specs.declared.symbolic.Symbolic.TheVariants as symbolic
-use Rattle.bit_operators.specs.Denoting.{ComputesOne, ComputesTwo, ComputesUnless, denoted}
+use Rattle.bit_operators.specs.Denoting.{ComputesOne, ComputesTwo, ComputesUnless, StandsIn, denoted}
 use Rattle.bit_numbers.specs.Counts.{AreDenoted}
 use Rattle.bit_table.specs.Computing.{Computes, ComputesAlways, ComputesThree, is_fault}
 
@@ -92,7 +92,10 @@ record Given (b : Bool) (f : Option FaultRule) (r : Option Value) (z : Value) : 
   no_fault : f ≡ None
   value : r ≡ Some z
 
-ok_same : (x y : Option Value) → Ok {A = Option Value} {E = FaultRule} x ≡ Ok y → x ≡ y
+abbrev ok_of : Option Value → Result (Option Value) FaultRule
+ok_of x = Ok x
+
+ok_same : (x y : Option Value) → ok_of x ≡ ok_of y → x ≡ y
 ok_same x y e = cc
 
 result_given : (b : Bool) (f : Option FaultRule) (r : Option Value) (z : Value) → cond b (unless f r) (Ok None) ≡ Ok (Some z) → Given b f r z
@@ -254,3 +257,31 @@ compared_is g v a b e h = record { gives = λ x y z ea eb ix iy q. ap (λ t. Som
 pub differ_is : (g : List Node) (v : ℕ → Bool) (a b : Symbolic) (e n : Edge) → edge_value v n ≡ not (edge_value v e) →
     ((x y : Value) → denoted v a ≡ Some x → denoted v b ≡ Some y → edge_value v e ≡ same x y) → ComputesTwo v (λ x y. Some (value.Bool (not (same x y)))) a b (symbolic.Boolean n)
 differ_is g v a b e n en h = record { gives = λ x y z ea eb ix iy q. ap (λ t. Some (value.Bool t)) (en ∙ ap not (h x y ea eb)) ∙ q }
+
+-- the table's two answers
+
+pub pair_is : {A : Type 0} (xs : List A) (a b : A) → 2 ≤ length xs → length xs < 3 → a ≡ get_or xs 0 a → b ≡ get_or xs 1 b → xs ≡ a ∷ b ∷ []
+pair_is [] a b l m h k = absurd (omega arith)
+pair_is (x ∷ []) a b l m h k = absurd (omega arith)
+pair_is (x ∷ y ∷ []) a b l m h k = λ i. sym h i ∷ sym k i ∷ []
+pair_is (x ∷ y ∷ z ∷ xs) a b l m h k = absurd (omega arith)
+
+pub given_unless : {E : Type 0} (g : List Node) (o : Operator) (test : Value → Value → Bool) (rule : FaultRule) (f : Value → Value → Option Value) (ss : List Symbolic) (a b : Symbolic)
+    (made : Option (Symbolic × Edge)) (r : Result (Symbolic × Edge) E) → ss ≡ a ∷ b ∷ [] → value_of o ≡ two f → fault_of o ≡ second_fault test rule → IfOk r (λ p. made ≡ Some p) →
+    IfSome made (λ p. (v : ℕ → Bool) → Consistent v g → ComputesUnless v test f a b p.0 p.1) → IfOk r (λ p. (v : ℕ → Bool) → Consistent v g → Computes v o ss p.0 p.1)
+given_unless g o test rule f ss a b made (Err e) es ev ef h k = h
+given_unless g o test rule f ss a b made (Ok p) es ev ef h k =
+    let fact = subst (λ m. IfSome m (λ q. (v : ℕ → Bool) → Consistent v g → ComputesUnless v test f a b q.0 q.1)) h k in
+    λ v c. subst (λ l. Computes v o l p.0 p.1) (sym es) (computes_unless v o test rule f a b p.0 p.1 ev ef (fact v c))
+
+pub always_stands : {E : Type 0} (g : List Node) (made : Option Symbolic) (r : Result (Symbolic × Edge) E) → IfOk r (λ p. made ≡ Some p.0) → IfOk r (λ p. Stands g p.1) → IfSome made (λ s. StandsIn g s) →
+    IfOk r (λ p. StandsIn g p.0 × Stands g p.1)
+always_stands g made (Err e) h k s = h
+always_stands g made (Ok p) h k s = (subst (λ m. IfSome m (λ q. StandsIn g q)) h s, k)
+
+pub always_value : {E : Type 0} (g : List Node) (o : Operator) (ss : List Symbolic) (made : Option Symbolic) (r : Result (Symbolic × Edge) E) → IfOk r (λ p. made ≡ Some p.0) →
+    IfOk r (λ p. Denotes g p.1 (λ v. false)) → IfSome made (λ s. (v : ℕ → Bool) → Consistent v g → ComputesAlways v o ss s) → IfOk r (λ p. (v : ℕ → Bool) → Consistent v g → Computes v o ss p.0 p.1)
+always_value g o ss made (Err e) h k s = h
+always_value g o ss made (Ok p) h k s =
+    let fact = subst (λ m. IfSome m (λ q. (v : ℕ → Bool) → Consistent v g → ComputesAlways v o ss q)) h s in
+    λ v c. computes_always v o ss p.0 p.1 (k v c) (fact v c)
