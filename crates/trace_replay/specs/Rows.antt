@@ -13,6 +13,7 @@ use Rattle.smv_scope.specs.declared.slot.Slot.{Slot}
 use Rattle.smv_scope.specs.Enumerated.{symbols_of}
 use Rattle.smv_scope.specs.Paths.{slot_name}
 use Rattle.smv_scope.specs.Slots.{slots_of}
+use Rattle.smv_declared.specs.Types.{types_of}
 use Rattle.smv_meaning.specs.Runs.{input_slots, state_slots}
 use Rattle.trace_replay.specs.declared.columns.Column.{Column}
 use Rattle.trace_replay.specs.declared.entry.Binding.{Binding}
@@ -40,7 +41,7 @@ terms_of p = record { names = symbols_of p; types = types_of p }
 
 -- the types are such as declarations keep
 abbrev pub AreTypes : Program → Type 0
-AreTypes p = list_all is_type (terms_of p).types ≡ true
+AreTypes p = list_all is_type (types_of p) ≡ true
 
 -- the texts of the type's elements are such as may stand in a line
 abbrev pub are_told : List (List ℕ) → Option ValueType → Bool
