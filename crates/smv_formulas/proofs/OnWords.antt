@@ -1,14 +1,21 @@
 -- The truth of formulas on words of lassos.
-use Rattle.std.proofs.Common.{◌≡◌, ◌∙◌, inl, inr, ℕ, ◌+◌, ◌-◌, ◌<◌, true, false, List, [], length, sym, ap, subst, arith}
+use Rattle.std.proofs.Common.{◌≡◌, ◌∙◌, inl, inr, ℕ, ◌+◌, ◌-◌, ◌<◌, Bool, true, false, List, [], ◌∷◌, ◌++◌, length, get_or, map, take, sym, ap, subst, arith}
 use Rattle.std.specs.Prelude.{◌↔◌, ◌%◌, nat_lt, if◌then◌else◌, IsTrue, slice_index_or}
 use Rattle.std.proofs.lemmas.Bool.{cases_lt}
 use Rattle.std.proofs.lemmas.Bool.Decides.{nat_tests}
 use Rattle.smv_tree.specs.declared.tree.Program.{Program}
 use Rattle.smv_value.specs.declared.value.Value.TheVariants as value
+use Rattle.std.proofs.lemmas.List.{map-append, take_more}
+use Rattle.smv_value.specs.declared.value.Value.{Value}
+use Rattle.smv_scope.specs.declared.slot.Slot.{Slot}
 use Rattle.smv_scope.specs.Slots.{slots_of}
-use Rattle.smv_resolve.specs.Resolved.{Resolved, part_at}
+use Rattle.smv_resolve.specs.declared.node.Node.{Node}
+use Rattle.smv_resolve.specs.Resolved.{Resolved, part_at, part_of, parts_of}
+use Rattle.smv_meaning.specs.declared.outcome.Outcome.{Outcome}
+use Rattle.smv_meaning.specs.Tables.{outcome_at, outcomes_of}
+use Rattle.smv_meaning.proofs.Tables.{outcome_at-map}
 use Rattle.smv_meaning.specs.Lassos.{Lasso, Holds, place_at}
-use Rattle.smv_meaning.specs.Runs.{at_time}
+use Rattle.smv_meaning.specs.Runs.{at_time, is_true}
 use Rattle.smv_meaning.specs.Outcomes.{one}
 use Rattle.smv_meaning.specs.Values.{outcome}
 use Rattle.ltl_meaning.specs.declared.word.Word.{Word}
@@ -16,8 +23,8 @@ use Rattle.ltl_meaning.specs.Lasso.{on, place}
 use Rattle.ltl_meaning.specs.Temporal.{Temporal}
 use Rattle.ltl_meaning.specs.Truth.{Moment, IsTrueAt}
 use Rattle.ltl_meaning.proofs.Alike.{AreAlike, unary_alike, bounded_alike, binary_alike}
-use Rattle.smv_formulas.specs.Says.{Says, atoms_on}
-use Rattle.smv_formulas.specs.Words.{IsWordOf}
+use Rattle.smv_formulas.specs.Says.{Says, atom_parts, atoms_on}
+use Rattle.smv_formulas.specs.Words.{IsWordOf, truths_at}
 use Rattle.smv_formulas.proofs.Operators.{both, chained}
 
 -- formulas over atoms that are true at the same times
@@ -66,3 +73,18 @@ module _ (p : Program) (parts : List Resolved) (w : Lasso) (word : Word) (is : I
 
   pub says_on_word : (f : Temporal) (r : Resolved) → Says p parts f r → (t : ℕ) → IsTrueAt (on word) f t ↔ Holds p w r t
   says_on_word f r says t = chained _ _ _ (same_atoms (on word) (atoms_on p w parts) on_all f) (says.told w) t
+
+-- the truth of one atom more
+pub truths_next : (slots : List Slot) (s u : List Value) (nodes : List Node) (atoms : List ℕ) (i d : ℕ) (here : List Outcome) (b : Bool) → i < length atoms →
+    here ≡ outcomes_of slots s u [] nodes → b ≡ is_true (outcome_at here (get_or atoms i d)) →
+    truths_at slots s u (atom_parts nodes (take i atoms)) ++ b ∷ [] ≡ truths_at slots s u (atom_parts nodes (take (i + 1) atoms))
+truths_next slots s u nodes atoms i d here b within told is =
+    let a = get_or atoms i d in
+    let tell : Resolved → Bool = λ r. is_true (outcome slots s u [] r) in
+    let so_far = atom_parts nodes (take i atoms) in
+    let own : b ≡ tell (part_of nodes a) =
+    is ∙ ap (λ (os : List Outcome). is_true (outcome_at os a)) told ∙ ap is_true (outcome_at-map slots s u [] (parts_of nodes) a) in
+    ap (λ (b : Bool). map tell so_far ++ b ∷ []) own
+    ∙ sym (map-append tell so_far (part_of nodes a ∷ []))
+    ∙ ap (map tell) (sym (map-append (part_of nodes) (take i atoms) (a ∷ [])))
+    ∙ ap (λ (l : List ℕ). truths_at slots s u (atom_parts nodes l)) (sym (take_more atoms i d within))

@@ -1,0 +1,4 @@
+pub mod Constants
+pub mod Types
+pub mod Refusals
+pub mod Seen

@@ -1,0 +1,117 @@
+-- The rules of declared types: an own choice of this project.
+use Rattle.std.specs.Prelude.{ℕ, ◌+◌, if◌then◌else◌, List, [], ◌∷◌, ◌++◌, Option, None, Some, ℤ, int_lt}
+use Rattle.std.specs.Fmt.{signed_decimal}
+use Rattle.std.specs.List.{list_any}
+use Rattle.smv_value.specs.declared.operator.Operator.{Operator}
+use Rattle.smv_value.specs.Results.{is_int, is_width, natural}
+use Rattle.smv_tree.specs.declared.place.Place.{Place}
+use Rattle.smv_tree.specs.declared.refusal.Refusal.{Refusal}
+use Rattle.smv_tree.specs.declared.refusal.Rule.TheVariants as rule
+use Rattle.smv_tree.specs.declared.tree.Program.{Program}
+use Rattle.smv_tree.specs.declared.tree.Section.{Section}
+use Rattle.smv_tree.specs.declared.tree.Expr.{Expr, Expr-F, fold-Expr}
+use Rattle.smv_tree.specs.declared.tree.TypeExpr.{TypeExpr}
+use Rattle.smv_tree.specs.declared.tree.TypeExpr.TheVariants as written
+use Rattle.smv_tree.specs.declared.tree.Variable.{Variable}
+use Rattle.smv_tree.specs.declared.tree.VariableKind.{VariableKind}
+use Rattle.smv_tree.specs.declared.tree.VariableKind.TheVariants as sort
+use Rattle.smv_tree.specs.declared.tree.WrittenElement.{WrittenElement}
+use Rattle.value_types.specs.declared.value_type.Element.{Element}
+use Rattle.value_types.specs.Types.{element_value, is_element}
+use Rattle.smv_scope.specs.declared.instance.Instance.{Instance}
+use Rattle.smv_scope.specs.Modules.{sections_of, variables_in}
+use Rattle.smv_scope.specs.Instances.{instances_of}
+use Rattle.smv_resolve.specs.Resolved.{place_of_start}
+use Rattle.smv_verdicts.specs.Verdicts.{detailed, first_of, or_else, plain}
+use Rattle.smv_declared.specs.declared.constant.Constant.{Constant}
+use Rattle.smv_declared.specs.declared.constant.Constant.TheVariants.{NotConstant, Beyond, Integer}
+use Rattle.smv_declared.specs.Types.{bound_of, element_of}
+
+-- that of the last link's operator, where there is a link
+abbrev pub last_place : {A : Type 0} → Place → List (Place × Operator × A) → Place
+last_place place [] = place
+last_place place (link ∷ links) = last_place link.0 links
+
+abbrev pub place_of_node : Expr-F Place → Place
+place_of_node (Expr-F.Constant place v) = place
+place_of_node (Expr-F.Name name) = place_of_start name.start
+place_of_node (Expr-F.Group place e) = e
+place_of_node (Expr-F.Next place e) = place
+place_of_node (Expr-F.Apply place o beside below) = place
+place_of_node (Expr-F.Chain first links) = last_place first links
+
+-- The place of an expression: that of its operator, the last one of a chain, or of its first token. Parentheses have none.
+unfoldable pub place_of : Expr → Place
+place_of e = fold-Expr Place place_of_node e
+
+-- an instance that `VAR` does not declare
+abbrev pub instance_refusal : Place → VariableKind → Option Refusal
+instance_refusal place sort.State = None
+instance_refusal place other = Some (plain rule.TypeMismatch place)
+
+abbrev pub no_constant : Place → Constant → Option Refusal
+no_constant place NotConstant = Some (plain rule.NotConstant place)
+no_constant place other = None
+
+abbrev pub empty_range : Place → Constant → Constant → Option Refusal
+empty_range place (Integer low) (Integer high) = if int_lt high low then Some (plain rule.EmptyRange place) else None
+empty_range place low high = None
+
+-- a width that no word has; it is told where it has 64 bits
+abbrev pub no_width : Place → Constant → Option Refusal
+no_width place NotConstant = None
+no_width place Beyond = Some (plain rule.WordWidth place)
+no_width place (Integer z) = if is_width (natural z) then None else Some (detailed rule.WordWidth place (signed_decimal z))
+
+-- a bound that has more than 32 bits
+abbrev pub too_wide : Place → Constant → Option Refusal
+too_wide place NotConstant = None
+too_wide place Beyond = Some (plain rule.IntWidth place)
+too_wide place (Integer z) = if is_int z then None else Some (plain rule.IntWidth place)
+
+abbrev pub width_refusal : Place → Constant → Option Refusal
+width_refusal place width = or_else (no_constant place width) (no_width place width)
+
+abbrev pub range_refusal : Place → Constant → Place → Constant → Option Refusal
+range_refusal low_place low high_place high =
+    or_else (no_constant low_place low)
+    (or_else (no_constant high_place high) (or_else (empty_range low_place low high) (or_else (too_wide low_place low) (too_wide high_place high))))
+
+-- the first element that is one of those before it
+abbrev pub repeated : (WrittenElement → Element) → List Element → List WrittenElement → Option Refusal
+repeated element before [] = None
+repeated element before (x ∷ xs) =
+    if list_any (is_element (element_value (element x))) before
+    then Some (detailed rule.DuplicateElement x.place x.text)
+    else repeated element (before ++ element x ∷ []) xs
+
+abbrev pub wide_number : Place → Option ℤ → Option Refusal
+wide_number place None = None
+wide_number place (Some z) = if is_int z then None else Some (plain rule.IntWidth place)
+
+-- an element of more than 32 bits, which no source has
+abbrev pub wide_element : WrittenElement → Option Refusal
+wide_element x = wide_number x.place x.number
+
+abbrev pub elements_refusal : (WrittenElement → Element) → List WrittenElement → Option Refusal
+elements_refusal element xs = or_else (repeated element [] xs) (first_of wide_element xs)
+
+-- the first rule that a declaration of an instance breaks
+abbrev pub type_refusal : Program → ℕ → VariableKind → TypeExpr → Option Refusal
+type_refusal p at kind (written.Boolean place) = None
+type_refusal p at kind (written.Word place signed width) = width_refusal (place_of width) (bound_of p at width)
+type_refusal p at kind (written.Range place low high) = range_refusal (place_of low) (bound_of p at low) (place_of high) (bound_of p at high)
+type_refusal p at kind (written.Enumeration place elements) = elements_refusal (element_of p) elements
+type_refusal p at kind (written.Instance place name given) = instance_refusal place kind
+
+abbrev pub types_refusal_in : Program → ℕ → Section → Option Refusal
+types_refusal_in p at section = first_of (λ (x : VariableKind × Variable). type_refusal p at x.0 x.1.declared) (variables_in section)
+
+-- the first one of these instances, the first of which has number n
+abbrev pub types_refusal_below : Program → ℕ → List Instance → Option Refusal
+types_refusal_below p n [] = None
+types_refusal_below p n (x ∷ xs) = or_else (first_of (types_refusal_in p n) (sections_of p x.of_module)) (types_refusal_below p (n + 1) xs)
+
+-- the first rule of declared types that is broken, at the first declaration that breaks one
+unfoldable pub declared_refusal : Program → Option Refusal
+declared_refusal p = types_refusal_below p 0 (instances_of p)

@@ -1,0 +1,78 @@
+//! The constants that expressions are.
+
+ghost use Rattle.std.specs.Prelude.{◌≡◌, List, map, IfOk, slice_index_or};
+ghost use Rattle.smv_resolve.specs.Resolved.{Resolved, part_of, parts_of, resolved_by};
+ghost use Rattle.smv_declared.specs.Constants.{constant_of};
+ghost use Rattle.smv_declared.specs.Types.{bound_of};
+ghost use Rattle.smv_declared.specs.declared.constant.Constant.TheVariants.{NotConstant};
+
+use crate::Constant;
+use crate::constant::{constant_of_value, operated};
+use smv_resolve::{Node, ResolveStop, last, resolve_expression};
+use smv_scope::Scope;
+use smv_tree::Expr;
+use std::alloc::{AllocError, Global};
+
+// What a bound or a width of a type is, in the instance of this number.
+pub(crate) fn bound_of(
+    alloc: Global,
+    scope: &Scope,
+    at: usize,
+    e: &Expr,
+) -> Result<Constant, AllocError>
+    ensures { IfOk result (λ c. c ≡ bound_of scope.now.program at e.now) }
+{
+    if let Expr::Constant(_, value) = e {
+        return Ok(constant_of_value(*value));
+    }
+    match resolve_expression(alloc, scope, at, e) {
+        Ok(single) => constant_of_node(alloc, single.nodes.as_slice(), single.root),
+        Err(ResolveStop::Stuck(_)) => Ok(Constant::NotConstant),
+        Err(ResolveStop::NoMemory) => Err(AllocError),
+    }
+}
+
+// The constant that the node of this number is.
+fn constant_of_node(alloc: Global, nodes: &[Node], root: usize) -> Result<Constant, AllocError>
+    ensures { IfOk result (λ c. c ≡ constant_of (part_of nodes.now root)) }
+{
+    let table = constants_of(alloc, nodes)?;
+    Ok(constant_at(table.as_slice(), root))
+}
+
+// The constant that each node is.
+fn constants_of(alloc: Global, nodes: &[Node]) -> Result<Vec<Constant>, AllocError>
+    ensures { IfOk result (λ table. table.items ≡ map constant_of (parts_of nodes.now)) }
+{
+    let mut table = Vec::new(alloc);
+    for node in nodes {
+        let constant = constant_by(*node, table.as_slice());
+        table.push(constant)?;
+    }
+    Ok(table)
+}
+
+// The constant that a node is, over those of the nodes before it.
+fn constant_by(node: Node, table: &[Constant]) -> Constant
+    ensures { (parts : List Resolved) → table.now ≡ map constant_of parts → result ≡ constant_of (resolved_by parts node) }
+{
+    match node {
+        Node::Constant(_, value) => constant_of_value(value),
+        Node::Named(_, _, a) => constant_at(table, a),
+        Node::Operand(a) => constant_at(table, a),
+        Node::Apply(_, operator, count) => operated(operator, last(table, count)),
+        Node::Link(_, operator, a, b) => {
+            operated(operator, &[constant_at(table, a), constant_at(table, b)])
+        }
+        Node::Slot(..) | Node::Whole(..) | Node::Next(..) => Constant::NotConstant,
+    }
+}
+
+fn constant_at(table: &[Constant], k: usize) -> Constant
+    ensures { result ≡ slice_index_or table.now k NotConstant }
+{
+    match table.get(k) {
+        None => Constant::NotConstant,
+        Some(constant) => *constant,
+    }
+}
