@@ -1,5 +1,5 @@
 -- The values of slots as the lines of a trace tell them.
-use Rattle.std.specs.Prelude.{◌≡◌, ℕ, ◌-◌, Bool, ◌&&◌, if◌then◌else◌, List, [], ◌∷◌, length, map, bytes_eq, codes, Option, None, Some, slice_get, unwrap_or, true, false}
+use Rattle.std.specs.Prelude.{◌≡◌, ℕ, ◌-◌, Bool, ◌&&◌, if◌then◌else◌, List, [], ◌∷◌, length, map, bytes_eq, Option, None, Some, slice_get, unwrap_or, true}
 use Rattle.std.specs.List.{list_all, range_with_len}
 use Rattle.smv_tree.specs.declared.tree.Program.{Program}
 use Rattle.smv_value.specs.declared.value.Value.{Value}
