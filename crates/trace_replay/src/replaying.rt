@@ -6,6 +6,7 @@ ghost use Rattle.smv_scope.specs.Slots.{slots_of};
 ghost use Rattle.smv_meaning.specs.Runs.{specifications_of};
 ghost use Rattle.smv_meaning.specs.Values.{outcome_in};
 ghost use Rattle.trace_replay.specs.Lassos.{IsReplayOf, Shows};
+ghost use Rattle.trace_replay.specs.Rows.{AreTypes};
 ghost use Rattle.trace_replay.specs.Telling.{IsFirstFailing, IsTold};
 ghost use Rattle.trace_replay.specs.Tests.{IsReplay, ShowsBroken, begins, ends, goes_on, is_false, specification_at, stays};
 
@@ -34,6 +35,7 @@ pub fn replay(
 ) -> Result<Replayed, AllocError>
     requires first { 0 < spec }
     requires last { spec ≤ length (specifications_of typed.now.scope.program) }
+    requires types { AreTypes typed.now.scope.program }
     ensures judged { IfOk result (λ r. IfSome (specification_at typed.now.scope.program spec) (λ x. IsReplayOf x.kind typed.now.scope.program x trace.now r)) }
     ensures accepted { IfOk result (λ r. IfSome (specification_at typed.now.scope.program spec) (λ x. Shows x.kind typed.now.scope.program x trace.now r)) }
 {
@@ -52,6 +54,7 @@ pub fn replay_run(
 ) -> Result<Replayed, AllocError>
     requires first { 0 < spec }
     requires last { spec ≤ length (specifications_of typed.now.scope.program) }
+    requires types { AreTypes typed.now.scope.program }
     ensures judged { IfOk result (λ r. IfSome (specification_at typed.now.scope.program spec) (λ x. IsReplay typed.now.scope.program x trace.now r)) }
     ensures accepted { IfOk result (λ r. IfSome (specification_at typed.now.scope.program spec) (λ x. (r ≡ Replayed.Accepted) ↔ ShowsBroken typed.now.scope.program x trace.now)) }
 {
@@ -62,6 +65,7 @@ pub fn replay_run(
 
 // What comes of the tests of a trace of this specification.
 fn judge(alloc: Global, typed: &Typed, spec: &Item, trace: &Trace) -> Result<Replayed, AllocError>
+    requires types { AreTypes typed.now.scope.program }
     ensures { IfOk result (IsReplayOf spec.now.kind typed.now.scope.program (item_by typed.now.nodes spec.now) trace.now) }
 {
     match spec.kind {
@@ -83,6 +87,7 @@ fn judge_run(
     spec: &Item,
     trace: &Trace,
 ) -> Result<Replayed, AllocError>
+    requires types { AreTypes typed.now.scope.program }
     ensures { IfOk result (IsReplay typed.now.scope.program (item_by typed.now.nodes spec.now) trace.now) }
 {
     match tell(alloc, typed, trace)? {
