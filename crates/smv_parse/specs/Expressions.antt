@@ -7,6 +7,7 @@ use Rattle.smv_tree.specs.declared.place.Place.{Place}
 use Rattle.smv_tree.specs.declared.token.Token.{Token}
 use Rattle.smv_tree.specs.declared.token.TokenKind.{TokenKind}
 use Rattle.smv_tree.specs.declared.token.TokenKind.TheVariants as kind
+use Rattle.smv_value.specs.declared.value.Value.TheVariants as value
 use Rattle.smv_value.specs.declared.operator.Operator.{Operator}
 use Rattle.smv_value.specs.declared.operator.Operator.TheVariants as operator
 use Rattle.smv_value.specs.declared.operator.Logic.TheVariants as logic
@@ -41,7 +42,7 @@ abbrev pub is_constant : Token → Bool
 is_constant t = is_kind kind.True t || is_kind kind.False t
 
 abbrev pub constant_of : Token → Expr
-constant_of t = expr.Bool t.place (is_kind kind.True t)
+constant_of t = expr.Constant t.place (value.Bool (is_kind kind.True t))
 
 -- the temporal operators with one operand (manual 2.4.3): those that have no bounds, and those that may have some
 abbrev pub is_step_operator : Token → Bool

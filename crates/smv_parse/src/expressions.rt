@@ -16,7 +16,7 @@ use crate::temporal::{
 use phrase_forms::Fault;
 use smv_phrases::{Stop, begins, begins_name, is_kind, just, name, opening};
 use smv_tree::{Expr, Place, Token, TokenKind};
-use smv_value::{Logic, Operator, Temporal};
+use smv_value::{Logic, Operator, Temporal, Value};
 use sqlite_items::{Boxed, Items};
 use std::alloc::{AllocError, Global};
 
@@ -113,7 +113,7 @@ fn is_constant(token: &Token) -> bool
 fn constant_of(token: &Token) -> Expr
     ensures { result ≡ constant_of token.now }
 {
-    Expr::Bool(token.place, is_kind(TokenKind::True, token))
+    Expr::Constant(token.place, Value::Bool(is_kind(TokenKind::True, token)))
 }
 
 /// Whether an expression begins with this token.
