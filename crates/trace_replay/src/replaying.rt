@@ -23,7 +23,8 @@ use std::alloc::{AllocError, Global};
 
 /// What comes of the tests of a trace of the specification of this number, counted from 1: it is accepted, or rejected by the
 /// first test that fails. The trace of an invariant is accepted just where it is that of a run that breaks it. The trace of a temporal
-/// specification is accepted just where it is that of a lasso that violates it.
+/// specification is accepted just where it is that of a lasso that violates it. The types of slots are such as declarations keep, as
+/// they are where no rule of declared types is broken.
 ///
 /// Memory may be refused. The time is that of the tests, each of them in the size of the model; that of a temporal specification is
 /// that of its formula's table.
