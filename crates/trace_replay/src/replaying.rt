@@ -23,8 +23,7 @@ use std::alloc::{AllocError, Global};
 
 /// What comes of the tests of a trace of the specification of this number, counted from 1: it is accepted, or rejected by the
 /// first test that fails. The trace of an invariant is accepted just where it is that of a run that breaks it. The trace of a temporal
-/// specification is accepted just where it is that of a lasso that violates it. The types of slots are such as declarations keep, as
-/// they are where no rule of declared types is broken.
+/// specification is accepted just where it is that of a lasso that violates it.
 ///
 /// Memory may be refused. The time is that of the tests, each of them in the size of the model; that of a temporal specification is
 /// that of its formula's table.
@@ -36,7 +35,6 @@ pub fn replay(
 ) -> Result<Replayed, AllocError>
     requires first { 0 < spec }
     requires last { spec ≤ length (specifications_of typed.now.scope.program) }
-    requires types { AreTypes typed.now.scope.program }
     ensures judged { IfOk result (λ r. IfSome (specification_at typed.now.scope.program spec) (λ x. IsReplayOf x.kind typed.now.scope.program x trace.now r)) }
     ensures accepted { IfOk result (λ r. IfSome (specification_at typed.now.scope.program spec) (λ x. Shows x.kind typed.now.scope.program x trace.now r)) }
 {
@@ -55,7 +53,6 @@ pub fn replay_run(
 ) -> Result<Replayed, AllocError>
     requires first { 0 < spec }
     requires last { spec ≤ length (specifications_of typed.now.scope.program) }
-    requires types { AreTypes typed.now.scope.program }
     ensures judged { IfOk result (λ r. IfSome (specification_at typed.now.scope.program spec) (λ x. IsReplay typed.now.scope.program x trace.now r)) }
     ensures accepted { IfOk result (λ r. IfSome (specification_at typed.now.scope.program spec) (λ x. (r ≡ Replayed.Accepted) ↔ ShowsBroken typed.now.scope.program x trace.now)) }
 {
