@@ -2,7 +2,7 @@
 
 use crate::program_of;
 use smv_tree::{Expr, Name, Place, Program, Section, Start};
-use smv_value::{Logic, Operator};
+use smv_value::{Logic, Operator, Value};
 use std::alloc::{AllocError, Global};
 use std::test::Fail;
 

@@ -22,4 +22,4 @@ returns-clause-accepted c =
     (ap (map (item_by nodes)) c.as_slice.ensures ∙ c.in_ok-specs.ensures.resolved) within c.args.typed.now.right_types c.judge.ensures
 
 pub judge-requires : goal.judge-requires
-judge-requires c = c.args.typed.now.right_types
+judge-requires c = record { types = c.args.typed.now.right_types }
