@@ -17,8 +17,10 @@ use bit_values::least_bits;
 use sqlite_items::Items;
 use std::alloc::{AllocError, Global};
 
-/// The value `a` where the condition is true, else `b`; `None` where the operands are neither two booleans, nor two words of one
-/// type, nor two discrete values. The only error is want of memory.
+/// The value `a` where the condition is true, else `b`.
+///
+/// It is `None` where the operands are neither two booleans, nor two words of one type, nor two discrete values. The only error
+/// is want of memory.
 pub fn choose(
     alloc: Global,
     graph: &mut Graph,

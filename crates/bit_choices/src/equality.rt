@@ -13,8 +13,10 @@ use bit_numbers::{equal_bits, equal_integers};
 use bit_operators::{Discrete, Symbolic, alike};
 use std::alloc::{AllocError, Global};
 
-/// The edge that is true where the values are the same; `None` where the operands are neither two booleans, nor two words of one
-/// type, nor two discrete values. The only error is want of memory.
+/// The edge that is true where the values are the same.
+///
+/// It is `None` where the operands are neither two booleans, nor two words of one type, nor two discrete values. The only error
+/// is want of memory.
 pub fn equal(
     alloc: Global,
     graph: &mut Graph,

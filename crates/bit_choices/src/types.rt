@@ -20,7 +20,7 @@ use value_types::{Element, ValueType};
 
 /// The edge that is true where the value is one of the type. The only error is want of memory.
 ///
-/// It is a constant where the kinds are enough to tell, and where each symbol that the value may be is of the type or none is.
+/// It is a constant where the kinds are enough to tell. A symbol costs a gate only if the value may be one that is not of the type.
 pub fn is_in_type(
     alloc: Global,
     graph: &mut Graph,

@@ -21,8 +21,7 @@ use value_types::ValueType;
 
 /// The value of a variable of this type that has these bits, where they are those of a value. The only error is want of memory.
 ///
-/// It has no gate but for a range that begins elsewhere than at 0, and for an enumeration that has integers, which are not 0, 1
-/// and so on.
+/// A range that begins at 0 has no gate, nor has an enumeration of symbols alone, or of 0, 1 and so on.
 pub fn variable(
     alloc: Global,
     graph: &mut Graph,
