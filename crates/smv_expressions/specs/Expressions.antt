@@ -358,12 +358,28 @@ implication closed under =
 
 -- The limits of types: the ends of a range, and the width of a word.
 
+-- an expression and its place
+abbrev pub Placed : Type 0
+Placed = Place × Expr
+
+abbrev pub placed_minus : Token × Expr → Placed
+placed_minus x = (x.0.place, minus_of x)
+
+abbrev pub placed_integer : Token → Placed
+placed_integer t = (t.place, integer_of t)
+
+abbrev pub placed_group : Token × Expr → Placed
+placed_group x = (x.0.place, group_of x)
+
+abbrev pub placed_name : Name → Placed
+placed_name n = (place_of n, expr.Name n)
+
 -- "-" and what it negates, an integer, "(" limit ")", or a name that begins with "self"; and its place
-unfoldable pub limit_start : Bool → Phrases → Form Token (Place × Expr)
+unfoldable pub limit_start : Bool → Phrases → Form Token Placed
 limit_start closed under =
-    or (to (λ x. (x.0.place, minus_of x)) (opening closed kind.Minus ⨾ under.limit_negation))
-    (or (to (λ t. (t.place, integer_of t)) (just kind.Integer))
-    (or (to (λ x. (x.0.place, group_of x)) (parenthesised closed under.limit)) (to (λ n. (place_of n, expr.Name n)) (name_from may.Itself))))
+    or (to placed_minus (opening closed kind.Minus ⨾ under.limit_negation))
+    (or (to placed_integer (just kind.Integer))
+    (or (to placed_group (parenthesised closed under.limit)) (to placed_name (name_from may.Itself))))
 
 -- one of those, or a name
 unfoldable pub limit_negation : Bool → Phrases → Form Token Expr
@@ -453,7 +469,7 @@ expression_within past room = named begins_expression goes_on_expression (phrase
 unfoldable pub limit_within : ℕ → ℕ → Form Token Expr
 limit_within past room = named begins_limit goes_on_limit (phrases past (suc room)).limit
 
-unfoldable pub limit_start_within : ℕ → ℕ → Form Token (Place × Expr)
+unfoldable pub limit_start_within : ℕ → ℕ → Form Token Placed
 limit_start_within past room = limit_start (is_zero room) (under past room)
 
 unfoldable pub limited_within : ℕ → ℕ → Form Token (List (List Link))

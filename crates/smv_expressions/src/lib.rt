@@ -1,6 +1,9 @@
 //! Expressions, and the limits of types: from tokens to their trees (NuSMV 2.6 User Manual, 2.2).
 #![tactic(auto)]
 
+mod nodes;
 mod ranks;
 mod temporal;
 mod tokens;
+
+pub use tokens::{begins_expression, begins_limit_start, names_function};
