@@ -1,11 +1,8 @@
--- The loop over links keeps that the links before it and those that it still reads are all of them; behind "?" a level is left.
-use Rattle.std.proofs.Common.{sym, ◌∙◌, arith}
+-- The loops over links keep that the links before them and those that they still read are all of them.
+use Rattle.std.proofs.Common.{sym, ◌∙◌}
 use Rattle.std.proofs.lemmas.Result.{err_from_is_err_and}
-use Rattle.smv_tree.specs.declared.token.TokenKind.TheVariants as kind
-use Rattle.smv_tree.specs.Kinds.{is_kind}
-use Rattle.smv_parse.proofs.Levels.{room_left}
-use Rattle.smv_parse.proofs.Links.{links_go_on, links_end, links_stop}
-use Rattle.smv_parse.proofs.expressions.+expressions.Goals as goal
+use Rattle.smv_expressions.proofs.Links.{links_go_on, links_end, links_stop}
+use Rattle.smv_expressions.proofs.expressions.+expressions.Goals as goal
 
 pub links-returns-in_err-link : goal.links-returns-in_err-link
 links-returns-in_err-link t c =
@@ -18,6 +15,3 @@ links-links-preserved t c =
 
 pub links-returns : goal.links-returns
 links-returns t c = links_end c.args.rank c.args.room c.links.links c.links.rest.now _ c.links.invariant (sym c.goes_on.ensures ∙ c.links-test.false)
-
-pub branches-conditional-requires : goal.branches-conditional-requires
-branches-conditional-requires t c = (omega (arith, c.decreases, room_left c.is_closed.result c.args.room (is_kind kind.Question) c.args.tokens.now _ c.is_closed.ensures c.in_ok-question.ensures), tt)

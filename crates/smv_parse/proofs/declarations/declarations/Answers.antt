@@ -3,7 +3,7 @@ use Rattle.std.proofs.lemmas.Result.{err_from_is_err_and}
 use Rattle.smv_parse.specs.Programs.{declaration}
 use Rattle.smv_phrases.proofs.Repeats.{loop_on, loop_ends, loop_stops, loop_shortens}
 use Rattle.smv_parse.proofs.OfLoops.{declarations}
-use Rattle.smv_parse.proofs.types.declarations.Goals as goal
+use Rattle.smv_parse.proofs.declarations.declarations.Goals as goal
 
 pub returns-in_err-one : goal.returns-in_err-one
 returns-in_err-one c =
