@@ -7,3 +7,4 @@ pub mod Temporals
 pub mod Conditionals
 pub mod Links
 pub mod Loops
+pub mod Enclosed
