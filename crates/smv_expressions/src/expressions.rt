@@ -130,11 +130,7 @@ fn group<'a>(
 /// `{`, expressions with commas between them, and `}`.
 #[cycle(expressions)]
 #[tactic(auto, using(crate::proofs::Levels::under_listed))]
-fn set<'a>(
-    alloc: Global,
-    room: usize,
-    tokens: &'a [Token],
-) -> Result<(Expr, &'a [Token]), Stop<'a>>
+fn set<'a>(alloc: Global, room: usize, tokens: &'a [Token]) -> Result<(Expr, &'a [Token]), Stop<'a>>
     ensures { Gives (λ x. (x.0, x.1.now)) result ((to set_of (members (is_zero room) (under 0 room).expression)).parse tokens.now) }
 {
     let (brace, tokens) = opening(is_closed(room), TokenKind::LeftBrace, tokens)?;

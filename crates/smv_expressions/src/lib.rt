@@ -8,4 +8,4 @@ mod temporal;
 mod tokens;
 
 pub use expressions::{expression, indexed, limit, limit_start, limited, listed};
-pub use tokens::{begins_expression, begins_limit_start, names_function};
+pub use tokens::{begins_expression, goes_on_limit, names_function};

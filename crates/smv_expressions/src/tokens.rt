@@ -4,9 +4,10 @@ ghost use Rattle.std.specs.Prelude.{◌≡◌, false};
 ghost use Rattle.phrase_forms.specs.Forms.{head, token};
 ghost use Rattle.smv_phrases.specs.Reading.{Gives};
 ghost use Rattle.smv_expressions.specs.Operators.{function_of, is_function, named_function, names_function};
-ghost use Rattle.smv_expressions.specs.Tokens.{is_truth, begins_literal, begins_bracket, begins_primary, begins_inverted, begins_denied, begins_expression, begins_limit_start};
+ghost use Rattle.smv_expressions.specs.Tokens.{is_truth, begins_literal, begins_bracket, begins_primary, begins_inverted, begins_denied, begins_expression, begins_limit_start, goes_on_limit};
 ghost use Rattle.smv_expressions.specs.Expressions.{truth_of, integer_of, word_of};
 
+use crate::ranks::Rank;
 use crate::temporal::{is_step_operator, is_timed_operator};
 use phrase_forms::Fault;
 use smv_phrases::{Stop, begins_name, integer_value, is_kind, word_value};
@@ -89,10 +90,7 @@ pub fn is_truth(token: &Token) -> bool
 pub fn truth_of(token: &Token) -> Expr
     ensures { result ≡ truth_of token.now }
 {
-    Expr::Constant(
-        token.place,
-        Value::Bool(is_kind(TokenKind::True, token)),
-    )
+    Expr::Constant(token.place, Value::Bool(is_kind(TokenKind::True, token)))
 }
 
 /// The constant of an integer.
@@ -112,9 +110,7 @@ pub fn word_of(token: &Token) -> Expr
 fn begins_literal(token: &Token) -> bool
     ensures { result ≡ begins_literal token.now }
 {
-    is_truth(token)
-        || is_kind(TokenKind::Integer, token)
-        || is_kind(TokenKind::WordConstant, token)
+    is_truth(token) || is_kind(TokenKind::Integer, token) || is_kind(TokenKind::WordConstant, token)
 }
 
 fn begins_bracket(token: &Token) -> bool
@@ -172,4 +168,13 @@ pub fn begins_limit_start(token: &Token) -> bool
         || is_kind(TokenKind::Integer, token)
         || is_kind(TokenKind::LeftParen, token)
         || is_kind(TokenKind::SelfName, token)
+}
+
+/// Whether the token may go on a whole limit of a type.
+pub fn goes_on_limit(token: &Token) -> bool
+    ensures { result ≡ goes_on_limit token.now }
+{
+    Rank::LimitSum.operator_of(token.kind).is_some()
+        || Rank::LimitProduct.operator_of(token.kind).is_some()
+        || is_kind(TokenKind::Dot, token)
 }

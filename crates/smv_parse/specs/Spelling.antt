@@ -151,19 +151,21 @@ abbrev pub was : TokenKind → Option TokenKind → Bool
 was k None = false
 was k (Some before) = number_of k == number_of before
 
--- bounds may stand behind this token
-abbrev pub may_have_bounds : Option TokenKind → Bool
-may_have_bounds near = was kind.Finally near || was kind.Globally near || was kind.Once near || was kind.Historically near
+-- the token is a temporal operator with one operand: "[" behind it is none that selects
+abbrev pub is_temporal : Option TokenKind → Bool
+is_temporal near =
+    was kind.Finally near || was kind.Globally near || was kind.Once near || was kind.Historically near || was kind.NextTime near || was kind.PreviousTime near
+    || was kind.WeakPreviousTime near
 
 -- an integer behind these two tokens is a bound: the nearer one is "[", or "," behind an integer
 abbrev pub may_be_bound : Option TokenKind → Option TokenKind → Bool
 may_be_bound near far = was kind.LeftBracket near || (was kind.Comma near && was kind.Integer far)
 
 -- The token is held back, where these are the two tokens before it and those behind it: it is of such a kind, names a function,
--- or is an integer or "[" outside the bounds of temporal operators.
+-- is "[" behind no temporal operator, or an integer that is no bound of one.
 abbrev pub is_held_back : Option TokenKind → Option TokenKind → Token → List Token → Bool
 is_held_back near far t rest =
-    is_held_kind t.kind || (names_function t && head (is_kind kind.LeftParen) rest) || (is_kind kind.LeftBracket t && not (may_have_bounds near))
+    is_held_kind t.kind || (names_function t && head (is_kind kind.LeftParen) rest) || (is_kind kind.LeftBracket t && not (is_temporal near))
     || (is_kind kind.Integer t && not (may_be_bound near far))
 
 -- The token goes beyond the language: it has no place in it, or is held back. The two tokens before it are given, the nearer one

@@ -116,7 +116,10 @@ fn negative_of(alloc: Global, minus: &Token, token: &Token) -> Result<WrittenEle
 
 /// Identifier, integer, or `-` integer.
 #[tactic(auto, unfolding(crate::specs::Types::element))]
-fn element<'a>(alloc: Global, tokens: &'a [Token]) -> Result<(WrittenElement, &'a [Token]), Stop<'a>>
+fn element<'a>(
+    alloc: Global,
+    tokens: &'a [Token],
+) -> Result<(WrittenElement, &'a [Token]), Stop<'a>>
     ensures { Gives (λ x. (x.0, x.1.now)) result (element.parse tokens.now) }
 {
     match tokens {
@@ -294,7 +297,10 @@ fn range_type<'a>(alloc: Global, tokens: &'a [Token]) -> Result<(TypeExpr, &'a [
 
 /// `boolean`, a word, an enumeration, an instance of a module, or a range.
 #[tactic(auto, unfolding(crate::specs::Types::written_type, crate::specs::Types::word_type, crate::specs::Types::signed_type, crate::specs::Types::enumeration, crate::specs::Types::identifier_type))]
-pub fn written_type<'a>(alloc: Global, tokens: &'a [Token]) -> Result<(TypeExpr, &'a [Token]), Stop<'a>>
+pub fn written_type<'a>(
+    alloc: Global,
+    tokens: &'a [Token],
+) -> Result<(TypeExpr, &'a [Token]), Stop<'a>>
     ensures { Gives (λ x. (x.0, x.1.now)) result ((written_type 0).parse tokens.now) }
 {
     match tokens {

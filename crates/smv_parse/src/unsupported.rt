@@ -2,7 +2,7 @@
 
 ghost use Rattle.std.specs.Prelude.{◌≡◌};
 ghost use Rattle.std.specs.Option.{option_copied};
-ghost use Rattle.smv_parse.specs.Spelling.{is_in_use, is_held_kind, was, may_have_bounds, may_be_bound, is_held_back, is_unsupported, first_unsupported};
+ghost use Rattle.smv_parse.specs.Spelling.{is_in_use, is_held_kind, was, is_temporal, may_be_bound, is_held_back, is_unsupported, first_unsupported};
 
 use smv_expressions::names_function;
 use smv_phrases::{begins, is_kind};
@@ -31,10 +31,7 @@ fn is_in_use(kind: TokenKind) -> bool
         | TokenKind::Ltlspec
         | TokenKind::Name => true,
         // The words of types.
-        TokenKind::Boolean
-        | TokenKind::Word
-        | TokenKind::Unsigned
-        | TokenKind::Signed => true,
+        TokenKind::Boolean | TokenKind::Word | TokenKind::Unsigned | TokenKind::Signed => true,
         // The words of expressions.
         TokenKind::Init
         | TokenKind::Next
@@ -45,9 +42,7 @@ fn is_in_use(kind: TokenKind) -> bool
         | TokenKind::Xor
         | TokenKind::Xnor => true,
         // The words of operators on values.
-        TokenKind::Mod
-        | TokenKind::Union
-        | TokenKind::In => true,
+        TokenKind::Mod | TokenKind::Union | TokenKind::In => true,
         // The words of functions.
         TokenKind::Word1
         | TokenKind::Bool
@@ -77,8 +72,7 @@ fn is_in_use(kind: TokenKind) -> bool
         | TokenKind::SelfName
         | TokenKind::Dot => true,
         // The constants.
-        TokenKind::Integer
-        | TokenKind::WordConstant => true,
+        TokenKind::Integer | TokenKind::WordConstant => true,
         // The brackets.
         TokenKind::LeftParen
         | TokenKind::RightParen
@@ -122,16 +116,10 @@ fn is_held_kind(kind: TokenKind) -> bool
 {
     match kind {
         // Words of sections and types.
-        TokenKind::Constants
-        | TokenKind::Word
-        | TokenKind::Unsigned
-        | TokenKind::Signed => true,
+        TokenKind::Constants | TokenKind::Word | TokenKind::Unsigned | TokenKind::Signed => true,
         // Words of expressions.
-        TokenKind::Case
-        | TokenKind::Esac
-        | TokenKind::Mod
-        | TokenKind::Union
-        | TokenKind::In => true,
+        TokenKind::Case | TokenKind::Esac | TokenKind::Mod | TokenKind::Union | TokenKind::In =>
+            true,
         TokenKind::Word1
         | TokenKind::Bool
         | TokenKind::Extend
@@ -145,10 +133,8 @@ fn is_held_kind(kind: TokenKind) -> bool
         | TokenKind::RightBrace
         | TokenKind::DotDot => true,
         // Operators.
-        TokenKind::Less
-        | TokenKind::Greater
-        | TokenKind::LessEqual
-        | TokenKind::GreaterEqual => true,
+        TokenKind::Less | TokenKind::Greater | TokenKind::LessEqual | TokenKind::GreaterEqual =>
+            true,
         TokenKind::Concat
         | TokenKind::Plus
         | TokenKind::Minus
@@ -171,14 +157,17 @@ fn was(kind: TokenKind, before: Option<TokenKind>) -> bool
     }
 }
 
-/// Whether bounds may stand behind this token.
-fn may_have_bounds(near: Option<TokenKind>) -> bool
-    ensures { result ≡ may_have_bounds near }
+/// Whether the token is a temporal operator with one operand.
+fn is_temporal(near: Option<TokenKind>) -> bool
+    ensures { result ≡ is_temporal near }
 {
     was(TokenKind::Finally, near)
         || was(TokenKind::Globally, near)
         || was(TokenKind::Once, near)
         || was(TokenKind::Historically, near)
+        || was(TokenKind::NextTime, near)
+        || was(TokenKind::PreviousTime, near)
+        || was(TokenKind::WeakPreviousTime, near)
 }
 
 /// Whether an integer behind these two tokens is a bound of a temporal operator.
@@ -199,7 +188,7 @@ fn is_held_back(
 {
     is_held_kind(token.kind)
         || names_function(token) && begins(TokenKind::LeftParen, rest)
-        || is_kind(TokenKind::LeftBracket, token) && !may_have_bounds(near)
+        || is_kind(TokenKind::LeftBracket, token) && !is_temporal(near)
         || is_kind(TokenKind::Integer, token) && !may_be_bound(near, far)
 }
 
