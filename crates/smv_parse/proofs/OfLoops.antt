@@ -1,5 +1,5 @@
 -- The loops of the grammar, each over a form that may stand any number of times in a row.
-use Rattle.std.proofs.Common.{◌≡◌, ℕ, List, ◌∷◌, Ok, Err, refl}
+use Rattle.std.proofs.Common.{◌≡◌, ℕ, List, Ok, Err, refl, sym, ap, ◌∙◌}
 use Rattle.phrase_forms.specs.Forms.{Form, Read, head, many, to, ◌>>=◌}
 use Rattle.smv_tree.specs.declared.place.Place.{Place}
 use Rattle.smv_tree.specs.declared.token.Token.{Token}
@@ -64,12 +64,15 @@ target_begins room ts n rest h = rw h (go ((many (index_within 0 room)).parse re
     go (Err e) = refl
 
 -- what is read of the indices is read of the target
-pub placed_stops : (stop : Stop) (p : Place) (read : Read Token Expr) → Stops stop read → Stops stop (placed p read)
-placed_stops (Refused fault rest) p read e = rw e refl
-placed_stops NoMemory p read e = tt
+pub placed_stops : (stop : Stop) (p : Place) (read : Read Token Expr) (total : Read Token (Place × Expr)) → Stops stop read → placed p read ≡ total → Stops stop total
+placed_stops (Refused fault rest) p read total e h = sym h ∙ ap (placed p) e
+placed_stops NoMemory p read total e h = tt
 
-pub placed_ends : (p : Place) (read : Read Token Expr) (e : Expr) (rest : List Token) → read ≡ Ok (e, rest) → placed p read ≡ Ok ((p, e), rest)
-placed_ends p read e rest h = rw h refl
+pub placed_on : (p : Place) (read next : Read Token Expr) (total : Read Token (Place × Expr)) → next ≡ read → placed p read ≡ total → placed p next ≡ total
+placed_on p read next total e h = ap (placed p) e ∙ h
+
+pub placed_ends : (p : Place) (read : Read Token Expr) (e : Expr) (rest : List Token) (total : Read Token (Place × Expr)) → read ≡ Ok (e, rest) → placed p read ≡ total → total ≡ Ok ((p, e), rest)
+placed_ends p read e rest total r h = sym h ∙ ap (placed p) r
 
 pub assignments : Repeats (assignment 0)
 assignments = record { lawful = assignment_lawful 0; full = assignments_full 0; apart = assignments_apart 0 }
