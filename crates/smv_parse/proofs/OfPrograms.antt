@@ -25,7 +25,7 @@ use Rattle.smv_phrases.proofs.OfLists.{second_lawful, first_lawful, listed_lawfu
 use Rattle.smv_expressions.specs.Expressions.{expression_within, index_within, limit_start, limit_start_within, most_levels}
 use Rattle.smv_expressions.proofs.OfExpressions.{expression_lawful, index_lawful}
 use Rattle.smv_expressions.proofs.ExpressionsAlike.{expression_alike, index_within_alike}
-use Rattle.smv_parse.specs.Types.{under_one, written_type, word_type, signed_type, identifier_type, range_type}
+use Rattle.smv_parse.specs.Types.{under_one, written_type, word_type, signed_type, enumeration, identifier_type, range_type}
 use Rattle.smv_parse.specs.Programs.{expression, declaration, declares, variables, definition, definitions, constants, target, sided, left_side, assignment, assignments, formula, constrains, constraint, given_name, claims, specification, section_form, parameter_of, module_form, program}
 use Rattle.smv_parse.proofs.OfTypes.{type_lawful, type_ends, type_alike}
 
@@ -199,7 +199,7 @@ expressions_alike : (past : ℕ) → Alike (expression 0) (expression past)
 expressions_alike past = expression_alike past most_levels
 
 declaration_alike : (past : ℕ) → Alike (declaration 0) (declaration past)
-unfolding declaration written_type word_type signed_type identifier_type range_type limit_start_within limit_start
+unfolding declaration written_type word_type signed_type enumeration identifier_type range_type limit_start_within limit_start name_from
 declaration_alike past =
     to_alike _ (behind_alike is_identifier _ _ (behind_only_alike (is_kind kind.Colon) _ _ (first_alike _ _ _ _ (type_alike past) (same_form (just kind.Semicolon)) (λ t. refl))))
 

@@ -20,7 +20,7 @@ use Rattle.smv_phrases.specs.Names.{just, identifier, member, name_from}
 use Rattle.smv_phrases.specs.Lists.{further, listed, or_none, maybe_listed}
 use Rattle.smv_phrases.proofs.EachKind.{token_at, apart, within}
 use Rattle.smv_phrases.proofs.OfNames.{just_lawful, identifier_lawful, member_lawful, member_full, member_apart}
-use Rattle.smv_phrases.proofs.OfLists.{second_lawful, first_lawful, listed_lawful, listed_full, further_lawful, then_alike, first_alike, behind_alike, behind_only_alike, listed_alike}
+use Rattle.smv_phrases.proofs.OfLists.{second_lawful, first_lawful, listed_lawful, then_alike, first_alike, behind_alike, behind_only_alike, listed_alike}
 use Rattle.smv_expressions.specs.Tokens.{begins_limit_start, goes_on_limit, goes_on_limit_negation}
 use Rattle.smv_expressions.specs.Expressions.{expression_within, limit_within, limit_start, limit_start_within, limited, limited_within, most_levels}
 use Rattle.smv_expressions.proofs.OfExpressions.{expression_lawful, limit_lawful, limit_start_within_fine, limited_within_lawful}
@@ -167,7 +167,7 @@ identifier_type_alike past =
     })
 
 range_alike : (past : ℕ) → Alike (range_type 0) (range_type past)
-unfolding range_type limit_start_within limit_start limited_within limited
+unfolding range_type limit_start_within limit_start name_from limited_within limited
 range_alike past =
     to_alike _ (then_alike _ _ _ _ (limit_start_within_alike past most_levels) (then_alike _ _ _ _ (limited_within_alike past most_levels) (upper_alike past) (λ t. refl)) (λ t. refl))
 
@@ -180,7 +180,7 @@ unfolding signed_type
 signed_alike past = to_alike _ (behind_alike is_sign _ _ (behind_only_alike (is_kind kind.Word) _ _ (width_alike past)))
 
 pub type_alike : (past : ℕ) → Alike (written_type 0) (written_type past)
-unfolding written_type word_type signed_type identifier_type range_type limit_start_within limit_start
+unfolding written_type word_type signed_type identifier_type range_type limit_start_within limit_start name_from
 type_alike past =
     or_alike _ _ _ _ (same_form (to (λ t. type.Boolean t.place) (just kind.Boolean)))
     (or_alike _ _ _ _ (word_alike past)
