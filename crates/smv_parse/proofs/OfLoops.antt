@@ -1,5 +1,6 @@
 -- The loops of the grammar, each over a form that may stand any number of times in a row.
 use Rattle.std.proofs.Common.{◌≡◌, ℕ, List, Ok, Err, refl, sym, ap, ◌∙◌}
+use Rattle.phrase_forms.specs.declared.fault.Fault.{Fault}
 use Rattle.phrase_forms.specs.Forms.{Form, Read, head, many, to, ◌>>=◌}
 use Rattle.smv_tree.specs.declared.place.Place.{Place}
 use Rattle.smv_tree.specs.declared.token.Token.{Token}
@@ -62,6 +63,15 @@ target_begins room ts n rest h = rw h (go ((many (index_within 0 room)).parse re
         ≡ ((read >>= λ y. Ok ((n, y.0), y.1)) >>= λ (z : (Name × List Selection) × List Token). placed_target z)
     go (Ok y) = refl
     go (Err e) = refl
+
+name_refused : (room : ℕ) (ts : List Token) (d : Fault × List Token) → name.parse ts ≡ Err d → (target 0 room).parse ts ≡ Err d
+unfolding target
+name_refused room ts d e = rw e refl
+
+-- a name that is not read is no target
+pub name_stops : (stop : Stop) (room : ℕ) (ts : List Token) → Stops stop (name.parse ts) → Stops stop ((target 0 room).parse ts)
+name_stops (Refused fault rest) room ts e = name_refused room ts (fault, rest.now) e
+name_stops NoMemory room ts e = tt
 
 -- what is read of the indices is read of the target
 pub placed_stops : (stop : Stop) (p : Place) (read : Read Token Expr) (total : Read Token (Place × Expr)) → Stops stop read → placed p read ≡ total → Stops stop total

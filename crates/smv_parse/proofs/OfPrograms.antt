@@ -35,7 +35,7 @@ declaration_lawful past =
     to_lawful _ _ (then_lawful _ _ identifier_lawful (second_lawful _ _ (just_lawful kind.Colon refl) (first_lawful _ _ (type_lawful past) (just_lawful kind.Semicolon refl) (type_ends past)) (λ t e. refl)) (λ t e. refl))
 
 pub declarations_apart : (past : ℕ) (t : Token) → (declaration past).first t ≡ true → (declaration past).more t ≡ false
-unfolding declaration
+unfolding declaration written_type range_type limit_start_within limit_start name_from
 declarations_apart past t e = refl
 
 pub declarations_full : (past : ℕ) → (declaration past).nullable ≡ false
@@ -167,7 +167,7 @@ parameters_lawful : Lawful (bracketed (to parameter_of identifier))
 parameters_lawful = bracketed_lawful _ (to_lawful _ _ identifier_lawful) refl (λ t e. refl) (λ t e. refl) (apart _ _ (λ t. refl) (λ t. refl) refl)
 
 pub sections_apart : (past : ℕ) (t : Token) → (section_form past).first t ≡ true → (section_form past).more t ≡ false
-unfolding section_form variables declaration definitions definition constants assignments assignment left_side target name_from constraint specification given_name formula expression_within
+unfolding section_form variables declaration written_type range_type limit_start_within limit_start definitions definition constants assignments assignment left_side target name_from member index_within constraint specification given_name formula expression_within
 sections_apart past = apart _ _ (λ t. refl) (λ t. refl) refl
 
 -- a section is not empty
@@ -184,7 +184,7 @@ module_lawful past =
     to_lawful _ _ (then_lawful _ _ (just_lawful kind.Module refl) (then_lawful _ _ identifier_lawful (then_lawful _ _ parameters_lawful (sections_lawful past) (apart _ _ (λ t. refl) (λ t. refl) refl)) (λ t e. refl)) (λ t e. refl))
 
 pub modules_apart : (past : ℕ) (t : Token) → (module_form past).first t ≡ true → (module_form past).more t ≡ false
-unfolding module_form section_form variables declaration definitions definition constants assignments assignment left_side target name_from constraint specification given_name formula expression_within
+unfolding module_form section_form variables declaration written_type range_type limit_start_within limit_start definitions definition constants assignments assignment left_side target name_from member index_within constraint specification given_name formula expression_within
 modules_apart past = apart _ _ (λ t. refl) (λ t. refl) refl
 
 pub modules_full : (past : ℕ) → (module_form past).nullable ≡ false
@@ -217,21 +217,21 @@ unfolding definitions
 definitions_alike past = to_alike _ (behind_only_alike (is_kind kind.Define) _ _ (many_alike _ _ (definition_alike past)))
 
 target_alike : (past room : ℕ) → Alike (target 0 room) (target past room)
-unfolding target
+unfolding target index_within
 target_alike past room = to_alike _ (then_alike _ _ _ _ (same_form name) (many_alike _ _ (index_within_alike past room)) (λ t. refl))
 
 sided_alike : (past : ℕ) (k : TokenKind) (which : AssignmentKind) → Alike (sided 0 k which) (sided past k which)
-unfolding target
+unfolding target index_within
 sided_alike past k which =
     to_alike _ (behind_alike (is_kind k) _ _ (behind_only_alike (is_kind kind.LeftParen) _ _ (first_alike _ _ _ _ (target_alike past under_one) (same_form (just kind.RightParen)) (λ t. refl))))
 
 left_alike : (past : ℕ) → Alike (left_side 0) (left_side past)
-unfolding left_side target
+unfolding left_side target index_within
 left_alike past =
     or_alike _ _ _ _ (to_alike _ (target_alike past most_levels)) (or_alike _ _ _ _ (sided_alike past kind.Init side.Init) (sided_alike past kind.Next side.Next) (λ t. refl)) (λ t. refl)
 
 assignment_alike : (past : ℕ) → Alike (assignment 0) (assignment past)
-unfolding assignment left_side target expression_within
+unfolding assignment left_side target index_within expression_within
 assignment_alike past =
     to_alike _ (then_alike _ _ _ _ (left_alike past) (behind_only_alike (is_kind kind.Becomes) _ _ (first_alike _ _ _ _ (expressions_alike past) (same_form (just kind.Semicolon)) (λ t. refl))) (λ t. refl))
 

@@ -131,7 +131,7 @@ type_lawful past =
 
 -- the tokens that go on a type: none goes on a whole declaration
 pub type_ends : (past : ℕ) (t : Token) → is_kind kind.Semicolon t ≡ true → (written_type past).more t ≡ false
-unfolding written_type word_type signed_type enumeration identifier_type range_type limited_within limited limit_within
+unfolding written_type word_type signed_type enumeration element identifier_type range_type limit_start_within limit_start name_from member limited_within limited limit_within
 type_ends past = apart _ _ (λ t. refl) (λ t. refl) refl
 
 given_alike : (past : ℕ) → Alike (given 0) (given past)

@@ -3,8 +3,13 @@ use Rattle.std.proofs.lemmas.Result.{err_from_is_err_and}
 use Rattle.smv_phrases.proofs.Folds.{fold_ends}
 use Rattle.smv_expressions.specs.Expressions.{selected_by, selected_by_all, index_within}
 use Rattle.smv_expressions.proofs.Loops.{selections_gather, step_on, step_shortens, step_stops}
-use Rattle.smv_parse.proofs.OfLoops.{placed_stops, placed_on, placed_ends, indices, index_begins, target_begins}
+use Rattle.smv_parse.proofs.OfLoops.{name_stops, placed_stops, placed_on, placed_ends, indices, index_begins, target_begins}
 use Rattle.smv_parse.proofs.programs.target.Goals as goal
+
+pub returns-in_err-name : goal.returns-in_err-name
+returns-in_err-name c =
+    let p = err_from_is_err_and c.from_residual.result c.from_residual.ensures.1 in
+    rw (p.1, p.2) (name_stops c.in_err-name.field-0.0 c.args.room c.args.tokens.now c.in_err-name.ensures)
 
 pub indices-init : goal.indices-init
 indices-init c = rw c.place_of-place.ensures (target_begins c.args.room c.args.tokens.now c.in_ok-name.name c.in_ok-name.tokens.now c.in_ok-name.ensures)
