@@ -1,7 +1,7 @@
 -- The loops of the grammar, each over a form that may stand any number of times in a row.
 use Rattle.std.proofs.Common.{◌≡◌, ℕ, List, Ok, Err, refl, sym, ap, ◌∙◌}
 use Rattle.phrase_forms.specs.declared.fault.Fault.{Fault}
-use Rattle.phrase_forms.specs.Forms.{Form, Read, head, many, to, ◌>>=◌}
+use Rattle.phrase_forms.specs.Forms.{Read, head, many, to, ◌>>=◌}
 use Rattle.smv_tree.specs.declared.place.Place.{Place}
 use Rattle.smv_tree.specs.declared.token.Token.{Token}
 use Rattle.smv_tree.specs.declared.token.TokenKind.TheVariants as kind

@@ -1,7 +1,7 @@
 -- The forms of declarations, sections, modules and programs keep the laws of forms.
 use Rattle.std.proofs.Common.{◌≡◌, ℕ, Bool, false, true, refl}
 use Rattle.std.specs.Prelude.{◌||◌}
-use Rattle.phrase_forms.specs.Forms.{Form, token, maybe, many, to}
+use Rattle.phrase_forms.specs.Forms.{maybe, many, to}
 use Rattle.phrase_forms.proofs.Lawful.{Lawful}
 use Rattle.phrase_forms.proofs.Alike.{Alike, same_form, or_alike, many_alike, to_alike}
 use Rattle.phrase_forms.proofs.OfToken.{token_lawful}

@@ -1,7 +1,6 @@
 -- The forms of types keep the laws of forms.
-use Rattle.std.proofs.Common.{◌≡◌, ℕ, Bool, false, true, [], refl}
-use Rattle.std.specs.Prelude.{unwrap_or}
-use Rattle.phrase_forms.specs.Forms.{Form, token, or, maybe, many, named, to, ◌⨾◌, ◌▹◌, ◌◃◌}
+use Rattle.std.proofs.Common.{◌≡◌, ℕ, false, true, refl}
+use Rattle.phrase_forms.specs.Forms.{many, to}
 use Rattle.phrase_forms.proofs.Lawful.{Lawful}
 use Rattle.phrase_forms.proofs.Alike.{Alike, same_form, or_alike, maybe_alike, named_alike, to_alike}
 use Rattle.phrase_forms.proofs.OfToken.{token_lawful}
@@ -15,17 +14,17 @@ use Rattle.phrase_forms.proofs.OfAfter.{Bounded, after_apart, after_reads}
 use Rattle.smv_tree.specs.declared.token.Token.{Token}
 use Rattle.smv_tree.specs.declared.token.TokenKind.TheVariants as kind
 use Rattle.smv_tree.specs.declared.tree.TypeExpr.TheVariants as type
-use Rattle.smv_tree.specs.Kinds.{is_kind, is_identifier}
+use Rattle.smv_tree.specs.Kinds.{is_kind}
 use Rattle.smv_phrases.specs.Names.{just, identifier, member, name_from}
-use Rattle.smv_phrases.specs.Lists.{further, listed, or_none, maybe_listed}
+use Rattle.smv_phrases.specs.Lists.{further, or_none}
 use Rattle.smv_phrases.proofs.EachKind.{token_at, apart, within}
 use Rattle.smv_phrases.proofs.OfNames.{just_lawful, identifier_lawful, member_lawful, member_full, member_apart}
 use Rattle.smv_phrases.proofs.OfLists.{second_lawful, first_lawful, listed_lawful, then_alike, first_alike, behind_alike, behind_only_alike, listed_alike}
-use Rattle.smv_expressions.specs.Tokens.{begins_limit_start, goes_on_limit, goes_on_limit_negation}
+use Rattle.smv_expressions.specs.Tokens.{goes_on_limit}
 use Rattle.smv_expressions.specs.Expressions.{expression_within, limit_within, limit_start, limit_start_within, limited, limited_within, most_levels}
 use Rattle.smv_expressions.proofs.OfExpressions.{expression_lawful, limit_lawful, limit_start_within_fine, limited_within_lawful}
 use Rattle.smv_expressions.proofs.ExpressionsAlike.{expression_alike, limit_within_alike, limit_start_within_alike, limited_within_alike}
-use Rattle.smv_parse.specs.Types.{under_one, width, word_type, is_sign, signed_type, symbol_of, integer_of, negative_of, element, enumeration, upper, instance_of, given, named_range, range_of, goes_on_range, goes_on_identifier, behind_identifier, identifier_type, range_type, written_type}
+use Rattle.smv_parse.specs.Types.{under_one, width, word_type, is_sign, signed_type, element, enumeration, upper, instance_of, given, named_range, range_of, goes_on_range, goes_on_identifier, behind_identifier, identifier_type, range_type, written_type}
 
 -- the expressions that an instance is given
 pub arguments_first : (t : Token) → is_kind kind.Comma t ≡ true → (expression_within 0 under_one).more t ≡ false

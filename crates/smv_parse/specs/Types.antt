@@ -1,5 +1,5 @@
 -- Types as they are written (NuSMV 2.6 User Manual, 2.1 and 2.3.1).
-use Rattle.std.specs.Prelude.{ℕ, Bool, true, false, ◌||◌, List, [], ◌∷◌, ◌++◌, Option, None, Some, unwrap_or, ℤ, pos, neg_ℤ}
+use Rattle.std.specs.Prelude.{ℕ, Bool, true, false, ◌||◌, List, [], ◌++◌, None, Some, unwrap_or, pos, neg_ℤ}
 use Rattle.phrase_forms.specs.Forms.{Form, token, or, maybe, many, to, named, ◌⨾◌, ◌▹◌, ◌◃◌}
 use Rattle.phrase_forms.specs.Depending.{after}
 use Rattle.smv_tree.specs.declared.token.Token.{Token}
@@ -11,7 +11,7 @@ use Rattle.smv_tree.specs.declared.tree.TypeExpr.TheVariants as type
 use Rattle.smv_tree.specs.declared.tree.WrittenElement.{WrittenElement}
 use Rattle.smv_tree.specs.declared.tree.Expr.{Expr}
 use Rattle.smv_tree.specs.declared.tree.Expr.TheVariants as expr
-use Rattle.smv_tree.specs.Kinds.{is_kind, is_identifier}
+use Rattle.smv_tree.specs.Kinds.{is_kind}
 use Rattle.smv_phrases.specs.Names.{just, identifier, identifier_of, member}
 use Rattle.smv_phrases.specs.Lists.{listed, maybe_listed}
 use Rattle.smv_phrases.specs.Numbers.{number_of}
