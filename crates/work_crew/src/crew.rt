@@ -115,7 +115,7 @@ fn put_back<C: Craft, R: Wait>(rt: &R, crew: &Crew<C>, hand: &mut C::Hand, done:
     goes_on
 }
 
-/// Runs as many workers as the hand is of, each in a thread where there is one, and puts together what they own.
+/// Divides the hand by recursive join until each is one worker's, lets each work, and puts together what they own.
 pub fn fan_out<C: Craft + Sync, R: Threads + Wait + Sync, G: Gate + Sync>(
     rt: &R,
     crew: &Crew<C>,
