@@ -59,7 +59,7 @@ fn declared_text(
     names: &[Text],
     declared: Option<&ValueType>,
 ) -> Result<Text, AllocError>
-    ensures { IfOk result (λ text. text ≡ declared_text names.now (option_copied declared)) }
+    ensures { IfOk result (λ text. text ≡ declared_text names.now (option_copied declared.entry)) }
 {
     match declared {
         None => Text::from_str(alloc, ""),
