@@ -1,5 +1,5 @@
 pub mod Integers
-pub mod Resized
+pub mod OfResizing
 pub mod Bitwise
 pub mod OfLogic
 pub mod OfSums

@@ -17,7 +17,7 @@ use Rattle.bit_operators.specs.declared.symbolic.Symbolic.TheVariants as symboli
 use Rattle.bit_operators.specs.Denoting.{ComputesOne, ComputesTwo, denoted}
 use Rattle.bit_operators.proofs.Integers.{low_bits_exact}
 use Rattle.bit_operators.proofs.OfLogic.{one_by}
-use Rattle.bit_operators.proofs.Resized.{number-append}
+use Rattle.bit_operators.proofs.OfResizing.{number-append}
 
 some_same : {A : Type 0} (x y : A) → Some x ≡ Some y → x ≡ y
 some_same x y e = cc

@@ -15,7 +15,8 @@ mod words;
 
 pub use constants::{integer, number_edges, symbol};
 pub use logic::{alike, inverted, logical};
-pub use orders::ordered;
-pub use sums::summed;
+pub use orders::{integer_below, ordered};
+pub use resizing::{resized, sign};
+pub use sums::{bounded, sum_integer, summed};
 pub use symbolic::{Discrete, Symbolic};
 pub use words::{joined, resized_to, to_word, with_sign};

@@ -104,7 +104,8 @@ fn word_below(graph: &mut Graph, signed: bool, a: &[Edge], b: &[Edge]) -> Result
     Ok(less)
 }
 
-fn integer_below(
+/// The edge that is true where the first integer is below the second. The only error is want of memory.
+pub fn integer_below(
     alloc: Global,
     graph: &mut Graph,
     a: &[Edge],

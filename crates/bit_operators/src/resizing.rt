@@ -10,7 +10,8 @@ ghost use Rattle.bit_operators.specs.Resizing.{is_below_zero};
 use bit_graph::{Edge, Graph};
 use std::alloc::{AllocError, Global};
 
-// The low bits of what a word counts, so many.
+/// The low bits of what a word counts, so many. An integer keeps its value in as many bits as it has, and in more. The only error is
+/// want of memory.
 pub fn resized(
     alloc: Global,
     graph: &Graph,
@@ -52,8 +53,8 @@ fn widened(alloc: Global, bits: &[Edge], fill: Edge, by: usize) -> Result<Vec<Ed
     Ok(made)
 }
 
-// Whether what the word counts is below 0.
-fn sign(graph: &Graph, signed: bool, bits: &[Edge]) -> Edge
+/// Whether what the word counts is below 0.
+pub fn sign(graph: &Graph, signed: bool, bits: &[Edge]) -> Edge
     requires { AllStand graph.now bits.now }
     ensures stands { Stands graph.now result }
     ensures value { Denotes graph.now result (λ v. is_below_zero signed (length bits.now) (number_of v bits.now)) }

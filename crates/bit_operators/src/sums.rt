@@ -88,8 +88,8 @@ fn sum_bits(
     }
 }
 
-// In as many bits as the interval of the sum needs, and at most 32.
-fn sum_integer(
+/// In as many bits as the interval of the sum needs, and at most 32. The only error is want of memory.
+pub fn sum_integer(
     alloc: Global,
     graph: &mut Graph,
     o: Arithmetic,
@@ -121,7 +121,7 @@ fn sum_width(o: Arithmetic, a: usize, b: usize) -> usize
     }
 }
 
-// One bit at least, and 32 at most.
+/// One bit at least, and 32 at most.
 pub fn bounded(width: usize) -> usize
     ensures { result ≡ bounded width }
 {

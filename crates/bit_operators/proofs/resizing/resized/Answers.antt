@@ -1,7 +1,7 @@
 -- Fewer bits, or more.
 use Rattle.std.proofs.Common.{◌∙◌, ap, arith}
 use Rattle.bit_arith.specs.Number.{number_of}
-use Rattle.bit_operators.proofs.Resized.{low_part, wider}
+use Rattle.bit_operators.proofs.OfResizing.{low_part, wider}
 use Rattle.bit_operators.proofs.resizing.resized.Goals as goal
 
 pub returns-in_ok-low-clause-value : goal.returns-in_ok-low-clause-value

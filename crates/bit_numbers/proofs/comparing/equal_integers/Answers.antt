@@ -1,0 +1,13 @@
+-- In one width.
+use Rattle.std.proofs.Common.{arith, length, ap, ◌∙◌}
+use Rattle.bit_arith.specs.Number.{number_of}
+use Rattle.bit_numbers.proofs.OfIntegers.{equal_by_numbers}
+use Rattle.bit_numbers.proofs.comparing.equal_integers.Goals as goal
+
+pub returns-clause-value : goal.returns-clause-value
+returns-clause-value c = λ v h.
+    let before = c.in_ok-equal.ensures.extends.kept v h in
+    c.in_ok-equal.ensures.value v h
+    ∙ equal_by_numbers v c.args.a.now c.args.b.now c.deref.result.now c.deref-2.result.now c.max-width.result (omega arith) (omega arith)
+    (ap length c.deref.ensures.value ∙ c.in_ok-left.ensures.length) (ap length c.deref-2.ensures.value ∙ c.in_ok-right.ensures.length)
+    (ap (number_of v) c.deref.ensures.value ∙ c.in_ok-left.ensures.value v before) (ap (number_of v) c.deref-2.ensures.value ∙ c.in_ok-right.ensures.value v before)

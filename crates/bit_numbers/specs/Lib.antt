@@ -1,0 +1,3 @@
+pub mod Extremes
+pub mod Counts
+pub mod Shifts
