@@ -1,1 +1,6 @@
-pub mod Members
+pub mod Kept
+pub mod OfMembers
+pub mod OfChoices
+pub mod OfOperands
+pub mod OfAsked
+pub mod OfNodes

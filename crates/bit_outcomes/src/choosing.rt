@@ -5,8 +5,10 @@ ghost use Rattle.std.specs.List.{list_any};
 ghost use Rattle.bit_graph.specs.Growth.{Extends};
 ghost use Rattle.bit_graph.specs.Meaning.{Consistent, Denotes, Stands, edge_value};
 ghost use Rattle.smv_tree.specs.declared.place.Place.{Place};
+ghost use Rattle.smv_value.specs.declared.value.FaultRule.{FaultRule};
 ghost use Rattle.smv_value.specs.declared.value.Value.{Value};
 ghost use Rattle.smv_meaning.specs.declared.outcome.Outcome.{Outcome};
+ghost use Rattle.smv_meaning.specs.declared.outcome.Outcome.TheVariants.{Fault};
 ghost use Rattle.smv_meaning.specs.Outcomes.{choice, taken, truth};
 ghost use Rattle.bit_operators.specs.declared.symbolic.Symbolic.TheVariants as symbolic;
 ghost use Rattle.bit_operators.specs.Denoting.{StandsIn, denoted};
@@ -285,13 +287,7 @@ fn chosen_members(
         Ok(other.members)
     } else {
         let first = with_members(alloc, graph, Items::new(alloc), b, one.members.as_slice())?;
-        let both = with_members(
-            alloc,
-            graph,
-            first,
-            b.negation(),
-            other.members.as_slice(),
-        )?;
+        let both = with_members(alloc, graph, first, b.negation(), other.members.as_slice())?;
         Ok(both)
     }
 }

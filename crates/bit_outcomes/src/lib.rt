@@ -4,8 +4,15 @@
 //! What is told of an outcome holds unless kinds do not fit, which in a typed program does not come.
 #![tactic(auto)]
 
+mod choosing;
+mod items;
 mod members;
+mod nodes;
+mod operators;
 mod pending;
 mod told;
 
+pub use items::{false_edge, fault_edge, outside_edge, takes_edge, true_edge};
+pub use nodes::{nowhere, table};
+pub use operators::applied;
 pub use told::{Member, Told, Which, copied};

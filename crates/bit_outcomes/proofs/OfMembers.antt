@@ -1,5 +1,5 @@
 -- Members of sets: one value as a set, members where a condition is true, and a value among members.
-use Rattle.std.proofs.Common.{◌≡◌, ◌∙◌, ℕ, zero, suc, ◌+◌, ◌<◌, Bool, true, false, ◌&&◌, ◌||◌, List, [], ◌∷◌, ◌++◌, length, get_or, take, refl, sym, ap, subst, arith}
+use Rattle.std.proofs.Common.{◌≡◌, ◌∙◌, ℕ, zero, suc, ◌+◌, ◌<◌, Bool, true, false, ◌&&◌, ◌||◌, List, [], ◌∷◌, ◌++◌, length, get_or, take, refl, sym, ap, subst, arith, ℤ}
 use Rattle.std.specs.Prelude.{Option, None, Some, All}
 use Rattle.std.specs.List.{list_any}
 use Rattle.std.proofs.lemmas.List.Folds.{list_any-append, list_any_more}
@@ -9,6 +9,7 @@ use Rattle.bit_graph.specs.declared.edge.Edge.{Edge}
 use Rattle.bit_graph.specs.Meaning.{edge_value}
 use Rattle.smv_value.specs.declared.value.Value.{Value}
 use Rattle.smv_value.specs.Results.{same}
+use Rattle.value_types.specs.Types.{is_between}
 use Rattle.smv_meaning.specs.declared.outcome.Outcome.{Outcome}
 use Rattle.smv_meaning.specs.declared.outcome.Outcome.TheVariants.{Fault, Nothing, Values}
 use Rattle.smv_meaning.specs.Outcomes.{united}
@@ -34,12 +35,14 @@ module _ (v : ℕ → Bool) where
   pub one_as_set : (f e : Edge) (s : Symbolic) (o : Outcome) → edge_value v e ≡ true → TellsOne v f s o → TellsSet v f (of_value e s ∷ []) o
   one_as_set f e s Nothing h t = tt
   one_as_set f e s (Fault rule place) h t = t
-  one_as_set f e s (Values vs) h t =
-      (t.0, record {
-        there = there_one e s t.1.value t.1.denotes;
-        same = λ w. ap (list_any (same w)) t.1.only
-            ∙ sym (ap (λ (b : Bool). (b && is_this w (denoted v s)) || false) h ∙ ap (λ (o : Option Value). is_this w o || false) t.1.denotes);
-      })
+  one_as_set f e s (Values vs) h t = (
+    t.0,
+    record {
+      there = there_one e s t.1.value t.1.denotes;
+      same = λ w. ap (list_any (same w)) t.1.only
+          ∙ sym (ap (λ (b : Bool). (b && is_this w (denoted v s)) || false) h ∙ ap (λ (o : Option Value). is_this w o || false) t.1.denotes);
+    },
+  )
 
   -- a value that is a member, which is there
 
@@ -56,6 +59,21 @@ module _ (v : ℕ → Bool) where
       let at : IsDenoted v m.which → IsDenoted v (which.Value s) = subst (IsDenoted v) k in
       h ∙ here_by w s (edge_value v m.present) (edge_value v e) (λ p. at (there p)) is
       ∙ sym (ap (λ (x : Which). edge_value v m.present && is_which v w x) k)
+
+  pub or_same : (a b c d : Bool) → a ≡ c → b ≡ d → (a || b) ≡ (c || d)
+  or_same a b c d p q = ap (λ (x : Bool). x || b) p ∙ ap (λ (x : Bool). c || x) q
+
+  pub or_right : (a b : Bool) → b ≡ true → (a || b) ≡ true
+  or_right true b h = refl
+  or_right false b h = h
+
+  pub here_run : (w : Value) (m : Member) (low high : ℤ) (r e : Edge) → m.which ≡ which.Run low high → edge_value v e ≡ is_between low high w →
+      edge_value v r ≡ (edge_value v m.present && edge_value v e) → edge_value v r ≡ is_member v w m
+  here_run w m low high r e k is h =
+      h ∙ ap (λ (b : Bool). edge_value v m.present && b) is ∙ sym (ap (λ (x : Which). edge_value v m.present && is_which v w x) k)
+
+  pub there_at : (ms : List Member) (i : ℕ) (m : Member) → i < length ms → m ≡ get_or ms i m → All (IsThere v) ms → IsThere v m
+  there_at ms i m lt is h = subst (IsThere v) (sym is) (h i m lt)
 
   -- members where a condition is true
 
@@ -76,38 +94,42 @@ module _ (v : ℕ → Bool) where
       ap (λ (b : Bool). b && is_which v w r.which) p ∙ ap (λ (x : Which). (edge_value v c && edge_value v m.present) && is_which v w x) k
       ∙ and_assoc (edge_value v c) (edge_value v m.present) (is_which v w m.which)
 
-  pub with_one : (c : Edge) (all made more : List Member) (i : ℕ) (d r : Member) (w : Value) → i < length more →
-      edge_value v r.present ≡ (edge_value v c && edge_value v (get_or more i d).present) → r.which ≡ (get_or more i d).which →
+  pub with_one : (c : Edge) (all made more : List Member) (i : ℕ) (m r : Member) (w : Value) → i < length more → m ≡ get_or more i m →
+      edge_value v r.present ≡ (edge_value v c && edge_value v m.present) → r.which ≡ m.which →
       list_any (is_member v w) all ≡ (list_any (is_member v w) made || (edge_value v c && list_any (is_member v w) (take i more))) →
       list_any (is_member v w) (all ++ r ∷ []) ≡ (list_any (is_member v w) made || (edge_value v c && list_any (is_member v w) (take (i + 1) more)))
-  with_one c all made more i d r w lt p k h =
+  with_one c all made more i m r w lt is p k h =
       list_any-append (is_member v w) all (r ∷ [])
       ∙ ap (λ (b : Bool). b || (is_member v w r || false)) h
-      ∙ ap (λ (b : Bool). (list_any (is_member v w) made || (edge_value v c && list_any (is_member v w) (take i more))) || (b || false)) (guarded_is c (get_or more i d) r w p k)
-      ∙ distribute (list_any (is_member v w) made) (edge_value v c) (list_any (is_member v w) (take i more)) (is_member v w (get_or more i d))
-      ∙ ap (λ (b : Bool). list_any (is_member v w) made || (edge_value v c && b)) (sym (list_any_more (is_member v w) more i d lt))
+      ∙ ap (λ (b : Bool). (list_any (is_member v w) made || (edge_value v c && list_any (is_member v w) (take i more))) || (b || false)) (guarded_is c m r w p k)
+      ∙ distribute (list_any (is_member v w) made) (edge_value v c) (list_any (is_member v w) (take i more)) (is_member v w m)
+      ∙ ap (λ (x : Member). list_any (is_member v w) made || (edge_value v c && (list_any (is_member v w) (take i more) || is_member v w x))) is
+      ∙ ap (λ (b : Bool). list_any (is_member v w) made || (edge_value v c && b)) (sym (list_any_more (is_member v w) more i m lt))
+
+  both_true : (a b : Bool) → (a && b) ≡ true → (a ≡ true) × (b ≡ true)
+  both_true true b e = (refl, e)
+  both_true false b e = absurd cc
 
   there_now : (c : Edge) (m r : Member) → edge_value v r.present ≡ (edge_value v c && edge_value v m.present) → r.which ≡ m.which → (edge_value v c ≡ true → IsThere v m) → IsThere v r
   there_now c m r p k h here =
       let two = both_true (edge_value v c) (edge_value v m.present) (sym p ∙ here) in
       subst (IsDenoted v) (sym k) (h two.0 two.1)
-    where
-      both_true : (a b : Bool) → (a && b) ≡ true → (a ≡ true) × (b ≡ true)
-      both_true true b e = (refl, e)
-      both_true false b e = absurd cc
 
-  pub there_more : (c : Edge) (all : List Member) (m r : Member) → edge_value v r.present ≡ (edge_value v c && edge_value v m.present) → r.which ≡ m.which →
-      (edge_value v c ≡ true → IsThere v m) → All (IsThere v) all → All (IsThere v) (all ++ r ∷ [])
-  there_more c all m r p k h so_far = All-push (IsThere v) all r so_far (there_now c m r p k h)
+  pub there_more : (c : Edge) (all more : List Member) (i : ℕ) (m r : Member) → i < length more → m ≡ get_or more i m →
+      edge_value v r.present ≡ (edge_value v c && edge_value v m.present) → r.which ≡ m.which →
+      (edge_value v c ≡ true → All (IsThere v) more) → All (IsThere v) all → All (IsThere v) (all ++ r ∷ [])
+  there_more c all more i m r lt is p k h so_far =
+      All-push (IsThere v) all r so_far (there_now c m r p k (λ q. subst (IsThere v) (sym is) (h q i m lt)))
+
+  -- a value among one member more
+  pub among_more : (any here r : Edge) (w : Value) (ms : List Member) (i : ℕ) (m : Member) → i < length ms → m ≡ get_or ms i m →
+      edge_value v any ≡ list_any (is_member v w) (take i ms) → edge_value v here ≡ is_member v w m → edge_value v r ≡ (edge_value v any || edge_value v here) →
+      edge_value v r ≡ list_any (is_member v w) (take (i + 1) ms)
+  among_more any here r w ms i m lt is p q h =
+      h ∙ or_same (edge_value v any) (edge_value v here) (list_any (is_member v w) (take i ms)) (is_member v w (get_or ms i m)) p (q ∙ ap (is_member v w) is)
+      ∙ sym (list_any_more (is_member v w) ms i m lt)
 
   -- two sets together
-
-  or_same : (a b c d : Bool) → a ≡ c → b ≡ d → (a || b) ≡ (c || d)
-  or_same a b c d p q = ap (λ (x : Bool). x || b) p ∙ ap (λ (x : Bool). c || x) q
-
-  or_right : (a b : Bool) → b ≡ true → (a || b) ≡ true
-  or_right true b h = refl
-  or_right false b h = h
 
   pub sets_together : (f g r : Edge) (ms ns : List Member) (x o : Outcome) → edge_value v r ≡ (edge_value v f || edge_value v g) → TellsSet v f ms x → TellsSet v g ns o →
       TellsSet v r (ms ++ ns) (both x o)
@@ -115,13 +137,15 @@ module _ (v : ℕ → Bool) where
   sets_together f g r ms ns (Fault rule place) o h a b = h ∙ ap (λ (x : Bool). x || edge_value v g) a
   sets_together f g r ms ns (Values vs) Nothing h a b = tt
   sets_together f g r ms ns (Values vs) (Fault rule place) h a b = h ∙ or_right (edge_value v f) (edge_value v g) b
-  sets_together f g r ms ns (Values vs) (Values ws) h a b =
-      (h ∙ or_same (edge_value v f) (edge_value v g) false false a.0 b.0, record {
-        there = All-append (IsThere v) ms ns a.1.there b.1.there;
-        same = λ w. list_any-append (same w) vs ws
-            ∙ or_same (list_any (same w) vs) (list_any (same w) ws) (list_any (is_member v w) ms) (list_any (is_member v w) ns) (a.1.same w) (b.1.same w)
-            ∙ sym (list_any-append (is_member v w) ms ns);
-      })
+  sets_together f g r ms ns (Values vs) (Values ws) h a b = (
+    h ∙ or_same (edge_value v f) (edge_value v g) false false a.0 b.0,
+    record {
+      there = All-append (IsThere v) ms ns a.1.there b.1.there;
+      same = λ w. list_any-append (same w) vs ws
+          ∙ or_same (list_any (same w) vs) (list_any (same w) ws) (list_any (is_member v w) ms) (list_any (is_member v w) ns) (a.1.same w) (b.1.same w)
+          ∙ sym (list_any-append (is_member v w) ms ns);
+    },
+  )
 
   -- no operand so far
   pub none_united : (f : Edge) → edge_value v f ≡ false → TellsSet v f [] (Values [])
