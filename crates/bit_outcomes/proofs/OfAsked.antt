@@ -1,10 +1,11 @@
 -- What items ask of outcomes, by what is told of these.
-use Rattle.std.proofs.Common.{◌≡◌, ◌∙◌, ℕ, zero, suc, ◌+◌, ◌<◌, Bool, true, false, not, ◌&&◌, ◌||◌, List, [], ◌∷◌, length, refl, sym, ap, subst, arith, eqb}
+use Rattle.std.proofs.Common.{◌≡◌, ◌∙◌, ℕ, zero, suc, ◌+◌, ◌<◌, Bool, true, false, not, ◌&&◌, ◌||◌, List, [], ◌∷◌, length, get_or, take, refl, sym, ap, subst, arith, eqb, ℤ}
 use Rattle.std.specs.Prelude.{Option, None, Some, All, unwrap_or, int_le}
 use Rattle.std.specs.Bool.{beq}
 use Rattle.std.specs.List.{list_all, list_any}
 use Rattle.std.specs.Option.{is_some}
 use Rattle.std.proofs.lemmas.Bool.{eqb-true, eq-eqb}
+use Rattle.std.proofs.lemmas.List.Folds.{list_any_more}
 use Rattle.bit_graph.specs.declared.edge.Edge.{Edge}
 use Rattle.bit_graph.specs.Meaning.{edge_value}
 use Rattle.bit_arith.specs.Number.{flip}
@@ -28,10 +29,10 @@ use Rattle.bit_operators.specs.Denoting.{denoted}
 use Rattle.bit_outcomes.specs.declared.told.Member.{Member}
 use Rattle.bit_outcomes.specs.declared.told.Which.{Which}
 use Rattle.bit_outcomes.specs.declared.told.Which.TheVariants as which
-use Rattle.bit_outcomes.specs.Telling.{IsThere, TellsOne, TellsSet, is_member, is_this, is_which}
+use Rattle.bit_outcomes.specs.Telling.{IsDenoted, IsThere, TellsOne, TellsSet, is_member, is_this, is_which}
 use Rattle.bit_outcomes.specs.Asked.{is_false, is_out, is_out_of, is_strange, is_untrue}
 use Rattle.bit_outcomes.proofs.OfChoices.{truth_is}
-use Rattle.bit_outcomes.proofs.OfMembers.{or_right}
+use Rattle.bit_outcomes.proofs.OfMembers.{or_right, or_same}
 use Rattle.bit_outcomes.proofs.OfOperands.{in_run}
 
 -- values that are the same
@@ -186,6 +187,14 @@ module _ (t : ValueType) where
         (λ p. let one : Outside ms = some_out ms p in some_not one.0 vs one.1 (h one.0 ∙ one.2))
         (λ p. let one : Strange vs = all_not vs p in member_out one.0 ms one.1 (sym (h one.0) ∙ one.2))
 
+-- a member more that may be outside
+pub out_more : (v : ℕ → Bool) (t : ValueType) (any out r : Edge) (ms : List Member) (i : ℕ) (m : Member) → i < length ms → m ≡ get_or ms i m →
+    edge_value v any ≡ list_any (is_out v t) (take i ms) → edge_value v out ≡ is_out v t m → edge_value v r ≡ (edge_value v any || edge_value v out) →
+    edge_value v r ≡ list_any (is_out v t) (take (i + 1) ms)
+out_more v t any out r ms i m lt is p q h =
+    h ∙ or_same v (edge_value v any) (edge_value v out) (list_any (is_out v t) (take i ms)) (is_out v t (get_or ms i m)) p (q ∙ ap (is_out v t) is)
+    ∙ sym (list_any_more (is_out v t) ms i m lt)
+
 module _ (v : ℕ → Bool) where
   and_said : (f n a r : Edge) → n ≡ flip f → edge_value v r ≡ (edge_value v n && edge_value v a) → edge_value v r ≡ (not (edge_value v f) && edge_value v a)
   and_said f n a r is h = h ∙ ap (λ (b : Bool). b && edge_value v a) (ap (edge_value v) is ∙ flip_is f.negated (v f.node))
@@ -212,6 +221,26 @@ module _ (v : ℕ → Bool) where
     takes_told (Fault rule place) q a b i j = failed_not d any r (and_said d n any r turned whole) (failed ∙ ap (λ (c : Bool). c || edge_value v g) a)
     takes_told (Values vs) q a b i j =
         subst (λ (vs : List Value). edge_value v r ≡ takes (Values vs) q) (sym a.1.only) (of_one a.1.value q a.0 a.1.denotes b j)
+
+  -- one member
+
+  out_here : (t : ValueType) (s : Symbolic) (e n : Edge) (b : Bool) → (b ≡ true → (z : Value) × (denoted v s ≡ Some z)) → ((w : Value) → denoted v s ≡ Some w → edge_value v e ≡ is_of_type w t) →
+      n ≡ flip e → (b && edge_value v n) ≡ (b && is_strange t (denoted v s))
+  out_here t s e n true there is turned =
+      let d = there refl in
+      ap (edge_value v) turned ∙ flip_is e.negated (v e.node) ∙ ap not (is d.0 d.1) ∙ sym (ap (is_strange t) d.1)
+  out_here t s e n false there is turned = refl
+
+  pub value_out : (t : ValueType) (m : Member) (s : Symbolic) (e n r : Edge) → m.which ≡ which.Value s → IsThere v m → ((w : Value) → denoted v s ≡ Some w → edge_value v e ≡ is_of_type w t) →
+      n ≡ flip e → edge_value v r ≡ (edge_value v m.present && edge_value v n) → edge_value v r ≡ is_out v t m
+  value_out t m s e n r k there is turned h =
+      let at : IsDenoted v m.which → IsDenoted v (which.Value s) = subst (IsDenoted v) k in
+      h ∙ out_here t s e n (edge_value v m.present) (λ p. at (there p)) is turned ∙ sym (ap (λ (x : Which). edge_value v m.present && is_out_of v t x) k)
+
+  pub run_out : (t : ValueType) (m : Member) (low high : ℤ) (c : Bool) (e r : Edge) → m.which ≡ which.Run low high → c ≡ list_all (λ w. is_of_type w t) (run low high) → edge_value v e ≡ not c →
+      edge_value v r ≡ (edge_value v m.present && edge_value v e) → edge_value v r ≡ is_out v t m
+  run_out t m low high c e r k is q h =
+      h ∙ ap (λ (b : Bool). edge_value v m.present && b) (q ∙ ap not is) ∙ sym (ap (λ (x : Which). edge_value v m.present && is_out_of v t x) k)
 
   pub true_told : (f n b r : Edge) (o : Outcome) → n ≡ flip f → edge_value v r ≡ (edge_value v n && edge_value v b) → TellsOne v f (symbolic.Boolean b) o → is_given o ≡ true →
       edge_value v r ≡ is_true o

@@ -106,6 +106,15 @@ module _ (v : ℕ → Bool) where
       ∙ ap (λ (x : Member). list_any (is_member v w) made || (edge_value v c && (list_any (is_member v w) (take i more) || is_member v w x))) is
       ∙ ap (λ (b : Bool). list_any (is_member v w) made || (edge_value v c && b)) (sym (list_any_more (is_member v w) more i m lt))
 
+  or_nothing : (a c : Bool) → a ≡ (a || (c && false))
+  or_nothing true c = refl
+  or_nothing false true = refl
+  or_nothing false false = refl
+
+  pub with_none : (c : Edge) (made more : List Member) (w : Value) → list_any (is_member v w) made ≡ (list_any (is_member v w) made || (edge_value v c && list_any (is_member v w) (take 0 more)))
+  with_none c made [] w = or_nothing (list_any (is_member v w) made) (edge_value v c)
+  with_none c made (m ∷ more) w = or_nothing (list_any (is_member v w) made) (edge_value v c)
+
   both_true : (a b : Bool) → (a && b) ≡ true → (a ≡ true) × (b ≡ true)
   both_true true b e = (refl, e)
   both_true false b e = absurd cc

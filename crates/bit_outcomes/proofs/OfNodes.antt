@@ -1,7 +1,7 @@
 -- What is told of lists of outcomes, and of one node more.
 use Rattle.std.proofs.Common.{◌≡◌, ◌∙◌, ℕ, zero, suc, ◌+◌, ◌-◌, ◌<◌, ◌≤◌, Bool, true, false, List, [], ◌∷◌, ◌++◌, length, get_or, take, drop, refl, sym, ap, subst, arith, length-append}
 use Rattle.std.specs.Prelude.{Option, None, Some, All, slice_get}
-use Rattle.std.proofs.lemmas.List.{length-drop, length-take-le, take_more, length-map}
+use Rattle.std.proofs.lemmas.List.{get_or-drop, length-drop, length-take-le, take_more, length-map}
 use Rattle.bit_graph.specs.declared.edge.Edge.{Edge}
 use Rattle.bit_graph.specs.declared.edge.Node.{Node as Gate}
 use Rattle.bit_graph.specs.Meaning.{edge_value}
@@ -12,7 +12,7 @@ use Rattle.smv_resolve.proofs.Parts.{length-parts}
 use Rattle.smv_scope.specs.declared.slot.Slot.{Slot}
 use Rattle.smv_meaning.specs.declared.outcome.Outcome.{Outcome}
 use Rattle.smv_meaning.specs.declared.outcome.Outcome.TheVariants.{Fault, Nothing, Values}
-use Rattle.smv_meaning.specs.Outcomes.{valued}
+use Rattle.smv_meaning.specs.Outcomes.{two, valued}
 use Rattle.smv_meaning.specs.Tables.{outcome_at, outcome_by, outcomes_of, seen}
 use Rattle.smv_meaning.specs.Values.{outcome}
 use Rattle.smv_meaning.proofs.Tables.{outcomes_next, outcomes_none, outcomes_of-take}
@@ -21,7 +21,7 @@ use Rattle.bit_operators.specs.Denoting.{denoted}
 use Rattle.bit_numbers.specs.Counts.{AreDenoted}
 use Rattle.bit_outcomes.specs.declared.told.Told.{Told}
 use Rattle.bit_outcomes.specs.declared.told.Told.TheVariants as told
-use Rattle.bit_outcomes.specs.Telling.{Tells, TellsAll, TellsOne}
+use Rattle.bit_outcomes.specs.Telling.{AllTold, Tells, TellsAll, TellsOne, ToldStands}
 
 module _ (v : ℕ → Bool) where
   abbrev At : List Told → List Outcome → ℕ → Type 0
@@ -135,6 +135,37 @@ module _ (v : ℕ → Bool) where
 
   pub table_none : (slots : List Slot) (s u t : List Value) → TellsAll v [] (outcomes_of slots s u t [])
   table_none slots s u t = subst (λ (os : List Outcome). TellsAll v [] os) (outcomes_none slots s u t) (record { long = refl; each = λ k. tt })
+
+-- what leads to nodes in all leads there in the last
+pub last_stand : (g : List Gate) (count : ℕ) (ts : List Told) → AllTold g ts → AllTold g (last_of count ts)
+last_stand g count ts stand i d lt =
+    let n = length ts - count in
+    let size = length-drop n ts in
+    let same : get_or (drop n ts) i d ≡ get_or ts (n + i) d = get_or-drop n ts i d in
+    subst (ToldStands g) (sym same) (stand (n + i) d (omega (arith, lt, size)))
+
+pub none_stand : (g : List Gate) (ts : List Told) → All (λ (t : Told). t ≡ told.Untold) ts → AllTold g ts
+none_stand g ts h i d lt = subst (ToldStands g) (sym (h i d lt)) tt
+
+-- one operand, and two
+
+pub single_is : {A : Type 0} (xs : List A) (a : A) → 1 ≤ length xs → length xs < 2 → a ≡ get_or xs 0 a → xs ≡ a ∷ []
+single_is [] a least below is = absurd (let no : ⊥ = omega (arith, least) in no)
+single_is (x ∷ []) a least below is = ap (λ y. y ∷ []) (sym is)
+single_is (x ∷ y ∷ xs) a least below is = absurd (let no : ⊥ = omega (arith, below) in no)
+
+pub pair_is : {A : Type 0} (xs : List A) (a b : A) → 2 ≤ length xs → length xs < 3 → a ≡ get_or xs 0 a → b ≡ get_or xs 1 b → xs ≡ a ∷ b ∷ []
+pair_is [] a b least below is at = absurd (let no : ⊥ = omega (arith, least) in no)
+pair_is (x ∷ []) a b least below is at = absurd (let no : ⊥ = omega (arith, least) in no)
+pair_is (x ∷ y ∷ []) a b least below is at = (λ i. sym is i ∷ sym at i ∷ [])
+pair_is (x ∷ y ∷ z ∷ xs) a b least below is at = absurd (let no : ⊥ = omega (arith, below) in no)
+
+pub of_two : (v : ℕ → Bool) (t a b : Told) (f : Outcome → Outcome → Outcome) → ((p q : Outcome) → Tells v a p → Tells v b q → Tells v t (f p q)) → (os : List Outcome) →
+    TellsAll v (a ∷ b ∷ []) os → Tells v t (two f os)
+of_two v t a b f h [] all = absurd (let no : ⊥ = omega (arith, all.long) in no)
+of_two v t a b f h (p ∷ []) all = absurd (let no : ⊥ = omega (arith, all.long) in no)
+of_two v t a b f h (p ∷ q ∷ []) all = h p q (all.each 0) (all.each 1)
+of_two v t a b f h (p ∷ q ∷ r ∷ os) all = absurd (let no : ⊥ = omega (arith, all.long) in no)
 
 -- as many outcomes as nodes
 pub outcomes_long : (slots : List Slot) (s u t : List Value) (nodes : List Node) → length (outcomes_of slots s u t nodes) ≡ length nodes

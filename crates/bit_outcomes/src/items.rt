@@ -104,7 +104,9 @@ pub fn false_edge(graph: &mut Graph, e: &Told) -> Result<Edge, AllocError>
     match e {
         Told::One(f, value) => match value {
             Symbolic::Boolean(b) => {
-                let edge = graph.and(f.negation(), b.negation())?;
+                let given = f.negation();
+                let other = b.negation();
+                let edge = graph.and(given, other)?;
                 Ok(edge)
             }
             Symbolic::Word { .. } => Err(AllocError),

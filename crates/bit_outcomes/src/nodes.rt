@@ -44,7 +44,8 @@ pub fn nowhere(
 
 // Nothing of each node.
 fn untold(alloc: Global, nodes: &[Node]) -> Result<Items<Told>, AllocError>
-    ensures { IfOk result (λ ts. (v : ℕ → Bool) (os : List Outcome) → length os ≡ length nodes.now → TellsAll v ts os) }
+    ensures stand { IfOk result (λ ts. (g : List Gate) → AllTold g ts) }
+    ensures told { IfOk result (λ ts. (v : ℕ → Bool) (os : List Outcome) → length os ≡ length nodes.now → TellsAll v ts os) }
 {
     let mut made = Items::new(alloc);
     'nodes: for i in 0..nodes.len() {

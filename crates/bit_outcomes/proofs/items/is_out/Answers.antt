@@ -1,0 +1,16 @@
+-- A value, or integers.
+use Rattle.std.proofs.Common.{◌∙◌, ap, not, rules}
+use Rattle.std.specs.List.{list_all}
+use Rattle.std.proofs.lemmas.Int.{to_z-of_z}
+use mir.Syntax.{w64}
+use mir.Val.{SFits}
+use Rattle.value_types.specs.Types.{is_of_type}
+use Rattle.value_sets.specs.Members.{run}
+use Rattle.bit_outcomes.proofs.OfAsked.{run_out, value_out}
+use Rattle.bit_outcomes.proofs.items.is_out.Goals as goal
+
+pub returns-in_ok-out-in-Value-clause-value : goal.returns-in_ok-out-in-Value-clause-value
+returns-in_ok-out-in-Value-clause-value c = λ v h there.
+    let before = c.in_ok-out-in-Value.ensures.extends.kept v h in
+    value_out v c.args.declared.now c.args.member.now c.in-Value.value c.in_ok-within-in-Value.within c.negation.result c.in_ok-out-in-Value.out c.in-Value.is there
+    (λ w d. c.in_ok-within-in-Value.ensures.value v w before d) c.negation.ensures (c.in_ok-out-in-Value.ensures.value v h)
