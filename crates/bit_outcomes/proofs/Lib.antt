@@ -4,3 +4,4 @@ pub mod OfChoices
 pub mod OfOperands
 pub mod OfAsked
 pub mod OfNodes
+pub mod OfTable

@@ -1,6 +1,6 @@
 //! The table of the operators.
 
-ghost use Rattle.std.specs.Prelude.{◌≡◌, ◌∷◌, [], ◌||◌, ◌++◌, ℕ, Bool, List, IfOk, IfSome, Some};
+ghost use Rattle.std.specs.Prelude.{◌≡◌, ◌∷◌, [], ◌||◌, ◌++◌, ℕ, Bool, List, IfOk, IfSome, Some, true};
 ghost use Rattle.bit_graph.specs.Growth.{Extends};
 ghost use Rattle.bit_graph.specs.Meaning.{Consistent, Stands, edge_value};
 ghost use Rattle.smv_tree.specs.declared.place.Place.{Place};
@@ -13,7 +13,8 @@ ghost use Rattle.bit_operators.specs.declared.symbolic.Symbolic.{Symbolic};
 ghost use Rattle.bit_operators.specs.Denoting.{StandsIn, denoted};
 ghost use Rattle.bit_numbers.specs.Counts.{AllStandIn};
 ghost use Rattle.bit_outcomes.specs.Gathering.{TellsEach, beside, bound};
-ghost use Rattle.bit_outcomes.specs.Telling.{AllTold, Tells, TellsAll, TellsOne, ToldStands};
+ghost use Rattle.bit_outcomes.specs.Telling.{AllTold, MembersStand, Tells, TellsAll, TellsOne, ToldStands};
+ghost use Rattle.bit_outcomes.specs.declared.told.Which.TheVariants as which;
 
 use crate::choosing::choice;
 use crate::members::{among, as_row, united};
@@ -90,7 +91,9 @@ fn ranged(alloc: Global, graph: &mut Graph, a: &Told, b: &Told) -> Result<Told, 
 {
     match (a, b) {
         (Told::One(f, x), Told::One(g, y)) => {
-            match (known_integer(graph, x), known_integer(graph, y)) {
+            let first = known_integer(graph, x);
+            let second = known_integer(graph, y);
+            match (first, second) {
                 (Some(low), Some(high)) => {
                     let told = between(alloc, graph, *f, *g, low, high)?;
                     Ok(told)
@@ -119,13 +122,27 @@ fn between(
         TellsOne v f x p → TellsOne v g y q → Tells v t (ranged p q)) }
 {
     let fault = graph.or(f, g)?;
+    let members = only_run(alloc, graph, low, high)?;
+    Ok(Told::Set(fault, members))
+}
+
+// The member that is always there and is one of these integers.
+fn only_run(
+    alloc: Global,
+    graph: &Graph,
+    low: i64,
+    high: i64,
+) -> Result<Items<Member>, AllocError>
+    ensures stands { IfOk result (λ ms. MembersStand graph.now ms) }
+    ensures is { IfOk result (λ ms. (e : Edge) × ((ms ≡ record { present = e; which = which.Run low high } ∷ []) × ((v : ℕ → Bool) → Consistent v graph.now → edge_value v e ≡ true))) }
+{
     let member = Member {
         present: graph.constant(true),
         which: Which::Run(low, high),
     };
     let mut members = Items::new(alloc);
     members.push(member)?;
-    Ok(Told::Set(fault, members))
+    Ok(members)
 }
 
 // Whether the one value is among the others.
