@@ -1,10 +1,13 @@
 -- The branch that is taken: its fault, its value and its members.
 use Rattle.std.proofs.Common.{◌≡◌, ◌∙◌, ℕ, zero, suc, ◌+◌, ◌*◌, ◌/◌, ◌-◌, ◌<◌, ◌≤◌, Bool, true, false, ◌&&◌, ◌||◌, not, cond, List, [], ◌∷◌, ◌++◌, length, get_or, drop, refl, sym, ap, subst, arith}
-use Rattle.std.specs.Prelude.{Option, None, Some, All}
+use Rattle.std.specs.Prelude.{Option, None, Some, All, IfSome}
 use Rattle.std.specs.List.{list_any}
 use Rattle.std.proofs.lemmas.List.{drop_more, get_or_default}
 use Rattle.bit_graph.specs.declared.edge.Edge.{Edge}
-use Rattle.bit_graph.specs.Meaning.{edge_value}
+use Rattle.bit_graph.specs.declared.edge.Node.{Node}
+use Rattle.bit_graph.specs.Meaning.{Consistent, edge_value}
+use Rattle.bit_arith.specs.Number.{flip}
+use Rattle.bit_operators.proofs.Bitwise.{flip_is}
 use Rattle.smv_tree.specs.declared.place.Place.{Place}
 use Rattle.smv_value.specs.declared.value.FaultRule.{FaultRule}
 use Rattle.smv_value.specs.declared.value.FaultRule.TheVariants as fault
@@ -37,6 +40,12 @@ choice_pair p xs i l =
     let next : 2 * i + 2 ≡ 2 * (i + 1) = omega arith in
     ap (choice p) (two_more xs (2 * i) l)
     ∙ ap (λ (n : ℕ). taken (truth (get_or xs (2 * i) Nothing)) (get_or xs (2 * i) Nothing) (get_or xs (2 * i + 1) Nothing) (choice p (drop n xs))) next
+
+pub choice_step : (p : Place) (xs : List Outcome) (k i : ℕ) → k + 1 ≡ i → 2 * k + 1 < length xs →
+    choice p (drop (2 * k) xs) ≡ taken (truth (get_or xs (2 * k) Nothing)) (get_or xs (2 * k) Nothing) (get_or xs (2 * k + 1) Nothing) (choice p (drop (2 * i) xs))
+choice_step p xs k i e l =
+    choice_pair p xs k l
+    ∙ ap (λ (n : ℕ). taken (truth (get_or xs (2 * k) Nothing)) (get_or xs (2 * k) Nothing) (get_or xs (2 * k + 1) Nothing) (choice p (drop (2 * n) xs))) e
 
 -- a last branch
 pub choice_last : (p : Place) (xs : List Outcome) (i : ℕ) → i < length xs → length xs ≤ i + 1 → choice p (drop i xs) ≡ get_or xs i Nothing
@@ -128,3 +137,21 @@ module _ (v : ℕ → Bool) where
   sides true true b = refl
   sides true false b = refl
   sides false a b = refl
+
+  pub both_sides : (w : Value) (b n : Edge) (none one other first all : List Member) → none ≡ [] → n ≡ flip b →
+      list_any (is_member v w) first ≡ (list_any (is_member v w) none || (edge_value v b && list_any (is_member v w) one)) →
+      list_any (is_member v w) all ≡ (list_any (is_member v w) first || (edge_value v n && list_any (is_member v w) other)) →
+      list_any (is_member v w) all ≡ cond (edge_value v b) (list_any (is_member v w) one) (list_any (is_member v w) other)
+  both_sides w b n none one other first all is turned p q =
+      q ∙ ap (λ (x : Bool). x || (edge_value v n && list_any (is_member v w) other)) p
+      ∙ ap (λ (xs : List Member). (list_any (is_member v w) xs || (edge_value v b && list_any (is_member v w) one)) || (edge_value v n && list_any (is_member v w) other)) is
+      ∙ ap (λ (t : Bool). (false || (edge_value v b && list_any (is_member v w) one)) || (t && list_any (is_member v w) other)) (ap (edge_value v) turned ∙ flip_is b.negated (v b.node))
+      ∙ sides (edge_value v b) (list_any (is_member v w) one) (list_any (is_member v w) other)
+
+-- what is promised anyway is promised where there is no fault
+pub without_fault : (r : Option Symbolic) (g : List Node) (b f e : Edge) (x y : Symbolic) →
+    IfSome r (λ s. (v : ℕ → Bool) (w : Value) → Consistent v g → cond (edge_value v b) (denoted v x) (denoted v y) ≡ Some w → denoted v s ≡ Some w) →
+    IfSome r (λ s. (v : ℕ → Bool) (w : Value) → Consistent v g → cond (edge_value v b) (edge_value v f) (edge_value v e) ≡ false → cond (edge_value v b) (denoted v x) (denoted v y) ≡ Some w →
+    denoted v s ≡ Some w)
+without_fault None g b f e x y h = h
+without_fault (Some s) g b f e x y h = λ v w c n d. h v w c d

@@ -78,28 +78,31 @@ module _ (v : ℕ → Bool) where
   pub none_gathered : (f : Edge) → edge_value v f ≡ false → TellsEach v f [] (Values [])
   none_gathered f h = (h, tt)
 
-  values_by : (b : Bool) (w u : Result (Option Value) FaultRule) → cond b w (Ok None) ≡ u → (u ≡ Ok None → ⊥) → b ≡ true
+  -- an answer that is a value or a fault
+  abbrev tells : Result (Option Value) FaultRule → Bool
+  tells (Ok None) = false
+  tells (Ok (Some y)) = true
+  tells (Err rule) = true
+
+  values_by : (b : Bool) (w u : Result (Option Value) FaultRule) → cond b w (Ok None) ≡ u → tells u ≡ true → b ≡ true
   values_by true w u h n = refl
-  values_by false w u h n = absurd (n (sym h))
+  values_by false w (Ok None) h n = absurd cc
+  values_by false w (Ok (Some y)) h n = absurd cc
+  values_by false w (Err rule) h n = absurd cc
 
   module _ (o : Operator) (place : Place) (g e r : Edge) (ss : List Symbolic) (z : Symbolic) (h : edge_value v r ≡ (edge_value v g || edge_value v e)) (k : Computes v o ss z e) where
-    are_values : (xs : List Value) (u : Result (Option Value) FaultRule) → result_of o xs ≡ u → (u ≡ Ok None → ⊥) → list_all is_value xs ≡ true
+    are_values : (xs : List Value) (u : Result (Option Value) FaultRule) → result_of o xs ≡ u → tells u ≡ true → list_all is_value xs ≡ true
     are_values xs u is n = values_by (list_all is_value xs) (unless (fault_of o xs) (value_of o xs)) u is n
 
     by_result : (xs : List Value) (u : Result (Option Value) FaultRule) → edge_value v g ≡ false → AreDenoted v ss xs → result_of o xs ≡ u → TellsOne v r z (given place u)
     by_result xs (Ok None) a d is = tt
     by_result xs (Ok (Some y)) a d is =
-        let n : Ok (Some y) ≡ Ok None → ⊥ = λ (p : Ok (Some y) ≡ Ok None). cc in (
-          h ∙ or_same v (edge_value v g) (edge_value v e) false false a (k.faults xs d (are_values xs (Ok (Some y)) is n) ∙ ap is_fault is),
-          record {
-            value = y;
-            only = refl;
-            denotes = k.gives xs y d is;
-          },
-        )
-    by_result xs (Err rule) a d is =
-        let n : Err rule ≡ Ok None → ⊥ = λ (p : Err rule ≡ Ok None). cc in
-        h ∙ or_right v (edge_value v g) (edge_value v e) (k.faults xs d (are_values xs (Err rule) is n) ∙ ap is_fault is)
+        (h ∙ or_same v (edge_value v g) (edge_value v e) false false a (k.faults xs d (are_values xs (Ok (Some y)) is refl) ∙ ap is_fault is), record {
+          value = y;
+          only = refl;
+          denotes = k.gives xs y d is;
+        })
+    by_result xs (Err rule) a d is = h ∙ or_right v (edge_value v g) (edge_value v e) (k.faults xs d (are_values xs (Err rule) is refl) ∙ ap is_fault is)
 
     pub computed_told : (x : Outcome) → TellsEach v g ss x → TellsOne v r z (bound (λ vs. given place (result_of o vs)) x)
     computed_told Nothing a = tt

@@ -127,12 +127,7 @@ fn between(
 }
 
 // The member that is always there and is one of these integers.
-fn only_run(
-    alloc: Global,
-    graph: &Graph,
-    low: i64,
-    high: i64,
-) -> Result<Items<Member>, AllocError>
+fn only_run(alloc: Global, graph: &Graph, low: i64, high: i64) -> Result<Items<Member>, AllocError>
     ensures stands { IfOk result (λ ms. MembersStand graph.now ms) }
     ensures is { IfOk result (λ ms. (e : Edge) × ((ms ≡ record { present = e; which = which.Run low high } ∷ []) × ((v : ℕ → Bool) → Consistent v graph.now → edge_value v e ≡ true))) }
 {

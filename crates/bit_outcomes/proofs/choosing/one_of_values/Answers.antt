@@ -4,9 +4,10 @@ use Rattle.bit_outcomes.proofs.OfChoices.{one_taken}
 use Rattle.bit_outcomes.proofs.choosing.one_of_values.Goals as goal
 
 pub returns-in_ok-fault-in-Some-clause-stands : goal.returns-in_ok-fault-in-Some-clause-stands
-returns-in_ok-fault-in-Some-clause-stands c =
-    (c.in_ok-fault-in-Some.ensures.stands,
-     symbolic_kept c.chosen.new.graph c.fault_of.new.graph c.in_ok-fault-in-Some.ensures.extends c.in-Some.value (rw c.in-Some.is at c.in_ok-value.ensures.stands))
+returns-in_ok-fault-in-Some-clause-stands c = (
+  c.in_ok-fault-in-Some.ensures.stands,
+  symbolic_kept c.chosen.new.graph c.fault_of.new.graph c.in_ok-fault-in-Some.ensures.extends c.in-Some.value (rw c.in-Some.is at c.in_ok-value.ensures.stands),
+)
 
 pub returns-in_ok-fault-in-Some-clause-told : goal.returns-in_ok-fault-in-Some-clause-told
 returns-in_ok-fault-in-Some-clause-told c = λ v o a r h s p q.

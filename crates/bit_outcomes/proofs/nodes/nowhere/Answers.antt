@@ -13,4 +13,4 @@ pub returns-clause-told : goal.returns-clause-told
 returns-clause-told c = λ v h.
     c.in_ok-told.ensures.told v [] [] [] h tt tt
     (subst (λ (ts : List Told). TellsAll v ts (outcomes_of c.args.slots.now [] [] [] c.args.nodes.now)) (sym c.as_slice.ensures)
-        (c.in_ok-none.ensures.told v (outcomes_of c.args.slots.now [] [] [] c.args.nodes.now) (outcomes_long c.args.slots.now [] [] [] c.args.nodes.now)))
+    (c.in_ok-none.ensures.told v (outcomes_of c.args.slots.now [] [] [] c.args.nodes.now) (outcomes_long c.args.slots.now [] [] [] c.args.nodes.now)))

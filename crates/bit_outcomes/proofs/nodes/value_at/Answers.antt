@@ -9,9 +9,10 @@ use Rattle.bit_outcomes.proofs.OfNodes.{value_told}
 use Rattle.bit_outcomes.proofs.nodes.value_at.Goals as goal
 
 pub returns-in_ok-copy-clause-stands : goal.returns-in_ok-copy-clause-stands
-returns-in_ok-copy-clause-stands c =
-    (c.constant.ensures.stands,
-     subst (StandsIn c.args.graph.now) (sym (c.in_ok-copy.ensures ∙ c.index-values-i.is)) (c.requires c.args.i c.index-values-i.result c.if-i.true))
+returns-in_ok-copy-clause-stands c = (
+  c.constant.ensures.stands,
+  subst (StandsIn c.args.graph.now) (sym (c.in_ok-copy.ensures ∙ c.index-values-i.is)) (c.requires c.args.i c.index-values-i.result c.if-i.true),
+)
 
 pub returns-in_ok-copy-clause-told : goal.returns-in_ok-copy-clause-told
 returns-in_ok-copy-clause-told c = λ v xs h d.

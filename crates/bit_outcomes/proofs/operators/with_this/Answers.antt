@@ -12,7 +12,8 @@ returns-clause-stands c =
     let g = c.args.graph.now in
     let k = c.or.new.self in
     let grown = c.in_ok-fault.ensures.extends in
-    let xs = c.args.made.values in
-    (c.in_ok-fault.ensures.stands,
-     subst (λ (ss : List Symbolic). All (StandsIn k) ss) (sym (c.in_ok-push.ensures.ok ∙ ap (λ (y : Symbolic). xs ++ y ∷ []) c.in_ok-copy.ensures))
-         (All-push (StandsIn k) xs c.args.x.now (symbolics_kept g k grown xs c.requires.made_stands.1) (symbolic_kept g k grown c.args.x.now c.requires.x_stands)))
+    let xs = c.args.made.values in (
+      c.in_ok-fault.ensures.stands,
+      subst (λ (ss : List Symbolic). All (StandsIn k) ss) (sym (c.in_ok-push.ensures.ok ∙ ap (λ (y : Symbolic). xs ++ y ∷ []) c.in_ok-copy.ensures))
+          (All-push (StandsIn k) xs c.args.x.now (symbolics_kept g k grown xs c.requires.made_stands.1) (symbolic_kept g k grown c.args.x.now c.requires.x_stands)),
+    )
