@@ -139,8 +139,11 @@ module _ (v : ℕ → Bool) where
   in_run low high (value.Sym n) = none_in_run (value.Sym n) (λ z. refl) low high
   in_run low high (value.Word s n b) = none_in_run (value.Word s n b) (λ z. refl) low high
 
-  abbrev of_run : Edge → ℤ → ℤ → Member
+  abbrev pub of_run : Edge → ℤ → ℤ → Member
   of_run e low high = record { present = e; which = which.Run low high }
+
+  pub run_is : (e : Edge) (ms : List Member) (a b low high : ℤ) → ms ≡ of_run e a b ∷ [] → a ≡ low → b ≡ high → ms ≡ of_run e low high ∷ []
+  run_is e ms a b low high h p q = h ∙ (λ i. of_run e (p i) (q i) ∷ [])
 
   and_only : (a b : Bool) → a ≡ true → ((a && b) || false) ≡ b
   and_only true true h = refl
