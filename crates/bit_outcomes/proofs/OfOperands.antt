@@ -96,12 +96,14 @@ module _ (v : ℕ → Bool) where
 
     by_result : (xs : List Value) (u : Result (Option Value) FaultRule) → edge_value v g ≡ false → AreDenoted v ss xs → result_of o xs ≡ u → TellsOne v r z (given place u)
     by_result xs (Ok None) a d is = tt
-    by_result xs (Ok (Some y)) a d is =
-        (h ∙ or_same v (edge_value v g) (edge_value v e) false false a (k.faults xs d (are_values xs (Ok (Some y)) is refl) ∙ ap is_fault is), record {
-          value = y;
-          only = refl;
-          denotes = k.gives xs y d is;
-        })
+    by_result xs (Ok (Some y)) a d is = (
+      h ∙ or_same v (edge_value v g) (edge_value v e) false false a (k.faults xs d (are_values xs (Ok (Some y)) is refl) ∙ ap is_fault is),
+      record {
+        value = y;
+        only = refl;
+        denotes = k.gives xs y d is;
+      },
+    )
     by_result xs (Err rule) a d is = h ∙ or_right v (edge_value v g) (edge_value v e) (k.faults xs d (are_values xs (Err rule) is refl) ∙ ap is_fault is)
 
     pub computed_told : (x : Outcome) → TellsEach v g ss x → TellsOne v r z (bound (λ vs. given place (result_of o vs)) x)
