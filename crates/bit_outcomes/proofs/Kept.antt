@@ -1,14 +1,13 @@
 -- What leads to nodes leads there as the graph grows.
-use Rattle.std.proofs.Common.{◌≡◌, ◌∙◌, ℕ, zero, suc, ◌+◌, ◌-◌, ◌<◌, Bool, List, [], ◌∷◌, ◌++◌, length, get_or, drop, take, sym, ap, subst, arith}
+use Rattle.std.proofs.Common.{List, get_or, arith}
 use Rattle.std.specs.Prelude.{All}
 use Rattle.bit_graph.specs.declared.edge.Edge.{Edge}
 use Rattle.bit_graph.specs.declared.edge.Node.{Node}
 use Rattle.bit_graph.specs.Growth.{Extends}
-use Rattle.bit_graph.specs.Meaning.{Consistent, Stands}
-use Rattle.bit_operators.specs.declared.symbolic.Discrete.{Discrete}
+use Rattle.bit_graph.specs.Meaning.{Stands}
 use Rattle.bit_operators.specs.declared.symbolic.Symbolic.{Symbolic}
 use Rattle.bit_operators.specs.declared.symbolic.Symbolic.TheVariants as symbolic
-use Rattle.bit_operators.specs.Denoting.{DiscreteStands, StandsIn}
+use Rattle.bit_operators.specs.Denoting.{StandsIn}
 use Rattle.bit_outcomes.specs.declared.told.Told.{Told}
 use Rattle.bit_outcomes.specs.declared.told.Told.TheVariants as told
 use Rattle.bit_outcomes.specs.declared.told.Member.{Member}

@@ -1,5 +1,5 @@
 -- What items ask of outcomes, by what is told of these.
-use Rattle.std.proofs.Common.{◌≡◌, ◌∙◌, ℕ, zero, suc, ◌+◌, ◌<◌, Bool, true, false, not, ◌&&◌, ◌||◌, List, [], ◌∷◌, length, get_or, take, refl, sym, ap, subst, arith, eqb, ℤ}
+use Rattle.std.proofs.Common.{◌≡◌, ◌∙◌, ℕ, ◌+◌, ◌<◌, Bool, true, false, not, ◌&&◌, ◌||◌, List, [], ◌∷◌, length, get_or, take, refl, sym, ap, subst, eqb, ℤ}
 use Rattle.std.specs.Prelude.{Option, None, Some, All, unwrap_or, int_le}
 use Rattle.std.specs.Bool.{beq}
 use Rattle.std.specs.List.{list_all, list_any}
@@ -14,14 +14,13 @@ use Rattle.smv_value.specs.declared.value.Value.{Value}
 use Rattle.smv_value.specs.declared.value.Value.TheVariants as value
 use Rattle.smv_value.specs.Results.{alike, same}
 use Rattle.value_types.specs.declared.value_type.ValueType.{ValueType}
-use Rattle.value_types.specs.Types.{is_between, is_of_type}
+use Rattle.value_types.specs.Types.{is_of_type}
 use Rattle.value_types.proofs.Elements.{int_le_refl, same_int}
 use Rattle.value_sets.specs.Members.{run}
 use Rattle.smv_meaning.specs.declared.outcome.Outcome.{Outcome}
 use Rattle.smv_meaning.specs.declared.outcome.Outcome.TheVariants.{Fault, Nothing, Values}
 use Rattle.smv_meaning.specs.Faults.{is_outside}
 use Rattle.smv_meaning.specs.Formulas.{fault_in}
-use Rattle.smv_meaning.specs.Outcomes.{truth, value_in}
 use Rattle.smv_meaning.specs.Runs.{is_among, is_given, is_true, takes}
 use Rattle.bit_operators.specs.declared.symbolic.Symbolic.{Symbolic}
 use Rattle.bit_operators.specs.declared.symbolic.Symbolic.TheVariants as symbolic

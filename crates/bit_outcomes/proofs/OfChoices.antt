@@ -1,5 +1,5 @@
 -- The branch that is taken: its fault, its value and its members.
-use Rattle.std.proofs.Common.{◌≡◌, ◌∙◌, ℕ, zero, suc, ◌+◌, ◌*◌, ◌/◌, ◌-◌, ◌<◌, ◌≤◌, Bool, true, false, ◌&&◌, ◌||◌, not, cond, List, [], ◌∷◌, ◌++◌, length, get_or, drop, refl, sym, ap, subst, arith}
+use Rattle.std.proofs.Common.{◌≡◌, ◌∙◌, ℕ, zero, suc, ◌+◌, ◌*◌, ◌<◌, ◌≤◌, Bool, true, false, ◌&&◌, ◌||◌, not, cond, List, [], ◌∷◌, length, get_or, drop, refl, sym, ap, subst, arith}
 use Rattle.std.specs.Prelude.{Option, None, Some, All, IfSome}
 use Rattle.std.specs.List.{list_any}
 use Rattle.std.proofs.lemmas.List.{drop_more, get_or_default}
@@ -9,11 +9,9 @@ use Rattle.bit_graph.specs.Meaning.{Consistent, edge_value}
 use Rattle.bit_arith.specs.Number.{flip}
 use Rattle.bit_operators.proofs.Bitwise.{flip_is}
 use Rattle.smv_tree.specs.declared.place.Place.{Place}
-use Rattle.smv_value.specs.declared.value.FaultRule.{FaultRule}
 use Rattle.smv_value.specs.declared.value.FaultRule.TheVariants as fault
 use Rattle.smv_value.specs.declared.value.Value.{Value}
 use Rattle.smv_value.specs.declared.value.Value.TheVariants as value
-use Rattle.smv_value.specs.Results.{same}
 use Rattle.smv_meaning.specs.declared.outcome.Outcome.{Outcome}
 use Rattle.smv_meaning.specs.declared.outcome.Outcome.TheVariants.{Fault, Nothing, Values}
 use Rattle.smv_meaning.specs.Outcomes.{choice, taken, truth, truth_of}
@@ -21,10 +19,8 @@ use Rattle.smv_meaning.proofs.Choosing.{choice_end}
 use Rattle.bit_operators.specs.declared.symbolic.Symbolic.{Symbolic}
 use Rattle.bit_operators.specs.declared.symbolic.Symbolic.TheVariants as symbolic
 use Rattle.bit_operators.specs.Denoting.{denoted}
-use Rattle.bit_outcomes.specs.declared.told.Told.{Told}
-use Rattle.bit_outcomes.specs.declared.told.Told.TheVariants as told
 use Rattle.bit_outcomes.specs.declared.told.Member.{Member}
-use Rattle.bit_outcomes.specs.Telling.{IsThere, Tells, TellsAll, TellsOne, TellsSet, is_member}
+use Rattle.bit_outcomes.specs.Telling.{IsThere, TellsOne, TellsSet, is_member}
 
 -- conditions and branches from a place on
 

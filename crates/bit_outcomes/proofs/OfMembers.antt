@@ -1,6 +1,6 @@
 -- Members of sets: one value as a set, members where a condition is true, and a value among members.
 use Rattle.std.proofs.Common.{◌≡◌, ◌∙◌, ℕ, zero, suc, ◌+◌, ◌<◌, Bool, true, false, ◌&&◌, ◌||◌, List, [], ◌∷◌, ◌++◌, length, get_or, take, refl, sym, ap, subst, arith, ℤ}
-use Rattle.std.specs.Prelude.{Option, None, Some, All}
+use Rattle.std.specs.Prelude.{Option, Some, All}
 use Rattle.std.specs.List.{list_any}
 use Rattle.std.proofs.lemmas.List.Folds.{list_any-append, list_any_more}
 use Rattle.std.proofs.lemmas.List.{take_more}
@@ -16,11 +16,10 @@ use Rattle.smv_meaning.specs.Outcomes.{united}
 use Rattle.bit_operators.specs.declared.symbolic.Symbolic.{Symbolic}
 use Rattle.bit_operators.specs.Denoting.{denoted}
 use Rattle.bit_outcomes.specs.declared.told.Told.{Told}
-use Rattle.bit_outcomes.specs.declared.told.Told.TheVariants as told
 use Rattle.bit_outcomes.specs.declared.told.Member.{Member}
 use Rattle.bit_outcomes.specs.declared.told.Which.{Which}
 use Rattle.bit_outcomes.specs.declared.told.Which.TheVariants as which
-use Rattle.bit_outcomes.specs.Telling.{IsDenoted, IsOne, IsSet, IsThere, Tells, TellsAll, TellsOne, TellsSet, both, is_member, is_this, is_which}
+use Rattle.bit_outcomes.specs.Telling.{IsDenoted, IsThere, Tells, TellsAll, TellsOne, TellsSet, both, is_member, is_this, is_which}
 
 module _ (v : ℕ → Bool) where
   -- one value as a set

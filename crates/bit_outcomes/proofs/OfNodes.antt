@@ -1,7 +1,7 @@
 -- What is told of lists of outcomes, and of one node more.
-use Rattle.std.proofs.Common.{◌≡◌, ◌∙◌, ℕ, zero, suc, ◌+◌, ◌-◌, ◌<◌, ◌≤◌, Bool, true, false, List, [], ◌∷◌, ◌++◌, length, get_or, take, drop, refl, sym, ap, subst, arith, length-append}
-use Rattle.std.specs.Prelude.{Option, None, Some, All, slice_get}
-use Rattle.std.proofs.lemmas.List.{get_or-drop, length-drop, length-take-le, take_more, length-map}
+use Rattle.std.proofs.Common.{◌≡◌, ◌∙◌, ℕ, zero, suc, ◌+◌, ◌-◌, ◌<◌, ◌≤◌, Bool, false, List, [], ◌∷◌, ◌++◌, length, get_or, take, drop, refl, sym, ap, subst, arith, length-append}
+use Rattle.std.specs.Prelude.{All, slice_get}
+use Rattle.std.proofs.lemmas.List.{get_or-drop, length-drop, length-map}
 use Rattle.bit_graph.specs.declared.edge.Edge.{Edge}
 use Rattle.bit_graph.specs.declared.edge.Node.{Node as Gate}
 use Rattle.bit_graph.specs.Meaning.{edge_value}
@@ -11,7 +11,7 @@ use Rattle.smv_resolve.specs.Resolved.{last_of, parts_of}
 use Rattle.smv_resolve.proofs.Parts.{length-parts}
 use Rattle.smv_scope.specs.declared.slot.Slot.{Slot}
 use Rattle.smv_meaning.specs.declared.outcome.Outcome.{Outcome}
-use Rattle.smv_meaning.specs.declared.outcome.Outcome.TheVariants.{Fault, Nothing, Values}
+use Rattle.smv_meaning.specs.declared.outcome.Outcome.TheVariants.{Nothing}
 use Rattle.smv_meaning.specs.Outcomes.{two, valued}
 use Rattle.smv_meaning.specs.Tables.{outcome_at, outcome_by, outcomes_of, seen}
 use Rattle.smv_meaning.specs.Values.{outcome}

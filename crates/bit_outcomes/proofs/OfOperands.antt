@@ -16,7 +16,7 @@ use Rattle.value_sets.specs.Members.{only, run}
 use Rattle.value_sets.proofs.Runs.{in_run_is, none_in_run}
 use Rattle.smv_meaning.specs.declared.outcome.Outcome.{Outcome}
 use Rattle.smv_meaning.specs.declared.outcome.Outcome.TheVariants.{Fault, Nothing, Values}
-use Rattle.smv_meaning.specs.Outcomes.{given, included, operated, over, ranged, value_in}
+use Rattle.smv_meaning.specs.Outcomes.{given, included, operated, over, ranged}
 use Rattle.bit_operators.specs.declared.symbolic.Symbolic.{Symbolic}
 use Rattle.bit_operators.specs.declared.symbolic.Symbolic.TheVariants as symbolic
 use Rattle.bit_operators.specs.Denoting.{denoted}

@@ -1,5 +1,5 @@
 -- What is told of an operator by its name.
-use Rattle.std.proofs.Common.{◌≡◌, ◌∙◌, ℕ, Bool, List, [], Result, Ok, Err, IfOk, refl, sym, subst}
+use Rattle.std.proofs.Common.{◌≡◌, ℕ, Bool, List, [], Result, Ok, Err, IfOk, refl, sym, subst}
 use Rattle.bit_graph.specs.declared.edge.Node.{Node}
 use Rattle.bit_graph.specs.Meaning.{Consistent}
 use Rattle.smv_tree.specs.declared.place.Place.{Place}

@@ -1,5 +1,5 @@
 -- What is asked of outcomes.
-use Rattle.std.specs.Prelude.{ℕ, Bool, true, false, not, ◌&&◌, Option, None, Some}
+use Rattle.std.specs.Prelude.{ℕ, Bool, false, not, ◌&&◌, Option, None, Some}
 use Rattle.std.specs.List.{list_all}
 use Rattle.bit_graph.specs.Meaning.{edge_value}
 use Rattle.smv_value.specs.declared.value.Value.{Value}

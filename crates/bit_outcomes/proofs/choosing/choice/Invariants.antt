@@ -1,5 +1,5 @@
 -- What is told of the conditions and branches from here on.
-use Rattle.std.proofs.Common.{◌≡◌, ◌*◌, ℕ, Bool, List, drop}
+use Rattle.std.proofs.Common.{◌*◌, ℕ, Bool, List, drop}
 use Rattle.bit_graph.specs.Growth.{Extends}
 use Rattle.bit_graph.specs.Meaning.{Consistent}
 use Rattle.smv_tree.specs.declared.place.Place.{Place}

@@ -1,12 +1,5 @@
 -- A value, or integers.
-use Rattle.std.proofs.Common.{◌∙◌, ap, not, rules}
-use Rattle.std.specs.List.{list_all}
-use Rattle.std.proofs.lemmas.Int.{to_z-of_z}
-use mir.Syntax.{w64}
-use mir.Val.{SFits}
-use Rattle.value_types.specs.Types.{is_of_type}
-use Rattle.value_sets.specs.Members.{run}
-use Rattle.bit_outcomes.proofs.OfAsked.{run_out, value_out}
+use Rattle.bit_outcomes.proofs.OfAsked.{value_out}
 use Rattle.bit_outcomes.proofs.items.is_out.Goals as goal
 
 pub returns-in_ok-out-in-Value-clause-value : goal.returns-in_ok-out-in-Value-clause-value

@@ -1,5 +1,5 @@
 -- The members of the operands so far.
-use Rattle.std.proofs.Common.{◌≡◌, ℕ, Bool, List, [], take}
+use Rattle.std.proofs.Common.{ℕ, Bool, List, [], take}
 use Rattle.bit_graph.specs.Growth.{Extends}
 use Rattle.bit_graph.specs.Meaning.{Consistent, Stands}
 use Rattle.smv_meaning.specs.declared.outcome.Outcome.{Outcome}

@@ -1,6 +1,4 @@
 -- One operand more.
-use Rattle.std.proofs.Common.{subst, sym}
-use Rattle.bit_outcomes.specs.Telling.{TellsSet, both}
 use Rattle.bit_outcomes.proofs.OfMembers.{sets_together}
 use Rattle.bit_outcomes.proofs.members.with_row.Goals as goal
 

@@ -1,7 +1,7 @@
 -- The last nodes are the operands.
 use Rattle.std.proofs.Common.{List, subst, sym}
 use Rattle.bit_outcomes.specs.declared.told.Told.{Told}
-use Rattle.bit_outcomes.specs.Telling.{AllTold, TellsAll}
+use Rattle.bit_outcomes.specs.Telling.{TellsAll}
 use Rattle.smv_resolve.specs.Resolved.{last_of}
 use Rattle.bit_outcomes.proofs.OfNodes.{last_stand, tells_last}
 use Rattle.bit_outcomes.proofs.nodes.applied_at.Goals as goal

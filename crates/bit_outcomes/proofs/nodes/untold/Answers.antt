@@ -1,6 +1,5 @@
 -- Nothing of all nodes.
-use Rattle.std.proofs.Common.{◌≡◌, length, arith}
-use Rattle.bit_graph.specs.declared.edge.Node.{Node as Gate}
+use Rattle.std.proofs.Common.{arith}
 use Rattle.bit_outcomes.proofs.OfNodes.{none_stand, tells_none}
 use Rattle.bit_outcomes.proofs.nodes.untold.Goals as goal
 
