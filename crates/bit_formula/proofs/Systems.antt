@@ -1,5 +1,5 @@
 -- The clauses of both sides as a system.
-use Rattle.std.proofs.Common.{◌≡◌, ◌∙◌, ℕ, ◌+◌, ◌<◌, ◌≤◌, ◌++◌, Bool, not, List, [], ◌∷◌, length, map, refl, sym, ap, subst, arith, inl}
+use Rattle.std.proofs.Common.{◌≡◌, ◌∙◌, ℕ, ◌+◌, ◌<◌, ◌≤◌, ◌++◌, Bool, true, not, List, [], ◌∷◌, length, map, refl, sym, ap, subst, arith, inl}
 use Rattle.std.specs.List.{All, range_with_len}
 use Rattle.std.proofs.lemmas.List.{length-map, map-id}
 use Rattle.std.proofs.lemmas.List.Elements.{All-nil, All-cons, All-head}
@@ -16,7 +16,7 @@ use Rattle.smv_value.specs.declared.value.Value.{Value}
 use Rattle.smv_scope.specs.Slots.{slots_of}
 use Rattle.smv_resolve.specs.Items.{ResolvedItem}
 use Rattle.smv_resolve.specs.Resolved.{Resolved}
-use Rattle.smv_meaning.specs.Runs.{is_first_state, is_step, is_true}
+use Rattle.smv_meaning.specs.Runs.{has_booleans_alone, is_first_state, is_step, is_true}
 use Rattle.smv_meaning.specs.Values.{outcome}
 use Rattle.bit_clauses.specs.declared.deciding.Decided.{Decided}
 use Rattle.bit_clauses.specs.Deciding.{Decides}
@@ -74,15 +74,15 @@ others_long n reads order =
     ap (λ (xs : List ℕ). length xs + length (others n reads)) order
     ∙ length-filter_both (is_in reads) (λ (k : ℕ). not (is_in reads k)) (λ k. refl) (range_with_len 0 n) ∙ length-range_with_len 0 n
 
-module _ (p : Program) (reads : List ℕ) (parts : List Resolved) where
+module _ (p : Program) (booleans : has_booleans_alone p ≡ true) (reads : List ℕ) (parts : List Resolved) where
   -- the same bits, the same values
   values_same : (v a : ℕ → Bool) → Agrees (joint_width p reads) v a → values_at v (defined_values p reads parts) ≡ values_at a (defined_values p reads parts)
   values_same v a agrees =
-      sym (defined_told p reads parts v (states_fit p reads v))
+      sym (defined_told p reads parts v (states_fit p reads booleans v))
       ∙ ap (λ (s : List Value). map (is_just_in p s) (justices_of p) ++ map (λ (e : Resolved). is_true (outcome (slots_of p) s (read_inputs p reads v) [] e)) parts) (state_same p reads v a agrees)
       ∙ ap (λ (u : List Value). map (is_just_in p (state_in p reads a)) (justices_of p) ++ map (λ (e : Resolved). is_true (outcome (slots_of p) (state_in p reads a) u [] e)) parts)
       (read_same p reads v a agrees)
-      ∙ defined_told p reads parts a (states_fit p reads a)
+      ∙ defined_told p reads parts a (states_fit p reads booleans a)
 
   module _ (c : JointConditions) (r : JointSide) (tells : TellsJoint p reads parts c) (law : OneWay c.graph) where
     abbrev j : ℕ

@@ -241,7 +241,7 @@ module _ (p : Program) (spec : ResolvedItem) (r : FormulaSystem) (stands : Stand
       ∙ just_there (get_or (justices_of p) k d) j below
 
   met_at : (k : ℕ) (d : ResolvedItem) → k < length fair → OnWord (length r.atoms + k) → Met (get_or (justices_of p) k d)
-  met_at k d lt h = (h.0, h.1, h.2, true_is _ (sym (word_just h.0 k d lt h.2) ∙ h.3))
+  met_at k d lt h = (h.0, h.1, h.2, true_only _ (sym (word_just h.0 k d lt h.2) ∙ h.3))
 
   on_word_at : (k : ℕ) (d : ResolvedItem) → k < length fair → Met (get_or (justices_of p) k d) → OnWord (length r.atoms + k)
   on_word_at k d lt h = (h.0, h.1, h.2, word_just h.0 k d lt h.2 ∙ ap is_true h.3)

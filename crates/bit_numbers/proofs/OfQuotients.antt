@@ -1,8 +1,9 @@
 -- Quotients and remainders of words, and of integers in two's complement.
-use Rattle.std.proofs.Common.{◌≡◌, ℕ, zero, suc, ◌+◌, ◌-◌, ◌*◌, ◌/◌, ◌%◌, ◌^◌, ◌<◌, ◌≤◌, Bool, true, false, ◌&&◌, cond, List, length, max, ℤ, pos, negsuc, neg_ℤ, inl, inr, refl, sym, ap, subst, ◌∙◌, arith, eqb, unsigned_abs}
+use Rattle.std.proofs.Common.{◌≡◌, ℕ, zero, suc, ◌+◌, ◌-◌, ◌*◌, ◌/◌, ◌%◌, ◌^◌, ◌<◌, ◌≤◌, Bool, true, false, ◌&&◌, cond, List, length, max, min, ℤ, pos, negsuc, neg_ℤ, inl, inr, refl, sym, ap, subst, ◌∙◌, arith, eqb, unsigned_abs}
 use Rattle.std.specs.Prelude.{int_div, int_rem}
 use Rattle.std.proofs.Math.Nat.{div-le_self, mod-add-mod, mod-eq_of_lt, mod-le, mod-lt, mod_self, pow-le-pow_right}
 use Rattle.std.proofs.lemmas.Bool.{cases_lt, eqb-true, false_from_ne_true}
+use Rattle.std.proofs.lemmas.Int.{ints}
 use Rattle.std.proofs.lemmas.Nat.{pow_pos}
 use Rattle.smv_value.specs.declared.operator.Division.{Division}
 use Rattle.smv_value.specs.declared.operator.Division.TheVariants as division
@@ -16,7 +17,8 @@ use Rattle.bit_operators.specs.Denoting.{integer_of}
 use Rattle.bit_operators.specs.Integers.{bounded, fits}
 use Rattle.bit_operators.proofs.Integers.{integer_fits}
 use Rattle.bit_operators.proofs.OfSums.{fits_bounded, low_integer, minus_fits, minus_size, plus_fits, plus_size}
-use Rattle.bit_numbers.proofs.OfIntegers.{integer-zero}
+use Rattle.bit_numbers.specs.Divisions.{division_rule}
+use Rattle.bit_numbers.proofs.OfIntegers.{fits_negative, fits_positive, integer-zero}
 
 turned_rest : (p m : ℕ) → 0 < p → (p - suc m % p) % p ≡ p - 1 - m % p
 turned_rest p m h =
@@ -128,3 +130,51 @@ divided_integer_is v o a b l m r w ew ll lm lr el em er ix iy some iz =
     ∙ low_integer w (number_of v r) (divided o x y) (below r lr) (made ∙ (λ i. low_bits w (divided o (left i) (right i))))
     (ap (λ n. fits n (divided o x y)) ew
     ∙ fits_bounded (k + 1) (k + 1) (divided o x y) (omega arith) (divided_fits o (length a) k x y (omega arith) (integer_fits (length a) (number_of v a) (number-lt (edge_value v) a))) iz)
+
+-- a remainder has no more bits than either integer
+
+below_power : (n a : ℕ) → fits n (pos a) ≡ true → 2 * a < 2 ^ n
+below_power n a h = grind (arith, ints)
+
+zero_below : (b : ℕ) → 0 < suc b
+zero_below b = omega arith
+
+fits_first : (m : ℕ) (x y : ℤ) → fits m x ≡ true → fits m (int_rem x y) ≡ true
+fits_first m (pos a) (pos b) h = fits_positive m (a % b) (omega (arith, below_power m a h, mod-le a b))
+fits_first m (pos a) (negsuc b) h = fits_positive m (a % suc b) (omega (arith, below_power m a h, mod-le a (suc b)))
+fits_first m (negsuc a) (pos b) h = fits_negative m (suc a % b) (omega (arith, minus_size m (suc a) h, mod-le (suc a) b))
+fits_first m (negsuc a) (negsuc b) h = fits_negative m (suc a % suc b) (omega (arith, minus_size m (suc a) h, mod-le (suc a) (suc b)))
+
+fits_second : (n : ℕ) (x y : ℤ) → fits n y ≡ true → (y ≡ pos 0 → ⊥) → fits n (int_rem x y) ≡ true
+fits_second n (pos a) (pos zero) h some = absurd (some refl)
+fits_second n (pos a) (pos (suc b)) h some = fits_positive n (a % suc b) (omega (arith, below_power n (suc b) h, mod-lt a (zero_below b)))
+fits_second n (pos a) (negsuc b) h some = fits_positive n (a % suc b) (omega (arith, minus_size n (suc b) h, mod-lt a (zero_below b)))
+fits_second n (negsuc a) (pos zero) h some = absurd (some refl)
+fits_second n (negsuc a) (pos (suc b)) h some = fits_negative n (suc a % suc b) (omega (arith, below_power n (suc b) h, mod-lt (suc a) (zero_below b)))
+fits_second n (negsuc a) (negsuc b) h some = fits_negative n (suc a % suc b) (omega (arith, minus_size n (suc b) h, mod-lt (suc a) (zero_below b)))
+
+fits_min : (m n : ℕ) (z : ℤ) → fits m z ≡ true → fits n z ≡ true → fits (min m n) z ≡ true
+fits_min m n z h k =
+    elim (cases_lt m n) [
+      | inl less ↦ (let e : m ≡ min m n = omega arith in ap (λ j. fits j z) (sym e) ∙ h)
+      | inr more ↦ (let e : n ≡ min m n = omega arith in ap (λ j. fits j z) (sym e) ∙ k)
+    ]
+
+rule_fits : (o : Division) (m n : ℕ) (x y : ℤ) → fits m x ≡ true → fits n y ≡ true → (y ≡ pos 0 → ⊥) → fits (division_rule o m n) (divided o x y) ≡ true
+rule_fits division.Quotient m n x y h k some = divided_fits division.Quotient m m x y (omega arith) h
+rule_fits division.Remainder m n x y h k some = fits_min m n (int_rem x y) (fits_first m x y h) (fits_second n x y k some)
+
+-- the integer in the bits that it needs
+pub in_few_bits : (v : ℕ → Bool) (o : Division) (a b whole made : List Edge) (w : ℕ) → w ≡ bounded (division_rule o (length a) (length b)) → length made ≡ w →
+    number_of v made ≡ low_bits w (integer_of v whole) → integer_of v whole ≡ divided o (integer_of v a) (integer_of v b) → (integer_of v b ≡ pos 0 → ⊥) →
+    is_int (divided o (integer_of v a) (integer_of v b)) ≡ true → integer_of v made ≡ divided o (integer_of v a) (integer_of v b)
+in_few_bits v o a b whole made w ew l h e some iz =
+    let x = integer_of v a in
+    let y = integer_of v b in
+    let rule = division_rule o (length a) (length b) in
+    let small : number_of v made < 2 ^ w = (let P : ℕ → Type 0 = λ n. number_of v made < 2 ^ n in subst P l (number-lt (edge_value v) made)) in
+    let wide : fits w (divided o x y) ≡ true =
+    ap (λ n. fits n (divided o x y)) ew
+    ∙ fits_bounded rule rule (divided o x y) (omega arith)
+    (rule_fits o (length a) (length b) x y (integer_fits (length a) (number_of v a) (number-lt (edge_value v) a)) (integer_fits (length b) (number_of v b) (number-lt (edge_value v) b)) some) iz in
+    ap (λ n. integer n (number_of v made)) l ∙ low_integer w (number_of v made) (divided o x y) small (h ∙ ap (low_bits w) e) wide

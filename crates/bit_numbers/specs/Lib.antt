@@ -1,3 +1,4 @@
 pub mod Extremes
 pub mod Counts
 pub mod Shifts
+pub mod Divisions

@@ -6,6 +6,8 @@ ghost use Rattle.bit_graph.specs.Growth.{Extends};
 ghost use Rattle.bit_arith.specs.Number.{AllStand, number_of};
 ghost use Rattle.smv_value.specs.declared.value.Value.{Value};
 ghost use Rattle.smv_value.specs.Results.{counted, divided, is_int, is_zero, low_bits, of_numbers};
+ghost use Rattle.bit_operators.specs.Integers.{bounded};
+ghost use Rattle.bit_numbers.specs.Divisions.{division_rule};
 ghost use Rattle.bit_operators.specs.Denoting.{ComputesUnless, DiscreteStands, StandsIn, discrete_value, integer_of};
 
 use crate::comparing::is_number;
@@ -16,8 +18,9 @@ use smv_value::Division;
 use sqlite_items::Items;
 use std::alloc::{AllocError, Global};
 
-/// `a / b` or `a mod b`, and the edge that is true where `b` is 0; `None` where the operands are neither two words of one type
-/// nor two discrete values.
+/// `a / b` or `a mod b`, and the edge that is true where `b` is 0.
+///
+/// It is `None` where the operands are neither two words of one type nor two discrete values. The only error is want of memory.
 pub fn divided(
     alloc: Global,
     graph: &mut Graph,
@@ -107,7 +110,7 @@ fn divided_bits(
     }
 }
 
-// In one bit more than the longer of both has, and at most 32.
+// In as many bits as the interval of the result needs, and at most 32.
 fn divided_integer(
     alloc: Global,
     graph: &mut Graph,
@@ -125,6 +128,23 @@ fn divided_integer(
     let width = bounded(a.len().max(b.len()) + 1);
     let left = resized(alloc, graph, true, a, width)?;
     let right = resized(alloc, graph, true, b, width)?;
-    let made = divided_bits(alloc, graph, o, true, &left, &right)?;
+    let whole = divided_bits(alloc, graph, o, true, &left, &right)?;
+    let made = resized(
+        alloc,
+        graph,
+        true,
+        &whole,
+        result_width(o, a.len(), b.len()),
+    )?;
     Ok(made)
+}
+
+// How many bits hold the quotient, or the remainder, of integers of so many bits, and at most 32.
+fn result_width(o: Division, a: usize, b: usize) -> usize
+    ensures { result ≡ bounded (division_rule o a b) }
+{
+    match o {
+        Division::Quotient => bounded(a.min(32) + 1),
+        Division::Remainder => bounded(a.min(b)),
+    }
 }

@@ -16,8 +16,9 @@ use bit_graph::{Edge, Graph};
 use smv_value::Order;
 use std::alloc::{AllocError, Global};
 
-/// The edge that is true where the values stand so to each other; `None` where they are neither two words of one type nor two
-/// discrete values.
+/// The edge that is true where the values stand so to each other.
+///
+/// It is `None` where they are neither two words of one type nor two discrete values. The only error is want of memory.
 pub fn ordered(
     alloc: Global,
     graph: &mut Graph,

@@ -2,10 +2,9 @@
 use crate::refuting::{is_refuted, set_by};
 use crate::{Loaded, read};
 use clause_core::{Bits, System};
-use smv_meaning::{Outcome, State, Typed, meets_init, meets_step, outcomes, specifications};
+use smv_meaning::{State, Typed, meets_init, meets_step, outcomes, specifications};
 use smv_resolve::{Item, ItemKind};
 use smv_tree::ConstraintKind;
-use smv_value::Value;
 use std::alloc::{AllocError, Global};
 use std::test::Fail;
 
@@ -112,10 +111,13 @@ fn value_in(alloc: Global, typed: &Typed, s: &State, node: usize) -> Result<u8, 
         &[],
         &[],
     )?;
-    Ok(match all.as_slice().get(node) {
-        Some(Outcome::Values(Some(Value::Bool(true)))) => b'T',
-        Some(Outcome::Values(Some(Value::Bool(false)))) => b'F',
-        _ => b'-',
+    let Some(outcome) = all.as_slice().get(node) else {
+        return Ok(b'-');
+    };
+    Ok(match outcome.truth() {
+        Some(true) => b'T',
+        Some(false) => b'F',
+        None => b'-',
     })
 }
 

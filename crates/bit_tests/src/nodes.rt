@@ -4,9 +4,9 @@ ghost use Rattle.bit_graph.specs.Meaning.{Stands};
 use bit_expr::{Truth, nowhere, table};
 use bit_graph::{Edge, Graph, evaluate};
 use smv_resolve::{Naming, Node};
-use smv_scope::{Slot, ValueType};
+use smv_scope::Slot;
 use smv_tree::{Place, VariableKind};
-use smv_value::{Logic, Operator};
+use smv_value::{Logic, Operator, Value};
 use sqlite_items::Items;
 use std::alloc::Global;
 use std::test::Fail;
@@ -19,20 +19,20 @@ const SLOTS: [Slot; 2] = [
         instance: 0,
         variable: 0,
         kind: VariableKind::State,
-        declared: ValueType::Boolean,
+        declared: 0,
         index: 0,
     },
     Slot {
         instance: 0,
         variable: 1,
         kind: VariableKind::Input,
-        declared: ValueType::Boolean,
+        declared: 1,
         index: 0,
     },
 ];
 
 const NODES: [Node; 24] = [
-    Node::Constant(HERE, true),
+    Node::Constant(HERE, Value::Bool(true)),
     Node::Slot(HERE, 0),
     Node::Slot(HERE, 1),
     Node::Whole(HERE, 0),

@@ -2,7 +2,7 @@
 
 use crate::program_of;
 use smv_tree::{Expr, Name, Place, Program, Section, Start};
-use smv_value::{Logic, Operator};
+use smv_value::{Logic, Operator, Value};
 use std::alloc::{AllocError, Global};
 use std::test::Fail;
 
@@ -137,8 +137,9 @@ fn put(out: &mut String, depth: usize, expr: &Expr) -> Result<(), AllocError> {
     }
     let depth = depth - 1;
     match expr {
-        Expr::Bool(_, true) => out.push_str("TRUE"),
-        Expr::Bool(_, false) => out.push_str("FALSE"),
+        Expr::Constant(_, Value::Bool(true)) => out.push_str("TRUE"),
+        Expr::Constant(_, Value::Bool(false)) => out.push_str("FALSE"),
+        Expr::Constant(..) => out.push_str("?"),
         Expr::Name(name) => put_name(out, name),
         Expr::Group(_, inner) => put_within(out, depth, "[", inner.get(), "]"),
         Expr::Next(_, inner) => put_within(out, depth, "(next ", inner.get(), ")"),

@@ -146,28 +146,28 @@ const VERDICTS: [(&str, &str); 46] = [
     ),
     (
         "MODULE main\nLTLSPEC F [3] x",
-        "-- refused 203 Unsupported at 2:11: [\n",
+        "-- refused 201 Unexpected at 2:13: ]\n",
     ),
     (
         "MODULE main\nLTLSPEC F [0, x] x",
-        "-- refused 203 Unsupported at 2:11: [\n",
+        "-- refused 201 Unexpected at 2:15: x\n",
     ),
     (
         "MODULE main\nLTLSPEC F [0 3] x",
-        "-- refused 203 Unsupported at 2:11: [\n",
+        "-- refused 203 Unsupported at 2:14: 3\n",
     ),
     (
         "MODULE main\nLTLSPEC F [0, 3 x",
-        "-- refused 203 Unsupported at 2:11: [\n",
+        "-- refused 201 Unexpected at 2:17: x\n",
     ),
-    // One that has the form of bounds has its place behind `F`, `G`, `O` and `H` alone.
+    // Bounds have their place behind `F`, `G`, `O` and `H` alone.
     (
         "MODULE main\nLTLSPEC X [0, 1] x",
         "-- refused 201 Unexpected at 2:11: [\n",
     ),
     (
         "MODULE main\nLTLSPEC x 3]",
-        "-- refused 201 Unexpected at 2:11: 3\n",
+        "-- refused 203 Unsupported at 2:11: 3\n",
     ),
     (
         "MODULE main\nLTLSPEC x ]",

@@ -160,13 +160,13 @@ const CASES: [Case; 30] = [
     (
         "check",
         "MODULE main\nVAR x : boolean;\nLTLSPEC F [3] x\n",
-        "-- refused 203 Unsupported at 3:11: [\n",
+        "-- refused 201 Unexpected at 3:13: ]\n",
         3,
     ),
     (
         "check",
         "MODULE main\nVAR x : boolean;\nLTLSPEC F [0, x] x\n",
-        "-- refused 203 Unsupported at 3:11: [\n",
+        "-- refused 201 Unexpected at 3:15: x\n",
         3,
     ),
     (

@@ -1,5 +1,5 @@
 -- The lines of the command `flat`: the slots and the items of a model. An own choice of this project.
-use Rattle.std.specs.Prelude.{ℕ, ◌+◌, List, [], ◌∷◌, ◌++◌, filter, codes, not}
+use Rattle.std.specs.Prelude.{ℕ, ◌+◌, List, [], ◌∷◌, ◌++◌, filter, codes, not, Option, None, Some, slice_get}
 use Rattle.std.specs.Fmt.{decimal}
 use Rattle.smv_tree.specs.declared.tree.Program.{Program}
 use Rattle.smv_tree.specs.declared.tree.AssignmentKind.TheVariants as side
@@ -10,8 +10,10 @@ use Rattle.smv_tree.specs.Texts.{kind_text, line_end, place_text}
 use Rattle.smv_resolve.specs.declared.item.ItemKind.{ItemKind}
 use Rattle.smv_resolve.specs.declared.item.ItemKind.TheVariants as item
 use Rattle.smv_scope.specs.declared.slot.Slot.{Slot}
-use Rattle.smv_scope.specs.declared.slot.ValueType.{ValueType}
-use Rattle.smv_scope.specs.declared.slot.ValueType.TheVariants.{Boolean}
+use Rattle.smv_scope.specs.Enumerated.{symbols_of}
+use Rattle.smv_declared.specs.Types.{types_of}
+use Rattle.value_types.specs.declared.value_type.ValueType.{ValueType}
+use Rattle.value_types.specs.Shown.{type_text}
 use Rattle.smv_resolve.specs.Items.{ResolvedItem, items_of}
 use Rattle.smv_scope.specs.Paths.{path_of, shown_path, slot_name}
 use Rattle.smv_scope.specs.Slots.{slots_of}
@@ -22,8 +24,10 @@ sort_text sort.State = codes "state"
 sort_text sort.Frozen = codes "frozen"
 sort_text sort.Input = codes "input"
 
-abbrev pub type_text : ValueType → List ℕ
-type_text Boolean = codes "boolean"
+-- a declared type, where the table has the symbols' names
+abbrev pub declared_text : List (List ℕ) → Option ValueType → List ℕ
+declared_text names None = []
+declared_text names (Some t) = type_text names t
 
 abbrev pub item_kind_text : ItemKind → List ℕ
 item_kind_text (item.Constraint asked.Init) = codes "INIT"
@@ -36,7 +40,7 @@ item_kind_text (item.Assignment side.Current) = codes "now"
 item_kind_text (item.Specification kind) = kind_text kind
 
 abbrev pub slot_line : Program → ℕ → Slot → List ℕ
-slot_line p i slot = codes "-- slot " ++ decimal i ++ codes " " ++ sort_text slot.kind ++ codes " " ++ slot_name p slot ++ codes " : " ++ type_text slot.declared ++ line_end
+slot_line p i slot = codes "-- slot " ++ decimal i ++ codes " " ++ sort_text slot.kind ++ codes " " ++ slot_name p slot ++ codes " : " ++ declared_text (symbols_of p) (slice_get (types_of p) slot.declared) ++ line_end
 
 abbrev pub item_line : Program → ℕ → ResolvedItem → List ℕ
 item_line p i x = codes "-- item " ++ decimal i ++ codes " " ++ item_kind_text x.kind ++ codes " at " ++ place_text x.place ++ codes " of " ++ shown_path (path_of p x.at) ++ line_end

@@ -2,21 +2,23 @@
 
 ghost use Rattle.std.specs.Prelude.{◌≡◌, ◌++◌, filter, length, map, not, IfOk, IfSome, OnOk, Some, codes};
 ghost use Rattle.std.specs.Fmt.{decimal};
+ghost use Rattle.std.specs.Option.{option_copied};
 ghost use Rattle.smv_resolve.specs.declared.item.ItemKind.TheVariants as item;
 ghost use Rattle.smv_resolve.specs.Items.{ResolvedItem, item_by, items_of};
 ghost use Rattle.smv_scope.specs.Paths.{path_of, shown_path, slot_name};
 ghost use Rattle.smv_scope.specs.Slots.{slots_of};
 ghost use Rattle.smv_tree.specs.Texts.{line_end, place_text};
 ghost use Rattle.smv_meaning.specs.Runs.{is_claim};
-ghost use Rattle.smv_cli.specs.Listing.{item_kind_text, item_line, items_text, listing_text, slot_line, slots_text, sort_text, type_text};
+ghost use Rattle.smv_cli.specs.Listing.{declared_text, item_kind_text, item_line, items_text, listing_text, slot_line, slots_text, sort_text};
 
 use plain_text::Text;
 use smv_meaning::{Typed, is_claim};
 use smv_resolve::{Item, ItemKind};
-use smv_scope::{Scope, Slot, ValueType, path_of, slot_name};
+use smv_scope::{Scope, Slot, path_of, slot_name};
 use smv_tree::{AssignmentKind, ConstraintKind, Place, SpecificationKind, VariableKind};
 use std::alloc::{AllocError, Global};
 use std::fmt;
+use value_types::{ShownType, ValueType};
 
 // The line of a slot.
 #[derive(Drop)]
@@ -24,18 +26,18 @@ struct SlotLine<'a> {
     number: usize,
     kind: VariableKind,
     name: &'a Text,
-    declared: ValueType,
+    declared: &'a Text,
 }
 
 impl fmt::Display for SlotLine<'_> {
-    ghost output = { λ l. Some (codes "-- slot " ++ decimal l.number ++ codes " " ++ sort_text l.kind ++ codes " " ++ l.name.now ++ codes " : " ++ type_text l.declared ++ line_end) };
+    ghost output = { λ l. Some (codes "-- slot " ++ decimal l.number ++ codes " " ++ sort_text l.kind ++ codes " " ++ l.name.now ++ codes " : " ++ l.declared.now ++ line_end) };
 
     fn fmt<W: fmt::Write>(&self, f: &mut fmt::Formatter<W>) -> fmt::Result {
         let (number, kind, name, declared) = (
             self.number,
             sort(self.kind),
             self.name,
-            type_name(self.declared),
+            self.declared,
         );
         writeln!(f, "-- slot {number} {kind} {name} : {declared}")
     }
@@ -51,11 +53,21 @@ fn sort(kind: VariableKind) -> &'static str
     }
 }
 
-fn type_name(declared: ValueType) -> &'static str
-    ensures { result.now ≡ type_text declared }
+// A type as it is printed; empty where there is none.
+fn declared_text(
+    alloc: Global,
+    names: &[Text],
+    declared: Option<&ValueType>,
+) -> Result<Text, AllocError>
+    ensures { IfOk result (λ text. text ≡ declared_text names.now (option_copied declared)) }
 {
     match declared {
-        ValueType::Boolean => "boolean",
+        None => Text::from_str(alloc, ""),
+        Some(declared) => {
+            let shown = ShownType { declared, names };
+            let text = shown.to_string(alloc)?;
+            Text::from_str(alloc, text.as_str())
+        }
     }
 }
 
@@ -121,7 +133,7 @@ pub(crate) fn listing(alloc: Global, typed: &Typed) -> Result<Vec<u8>, AllocErro
     ensures { IfOk result (λ text. text.items ≡ listing_text typed.now.scope.program) }
 {
     let mut text = Vec::new(alloc);
-    push_slots(alloc, &mut text, &typed.scope, typed.scope.slots.as_slice())?;
+    push_slots(alloc, &mut text, typed, typed.scope.slots.as_slice())?;
     push_items(alloc, &mut text, typed, typed.items.as_slice())?;
     Ok(text)
 }
@@ -130,13 +142,13 @@ pub(crate) fn listing(alloc: Global, typed: &Typed) -> Result<Vec<u8>, AllocErro
 fn push_slots(
     alloc: Global,
     text: &mut Vec<u8>,
-    scope: &Scope,
+    typed: &Typed,
     slots: &[Slot],
 ) -> Result<(), AllocError>
-    ensures { OnOk result (text.new.items ≡ text.old.items ++ slots_text scope.now.program 0 slots.now) }
+    ensures { OnOk result (text.new.items ≡ text.old.items ++ slots_text typed.now.scope.program 0 slots.now) }
 {
     for (number, slot) in slots.iter().enumerate() {
-        push_slot(alloc, text, scope, number, slot)?;
+        push_slot(alloc, text, typed, number, slot)?;
     }
     Ok(())
 }
@@ -144,18 +156,20 @@ fn push_slots(
 fn push_slot(
     alloc: Global,
     text: &mut Vec<u8>,
-    scope: &Scope,
+    typed: &Typed,
     number: usize,
     slot: &Slot,
 ) -> Result<(), AllocError>
-    ensures { OnOk result (text.new.items ≡ text.old.items ++ slot_line scope.now.program number slot.now) }
+    ensures { OnOk result (text.new.items ≡ text.old.items ++ slot_line typed.now.scope.program number slot.now) }
 {
-    let name = slot_name(alloc, scope, slot)?;
+    let name = slot_name(alloc, &typed.scope, slot)?;
+    let names = typed.scope.symbol_names.as_slice();
+    let declared = declared_text(alloc, names, typed.types.get(slot.declared))?;
     let line = SlotLine {
         number,
         kind: slot.kind,
         name: &name,
-        declared: slot.declared,
+        declared: &declared,
     };
     push_line(alloc, text, &line)
 }

@@ -12,4 +12,4 @@ mod place;
 
 pub use constant::Constant;
 pub use declared::declared_types;
-pub use laws::{types_are_types, slots_have_types};
+pub use laws::{slots_have_types, types_are_types};

@@ -12,7 +12,7 @@ use Rattle.smv_text.proofs.Cuts as text
 use Rattle.smv_parse.proofs.ParsedOnce as parse
 use Rattle.smv_parse.specs.Spelling.{IsSpelling, IsRefusedTokens, IsParseStop}
 use Rattle.smv_types.specs.Rules.{types_verdict}
-use Rattle.smv_names.specs.Verdicts.{Gives}
+use Rattle.smv_verdicts.specs.Verdicts.{Gives}
 use Rattle.smv_types.proofs.Once.{judged_once}
 use Rattle.smv_flat.specs.declared.time.Time.{Time}
 use Rattle.smv_flat.specs.declared.time.Time.TheVariants as when

@@ -1,7 +1,9 @@
 //! A program with its instances, its slots, their types and its items.
 
 ghost use Rattle.std.specs.Prelude.{◌≡◌, map, true};
+ghost use Rattle.std.specs.List.{list_all};
 ghost use Rattle.std.proofs.Props.{props};
+ghost use Rattle.value_types.specs.Types.{is_type};
 ghost use Rattle.smv_declared.specs.Types.{types_of};
 ghost use Rattle.smv_resolve.specs.Items.{item_by, items_of};
 ghost use Rattle.smv_resolve.proofs.Sets.{Resolved-set};
@@ -23,6 +25,7 @@ pub struct Typed {
     pub items: Items<Item>,
     pub ghost known: { AllKnown scope.program } by { Prim.hlevel (props) },
     pub ghost booleans: { has_booleans_alone scope.program ≡ true } by { Prim.hlevel (props) },
+    pub ghost right_types: { list_all is_type (types_of scope.program) ≡ true } by { Prim.hlevel (props) },
     pub ghost declared: { types ≡ types_of scope.program } by { Prim.hlevel (props) },
     pub ghost resolved: { map (item_by nodes) items ≡ items_of scope.program } by { Prim.hlevel (props, Resolved-set) },
 }

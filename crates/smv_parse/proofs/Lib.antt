@@ -1,12 +1,4 @@
-pub mod Reaching
-pub mod Temporals
-pub mod OfExpressions
-pub mod ExpressionsAlike
-pub mod OfRanks
-pub mod Levels
-pub mod Conditionals
-pub mod Chains
-pub mod Links
+pub mod OfTypes
 pub mod OfPrograms
 pub mod OfLoops
 pub mod OfParsing

@@ -1,81 +1,41 @@
 -- The forms of declarations, sections, modules and programs keep the laws of forms.
-use Rattle.std.proofs.Common.{◌≡◌, ℕ, Bool, false, true, ◌∷◌, refl}
-use Rattle.phrase_forms.specs.Forms.{Form, token, then, maybe, many, to, ◌▹◌, ◌◃◌}
+use Rattle.std.proofs.Common.{◌≡◌, ℕ, Bool, false, true, refl}
+use Rattle.std.specs.Prelude.{◌||◌}
+use Rattle.phrase_forms.specs.Forms.{maybe, many, to}
 use Rattle.phrase_forms.proofs.Lawful.{Lawful}
-use Rattle.phrase_forms.proofs.Alike.{Alike, same_form, then_reads, or_alike, maybe_alike, many_alike, to_alike}
+use Rattle.phrase_forms.proofs.Alike.{Alike, same_form, or_alike, many_alike, to_alike}
 use Rattle.phrase_forms.proofs.OfToken.{token_lawful}
 use Rattle.phrase_forms.proofs.OfThen.{then_lawful}
 use Rattle.phrase_forms.proofs.OfOr.{or_lawful}
 use Rattle.phrase_forms.proofs.OfTo.{to_lawful}
 use Rattle.phrase_forms.proofs.OfMaybe.{maybe_lawful}
 use Rattle.phrase_forms.proofs.OfMany.{many_lawful}
+use Rattle.phrase_forms.proofs.OfNamed.{Fine}
 use Rattle.smv_tree.specs.declared.token.Token.{Token}
 use Rattle.smv_tree.specs.declared.token.TokenKind.{TokenKind}
 use Rattle.smv_tree.specs.declared.token.TokenKind.TheVariants as kind
 use Rattle.smv_tree.specs.declared.tree.AssignmentKind.{AssignmentKind}
 use Rattle.smv_tree.specs.declared.tree.AssignmentKind.TheVariants as side
-use Rattle.smv_tree.specs.declared.tree.TypeExpr.TheVariants as type
 use Rattle.smv_tree.specs.Kinds.{is_kind, is_identifier}
-use Rattle.smv_phrases.specs.Names.{just, identifier, member, name}
-use Rattle.smv_parse.specs.Expressions.{expression_within, most_levels}
-use Rattle.smv_parse.specs.Programs.{expression, further, listed, or_none, maybe_listed, bracketed, under_one, instance_type, written_type, declaration, declares, variables, definition, definitions, sided, left_side, assignment, assignments, formula, constrains, constraint, given_name, claims, specification, section_form, parameter_of, module_form, program}
-use Rattle.smv_phrases.proofs.EachKind.{token_at, apart}
+use Rattle.smv_phrases.specs.Names.{just, identifier, identifier_of, begins_name, member, name_from, name}
+use Rattle.smv_phrases.specs.Lists.{further, bracketed}
+use Rattle.smv_phrases.proofs.EachKind.{token_at, apart, within}
 use Rattle.smv_phrases.proofs.OfNames.{just_lawful, identifier_lawful, name_lawful}
-use Rattle.smv_parse.proofs.OfExpressions.{expression_lawful, expression_alike}
-
--- a and then b, for the value of one
-second_lawful : {A B : Type 0} (a : Form Token A) (b : Form Token B) → Lawful a → Lawful b → ((t : Token) → b.first t ≡ true → a.more t ≡ false) → Lawful (a ▹ b)
-second_lawful a b la lb h = to_lawful _ _ (then_lawful a b la lb h)
-
-first_lawful : {A B : Type 0} (a : Form Token A) (b : Form Token B) → Lawful a → Lawful b → ((t : Token) → b.first t ≡ true → a.more t ≡ false) → Lawful (a ◃ b)
-first_lawful a b la lb h = to_lawful _ _ (then_lawful a b la lb h)
-
--- a phrase that may not be empty, and that neither "," nor ")" goes on
-module _ {A : Type 0} (phrase : Form Token A) (law : Lawful phrase) (full : phrase.nullable ≡ false)
-    (commas : (t : Token) → (further phrase).first t ≡ true → phrase.more t ≡ false) (goes_on : (t : Token) → (further phrase).first t ≡ true → (further phrase).more t ≡ false)
-    (ends : (t : Token) → is_kind kind.RightParen t ≡ true → (maybe_listed phrase).more t ≡ false) where
-  pub further_lawful : Lawful (further phrase)
-  further_lawful = second_lawful _ _ (just_lawful kind.Comma refl) law (λ t e. refl)
-
-  listed_lawful : Lawful (listed phrase)
-  listed_lawful = to_lawful _ _ (then_lawful _ _ law (many_lawful (further phrase) further_lawful refl goes_on) commas)
-
-  listed_full : (listed phrase).nullable ≡ false
-  listed_full = rw full refl
-
-  bracketed_lawful : Lawful (bracketed phrase)
-  bracketed_lawful =
-      let inside = to_lawful or_none _ (maybe_lawful _ listed_lawful listed_full) in
-      to_lawful _ _ (maybe_lawful _ (second_lawful _ _ (just_lawful kind.LeftParen refl) (first_lawful _ _ inside (just_lawful kind.RightParen refl) ends) (λ t e. refl)) refl)
-
--- the expressions of an instance
-pub arguments_apart : (t : Token) → (further (expression_within 0 under_one)).first t ≡ true → (further (expression_within 0 under_one)).more t ≡ false
-unfolding expression_within
-arguments_apart = apart _ _ (λ t. refl) (λ t. refl) refl
-
-pub further_argument_lawful : Lawful (further (expression_within 0 under_one))
-further_argument_lawful = second_lawful _ _ (just_lawful kind.Comma refl) (expression_lawful 0 under_one) (λ t e. refl)
-
-arguments_lawful : (past : ℕ) → Lawful (bracketed (expression_within past under_one))
-unfolding expression_within
-arguments_lawful past =
-    bracketed_lawful _ (expression_lawful past under_one) refl (apart _ _ (λ t. refl) (λ t. refl) refl) (apart _ _ (λ t. refl) (λ t. refl) refl) (apart _ _ (λ t. refl) (λ t. refl) refl)
-
-instance_lawful : (past : ℕ) → Lawful (instance_type past)
-unfolding instance_type
-instance_lawful past = to_lawful _ _ (then_lawful _ _ identifier_lawful (arguments_lawful past) (λ t e. refl))
-
-type_lawful : (past : ℕ) → Lawful (written_type past)
-unfolding written_type instance_type
-type_lawful past = or_lawful _ _ (to_lawful _ _ (just_lawful kind.Boolean refl)) (instance_lawful past) refl refl (apart _ _ (λ t. refl) (λ t. refl) refl)
+use Rattle.smv_phrases.proofs.OfLists.{second_lawful, first_lawful, listed_lawful, bracketed_lawful, then_alike, second_alike, first_alike, behind_alike, behind_only_alike}
+use Rattle.smv_expressions.specs.Expressions.{expression_within, index_within, limit_start, limit_start_within, most_levels}
+use Rattle.smv_expressions.proofs.OfExpressions.{expression_lawful, index_lawful}
+use Rattle.smv_expressions.proofs.ExpressionsAlike.{expression_alike, index_within_alike}
+use Rattle.smv_parse.specs.Types.{under_one, written_type, word_type, signed_type, enumeration, identifier_type, range_type}
+use Rattle.smv_parse.specs.Programs.{expression, declaration, declares, variables, definition, definitions, constants, target, sided, left_side, assignment, assignments, formula, constrains, constraint, given_name, claims, specification, section_form, parameter_of, module_form, program}
+use Rattle.smv_parse.proofs.OfTypes.{type_lawful, type_ends, type_alike}
 
 pub declaration_lawful : (past : ℕ) → Lawful (declaration past)
-unfolding declaration written_type instance_type expression_within
+unfolding declaration
 declaration_lawful past =
-    to_lawful _ _ (then_lawful _ _ identifier_lawful (second_lawful _ _ (just_lawful kind.Colon refl) (first_lawful _ _ (type_lawful past) (just_lawful kind.Semicolon refl) (apart _ _ (λ t. refl) (λ t. refl) refl)) (λ t e. refl)) (λ t e. refl))
+    to_lawful _ _ (then_lawful _ _ identifier_lawful (second_lawful _ _ (just_lawful kind.Colon refl) (first_lawful _ _ (type_lawful past) (just_lawful kind.Semicolon refl) (type_ends past)) (λ t e. refl)) (λ t e. refl))
 
 pub declarations_apart : (past : ℕ) (t : Token) → (declaration past).first t ≡ true → (declaration past).more t ≡ false
-unfolding declaration written_type instance_type
+unfolding declaration written_type range_type limit_start_within limit_start name_from
 declarations_apart past t e = refl
 
 pub declarations_full : (past : ℕ) → (declaration past).nullable ≡ false
@@ -104,28 +64,49 @@ definitions_lawful : (past : ℕ) → Lawful (definitions past)
 unfolding definitions
 definitions_lawful past = to_lawful _ _ (second_lawful _ _ (just_lawful kind.Define refl) (many_lawful _ (definition_lawful past) (definitions_full past) (definitions_apart past)) (λ t e. refl))
 
-sided_lawful : (k : TokenKind) (which : AssignmentKind) → is_kind k (token_at k) ≡ true → Lawful (sided k which)
-unfolding name member
-sided_lawful k which e =
-    to_lawful _ _ (then_lawful _ _ (just_lawful k e) (second_lawful _ _ (just_lawful kind.LeftParen refl) (first_lawful _ _ name_lawful (just_lawful kind.RightParen refl) (apart _ _ (λ t. refl) (λ t. refl) refl)) (λ t e. refl)) (λ t e. refl))
+pub indices_apart : (past room : ℕ) (t : Token) → (index_within past room).first t ≡ true → (index_within past room).more t ≡ false
+unfolding index_within
+indices_apart past room t e = refl
 
-left_lawful : Lawful left_side
-unfolding left_side name member
-left_lawful =
-    or_lawful _ _ (to_lawful _ _ name_lawful)
-    (or_lawful _ _ (sided_lawful kind.Init side.Init refl) (sided_lawful kind.Next side.Next refl) refl refl (apart _ _ (λ t. refl) (λ t. refl) refl)) refl refl (apart _ _ (λ t. refl) (λ t. refl) refl)
+pub indices_full : (past room : ℕ) → (index_within past room).nullable ≡ false
+unfolding index_within
+indices_full past room = refl
+
+-- the tokens that go on a target
+abbrev goes_on_target : Token → Bool
+goes_on_target t = is_kind kind.Dot t || is_kind kind.LeftBracket t
+
+target_fine : (past room : ℕ) → Fine begins_name goes_on_target (target past room)
+unfolding target name_from member index_within
+target_fine past room = record {
+  lawful = to_lawful _ _ (then_lawful _ _ name_lawful (many_lawful _ (index_lawful past room) (indices_full past room) (indices_apart past room)) (apart _ _ (λ t. refl) (λ t. refl) refl));
+  first = within _ _ (λ t. refl) (λ t. refl) refl;
+  more = within _ _ (λ t. refl) (λ t. refl) refl;
+  full = refl;
+}
+
+sided_lawful : (past : ℕ) (k : TokenKind) (which : AssignmentKind) → is_kind k (token_at k) ≡ true → Lawful (sided past k which)
+unfolding target name_from member index_within
+sided_lawful past k which e =
+    to_lawful _ _ (then_lawful _ _ (just_lawful k e) (second_lawful _ _ (just_lawful kind.LeftParen refl) (first_lawful _ _ (target_fine past under_one).lawful (just_lawful kind.RightParen refl) (apart _ _ (λ t. refl) (λ t. refl) refl)) (λ t e. refl)) (λ t e. refl))
+
+left_lawful : (past : ℕ) → Lawful (left_side past)
+unfolding left_side target name_from member
+left_lawful past =
+    or_lawful _ _ (to_lawful _ _ (target_fine past most_levels).lawful)
+    (or_lawful _ _ (sided_lawful past kind.Init side.Init refl) (sided_lawful past kind.Next side.Next refl) refl refl (apart _ _ (λ t. refl) (λ t. refl) refl)) refl refl (apart _ _ (λ t. refl) (λ t. refl) refl)
 
 pub assignment_lawful : (past : ℕ) → Lawful (assignment past)
-unfolding assignment left_side name member expression_within
+unfolding assignment left_side target name_from member index_within expression_within
 assignment_lawful past =
-    to_lawful _ _ (then_lawful _ _ left_lawful (second_lawful _ _ (just_lawful kind.Becomes refl) (first_lawful _ _ (expression_lawful past most_levels) (just_lawful kind.Semicolon refl) (apart _ _ (λ t. refl) (λ t. refl) refl)) (λ t e. refl)) (apart _ _ (λ t. refl) (λ t. refl) refl))
+    to_lawful _ _ (then_lawful _ _ (left_lawful past) (second_lawful _ _ (just_lawful kind.Becomes refl) (first_lawful _ _ (expression_lawful past most_levels) (just_lawful kind.Semicolon refl) (apart _ _ (λ t. refl) (λ t. refl) refl)) (λ t e. refl)) (apart _ _ (λ t. refl) (λ t. refl) refl))
 
 pub assignments_apart : (past : ℕ) (t : Token) → (assignment past).first t ≡ true → (assignment past).more t ≡ false
-unfolding assignment left_side name member expression_within
+unfolding assignment left_side target name_from member index_within expression_within
 assignments_apart past t e = refl
 
 pub assignments_full : (past : ℕ) → (assignment past).nullable ≡ false
-unfolding assignment left_side
+unfolding assignment left_side target name_from
 assignments_full past = refl
 
 assignments_lawful : (past : ℕ) → Lawful (assignments past)
@@ -149,13 +130,28 @@ unfolding specification given_name formula expression_within
 specification_lawful past =
     to_lawful _ _ (then_lawful _ _ (token_lawful false claims (token_at kind.Invarspec) refl) (second_lawful _ _ (maybe_lawful _ given_name_lawful refl) (formula_lawful past) (apart _ _ (λ t. refl) (λ t. refl) refl)) (λ t e. refl))
 
+-- the symbols of a CONSTANTS section
+pub constants_apart : (t : Token) → (further (to identifier_of identifier)).first t ≡ true → (further (to identifier_of identifier)).more t ≡ false
+constants_apart t e = refl
+
+pub further_constant_lawful : Lawful (further (to identifier_of identifier))
+further_constant_lawful = second_lawful _ _ (just_lawful kind.Comma refl) (to_lawful _ _ identifier_lawful) (λ t e. refl)
+
+constants_lawful : Lawful constants
+unfolding constants
+constants_lawful =
+    let list = listed_lawful (to identifier_of identifier) (to_lawful _ _ identifier_lawful) refl (λ t e. refl) (λ t e. refl) in
+    to_lawful _ _ (second_lawful _ _ (just_lawful kind.Constants refl) (first_lawful _ _ list (just_lawful kind.Semicolon refl) (apart _ _ (λ t. refl) (λ t. refl) refl)) (λ t e. refl))
+
 pub section_lawful : (past : ℕ) → Lawful (section_form past)
-unfolding section_form variables definitions assignments constraint specification
+unfolding section_form variables definitions constants assignments constraint specification
 section_lawful past =
     or_lawful _ _ (variables_lawful past)
     (or_lawful _ _ (definitions_lawful past)
+    (or_lawful _ _ constants_lawful
     (or_lawful _ _ (assignments_lawful past)
     (or_lawful _ _ (constraint_lawful past) (specification_lawful past) refl refl (apart _ _ (λ t. refl) (λ t. refl) refl))
+    refl refl (apart _ _ (λ t. refl) (λ t. refl) refl))
     refl refl (apart _ _ (λ t. refl) (λ t. refl) refl))
     refl refl (apart _ _ (λ t. refl) (λ t. refl) refl))
     refl refl (apart _ _ (λ t. refl) (λ t. refl) refl)
@@ -171,24 +167,24 @@ parameters_lawful : Lawful (bracketed (to parameter_of identifier))
 parameters_lawful = bracketed_lawful _ (to_lawful _ _ identifier_lawful) refl (λ t e. refl) (λ t e. refl) (apart _ _ (λ t. refl) (λ t. refl) refl)
 
 pub sections_apart : (past : ℕ) (t : Token) → (section_form past).first t ≡ true → (section_form past).more t ≡ false
-unfolding section_form variables declaration written_type instance_type definitions definition assignments assignment left_side name member constraint specification given_name formula expression_within
+unfolding section_form variables declaration written_type range_type limit_start_within limit_start definitions definition constants assignments assignment left_side target name_from member index_within constraint specification given_name formula expression_within
 sections_apart past = apart _ _ (λ t. refl) (λ t. refl) refl
 
 -- a section is not empty
 pub sections_full : (past : ℕ) → (section_form past).nullable ≡ false
-unfolding section_form variables definitions assignments constraint specification
+unfolding section_form variables definitions constants assignments constraint specification
 sections_full past = refl
 
 sections_lawful : (past : ℕ) → Lawful (many (section_form past))
 sections_lawful past = many_lawful _ (section_lawful past) (sections_full past) (sections_apart past)
 
 pub module_lawful : (past : ℕ) → Lawful (module_form past)
-unfolding module_form section_form variables definitions assignments constraint specification
+unfolding module_form section_form variables definitions constants assignments constraint specification
 module_lawful past =
     to_lawful _ _ (then_lawful _ _ (just_lawful kind.Module refl) (then_lawful _ _ identifier_lawful (then_lawful _ _ parameters_lawful (sections_lawful past) (apart _ _ (λ t. refl) (λ t. refl) refl)) (λ t e. refl)) (λ t e. refl))
 
 pub modules_apart : (past : ℕ) (t : Token) → (module_form past).first t ≡ true → (module_form past).more t ≡ false
-unfolding module_form section_form variables declaration written_type instance_type definitions definition assignments assignment left_side name member constraint specification given_name formula expression_within
+unfolding module_form section_form variables declaration written_type range_type limit_start_within limit_start definitions definition constants assignments assignment left_side target name_from member index_within constraint specification given_name formula expression_within
 modules_apart past = apart _ _ (λ t. refl) (λ t. refl) refl
 
 pub modules_full : (past : ℕ) → (module_form past).nullable ≡ false
@@ -199,46 +195,11 @@ pub program_lawful : (past : ℕ) → Lawful (program past)
 unfolding program
 program_lawful past = to_lawful _ _ (many_lawful _ (module_lawful past) (modules_full past) (modules_apart past))
 
--- a and then b read alike, where each does
-module _ {A B : Type 0} (a a' : Form Token A) (b b' : Form Token B) (la : Alike a a') (lb : Alike b b') (same : (t : Token) → (then a b).first t ≡ (then a' b').first t) where
-  then_alike : Alike (then a b) (then a' b')
-  then_alike = record { parse = then_reads a a' b b' la lb; first = same }
-
-  second_alike : Alike (a ▹ b) (a' ▹ b')
-  second_alike = to_alike _ then_alike
-
-  first_alike : Alike (a ◃ b) (a' ◃ b')
-  first_alike = to_alike _ then_alike
-
--- a phrase behind one token
-behind_alike : {A : Type 0} (p : Token → Bool) (b b' : Form Token A) → Alike b b' → Alike (then (token false p) b) (then (token false p) b')
-behind_alike p b b' lb = then_alike (token false p) (token false p) b b' (same_form (token false p)) lb (λ t. refl)
-
-behind_only_alike : {A : Type 0} (p : Token → Bool) (b b' : Form Token A) → Alike b b' → Alike (token false p ▹ b) (token false p ▹ b')
-behind_only_alike p b b' lb = to_alike _ (behind_alike p b b' lb)
-
 expressions_alike : (past : ℕ) → Alike (expression 0) (expression past)
 expressions_alike past = expression_alike past most_levels
 
-arguments_alike : (past : ℕ) → Alike (bracketed (expression_within 0 under_one)) (bracketed (expression_within past under_one))
-unfolding expression_within
-arguments_alike past =
-    let given : Alike (expression_within 0 under_one) (expression_within past under_one) = expression_alike past under_one in
-    let more = many_alike _ _ (behind_only_alike (is_kind kind.Comma) _ _ given) in
-    let listed = to_alike (λ x. x.0 ∷ x.1) (then_alike _ _ _ _ given more (λ t. refl)) in
-    let inside = first_alike _ _ _ _ (to_alike or_none (maybe_alike _ _ listed)) (same_form (just kind.RightParen)) (λ t. refl) in
-    to_alike or_none (maybe_alike _ _ (behind_only_alike (is_kind kind.LeftParen) _ _ inside))
-
-instance_alike : (past : ℕ) → Alike (instance_type 0) (instance_type past)
-unfolding instance_type
-instance_alike past = to_alike _ (behind_alike is_identifier _ _ (arguments_alike past))
-
-type_alike : (past : ℕ) → Alike (written_type 0) (written_type past)
-unfolding written_type instance_type
-type_alike past = or_alike _ _ _ _ (same_form (to (λ t. type.Boolean t.place) (just kind.Boolean))) (instance_alike past) (λ t. refl)
-
 declaration_alike : (past : ℕ) → Alike (declaration 0) (declaration past)
-unfolding declaration written_type instance_type
+unfolding declaration written_type word_type signed_type enumeration identifier_type range_type limit_start_within limit_start name_from
 declaration_alike past =
     to_alike _ (behind_alike is_identifier _ _ (behind_only_alike (is_kind kind.Colon) _ _ (first_alike _ _ _ _ (type_alike past) (same_form (just kind.Semicolon)) (λ t. refl))))
 
@@ -255,10 +216,24 @@ definitions_alike : (past : ℕ) → Alike (definitions 0) (definitions past)
 unfolding definitions
 definitions_alike past = to_alike _ (behind_only_alike (is_kind kind.Define) _ _ (many_alike _ _ (definition_alike past)))
 
+target_alike : (past room : ℕ) → Alike (target 0 room) (target past room)
+unfolding target index_within
+target_alike past room = to_alike _ (then_alike _ _ _ _ (same_form name) (many_alike _ _ (index_within_alike past room)) (λ t. refl))
+
+sided_alike : (past : ℕ) (k : TokenKind) (which : AssignmentKind) → Alike (sided 0 k which) (sided past k which)
+unfolding target index_within
+sided_alike past k which =
+    to_alike _ (behind_alike (is_kind k) _ _ (behind_only_alike (is_kind kind.LeftParen) _ _ (first_alike _ _ _ _ (target_alike past under_one) (same_form (just kind.RightParen)) (λ t. refl))))
+
+left_alike : (past : ℕ) → Alike (left_side 0) (left_side past)
+unfolding left_side target index_within
+left_alike past =
+    or_alike _ _ _ _ (to_alike _ (target_alike past most_levels)) (or_alike _ _ _ _ (sided_alike past kind.Init side.Init) (sided_alike past kind.Next side.Next) (λ t. refl)) (λ t. refl)
+
 assignment_alike : (past : ℕ) → Alike (assignment 0) (assignment past)
-unfolding assignment left_side expression_within
+unfolding assignment left_side target index_within expression_within
 assignment_alike past =
-    to_alike _ (then_alike _ _ _ _ (same_form left_side) (behind_only_alike (is_kind kind.Becomes) _ _ (first_alike _ _ _ _ (expressions_alike past) (same_form (just kind.Semicolon)) (λ t. refl))) (λ t. refl))
+    to_alike _ (then_alike _ _ _ _ (left_alike past) (behind_only_alike (is_kind kind.Becomes) _ _ (first_alike _ _ _ _ (expressions_alike past) (same_form (just kind.Semicolon)) (λ t. refl))) (λ t. refl))
 
 assignments_alike : (past : ℕ) → Alike (assignments 0) (assignments past)
 unfolding assignments
@@ -282,8 +257,9 @@ unfolding section_form variables definitions assignments constraint specificatio
 section_alike past =
     or_alike _ _ _ _ (variables_alike past)
     (or_alike _ _ _ _ (definitions_alike past)
+    (or_alike _ _ _ _ (same_form constants)
     (or_alike _ _ _ _ (assignments_alike past)
-    (or_alike _ _ _ _ (constraint_alike past) (specification_alike past) (λ t. refl)) (λ t. refl)) (λ t. refl)) (λ t. refl)
+    (or_alike _ _ _ _ (constraint_alike past) (specification_alike past) (λ t. refl)) (λ t. refl)) (λ t. refl)) (λ t. refl)) (λ t. refl)
 
 module_alike : (past : ℕ) → Alike (module_form 0) (module_form past)
 unfolding module_form

@@ -1,4 +1,3 @@
-pub mod Expressions
+pub mod Types
 pub mod Programs
-pub mod Ranks
 pub mod Spelling

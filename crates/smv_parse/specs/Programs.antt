@@ -1,5 +1,5 @@
--- Modules and their sections (NuSMV 2.6 User Manual, 2.3), as far as the language goes today.
-use Rattle.std.specs.Prelude.{ℕ, Bool, false, ◌||◌, List, [], ◌∷◌, Option, None, Some}
+-- Modules and their sections (NuSMV 2.6 User Manual, 2.3).
+use Rattle.std.specs.Prelude.{ℕ, Bool, false, ◌||◌}
 use Rattle.phrase_forms.specs.Forms.{Form, token, or, maybe, many, to, ◌⨾◌, ◌▹◌, ◌◃◌}
 use Rattle.smv_tree.specs.declared.place.Place.{Place}
 use Rattle.smv_tree.specs.declared.token.Token.{Token}
@@ -14,8 +14,6 @@ use Rattle.smv_tree.specs.declared.tree.Variable.{Variable}
 use Rattle.smv_tree.specs.declared.tree.VariableKind.{VariableKind}
 use Rattle.smv_tree.specs.declared.tree.VariableKind.TheVariants as variable
 use Rattle.smv_tree.specs.declared.tree.Definition.{Definition}
-use Rattle.smv_tree.specs.declared.tree.TypeExpr.{TypeExpr}
-use Rattle.smv_tree.specs.declared.tree.TypeExpr.TheVariants as type
 use Rattle.smv_tree.specs.declared.tree.Assignment.{Assignment}
 use Rattle.smv_tree.specs.declared.tree.AssignmentKind.{AssignmentKind}
 use Rattle.smv_tree.specs.declared.tree.AssignmentKind.TheVariants as side
@@ -26,43 +24,14 @@ use Rattle.smv_tree.specs.declared.tree.SpecificationKind.TheVariants as claim
 use Rattle.smv_tree.specs.declared.tree.Expr.{Expr}
 use Rattle.smv_tree.specs.declared.tree.Expr.TheVariants as expr
 use Rattle.smv_tree.specs.Kinds.{is_kind}
-use Rattle.smv_phrases.specs.Names.{just, identifier, name, place_of}
-use Rattle.smv_parse.specs.Expressions.{expression_within, most_levels}
+use Rattle.smv_phrases.specs.Names.{just, identifier, identifier_of, name, place_of}
+use Rattle.smv_phrases.specs.Lists.{listed, bracketed}
+use Rattle.smv_expressions.specs.Expressions.{selected_by_all, expression_within, index_within, most_levels}
+use Rattle.smv_parse.specs.Types.{under_one, written_type}
 
 -- the expressions of a section: all levels may be opened in them, and then `past` that are too many
 abbrev pub expression : ℕ → Form Token Expr
 expression past = expression_within past most_levels
-
--- "," phrase
-abbrev pub further : {A : Type 0} → Form Token A → Form Token A
-further phrase = just kind.Comma ▹ phrase
-
--- phrases with commas between them
-abbrev pub listed : {A : Type 0} → Form Token A → Form Token (List A)
-listed phrase = to (λ x. x.0 ∷ x.1) (phrase ⨾ many (further phrase))
-
-abbrev pub or_none : {A : Type 0} → Option (List A) → List A
-or_none None = []
-or_none (Some xs) = xs
-
--- phrases with commas between them, or none
-abbrev pub maybe_listed : {A : Type 0} → Form Token A → Form Token (List A)
-maybe_listed phrase = to or_none (maybe (listed phrase))
-
--- those in parentheses; or nothing
-abbrev pub bracketed : {A : Type 0} → Form Token A → Form Token (List A)
-bracketed phrase = to or_none (maybe (just kind.LeftParen ▹ maybe_listed phrase ◃ just kind.RightParen))
-
--- the parentheses of an instance open a level
-abbrev pub under_one : ℕ
-under_one = 255
-
--- the name of a module, and what the instance is given
-unfoldable pub instance_type : ℕ → Form Token TypeExpr
-instance_type past = to (λ x. type.Instance x.0.place x.0.text x.1) (identifier ⨾ bracketed (expression_within past under_one))
-
-unfoldable pub written_type : ℕ → Form Token TypeExpr
-written_type past = or (to (λ t. type.Boolean t.place) (just kind.Boolean)) (instance_type past)
 
 -- identifier ":" type ";"
 unfoldable pub declaration : ℕ → Form Token Variable
@@ -89,22 +58,30 @@ definition past = to (λ x. record { place = x.0.place; name = x.0.text; body = 
 unfoldable pub definitions : ℕ → Form Token Section
 definitions past = to section.Definitions (just kind.Define ▹ many (definition past))
 
+-- "CONSTANTS", identifiers with commas between them, and ";"
+unfoldable pub constants : Form Token Section
+constants = to section.Constants (just kind.Constants ▹ listed (to identifier_of identifier) ◃ just kind.Semicolon)
+
 -- the left side of an assignment: its place, what it speaks of, and the variable
 abbrev pub Left : Type 0
 Left = Place × AssignmentKind × Expr
 
--- keyword "(" name ")"
-abbrev pub sided : TokenKind → AssignmentKind → Form Token Left
-sided keyword which = to (λ x. (x.0.place, which, expr.Name x.1)) (just keyword ⨾ just kind.LeftParen ▹ name ◃ just kind.RightParen)
+-- a name and its indices, with its place
+unfoldable pub target : ℕ → ℕ → Form Token (Place × Expr)
+target past room = to (λ x. (place_of x.0, selected_by_all (expr.Name x.0) x.1)) (name ⨾ many (index_within past room))
 
--- name, "init" "(" name ")", or "next" "(" name ")"
-unfoldable pub left_side : Form Token Left
-left_side = or (to (λ n. (place_of n, side.Current, expr.Name n)) name) (or (sided kind.Init side.Init) (sided kind.Next side.Next))
+-- keyword "(" target ")"
+abbrev pub sided : ℕ → TokenKind → AssignmentKind → Form Token Left
+sided past keyword which = to (λ x. (x.0.place, which, x.1.1)) (just keyword ⨾ just kind.LeftParen ▹ target past under_one ◃ just kind.RightParen)
+
+-- target, "init" "(" target ")", or "next" "(" target ")"
+unfoldable pub left_side : ℕ → Form Token Left
+left_side past = or (to (λ x. (x.0, side.Current, x.1)) (target past most_levels)) (or (sided past kind.Init side.Init) (sided past kind.Next side.Next))
 
 -- left ":=" expression ";"
 unfoldable pub assignment : ℕ → Form Token Assignment
 assignment past =
-    to (λ x. record { place = x.0.0; kind = x.0.1; target = x.0.2; value = x.1 }) (left_side ⨾ just kind.Becomes ▹ expression past ◃ just kind.Semicolon)
+    to (λ x. record { place = x.0.0; kind = x.0.1; target = x.0.2; value = x.1 }) (left_side past ⨾ just kind.Becomes ▹ expression past ◃ just kind.Semicolon)
 
 -- "ASSIGN" and its assignments
 unfoldable pub assignments : ℕ → Form Token Section
@@ -147,7 +124,7 @@ specification past =
     to (λ x. section.Specification (record { place = x.0.place; kind = kind_claimed x.0.kind; formula = x.1 })) (token false claims ⨾ maybe given_name ▹ formula past)
 
 unfoldable pub section_form : ℕ → Form Token Section
-section_form past = or (variables past) (or (definitions past) (or (assignments past) (or (constraint past) (specification past))))
+section_form past = or (variables past) (or (definitions past) (or constants (or (assignments past) (or (constraint past) (specification past)))))
 
 abbrev pub parameter_of : Token → Parameter
 parameter_of t = record { place = t.place; name = t.text }

@@ -1,5 +1,5 @@
 -- What tokens are a program, and why tokens are refused.
-use Rattle.std.specs.Prelude.{◌≡◌, ℕ, Bool, true, false, ◌&&◌, ◌||◌, not, if◌then◌else◌, List, [], ◌∷◌, ◌++◌, Option, None, Some, codes}
+use Rattle.std.specs.Prelude.{◌≡◌, ℕ, Bool, true, false, ◌==◌, ◌&&◌, ◌||◌, not, if◌then◌else◌, List, [], ◌∷◌, ◌++◌, Option, None, Some, codes}
 use Rattle.phrase_forms.specs.declared.fault.Fault.{Fault}
 use Rattle.phrase_forms.specs.declared.fault.Fault.TheVariants as fault
 use Rattle.phrase_forms.specs.Forms.{head}
@@ -14,16 +14,18 @@ use Rattle.smv_tree.specs.declared.refusal.Rule.TheVariants as rule
 use Rattle.smv_tree.specs.declared.refusal.TextStop.{TextStop}
 use Rattle.smv_tree.specs.declared.refusal.TextStop.TheVariants.{Refused, NoMemory}
 use Rattle.smv_tree.specs.declared.tree.Program.{Program}
-use Rattle.smv_tree.specs.Kinds.{is_kind}
+use Rattle.smv_tree.specs.Kinds.{number_of, is_kind}
+use Rattle.smv_expressions.specs.Operators.{names_function}
 use Rattle.smv_parse.specs.Programs.{program}
 
--- the kinds of tokens that have a place in the language today
+-- the kinds of tokens that have a place in the language: all but the words of NuSMV that it does without, and those of arrays
 abbrev pub is_in_use : TokenKind → Bool
 is_in_use kind.Module = true
 is_in_use kind.Var = true
 is_in_use kind.Ivar = true
 is_in_use kind.FrozenVar = true
 is_in_use kind.Define = true
+is_in_use kind.Constants = true
 is_in_use kind.Assign = true
 is_in_use kind.InitSection = true
 is_in_use kind.Invar = true
@@ -34,13 +36,28 @@ is_in_use kind.Invarspec = true
 is_in_use kind.Ltlspec = true
 is_in_use kind.Name = true
 is_in_use kind.Boolean = true
+is_in_use kind.Word = true
+is_in_use kind.Unsigned = true
+is_in_use kind.Signed = true
 is_in_use kind.SelfName = true
 is_in_use kind.Init = true
 is_in_use kind.Next = true
 is_in_use kind.True = true
 is_in_use kind.False = true
+is_in_use kind.Case = true
+is_in_use kind.Esac = true
+is_in_use kind.Mod = true
+is_in_use kind.Union = true
+is_in_use kind.In = true
 is_in_use kind.Xor = true
 is_in_use kind.Xnor = true
+is_in_use kind.Word1 = true
+is_in_use kind.Bool = true
+is_in_use kind.Extend = true
+is_in_use kind.Resize = true
+is_in_use kind.Sizeof = true
+is_in_use kind.Uwconst = true
+is_in_use kind.Swconst = true
 is_in_use kind.NextTime = true
 is_in_use kind.Finally = true
 is_in_use kind.Globally = true
@@ -52,65 +69,118 @@ is_in_use kind.Once = true
 is_in_use kind.Historically = true
 is_in_use kind.Since = true
 is_in_use kind.Triggered = true
-is_in_use kind.Identifier = true
 is_in_use kind.Abs = true
 is_in_use kind.Max = true
 is_in_use kind.Min = true
 is_in_use kind.Count = true
+is_in_use kind.Identifier = true
+is_in_use kind.Integer = true
+is_in_use kind.WordConstant = true
 is_in_use kind.LeftParen = true
 is_in_use kind.RightParen = true
-is_in_use kind.Integer = true
 is_in_use kind.LeftBracket = true
 is_in_use kind.RightBracket = true
+is_in_use kind.LeftBrace = true
+is_in_use kind.RightBrace = true
 is_in_use kind.Comma = true
 is_in_use kind.Semicolon = true
 is_in_use kind.Colon = true
 is_in_use kind.Dot = true
+is_in_use kind.DotDot = true
 is_in_use kind.Becomes = true
+is_in_use kind.Concat = true
 is_in_use kind.Equal = true
 is_in_use kind.NotEqual = true
-is_in_use kind.Not = true
+is_in_use kind.Less = true
+is_in_use kind.Greater = true
+is_in_use kind.LessEqual = true
+is_in_use kind.GreaterEqual = true
+is_in_use kind.Plus = true
+is_in_use kind.Minus = true
+is_in_use kind.Times = true
+is_in_use kind.Divide = true
 is_in_use kind.And = true
 is_in_use kind.Or = true
+is_in_use kind.Not = true
 is_in_use kind.Question = true
 is_in_use kind.Implies = true
 is_in_use kind.Iff = true
+is_in_use kind.ShiftLeft = true
+is_in_use kind.ShiftRight = true
 is_in_use other = false
 
--- the words that name a function before "("
-abbrev pub names_function : Token → Bool
-names_function t = is_kind kind.Abs t || is_kind kind.Max t || is_kind kind.Min t || is_kind kind.Count t
+-- The gate: what has its place in the grammar, and no answer of the checker yet.
 
--- the tokens begin with an integer and "]"
-abbrev pub is_high : List Token → Bool
-is_high [] = false
-is_high (t ∷ rest) = is_kind kind.Integer t && head (is_kind kind.RightBracket) rest
+-- the kinds of tokens of integers, enumerations, words and sets
+abbrev pub is_held_kind : TokenKind → Bool
+is_held_kind kind.Constants = true
+is_held_kind kind.Word = true
+is_held_kind kind.Unsigned = true
+is_held_kind kind.Signed = true
+is_held_kind kind.Case = true
+is_held_kind kind.Esac = true
+is_held_kind kind.Mod = true
+is_held_kind kind.Union = true
+is_held_kind kind.In = true
+is_held_kind kind.Word1 = true
+is_held_kind kind.Bool = true
+is_held_kind kind.Extend = true
+is_held_kind kind.Resize = true
+is_held_kind kind.Sizeof = true
+is_held_kind kind.Uwconst = true
+is_held_kind kind.Swconst = true
+is_held_kind kind.WordConstant = true
+is_held_kind kind.LeftBrace = true
+is_held_kind kind.RightBrace = true
+is_held_kind kind.DotDot = true
+is_held_kind kind.Concat = true
+is_held_kind kind.Less = true
+is_held_kind kind.Greater = true
+is_held_kind kind.LessEqual = true
+is_held_kind kind.GreaterEqual = true
+is_held_kind kind.Plus = true
+is_held_kind kind.Minus = true
+is_held_kind kind.Times = true
+is_held_kind kind.Divide = true
+is_held_kind kind.ShiftLeft = true
+is_held_kind kind.ShiftRight = true
+is_held_kind other = false
 
--- with ",", an integer and "]"
-abbrev pub goes_on_to_high : List Token → Bool
-goes_on_to_high [] = false
-goes_on_to_high (t ∷ rest) = is_kind kind.Comma t && is_high rest
+-- there is a token, and it is of this kind
+abbrev pub was : TokenKind → Option TokenKind → Bool
+was k None = false
+was k (Some before) = number_of k == number_of before
 
--- with two bounds and "]"
-abbrev pub are_bounds : List Token → Bool
-are_bounds [] = false
-are_bounds (t ∷ rest) = is_kind kind.Integer t && goes_on_to_high rest
+-- the token is a temporal operator with one operand: "[" behind it is none that selects
+abbrev pub is_temporal : Option TokenKind → Bool
+is_temporal near =
+    was kind.Finally near || was kind.Globally near || was kind.Once near || was kind.Historically near || was kind.NextTime near || was kind.PreviousTime near
+    || was kind.WeakPreviousTime near
 
--- an integer, or "[", that is none of the bounds of a temporal operator by the tokens behind it
-abbrev pub is_out_of_bounds : Token → List Token → Bool
-is_out_of_bounds t rest =
-    (is_kind kind.LeftBracket t && not (are_bounds rest))
-    || (is_kind kind.Integer t && not (goes_on_to_high rest || head (is_kind kind.RightBracket) rest))
+-- an integer behind these two tokens is a bound: the nearer one is "[", or "," behind an integer
+abbrev pub may_be_bound : Option TokenKind → Option TokenKind → Bool
+may_be_bound near far = was kind.LeftBracket near || (was kind.Comma near && was kind.Integer far)
 
--- The token goes beyond the language: it has no place in it, names a function of integers, or is an integer or "[" where no bounds
--- are. The tokens behind it are given.
-abbrev pub is_unsupported : Token → List Token → Bool
-is_unsupported t rest = not (is_in_use t.kind) || (names_function t && head (is_kind kind.LeftParen) rest) || is_out_of_bounds t rest
+-- The token is held back, where these are the two tokens before it and those behind it: it is of such a kind, names a function,
+-- is "[" behind no temporal operator, or an integer that is no bound of one.
+abbrev pub is_held_back : Option TokenKind → Option TokenKind → Token → List Token → Bool
+is_held_back near far t rest =
+    is_held_kind t.kind || (names_function t && head (is_kind kind.LeftParen) rest) || (is_kind kind.LeftBracket t && not (is_temporal near))
+    || (is_kind kind.Integer t && not (may_be_bound near far))
 
--- the first token that goes beyond the language
-unfoldable pub first_unsupported : List Token → Option Token
-first_unsupported [] = None
-first_unsupported (t ∷ ts) = if is_unsupported t ts then Some t else first_unsupported ts
+-- The token goes beyond the language: it has no place in it, or is held back. The two tokens before it are given, the nearer one
+-- first, and those behind it.
+abbrev pub is_unsupported : Option TokenKind → Option TokenKind → Token → List Token → Bool
+is_unsupported near far t rest = not (is_in_use t.kind) || is_held_back near far t rest
+
+-- the first token that goes beyond the language, where these two stand before
+unfoldable pub first_unsupported_behind : Option TokenKind → Option TokenKind → List Token → Option Token
+first_unsupported_behind near far [] = None
+first_unsupported_behind near far (t ∷ ts) = if is_unsupported near far t ts then Some t else first_unsupported_behind (Some t.kind) near ts
+
+-- the first of all of the tokens that goes beyond the language
+abbrev pub first_unsupported : List Token → Option Token
+first_unsupported ts = first_unsupported_behind None None ts
 
 -- the tokens spell the program, and none goes beyond the language
 pub record IsSpelling (tokens : List Token) (p : Program) : Type 0 where

@@ -1,11 +1,10 @@
 //! The grammar of the language: from the tokens of a source to its program (NuSMV 2.6 User Manual, chapter 2).
 #![tactic(auto)]
 
-mod expressions;
+mod declarations;
 mod laws;
 mod parsing;
 mod programs;
-mod temporal;
 mod types;
 mod unsupported;
 

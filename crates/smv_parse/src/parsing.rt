@@ -81,13 +81,14 @@ fn unsupported_refusal(alloc: Global, token: &Token) -> Result<Refusal, AllocErr
     })
 }
 
-/// The program that the tokens of a source spell (NuSMV 2.6 User Manual, chapter 2, as far as the language goes today;
-/// the levels of precedence, a `;` that may be left out behind the formula of a constraint or a specification, and at
+/// The program that the tokens of a source spell (NuSMV 2.6 User Manual, chapter 2, without arrays; the
+/// levels of precedence, a `;` that may be left out behind the formula of a constraint or a specification, and at
 /// most 256 levels that are open at one place are own choices of this project).
 ///
 /// Tokens that spell no program are refused at one place:
 /// - `Unsupported`: the first token that goes beyond the language, whatever stands before it. It has no place in the
-///   language, or names a function of integers before `(`. Its text is the detail.
+///   language, or it is held back: the words and symbols of integers, enumerations, words and sets are, until the checker
+///   answers them. Its text is the detail.
 /// - `Unexpected`, where none does: the first token with which the tokens no longer begin a program of any depth; its
 ///   text is the detail. Where they begin one and end too early, the end, with the detail `end`.
 /// - `TooDeep`, where none does: the first token that opens a 257th level, if the tokens up to it begin a program of

@@ -4,12 +4,14 @@ ghost use Rattle.std.specs.Prelude.{◌≡◌, false, IfOk};
 ghost use Rattle.phrase_forms.specs.Forms.{token, many, maybe, to, head};
 ghost use Rattle.std.specs.Option.{option_copied};
 ghost use Rattle.smv_phrases.specs.Names.{identifier};
-ghost use Rattle.smv_parse.specs.Programs.{expression, further, listed, maybe_listed, bracketed, definition, definitions, sided, left_side, assignment, assignments, formula, constrains, kind_asked, constraint, claims, kind_claimed, given_name, specification, section_form, parameter_of, module_form, program};
+ghost use Rattle.smv_phrases.specs.Lists.{further, listed, maybe_listed, bracketed};
+ghost use Rattle.smv_parse.specs.Programs.{expression, definition, definitions, target, sided, left_side, assignment, assignments, formula, constrains, kind_asked, constraint, claims, kind_claimed, given_name, specification, section_form, parameter_of, module_form, program};
 ghost use Rattle.smv_phrases.specs.Reading.{Gives};
 
-use crate::expressions;
-use crate::types::{declares, variables};
+use crate::declarations::{constants, declares, variables};
+use crate::types::{MOST_LEVELS, UNDER_ONE};
 use phrase_forms::Fault;
+use smv_expressions::indexed;
 use smv_phrases::{
     Stop, begins, begins_name, identifier, is_identifier, is_kind, just, name, place_of,
 };
@@ -20,9 +22,6 @@ use smv_tree::{
 use sqlite_items::Items;
 use std::alloc::{AllocError, Global};
 
-/// So many levels may be open in the expression of a section.
-const MOST_LEVELS: usize = 256;
-
 /// The left side of an assignment: its place, what it speaks of, and the variable.
 type Left = (Place, AssignmentKind, Expr);
 
@@ -30,7 +29,7 @@ type Left = (Place, AssignmentKind, Expr);
 fn expression<'a>(alloc: Global, tokens: &'a [Token]) -> Result<(Expr, &'a [Token]), Stop<'a>>
     ensures { Gives (λ x. (x.0, x.1.now)) result ((expression 0).parse tokens.now) }
 {
-    expressions::expression(alloc, MOST_LEVELS, tokens)
+    smv_expressions::expression(alloc, MOST_LEVELS, tokens)
 }
 
 /// Identifier `:=` expression `;`
@@ -88,32 +87,51 @@ fn definitions<'a>(alloc: Global, tokens: &'a [Token]) -> Result<(Section, &'a [
     Ok((Section::Definitions(definitions), tokens))
 }
 
-/// Keyword `(` name `)`
+/// A name and its indices, with its place.
+fn target<'a>(
+    alloc: Global,
+    room: usize,
+    tokens: &'a [Token],
+) -> Result<((Place, Expr), &'a [Token]), Stop<'a>>
+    ensures { Gives (λ x. ((x.0.0, x.0.1), x.1.now)) result ((target 0 room).parse tokens.now) }
+{
+    let (name, tokens) = name(alloc, tokens)?;
+    let place = place_of(&name);
+    let mut whole = Expr::Name(name);
+    let mut rest = tokens;
+    'indices: while begins(TokenKind::LeftBracket, rest) {
+        let (more, after) = indexed(alloc, room, whole, rest)?;
+        whole = more;
+        rest = after;
+    }
+    Ok(((place, whole), rest))
+}
+
+/// Keyword `(` target `)`
 fn sided<'a>(
     alloc: Global,
     keyword: TokenKind,
     kind: AssignmentKind,
     tokens: &'a [Token],
 ) -> Result<(Left, &'a [Token]), Stop<'a>>
-    ensures { Gives (λ x. (x.0, x.1.now)) result ((sided keyword kind).parse tokens.now) }
+    ensures { Gives (λ x. (x.0, x.1.now)) result ((sided 0 keyword kind).parse tokens.now) }
 {
     let (first, tokens) = just(keyword, tokens)?;
     let (_, tokens) = just(TokenKind::LeftParen, tokens)?;
-    let (target, tokens) = name(alloc, tokens)?;
+    let ((_, target), tokens) = target(alloc, UNDER_ONE, tokens)?;
     let (_, tokens) = just(TokenKind::RightParen, tokens)?;
-    Ok(((first.place, kind, Expr::Name(target)), tokens))
+    Ok(((first.place, kind, target), tokens))
 }
 
-/// Name, `init` `(` name `)`, or `next` `(` name `)`.
-#[tactic(auto, unfolding(crate::specs::Programs::left_side, smv_phrases::specs::Names::name))]
+/// Target, `init` `(` target `)`, or `next` `(` target `)`.
+#[tactic(auto, unfolding(crate::specs::Programs::left_side, crate::specs::Programs::target, smv_phrases::specs::Names::name_from))]
 fn left_side<'a>(alloc: Global, tokens: &'a [Token]) -> Result<(Left, &'a [Token]), Stop<'a>>
-    ensures { Gives (λ x. (x.0, x.1.now)) result (left_side.parse tokens.now) }
+    ensures { Gives (λ x. (x.0, x.1.now)) result ((left_side 0).parse tokens.now) }
 {
     match tokens {
         [first, ..] if begins_name(first) => {
-            let (target, tokens) = name(alloc, tokens)?;
-            let place = place_of(&target);
-            Ok(((place, AssignmentKind::Current, Expr::Name(target)), tokens))
+            let ((place, target), tokens) = target(alloc, MOST_LEVELS, tokens)?;
+            Ok(((place, AssignmentKind::Current, target), tokens))
         }
         [first, ..] if is_kind(TokenKind::Init, first) => {
             sided(alloc, TokenKind::Init, AssignmentKind::Init, tokens)
@@ -141,7 +159,7 @@ fn assignment<'a>(alloc: Global, tokens: &'a [Token]) -> Result<(Assignment, &'a
 }
 
 /// Whether an assignment begins here.
-#[tactic(auto, unfolding(crate::specs::Programs::assignment, crate::specs::Programs::left_side, smv_phrases::specs::Names::name))]
+#[tactic(auto, unfolding(crate::specs::Programs::assignment, crate::specs::Programs::left_side, crate::specs::Programs::target, smv_phrases::specs::Names::name_from))]
 fn begins_assignment(tokens: &[Token]) -> bool
     ensures { result ≡ head (assignment 0).first tokens.now }
 {
@@ -309,13 +327,14 @@ fn specification<'a>(alloc: Global, tokens: &'a [Token]) -> Result<(Section, &'a
 }
 
 /// A section of a module.
-#[tactic(auto, unfolding(crate::specs::Programs::section_form, crate::specs::Programs::variables, crate::specs::Programs::definitions, crate::specs::Programs::assignments, crate::specs::Programs::constraint))]
+#[tactic(auto, unfolding(crate::specs::Programs::section_form, crate::specs::Programs::variables, crate::specs::Programs::definitions, crate::specs::Programs::constants, crate::specs::Programs::assignments, crate::specs::Programs::constraint))]
 fn section<'a>(alloc: Global, tokens: &'a [Token]) -> Result<(Section, &'a [Token]), Stop<'a>>
     ensures { Gives (λ x. (x.0, x.1.now)) result ((section_form 0).parse tokens.now) }
 {
     match tokens {
         [first, ..] if declares(first) => variables(alloc, tokens),
         [first, ..] if is_kind(TokenKind::Define, first) => definitions(alloc, tokens),
+        [first, ..] if is_kind(TokenKind::Constants, first) => constants(alloc, tokens),
         [first, ..] if is_kind(TokenKind::Assign, first) => assignments(alloc, tokens),
         [first, ..] if constrains(first) => constraint(alloc, tokens),
         _ => specification(alloc, tokens),
@@ -323,7 +342,7 @@ fn section<'a>(alloc: Global, tokens: &'a [Token]) -> Result<(Section, &'a [Toke
 }
 
 /// Whether a section begins here.
-#[tactic(auto, unfolding(crate::specs::Programs::section_form, crate::specs::Programs::variables, crate::specs::Programs::definitions, crate::specs::Programs::assignments, crate::specs::Programs::constraint, crate::specs::Programs::specification))]
+#[tactic(auto, unfolding(crate::specs::Programs::section_form, crate::specs::Programs::variables, crate::specs::Programs::definitions, crate::specs::Programs::constants, crate::specs::Programs::assignments, crate::specs::Programs::constraint, crate::specs::Programs::specification))]
 fn begins_section(tokens: &[Token]) -> bool
     ensures { result ≡ head (section_form 0).first tokens.now }
 {
@@ -331,6 +350,7 @@ fn begins_section(tokens: &[Token]) -> bool
         [first, ..] => {
             declares(first)
                 || is_kind(TokenKind::Define, first)
+                || is_kind(TokenKind::Constants, first)
                 || is_kind(TokenKind::Assign, first)
                 || constrains(first)
                 || claims(first)

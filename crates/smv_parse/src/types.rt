@@ -1,189 +1,316 @@
-//! Types and declarations, read from the front of tokens (NuSMV 2.6 User Manual, 2.1 and 2.3.1).
+//! Types as they are written, read from the front of tokens (NuSMV 2.6 User Manual, 2.1).
 
-ghost use Rattle.std.specs.Prelude.{◌≡◌, false};
-ghost use Rattle.phrase_forms.specs.Forms.{token, many, head};
-ghost use Rattle.smv_parse.specs.Expressions.{expression_within};
-ghost use Rattle.smv_parse.specs.Programs.{further, listed, maybe_listed, bracketed, under_one, instance_type, written_type, declaration, declares, kind_declared, variables};
+ghost use Rattle.std.specs.Prelude.{◌≡◌, ◌++◌, false, IfOk};
+ghost use Rattle.phrase_forms.specs.Forms.{token, to, head};
+ghost use Rattle.smv_phrases.specs.Lists.{further, listed, maybe_listed};
 ghost use Rattle.smv_phrases.specs.Reading.{Gives};
+ghost use Rattle.smv_expressions.specs.Expressions.{expression_within};
+ghost use Rattle.smv_parse.specs.Types.{under_one, width, word_type, is_sign, signed_type, symbol_of, integer_of, negative_of, element, enumeration, upper, instance_of, given, goes_on_range, named_range, range_of, behind_identifier, identifier_type, range_type, written_type};
 
-use crate::expressions::{begins_expression, expression};
 use phrase_forms::Fault;
-use smv_phrases::{Stop, begins, identifier, is_identifier, is_kind, just};
-use smv_tree::{Expr, Section, Token, TokenKind, TypeExpr, Variable, VariableKind};
+use plain_text::Text;
+use smv_expressions::{begins_expression, goes_on_limit, limit, limit_start, limited, listed};
+use smv_phrases::{
+    Stop, begins, identifier, identifier_of, is_identifier, is_kind, just, members, number_of,
+};
+use smv_tree::{Expr, Name, Start, Token, TokenKind, TypeExpr, WrittenElement};
 use sqlite_items::Items;
-use std::alloc::Global;
+use std::alloc::{AllocError, Global};
 
-/// So many levels may be open between the parentheses of an instance, which are a level themselves.
-const UNDER_ONE: usize = 255;
+/// So many levels may be open at one place.
+pub const MOST_LEVELS: usize = 256;
 
-/// An expression between the parentheses of an instance.
-fn argument<'a>(alloc: Global, tokens: &'a [Token]) -> Result<(Expr, &'a [Token]), Stop<'a>>
-    ensures { Gives (λ x. (x.0, x.1.now)) result ((expression_within 0 under_one).parse tokens.now) }
+/// So many levels may be open under one.
+pub const UNDER_ONE: usize = 255;
+
+/// `[` limit `]`
+fn width<'a>(alloc: Global, tokens: &'a [Token]) -> Result<(Expr, &'a [Token]), Stop<'a>>
+    ensures { Gives (λ x. (x.0, x.1.now)) result ((width 0).parse tokens.now) }
 {
-    expression(alloc, UNDER_ONE, tokens)
+    let (_, tokens) = just(TokenKind::LeftBracket, tokens)?;
+    let (width, tokens) = limit(alloc, UNDER_ONE, tokens)?;
+    let (_, tokens) = just(TokenKind::RightBracket, tokens)?;
+    Ok((width, tokens))
 }
 
-/// `,` expression
-fn further_argument<'a>(alloc: Global, tokens: &'a [Token]) -> Result<(Expr, &'a [Token]), Stop<'a>>
-    ensures { Gives (λ x. (x.0, x.1.now)) result ((further (expression_within 0 under_one)).parse tokens.now) }
+/// `word` width
+#[tactic(auto, unfolding(crate::specs::Types::word_type))]
+fn word_type<'a>(alloc: Global, tokens: &'a [Token]) -> Result<(TypeExpr, &'a [Token]), Stop<'a>>
+    ensures { Gives (λ x. (x.0, x.1.now)) result ((word_type 0).parse tokens.now) }
 {
-    let (_, tokens) = just(TokenKind::Comma, tokens)?;
-    let (argument, tokens) = argument(alloc, tokens)?;
-    Ok((argument, tokens))
+    let (word, tokens) = just(TokenKind::Word, tokens)?;
+    let (width, tokens) = width(alloc, tokens)?;
+    Ok((TypeExpr::Word(word.place, false, width), tokens))
 }
 
-/// Expressions with commas between them.
-fn listed_arguments<'a>(
+/// Whether the token is `unsigned` or `signed`.
+fn is_sign(token: &Token) -> bool
+    ensures { result ≡ is_sign token.now }
+{
+    is_kind(TokenKind::Unsigned, token) || is_kind(TokenKind::Signed, token)
+}
+
+/// `unsigned` or `signed`.
+fn sign(tokens: &[Token]) -> Result<(&Token, &[Token]), Stop<'_>>
+    ensures { Gives (λ x. (x.0.now, x.1.now)) result ((token false is_sign).parse tokens.now) }
+{
+    match tokens {
+        [first, rest @ ..] if is_sign(first) => Ok((first, rest)),
+        _ => Err(Stop::Refused(Fault::Unexpected, tokens)),
+    }
+}
+
+/// `unsigned` or `signed`, and `word` width.
+#[tactic(auto, unfolding(crate::specs::Types::signed_type))]
+fn signed_type<'a>(alloc: Global, tokens: &'a [Token]) -> Result<(TypeExpr, &'a [Token]), Stop<'a>>
+    ensures { Gives (λ x. (x.0, x.1.now)) result ((signed_type 0).parse tokens.now) }
+{
+    let (sign, tokens) = sign(tokens)?;
+    let (_, tokens) = just(TokenKind::Word, tokens)?;
+    let (width, tokens) = width(alloc, tokens)?;
+    let signed = is_kind(TokenKind::Signed, sign);
+    Ok((TypeExpr::Word(sign.place, signed, width), tokens))
+}
+
+/// The element that an identifier is.
+fn symbol_of(alloc: Global, token: &Token) -> Result<WrittenElement, AllocError>
+    ensures { IfOk result (λ e. e ≡ symbol_of token.now) }
+{
+    Ok(WrittenElement {
+        place: token.place,
+        text: token.text.copy(alloc)?,
+        number: None,
+    })
+}
+
+/// The element that an integer is.
+fn integer_of(alloc: Global, token: &Token) -> Result<WrittenElement, AllocError>
+    ensures { IfOk result (λ e. e ≡ integer_of token.now) }
+{
+    Ok(WrittenElement {
+        place: token.place,
+        text: token.text.copy(alloc)?,
+        number: Some(number_of(token) as i32),
+    })
+}
+
+/// Two texts, one behind the other.
+fn joined(alloc: Global, first: &Text, second: &Text) -> Result<Text, AllocError>
+    ensures { IfOk result (λ text. text ≡ first.now ++ second.now) }
+{
+    let mut text = String::from_str(alloc, first.as_str())?;
+    text.push_str(second.as_str())?;
+    Text::from_str(alloc, text.as_str())
+}
+
+/// The element that `-` and an integer are.
+fn negative_of(alloc: Global, minus: &Token, token: &Token) -> Result<WrittenElement, AllocError>
+    ensures { IfOk result (λ e. e ≡ negative_of (minus.now, token.now)) }
+{
+    Ok(WrittenElement {
+        place: minus.place,
+        text: joined(alloc, &minus.text, &token.text)?,
+        number: Some(-(number_of(token) as i32)),
+    })
+}
+
+/// Identifier, integer, or `-` integer.
+#[tactic(auto, unfolding(crate::specs::Types::element))]
+fn element<'a>(
     alloc: Global,
     tokens: &'a [Token],
-) -> Result<(Items<Expr>, &'a [Token]), Stop<'a>>
-    ensures { Gives (λ x. (x.0, x.1.now)) result ((listed (expression_within 0 under_one)).parse tokens.now) }
+) -> Result<(WrittenElement, &'a [Token]), Stop<'a>>
+    ensures { Gives (λ x. (x.0, x.1.now)) result (element.parse tokens.now) }
 {
-    let (first, tokens) = argument(alloc, tokens)?;
+    match tokens {
+        [first, rest @ ..] if is_identifier(first) => Ok((symbol_of(alloc, first)?, rest)),
+        [first, rest @ ..] if is_kind(TokenKind::Integer, first) => {
+            Ok((integer_of(alloc, first)?, rest))
+        }
+        _ => {
+            let (minus, tokens) = just(TokenKind::Minus, tokens)?;
+            let (number, tokens) = just(TokenKind::Integer, tokens)?;
+            let element = negative_of(alloc, minus, number)?;
+            Ok((element, tokens))
+        }
+    }
+}
+
+/// `,` element
+fn further_element<'a>(
+    alloc: Global,
+    tokens: &'a [Token],
+) -> Result<(WrittenElement, &'a [Token]), Stop<'a>>
+    ensures { Gives (λ x. (x.0, x.1.now)) result ((further element).parse tokens.now) }
+{
+    let (_, tokens) = just(TokenKind::Comma, tokens)?;
+    let (element, tokens) = element(alloc, tokens)?;
+    Ok((element, tokens))
+}
+
+/// Elements with commas between them.
+fn listed_elements<'a>(
+    alloc: Global,
+    tokens: &'a [Token],
+) -> Result<(Items<WrittenElement>, &'a [Token]), Stop<'a>>
+    ensures { Gives (λ x. (x.0, x.1.now)) result ((listed element).parse tokens.now) }
+{
+    let (first, tokens) = element(alloc, tokens)?;
     let mut all = Items::new(alloc);
     all.push(first)?;
     let mut rest = tokens;
     'phrases: while begins(TokenKind::Comma, rest) {
-        let (one, after) = further_argument(alloc, rest)?;
+        let (one, after) = further_element(alloc, rest)?;
         all.push(one)?;
         rest = after;
     }
     Ok((all, rest))
 }
 
-/// What an instance is given between its parentheses: expressions with commas between them, or nothing.
-#[tactic(auto, unfolding(crate::specs::Expressions::expression_within))]
-fn given<'a>(alloc: Global, tokens: &'a [Token]) -> Result<(Items<Expr>, &'a [Token]), Stop<'a>>
+/// `{`, elements with commas between them, and `}`.
+#[tactic(auto, unfolding(crate::specs::Types::enumeration))]
+fn enumeration<'a>(alloc: Global, tokens: &'a [Token]) -> Result<(TypeExpr, &'a [Token]), Stop<'a>>
+    ensures { Gives (λ x. (x.0, x.1.now)) result (enumeration.parse tokens.now) }
+{
+    let (brace, tokens) = just(TokenKind::LeftBrace, tokens)?;
+    let (elements, tokens) = listed_elements(alloc, tokens)?;
+    let (_, tokens) = just(TokenKind::RightBrace, tokens)?;
+    Ok((TypeExpr::Enumeration(brace.place, elements), tokens))
+}
+
+/// `..` limit
+fn upper<'a>(alloc: Global, tokens: &'a [Token]) -> Result<(Expr, &'a [Token]), Stop<'a>>
+    ensures { Gives (λ x. (x.0, x.1.now)) result ((upper 0).parse tokens.now) }
+{
+    let (_, tokens) = just(TokenKind::DotDot, tokens)?;
+    let (upper, tokens) = limit(alloc, MOST_LEVELS, tokens)?;
+    Ok((upper, tokens))
+}
+
+/// Expressions with commas between them, or nothing.
+#[tactic(auto, unfolding(smv_expressions::specs::Expressions::expression_within))]
+fn maybe_arguments<'a>(
+    alloc: Global,
+    tokens: &'a [Token],
+) -> Result<(Items<Expr>, &'a [Token]), Stop<'a>>
     ensures { Gives (λ x. (x.0, x.1.now)) result ((maybe_listed (expression_within 0 under_one)).parse tokens.now) }
 {
     match tokens {
-        [first, ..] if begins_expression(first) => listed_arguments(alloc, tokens),
+        [first, ..] if begins_expression(first) => listed(alloc, UNDER_ONE, tokens),
         _ => Ok((Items::new(alloc), tokens)),
     }
 }
 
-/// `(`, what an instance is given, and `)`; or nothing.
-fn arguments<'a>(alloc: Global, tokens: &'a [Token]) -> Result<(Items<Expr>, &'a [Token]), Stop<'a>>
-    ensures { Gives (λ x. (x.0, x.1.now)) result ((bracketed (expression_within 0 under_one)).parse tokens.now) }
+/// `(`, what an instance is given, and `)`.
+fn given<'a>(alloc: Global, tokens: &'a [Token]) -> Result<(Items<Expr>, &'a [Token]), Stop<'a>>
+    ensures { Gives (λ x. (x.0, x.1.now)) result ((given 0).parse tokens.now) }
 {
-    if !begins(TokenKind::LeftParen, tokens) {
-        return Ok((Items::new(alloc), tokens));
-    }
     let (_, tokens) = just(TokenKind::LeftParen, tokens)?;
-    let (given, tokens) = given(alloc, tokens)?;
+    let (given, tokens) = maybe_arguments(alloc, tokens)?;
     let (_, tokens) = just(TokenKind::RightParen, tokens)?;
     Ok((given, tokens))
 }
 
-/// The name of a module, and what the instance is given.
-#[tactic(auto, unfolding(crate::specs::Programs::instance_type))]
-fn instance_type<'a>(
+/// The instance of the module of this name, and what it is given.
+fn instance<'a>(
+    alloc: Global,
+    word: &Token,
+    tokens: &'a [Token],
+) -> Result<(TypeExpr, &'a [Token]), Stop<'a>>
+    ensures { Gives (λ x. (x.0, x.1.now)) result ((to (instance_of word.now) (given 0)).parse tokens.now) }
+{
+    let (given, tokens) = given(alloc, tokens)?;
+    let name = word.text.copy(alloc)?;
+    Ok((TypeExpr::Instance(word.place, name, given), tokens))
+}
+
+/// The range whose first limit begins with this identifier.
+#[tactic(auto, unfolding(crate::specs::Types::named_range))]
+fn range_of<'a>(
+    alloc: Global,
+    word: &Token,
+    tokens: &'a [Token],
+) -> Result<(TypeExpr, &'a [Token]), Stop<'a>>
+    ensures { Gives (λ x. (x.0, x.1.now)) result ((to (range_of word.now) (named_range 0)).parse tokens.now) }
+{
+    let (members, tokens) = members(alloc, tokens)?;
+    let start = Start::Own(identifier_of(alloc, word)?);
+    let first = Expr::Name(Name { start, members });
+    let (lower, tokens) = limited(alloc, MOST_LEVELS, first, tokens)?;
+    let (upper, tokens) = upper(alloc, tokens)?;
+    Ok((TypeExpr::Range(word.place, lower, upper), tokens))
+}
+
+/// Whether a range goes on an identifier here.
+fn goes_on_range(tokens: &[Token]) -> bool
+    ensures { result ≡ head goes_on_range tokens.now }
+{
+    match tokens {
+        [first, ..] => is_kind(TokenKind::DotDot, first) || goes_on_limit(first),
+        [] => false,
+    }
+}
+
+/// What this identifier begins: an instance, or a range.
+#[tactic(auto, unfolding(crate::specs::Types::behind_identifier))]
+fn behind_identifier<'a>(
+    alloc: Global,
+    word: &Token,
+    tokens: &'a [Token],
+) -> Result<(TypeExpr, &'a [Token]), Stop<'a>>
+    ensures { Gives (λ x. (x.0, x.1.now)) result ((behind_identifier 0 word.now).parse tokens.now) }
+{
+    if begins(TokenKind::LeftParen, tokens) {
+        return instance(alloc, word, tokens);
+    }
+    if goes_on_range(tokens) {
+        return range_of(alloc, word, tokens);
+    }
+    let name = word.text.copy(alloc)?;
+    let none = Items::new(alloc);
+    Ok((TypeExpr::Instance(word.place, name, none), tokens))
+}
+
+/// A type that begins with an identifier.
+#[tactic(auto, unfolding(crate::specs::Types::identifier_type))]
+fn identifier_type<'a>(
     alloc: Global,
     tokens: &'a [Token],
 ) -> Result<(TypeExpr, &'a [Token]), Stop<'a>>
-    ensures { Gives (λ x. (x.0, x.1.now)) result ((instance_type 0).parse tokens.now) }
+    ensures { Gives (λ x. (x.0, x.1.now)) result ((identifier_type 0).parse tokens.now) }
 {
-    let (module, tokens) = identifier(tokens)?;
-    let (arguments, tokens) = arguments(alloc, tokens)?;
-    let name = module.text.copy(alloc)?;
-    Ok((TypeExpr::Instance(module.place, name, arguments), tokens))
+    let (word, tokens) = identifier(tokens)?;
+    let (written, tokens) = behind_identifier(alloc, word, tokens)?;
+    Ok((written, tokens))
 }
 
-/// `boolean`, or an instance of a module.
-#[tactic(auto, unfolding(crate::specs::Programs::written_type))]
-fn written_type<'a>(alloc: Global, tokens: &'a [Token]) -> Result<(TypeExpr, &'a [Token]), Stop<'a>>
+/// A range that begins with no identifier.
+#[tactic(auto, unfolding(crate::specs::Types::range_type))]
+fn range_type<'a>(alloc: Global, tokens: &'a [Token]) -> Result<(TypeExpr, &'a [Token]), Stop<'a>>
+    ensures { Gives (λ x. (x.0, x.1.now)) result ((range_type 0).parse tokens.now) }
+{
+    let ((place, first), tokens) = limit_start(alloc, MOST_LEVELS, tokens)?;
+    let (lower, tokens) = limited(alloc, MOST_LEVELS, first, tokens)?;
+    let (upper, tokens) = upper(alloc, tokens)?;
+    Ok((TypeExpr::Range(place, lower, upper), tokens))
+}
+
+/// `boolean`, a word, an enumeration, an instance of a module, or a range.
+#[tactic(auto, unfolding(crate::specs::Types::written_type, crate::specs::Types::word_type, crate::specs::Types::signed_type, crate::specs::Types::enumeration, crate::specs::Types::identifier_type))]
+pub fn written_type<'a>(
+    alloc: Global,
+    tokens: &'a [Token],
+) -> Result<(TypeExpr, &'a [Token]), Stop<'a>>
     ensures { Gives (λ x. (x.0, x.1.now)) result ((written_type 0).parse tokens.now) }
 {
     match tokens {
         [first, rest @ ..] if is_kind(TokenKind::Boolean, first) => {
             Ok((TypeExpr::Boolean(first.place), rest))
         }
-        _ => instance_type(alloc, tokens),
+        [first, ..] if is_kind(TokenKind::Word, first) => word_type(alloc, tokens),
+        [first, ..] if is_sign(first) => signed_type(alloc, tokens),
+        [first, ..] if is_kind(TokenKind::LeftBrace, first) => enumeration(alloc, tokens),
+        [first, ..] if is_identifier(first) => identifier_type(alloc, tokens),
+        _ => range_type(alloc, tokens),
     }
-}
-
-/// Identifier `:` type `;`
-#[tactic(auto, unfolding(crate::specs::Programs::declaration))]
-fn declaration<'a>(alloc: Global, tokens: &'a [Token]) -> Result<(Variable, &'a [Token]), Stop<'a>>
-    ensures { Gives (λ x. (x.0, x.1.now)) result ((declaration 0).parse tokens.now) }
-{
-    let (name, tokens) = identifier(tokens)?;
-    let (_, tokens) = just(TokenKind::Colon, tokens)?;
-    let (declared, tokens) = written_type(alloc, tokens)?;
-    let (_, tokens) = just(TokenKind::Semicolon, tokens)?;
-    let variable = Variable {
-        place: name.place,
-        name: name.text.copy(alloc)?,
-        declared,
-    };
-    Ok((variable, tokens))
-}
-
-/// Whether a declaration begins here.
-#[tactic(auto, unfolding(crate::specs::Programs::declaration))]
-fn begins_declaration(tokens: &[Token]) -> bool
-    ensures { result ≡ head (declaration 0).first tokens.now }
-{
-    match tokens {
-        [first, ..] => is_identifier(first),
-        [] => false,
-    }
-}
-
-/// As many declarations as there are.
-fn declarations<'a>(
-    alloc: Global,
-    tokens: &'a [Token],
-) -> Result<(Items<Variable>, &'a [Token]), Stop<'a>>
-    ensures { Gives (λ x. (x.0, x.1.now)) result ((many (declaration 0)).parse tokens.now) }
-{
-    let mut all = Items::new(alloc);
-    let mut rest = tokens;
-    'phrases: while begins_declaration(rest) {
-        let (one, after) = declaration(alloc, rest)?;
-        all.push(one)?;
-        rest = after;
-    }
-    Ok((all, rest))
-}
-
-/// What the variables are that this keyword declares.
-fn kind_declared(keyword: TokenKind) -> VariableKind
-    ensures { result ≡ kind_declared keyword }
-{
-    match keyword {
-        TokenKind::Ivar => VariableKind::Input,
-        TokenKind::FrozenVar => VariableKind::Frozen,
-        _ => VariableKind::State,
-    }
-}
-
-/// Whether the token is `VAR`, `IVAR` or `FROZENVAR`.
-pub fn declares(token: &Token) -> bool
-    ensures { result ≡ declares token.now }
-{
-    is_kind(TokenKind::Var, token)
-        || is_kind(TokenKind::Ivar, token)
-        || is_kind(TokenKind::FrozenVar, token)
-}
-
-/// `VAR`, `IVAR` or `FROZENVAR`.
-fn declaring(tokens: &[Token]) -> Result<(&Token, &[Token]), Stop<'_>>
-    ensures { Gives (λ x. (x.0.now, x.1.now)) result ((token false declares).parse tokens.now) }
-{
-    match tokens {
-        [first, rest @ ..] if declares(first) => Ok((first, rest)),
-        _ => Err(Stop::Refused(Fault::Unexpected, tokens)),
-    }
-}
-
-/// `VAR`, `IVAR` or `FROZENVAR`, and declarations.
-#[tactic(auto, unfolding(crate::specs::Programs::variables))]
-pub fn variables<'a>(alloc: Global, tokens: &'a [Token]) -> Result<(Section, &'a [Token]), Stop<'a>>
-    ensures { Gives (λ x. (x.0, x.1.now)) result ((variables 0).parse tokens.now) }
-{
-    let (keyword, tokens) = declaring(tokens)?;
-    let (declarations, tokens) = declarations(alloc, tokens)?;
-    let kind = kind_declared(keyword.kind);
-    Ok((Section::Variables(kind, declarations), tokens))
 }

@@ -11,7 +11,9 @@ use Rattle.smv_tree.specs.declared.token.Token.{Token}
 use Rattle.smv_tree.specs.declared.token.TokenKind.{TokenKind}
 use Rattle.smv_tree.specs.declared.token.TokenKind.TheVariants as kind
 use Rattle.smv_tree.specs.Kinds.{is_kind, is_identifier}
-use Rattle.smv_phrases.specs.Names.{just, opening, identifier, begins_name, start_of, member, name}
+use Rattle.smv_phrases.specs.Names.{just, opening, identifier, start_of, starts_name, member, name_from, name}
+use Rattle.smv_phrases.specs.declared.names.NameStart.{NameStart}
+use Rattle.smv_phrases.specs.declared.names.NameStart.TheVariants as may
 use Rattle.smv_phrases.proofs.EachKind.{token_at}
 
 pub just_lawful : (k : TokenKind) → is_kind k (token_at k) ≡ true → Lawful (just k)
@@ -35,10 +37,27 @@ pub member_apart : (t : Token) → member.first t ≡ true → member.more t ≡
 unfolding member
 member_apart t e = refl
 
+-- a token that a name may begin with
+start_token : NameStart → Token
+start_token may.Any = token_at kind.Identifier
+start_token may.Plain = token_at kind.Identifier
+start_token may.Own = token_at kind.Identifier
+start_token may.Itself = token_at kind.SelfName
+
+start_begins : (which : NameStart) → starts_name which (start_token which) ≡ true
+unfolding start_token
+start_begins may.Any = refl
+start_begins may.Plain = refl
+start_begins may.Own = refl
+start_begins may.Itself = refl
+
+pub name_from_lawful : (which : NameStart) → Lawful (name_from which)
+unfolding name_from
+name_from_lawful which =
+    to_lawful _ _ (then_lawful _ _ (to_lawful start_of (token false (starts_name which)) (token_lawful false (starts_name which) (start_token which) (start_begins which))) (many_lawful member member_lawful member_full member_apart) (λ t e. refl))
+
 pub name_lawful : Lawful name
-unfolding name
-name_lawful =
-    to_lawful _ _ (then_lawful _ _ (to_lawful start_of (token false begins_name) (token_lawful false begins_name (token_at kind.Identifier) refl)) (many_lawful member member_lawful member_full member_apart) (λ t e. refl))
+name_lawful = name_from_lawful may.Any
 
 or_false : (b : Bool) → (b || false) ≡ b
 or_false true = refl

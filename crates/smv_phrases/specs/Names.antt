@@ -10,6 +10,8 @@ use Rattle.smv_tree.specs.declared.tree.Start.{Start}
 use Rattle.smv_tree.specs.declared.tree.Start.TheVariants as start
 use Rattle.smv_tree.specs.declared.tree.Name.{Name}
 use Rattle.smv_tree.specs.Kinds.{is_kind, is_identifier}
+use Rattle.smv_phrases.specs.declared.names.NameStart.{NameStart}
+use Rattle.smv_phrases.specs.declared.names.NameStart.TheVariants as may
 
 -- one token of this kind
 abbrev pub just : TokenKind → Form Token Token
@@ -36,9 +38,20 @@ start_of t = if is_identifier t then start.Own (identifier_of t) else start.Itse
 unfoldable pub member : Form Token Identifier
 member = to identifier_of (just kind.Dot ▹ identifier)
 
+-- the tokens that a name begins with, where only some names may stand
+abbrev pub starts_name : NameStart → Token → Bool
+starts_name may.Any = begins_name
+starts_name may.Plain = λ t. is_kind kind.Identifier t || is_kind kind.SelfName t
+starts_name may.Own = is_identifier
+starts_name may.Itself = is_kind kind.SelfName
+
+-- one of those tokens, and members
+unfoldable pub name_from : NameStart → Form Token Name
+name_from which = to (λ x. record { start = x.0; members = x.1 }) (to start_of (token false (starts_name which)) ⨾ many member)
+
 -- an identifier or "self", and its members
-unfoldable pub name : Form Token Name
-name = to (λ x. record { start = x.0; members = x.1 }) (to start_of (token false begins_name) ⨾ many member)
+abbrev pub name : Form Token Name
+name = name_from may.Any
 
 abbrev pub start_place : Start → Place
 start_place (start.Own i) = i.place

@@ -3,7 +3,9 @@
 #![tactic(auto)]
 
 mod names;
+mod numbers;
 mod reading;
 
-pub use names::{begins_name, name, place_of};
+pub use names::{NameStart, begins_name, identifier_of, members, name, name_from, place_of};
+pub use numbers::{integer_value, number_of, word_value};
 pub use reading::{Stop, begins, identifier, is_identifier, is_kind, just, opening};

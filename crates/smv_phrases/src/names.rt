@@ -2,7 +2,7 @@
 
 ghost use Rattle.std.specs.Prelude.{◌≡◌, false, IfOk};
 ghost use Rattle.phrase_forms.specs.Forms.{token, many, to};
-ghost use Rattle.smv_phrases.specs.Names.{identifier_of, begins_name, start_of, member, name, place_of};
+ghost use Rattle.smv_phrases.specs.Names.{identifier_of, begins_name, start_of, starts_name, member, name_from, name, place_of};
 ghost use Rattle.smv_phrases.specs.Reading.{Gives};
 
 use crate::reading::{Stop, begins, identifier, is_identifier, is_kind, just};
@@ -12,7 +12,7 @@ use sqlite_items::Items;
 use std::alloc::{AllocError, Global};
 
 /// The identifier that the token is.
-fn identifier_of(alloc: Global, token: &Token) -> Result<Identifier, AllocError>
+pub fn identifier_of(alloc: Global, token: &Token) -> Result<Identifier, AllocError>
     ensures { IfOk result (λ i. i ≡ identifier_of token.now) }
 {
     Ok(Identifier {
@@ -39,12 +39,45 @@ fn start_of(alloc: Global, token: &Token) -> Result<Start, AllocError>
     }
 }
 
-/// An identifier, or `self`.
-fn start<'a>(alloc: Global, tokens: &'a [Token]) -> Result<(Start, &'a [Token]), Stop<'a>>
-    ensures { Gives (λ x. (x.0, x.1.now)) result ((to start_of (token false begins_name)).parse tokens.now) }
+/// What a name may begin with.
+#[derive(Clone, Copy, Debug, PartialEq, Eq)]
+pub enum NameStart {
+    /// An identifier, or `self`.
+    Any,
+    /// An identifier that names no function before `(`, or `self`.
+    Plain,
+    /// An identifier.
+    Own,
+    /// `self`
+    Itself,
+}
+
+impl NameStart {
+    /// Whether the name may begin with this token.
+    pub fn may_be(self, token: &Token) -> bool
+        ensures { result ≡ starts_name self token.now }
+    {
+        match self {
+            NameStart::Any => begins_name(token),
+            NameStart::Plain => {
+                is_kind(TokenKind::Identifier, token) || is_kind(TokenKind::SelfName, token)
+            }
+            NameStart::Own => is_identifier(token),
+            NameStart::Itself => is_kind(TokenKind::SelfName, token),
+        }
+    }
+}
+
+/// The first token of a name.
+fn start<'a>(
+    alloc: Global,
+    which: NameStart,
+    tokens: &'a [Token],
+) -> Result<(Start, &'a [Token]), Stop<'a>>
+    ensures { Gives (λ x. (x.0, x.1.now)) result ((to start_of (token false (starts_name which))).parse tokens.now) }
 {
     match tokens {
-        [first, rest @ ..] if begins_name(first) => Ok((start_of(alloc, first)?, rest)),
+        [first, rest @ ..] if which.may_be(first) => Ok((start_of(alloc, first)?, rest)),
         _ => Err(Stop::Refused(Fault::Unexpected, tokens)),
     }
 }
@@ -60,8 +93,8 @@ fn member<'a>(alloc: Global, tokens: &'a [Token]) -> Result<(Identifier, &'a [To
     Ok((named, tokens))
 }
 
-/// As many members as there are.
-fn members<'a>(
+/// As many members as there are: each a dot and an identifier.
+pub fn members<'a>(
     alloc: Global,
     tokens: &'a [Token],
 ) -> Result<(Items<Identifier>, &'a [Token]), Stop<'a>>
@@ -77,16 +110,27 @@ fn members<'a>(
     Ok((all, rest))
 }
 
-/// The name at the front of the tokens, and the tokens behind it: an identifier or `self`, and members behind dots. It is
-/// refused as unexpected at the first token that is out of place, or at the end. Memory may be refused at any time. The
-/// time is linear in the tokens of the name and their texts.
-#[tactic(auto, unfolding(crate::specs::Names::name))]
+/// The name at the front of the tokens, and the tokens behind it: a first token, and members behind dots. It is refused as
+/// unexpected at the first token that is out of place, or at the end. Memory may be refused at any time. The time is linear in
+/// the tokens of the name and their texts.
+#[tactic(auto, unfolding(crate::specs::Names::name_from))]
+pub fn name_from<'a>(
+    alloc: Global,
+    which: NameStart,
+    tokens: &'a [Token],
+) -> Result<(Name, &'a [Token]), Stop<'a>>
+    ensures { Gives (λ x. (x.0, x.1.now)) result ((name_from which).parse tokens.now) }
+{
+    let (start, tokens) = start(alloc, which, tokens)?;
+    let (members, tokens) = members(alloc, tokens)?;
+    Ok((Name { start, members }, tokens))
+}
+
+/// The name at the front of the tokens, and the tokens behind it: an identifier or `self`, and members behind dots.
 pub fn name<'a>(alloc: Global, tokens: &'a [Token]) -> Result<(Name, &'a [Token]), Stop<'a>>
     ensures { Gives (λ x. (x.0, x.1.now)) result (name.parse tokens.now) }
 {
-    let (start, tokens) = start(alloc, tokens)?;
-    let (members, tokens) = members(alloc, tokens)?;
-    Ok((Name { start, members }, tokens))
+    name_from(alloc, NameStart::Any, tokens)
 }
 
 /// The place of the name's first token.

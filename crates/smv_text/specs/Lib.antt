@@ -4,3 +4,4 @@ pub mod Comments
 pub mod Lexemes
 pub mod Texts
 pub mod Runs
+pub mod Written

@@ -9,7 +9,9 @@ mod numbers;
 mod runs;
 mod texts;
 mod words;
+mod written;
 
 pub use laws::are_tokens_once;
 pub use lexeme::Lexeme;
 pub use texts::tokens;
+pub use written::word_written;

@@ -34,7 +34,7 @@ fn with_digit(base: u32, n: u128, byte: u8) -> Option<u128>
 }
 
 /// The number that digits write in a base, where it is below 2^128. Underscores are skipped.
-fn number_in(base: u32, digits: &[u8]) -> Option<u128>
+pub fn number_in(base: u32, digits: &[u8]) -> Option<u128>
     requires { 2 ≤ base }
     ensures { SomeIff result (number_in base digits.now < 2 ^ 128) (number_in base digits.now) }
 {
@@ -51,7 +51,7 @@ fn number_in(base: u32, digits: &[u8]) -> Option<u128>
 }
 
 /// How many bytes the sign of a word constant has.
-fn sign_len(text: &[u8]) -> usize
+pub fn sign_len(text: &[u8]) -> usize
     ensures { result ≡ sign_len text.now }
 {
     match text {
@@ -71,7 +71,7 @@ fn is_base(letter: u8) -> bool
 }
 
 /// The base that a letter says.
-fn base_of(letter: u8) -> u32
+pub fn base_of(letter: u8) -> u32
     ensures bounds { 2 ≤ result }
     ensures most { result ≤ 16 }
     ensures value { result ≡ base_of letter }
@@ -141,19 +141,18 @@ fn are_digits(letter: u8, digits: &[u8]) -> bool
 }
 
 /// How many bits a word constant has, where that is below 2^128.
-fn width_of(letter: u8, width: &[u8], digits: &[u8]) -> Option<u128>
-    requires { length digits.now < 2 ^ 32 }
+pub fn width_of(letter: u8, width: &[u8], digits: &[u8]) -> Option<u128>
     ensures { SomeIff result (width_of letter width.now digits.now < 2 ^ 128) (width_of letter width.now digits.now) }
 {
     if width.is_empty() {
-        Some((bits_of_digit(letter) * digits_in(digits)) as u128)
+        Some(bits_of_digit(letter) as u128 * digits_in(digits) as u128)
     } else {
         number_in(10, width)
     }
 }
 
 /// Whether the digits write a number of so many bits.
-fn fits_width(letter: u8, bits: u128, digits: &[u8]) -> bool
+pub fn fits_width(letter: u8, bits: u128, digits: &[u8]) -> bool
     ensures { result ≡ fits_width letter bits digits.now }
 {
     if bits < 1 || 128 < bits {

@@ -1,25 +1,68 @@
--- What is noted of nodes, with one node more.
-use Rattle.std.proofs.Common.{◌≡◌, ℕ, zero, suc, ◌+◌, ◌-◌, ◌<◌, true, false, inl, inr, List, map, [], ◌∷◌, ◌++◌, length, get_or, take, drop, slice_index_or, slice_get, Option, None, Some, refl, sym, ap, subst, ◌∙◌, arith, length-append}
+-- What is told and noted of nodes, with one node more.
+use Rattle.std.proofs.Common.{◌≡◌, ℕ, zero, suc, ◌+◌, ◌-◌, ◌<◌, List, map, [], ◌∷◌, ◌++◌, length, drop, take, slice_index_or, None, false, refl, sym, ap, subst, ◌∙◌, arith, length-append}
+use Rattle.std.proofs.lemmas.List.{map-append}
 use Rattle.smv_tree.specs.declared.place.Place.{Place}
 use Rattle.smv_tree.specs.declared.refusal.Refusal.{Refusal}
+use Rattle.std.proofs.Common.{Option, Some}
 use Rattle.smv_value.specs.declared.operator.Operator.{Operator}
-use Rattle.smv_resolve.specs.declared.node.Naming.TheVariants as naming
-use Rattle.smv_names.specs.Verdicts.{first_of, or_else}
-use Rattle.std.proofs.lemmas.Bool.{cases_Bool}
-use Rattle.std.proofs.lemmas.List.{take_more}
-use Rattle.smv_resolve.specs.declared.node.Node.{Node}
+use Rattle.value_types.specs.declared.value_type.ValueType.{ValueType}
+use Rattle.smv_kinds.specs.declared.kind.Operand.{Operand}
 use Rattle.smv_scope.specs.declared.slot.Slot.{Slot}
+use Rattle.smv_resolve.specs.declared.node.Node.{Node}
 use Rattle.smv_resolve.specs.Resolved.{Resolved, last_of, operands_of, part_at, parts_of, resolved_by}
 use Rattle.smv_resolve.proofs.Parts.{parts_of-next}
+use Rattle.smv_verdicts.specs.Verdicts.{or_else}
 use Rattle.smv_types.specs.declared.judged.Judged.{Judged}
+use Rattle.smv_types.specs.declared.judged.Notes.{Notes}
+use Rattle.smv_kinds.specs.Constants.{constant_given}
+use Rattle.smv_kinds.specs.Kinds.{kind_given}
 use Rattle.smv_tree.specs.declared.tree.AssignmentKind.TheVariants as side
-use Rattle.smv_tree.specs.declared.tree.VariableKind.{VariableKind}
-use Rattle.smv_tree.specs.declared.tree.VariableKind.TheVariants as sort
-use Rattle.smv_types.specs.Kinds.{Context, is_assignable, kind_of, kind_refusal, kinds_of, mismatch, of_state, of_step, operands_refusal, slot_takes, takes_assignment, typed, bounds_refusal, of_path, temporal_at, under_operator}
-use Rattle.smv_meaning.specs.Formulas.{is_over_formulas}
-use Rattle.smv_types.specs.declared.judged.Kind.{Kind}
-use Rattle.smv_types.proofs.Firsts.{first_of_both}
-use Rattle.smv_types.specs.Judged.{IsJudged, IsNoted, Tells, as_refusal, judged_at, nothing, of_name}
+use Rattle.smv_types.specs.Kinds.{Context, all_told, given_refusal, is_assignable, kind_in, kind_refusal, of_kind, place_of, operands_refusal, told, under_operand}
+use Rattle.smv_types.specs.Judged.{AreJudged, AreNotes, IsJudged, Tells, judged_at, nothing, told_at}
+
+-- what is told, as a list
+
+module _ (slots : List Slot) (types : List ValueType) where
+  abbrev of_part : Resolved → Operand
+  of_part r = told slots types r
+
+  pub told_part : (parts : List Resolved) (k : ℕ) → told_at (map of_part parts) k ≡ of_part (part_at parts k)
+  told_part [] k = refl
+  told_part (r ∷ parts) zero = refl
+  told_part (r ∷ parts) (suc k) = told_part parts k
+
+  pub all_told_same : (rs : List Resolved) → all_told slots types (operands_of rs) ≡ map of_part rs
+  all_told_same [] = refl
+  all_told_same (r ∷ rs) = ap (λ xs. of_part r ∷ xs) (all_told_same rs)
+
+  drop-told : (k : ℕ) (rs : List Resolved) → drop k (map of_part rs) ≡ map of_part (drop k rs)
+  drop-told zero rs = refl
+  drop-told (suc k) [] = refl
+  drop-told (suc k) (r ∷ rs) = drop-told k rs
+
+  length-told : (rs : List Resolved) → length (map of_part rs) ≡ length rs
+  length-told [] = refl
+  length-told (r ∷ rs) = ap (λ n. suc n) (length-told rs)
+
+  pub last_told : (count : ℕ) (rs : List Resolved) → last_of count (map of_part rs) ≡ map of_part (last_of count rs)
+  last_told count rs = ap (λ n. drop (n - count) (map of_part rs)) (length-told rs) ∙ drop-told (length rs - count) rs
+
+  -- what is told of an operator
+  abbrev pub applied : Operator → List Operand → Operand
+  applied o xs = record { kind = kind_in (kind_given [] o xs); constant = constant_given o xs }
+
+  pub applied_last : (o : Operator) (count : ℕ) (parts : List Resolved) (table xs : List Operand) → xs ≡ last_of count table → table ≡ map of_part parts →
+      applied o xs ≡ applied o (all_told slots types (operands_of (last_of count parts)))
+  applied_last o count parts table xs is h = ap (applied o) (is ∙ ap (last_of count) h ∙ last_told count parts ∙ sym (all_told_same (last_of count parts)))
+
+  pub applied_two : (o : Operator) (parts : List Resolved) (table : List Operand) (a b : ℕ) (x y : Operand) → x ≡ told_at table a → y ≡ told_at table b → table ≡ map of_part parts →
+      applied o (x ∷ y ∷ []) ≡ applied o (of_part (part_at parts a) ∷ of_part (part_at parts b) ∷ [])
+  applied_two o parts table a b x y e f h =
+      let left : x ≡ of_part (part_at parts a) = e ∙ ap (λ xs. told_at xs a) h ∙ told_part parts a in
+      let right : y ≡ of_part (part_at parts b) = f ∙ ap (λ xs. told_at xs b) h ∙ told_part parts b in
+      ap (λ z. applied o (z ∷ y ∷ [])) left ∙ ap (λ z. applied o (of_part (part_at parts a) ∷ z ∷ [])) right
+
+-- what is noted, by numbers
 
 -- what holds at each number holds with one element more
 each_more : {A B : Type 0} (R : A → B → Type 0) (xs : List A) (ys : List B) (d : A) (e : B) (x : A) (y : B) → length ys ≡ length xs
@@ -32,165 +75,155 @@ each_more R (a ∷ xs) [] d e x y same none each last k = absurd (omega (arith, 
 each_more R (a ∷ xs) (b ∷ ys) d e x y same none each last zero = each zero
 each_more R (a ∷ xs) (b ∷ ys) d e x y same none each last (suc k) = each_more R xs ys d e x y (omega (arith, same)) none (λ i. each (suc i)) last k
 
-of_nothing : (slots : List Slot) → IsJudged slots Resolved.Stuck nothing
-of_nothing slots = record { kind = refl; place = refl; step = refl; name = refl; state = refl; path = refl; given = refl; init = refl; later = refl }
+no_refusals : (slots : List Slot) (types : List ValueType) (c : Context) → kind_refusal slots types c Resolved.Stuck ≡ None
+no_refusals slots types c = refl
 
-pub told_none : (slots : List Slot) → Tells slots (parts_of []) []
+of_nothing : (slots : List Slot) (types : List ValueType) → IsJudged slots types Resolved.Stuck nothing
+of_nothing slots types = record {
+  place = refl;
+  notes = record { step = refl; step_set = refl; name = refl; name_set = refl; state = refl; state_set = refl; path = refl };
+  given = refl;
+  init = refl;
+  later = refl;
+}
+
+pub none_told : (slots : List Slot) (types : List ValueType) → Tells slots types (parts_of []) [] []
 unfolding parts_of
-told_none slots = record { long = refl; each = λ k. of_nothing slots }
+none_told slots types = record { kinds = refl; judged = record { long = refl; each = λ k. of_nothing slots types } }
 
-pub told_more : (slots : List Slot) (nodes : List Node) (i : ℕ) (d : Node) (table : List Judged) (j : Judged) → i < length nodes → Tells slots (parts_of (take i nodes)) table
-    → ((parts : List Resolved) → Tells slots parts table → IsJudged slots (resolved_by parts (slice_index_or nodes i d)) j)
-    → Tells slots (parts_of (take (i + 1) nodes)) (table ++ j ∷ [])
-told_more slots nodes i d table j within told more =
+pub one_more : (slots : List Slot) (types : List ValueType) (nodes : List Node) (i : ℕ) (d : Node) (operands : List Operand) (table : List Judged) (x : Operand) (j : Judged) → i < length nodes →
+    Tells slots types (parts_of (take i nodes)) operands table
+    → ((parts : List Resolved) → operands ≡ map (told slots types) parts → x ≡ told slots types (resolved_by parts (slice_index_or nodes i d)))
+    → ((parts : List Resolved) → Tells slots types parts operands table → IsJudged slots types (resolved_by parts (slice_index_or nodes i d)) j)
+    → Tells slots types (parts_of (take (i + 1) nodes)) (operands ++ x ∷ []) (table ++ j ∷ [])
+one_more slots types nodes i d operands table x j within h of_kind more =
     let n = slice_index_or nodes i d in
     let parts = parts_of (take i nodes) in
-    let next : parts_of (take (i + 1) nodes) ≡ parts ++ resolved_by parts n ∷ [] =
-    parts_of-next nodes i d within in
+    let next : parts_of (take (i + 1) nodes) ≡ parts ++ resolved_by parts n ∷ [] = parts_of-next nodes i d within in
     let long : length (table ++ j ∷ []) ≡ length (parts ++ resolved_by parts n ∷ []) =
-    length-append table (j ∷ []) ∙ ap (λ a. a + 1) told.long ∙ sym (length-append parts (resolved_by parts n ∷ [])) in
+    length-append table (j ∷ []) ∙ ap (λ a. a + 1) h.judged.long ∙ sym (length-append parts (resolved_by parts n ∷ [])) in
+    let kinds : operands ++ x ∷ [] ≡ map (told slots types) (parts ++ resolved_by parts n ∷ []) =
+    ap (λ y. operands ++ y ∷ []) (of_kind parts h.kinds) ∙ ap (λ ys. ys ++ told slots types (resolved_by parts n) ∷ []) h.kinds
+    ∙ sym (map-append (told slots types) parts (resolved_by parts n ∷ [])) in
     rw next (record {
-      long = long;
-      each = each_more (IsJudged slots) parts table Resolved.Stuck nothing (resolved_by parts n) j told.long (of_nothing slots) told.each (more parts told);
+      kinds = kinds;
+      judged = record {
+        long = long;
+        each = each_more (IsJudged slots types) parts table Resolved.Stuck nothing (resolved_by parts n) j h.judged.long (of_nothing slots types) h.judged.each (more parts h);
+      };
     })
-
--- what is read at a number is told of the part of this number
-pub told_at : (slots : List Slot) (parts : List Resolved) (table : List Judged) → Tells slots parts table → (k : ℕ) (j : Judged) → j ≡ judged_at table k → IsJudged slots (part_at parts k) j
-told_at slots parts table told k j is = rw is (told.each k)
-
-kind_same : (kind : VariableKind) → takes_assignment side.Next kind ≡ takes_assignment side.Current kind
-kind_same sort.State = refl
-kind_same sort.Input = refl
-kind_same sort.Frozen = refl
-
-slot_same : (slot : Option Slot) → slot_takes side.Next slot ≡ slot_takes side.Current slot
-slot_same None = refl
-slot_same (Some slot) = kind_same slot.kind
-
--- what may be assigned by `next(x) := e` may be by `x := e`
-pub later_same : (slots : List Slot) (r : Resolved) → is_assignable slots side.Next r ≡ is_assignable slots side.Current r
-later_same slots (Resolved.Constant place b) = refl
-later_same slots (Resolved.Slot place n) = slot_same (slice_get slots n)
-later_same slots (Resolved.Whole place i) = refl
-later_same slots (Resolved.Named place naming.Given r) = later_same slots r
-later_same slots (Resolved.Named place naming.Defined r) = refl
-later_same slots (Resolved.Next place r) = refl
-later_same slots (Resolved.Apply place o rs) = refl
-later_same slots Resolved.Stuck = refl
 
 -- operands
 
--- two of them
-pub told_two : (slots : List Slot) (r s : Resolved) (i j : Judged) → IsJudged slots r i → IsJudged slots s j → Tells slots (r ∷ s ∷ []) (i ∷ j ∷ [])
-told_two slots r s i j a b = record { long = refl; each = each }
-  where
-    each : (k : ℕ) → IsJudged slots (slice_index_or (r ∷ s ∷ []) k Resolved.Stuck) (slice_index_or (i ∷ j ∷ []) k nothing)
-    each zero = a
-    each (suc zero) = b
-    each (suc (suc k)) = of_nothing slots
+tail_judged : (slots : List Slot) (types : List ValueType) (r : Resolved) (rs : List Resolved) (j : Judged) (js : List Judged) → AreJudged slots types (r ∷ rs) (j ∷ js) → AreJudged slots types rs js
+tail_judged slots types r rs j js h = record { long = omega (arith, h.long); each = λ k. h.each (suc k) }
 
-told_tail : (slots : List Slot) (r : Resolved) (rs : List Resolved) (j : Judged) (js : List Judged) → Tells slots (r ∷ rs) (j ∷ js) → Tells slots rs js
-told_tail slots r rs j js t = record { long = omega (arith, t.long); each = λ k. t.each (suc k) }
+drop_judged : (slots : List Slot) (types : List ValueType) (k : ℕ) (rs : List Resolved) (js : List Judged) → AreJudged slots types rs js → AreJudged slots types (drop k rs) (drop k js)
+drop_judged slots types zero rs js h = h
+drop_judged slots types (suc k) [] [] h = h
+drop_judged slots types (suc k) [] (j ∷ js) h = absurd (omega (arith, h.long))
+drop_judged slots types (suc k) (r ∷ rs) [] h = absurd (omega (arith, h.long))
+drop_judged slots types (suc k) (r ∷ rs) (j ∷ js) h = drop_judged slots types k rs js (tail_judged slots types r rs j js h)
 
-told_drop : (slots : List Slot) (k : ℕ) (rs : List Resolved) (js : List Judged) → Tells slots rs js → Tells slots (drop k rs) (drop k js)
-told_drop slots zero rs js t = t
-told_drop slots (suc k) [] [] t = t
-told_drop slots (suc k) [] (j ∷ js) t = absurd (omega (arith, t.long))
-told_drop slots (suc k) (r ∷ rs) [] t = absurd (omega (arith, t.long))
-told_drop slots (suc k) (r ∷ rs) (j ∷ js) t = told_drop slots k rs js (told_tail slots r rs j js t)
+last_judged : (slots : List Slot) (types : List ValueType) (count : ℕ) (rs : List Resolved) (js : List Judged) → AreJudged slots types rs js → AreJudged slots types (last_of count rs) (last_of count js)
+last_judged slots types count rs js h =
+    let P : ℕ → Type 0 = λ n. AreJudged slots types (last_of count rs) (drop (n - count) js) in
+    subst P (sym h.long) (drop_judged slots types (length rs - count) rs js h)
+
+default_same : {A : Type 0} (xs : List A) (k : ℕ) (d e : A) → k < length xs → slice_index_or xs k d ≡ slice_index_or xs k e
+default_same [] k d e l = absurd (omega arith)
+default_same (x ∷ xs) zero d e l = refl
+default_same (x ∷ xs) (suc k) d e l = default_same xs k d e (omega arith)
+
+-- what is read at a number that is there
+pub judged_any : (slots : List Slot) (types : List ValueType) (rs : List Resolved) (js : List Judged) → AreJudged slots types rs js → (k : ℕ) (d : Judged) → k < length js →
+    IsJudged slots types (part_at rs k) (slice_index_or js k d)
+judged_any slots types rs js h k d within = rw (default_same js k d nothing within) (h.each k)
+
+-- what cannot be assigned
+pub unassigned : (slots : List Slot) (types : List ValueType) (r : Resolved) (j : Judged) (place : Place) (notes : Notes) →
+    j ≡ record { place = place; notes = notes; given = None; takes_init = false; takes_later = false } → place ≡ place_of r → AreNotes (λ c. kind_refusal slots types c r) notes →
+    given_refusal slots types r ≡ None → is_assignable slots side.Init r ≡ false → is_assignable slots side.Next r ≡ false → IsJudged slots types r j
+unassigned slots types r j place notes is at noted given init later =
+    rw is (record { place = at; notes = noted; given = sym given; init = sym init; later = sym later })
 
 -- what is told of all is told of the last
-pub told_last : (slots : List Slot) (count : ℕ) (rs : List Resolved) (js : List Judged) → Tells slots rs js → Tells slots (last_of count rs) (last_of count js)
-told_last slots count rs js t =
-    let P : ℕ → Type 0 = λ n. Tells slots (last_of count rs) (drop (n - count) js) in
-    subst P (sym t.long) (told_drop slots (length rs - count) rs js t)
-
-first_told : (slots : List Slot) (c : Context) (f : Judged → Option Refusal) → ((r : Resolved) (j : Judged) → IsJudged slots r j → f j ≡ kind_refusal slots c r) →
-    (rs : List Resolved) (js : List Judged) → Tells slots rs js → first_of f js ≡ operands_refusal slots c (operands_of rs)
-first_told slots c f says [] [] t = refl
-first_told slots c f says [] (j ∷ js) t = absurd (omega (arith, t.long))
-first_told slots c f says (r ∷ rs) [] t = absurd (omega (arith, t.long))
-first_told slots c f says (r ∷ rs) (j ∷ js) t =
-    ap (λ o. or_else o (first_of f js)) (says r j (t.each 0)) ∙ ap (or_else (kind_refusal slots c r)) (first_told slots c f says rs js (told_tail slots r rs j js t))
-
--- the kinds that are noted are those of the operands
-kinds_told : (slots : List Slot) (rs : List Resolved) (js : List Judged) → Tells slots rs js → map (λ (j : Judged). j.kind) js ≡ kinds_of slots (operands_of rs)
-kinds_told slots [] [] t = refl
-kinds_told slots [] (j ∷ js) t = absurd (omega (arith, t.long))
-kinds_told slots (r ∷ rs) [] t = absurd (omega (arith, t.long))
-kinds_told slots (r ∷ rs) (j ∷ js) t =
-    let head = t.each 0 in
-    ap (λ (k : Option Kind). k ∷ map (λ (x : Judged). x.kind) js) head.kind ∙ ap (λ (ks : List (Option Kind)). kind_of slots r ∷ ks) (kinds_told slots rs js (told_tail slots r rs j js t))
-
--- what an operator itself breaks: its operands' kinds, and its bounds
-abbrev pub own_refusal : Place → Operator → Option Kind → Option Refusal
-own_refusal place o k = or_else (mismatch place k) (bounds_refusal place o)
-
--- where no temporal operator may stand
-abbrev pub plain_refusal : Place → Operator → Option Kind → Option Refusal
-plain_refusal place o k = or_else (temporal_at place o) (own_refusal place o k)
-
--- an operator breaks what its operands break, or else what it breaks itself
-pub apply_judged : (slots : List Slot) (place : Place) (o : Operator) (rs : List Resolved) (js : List Judged) (all j : Judged) (k : Option Kind) → Tells slots rs js → IsNoted js all →
-    k ≡ typed o (map (λ (x : Judged). x.kind) js) → j.kind ≡ k → j.place ≡ place → j.given ≡ None → j.takes_init ≡ false → j.takes_later ≡ false →
-    as_refusal j.of_step ≡ or_else (as_refusal all.of_step) (plain_refusal place o k) →
-    as_refusal j.of_name ≡ or_else (as_refusal all.of_name) (plain_refusal place o k) →
-    as_refusal j.of_state ≡ or_else (as_refusal all.of_state) (plain_refusal place o k) →
-    as_refusal j.of_path ≡ or_else (operands_refusal slots (under_operator o of_path) (operands_of rs)) (own_refusal place o k) →
-    IsJudged slots (Resolved.Apply place o (operands_of rs)) j
-apply_judged slots place o rs js all j k t n fits kind at given init later step name state path =
-    let same : k ≡ typed o (kinds_of slots (operands_of rs)) = fits ∙ ap (typed o) (kinds_told slots rs js t) in
-    record {
-      kind = kind ∙ same;
-      place = at;
-      step = step ∙ both (as_refusal all.of_step) of_step (n.step ∙ first_told slots of_step (λ x. as_refusal x.of_step) (λ r x i. i.step) rs js t) same;
-      name = name ∙ both (as_refusal all.of_name) of_name (n.name ∙ first_told slots of_name (λ x. as_refusal x.of_name) (λ r x i. i.name) rs js t) same;
-      state = state ∙ both (as_refusal all.of_state) of_state (n.state ∙ first_told slots of_state (λ x. as_refusal x.of_state) (λ r x i. i.state) rs js t) same;
-      path = path ∙ ap (λ (x : Option Kind). or_else (operands_refusal slots (under_operator o of_path) (operands_of rs)) (own_refusal place o x)) same;
-      given = ap as_refusal given;
-      init = init;
-      later = later;
-    }
-  where
-    both : (first : Option Refusal) (c : Context) → first ≡ operands_refusal slots c (operands_of rs) → k ≡ typed o (kinds_of slots (operands_of rs)) →
-        or_else first (plain_refusal place o k) ≡ or_else (operands_refusal slots c (operands_of rs)) (plain_refusal place o (typed o (kinds_of slots (operands_of rs))))
-    both first c e f =
-        ap (λ r. or_else r (plain_refusal place o k)) e ∙ ap (λ (x : Option Kind). or_else (operands_refusal slots c (operands_of rs)) (plain_refusal place o x)) f
-
--- what operands break where a path is spoken of, under this operator
-pub path_told : (slots : List Slot) (o : Operator) (rs : List Resolved) (js : List Judged) (all : Judged) → Tells slots rs js → IsNoted js all → (r : Option Refusal) →
-    (is_over_formulas o ≡ true → r ≡ as_refusal all.of_path) → (is_over_formulas o ≡ false → r ≡ as_refusal all.of_name) →
-    r ≡ operands_refusal slots (under_operator o of_path) (operands_of rs)
-path_told slots o rs js all t n r over plain = elim (cases_Bool (is_over_formulas o)) [
-  | inl e ↦
-      over e ∙ n.path ∙ first_told slots of_path (λ x. as_refusal x.of_path) (λ q x i. i.path) rs js t
-      ∙ ap (λ b. operands_refusal slots (record { next = false; input = true; temporal = b }) (operands_of rs)) (sym e)
-  | inr e ↦
-      plain e ∙ n.name ∙ first_told slots of_name (λ x. as_refusal x.of_name) (λ q x i. i.name) rs js t
-      ∙ ap (λ b. operands_refusal slots (record { next = false; input = true; temporal = b }) (operands_of rs)) (sym e)
-]
-
-first_of_more : {A : Type 0} (f : A → Option Refusal) (xs : List A) (i : ℕ) (d : A) → i < length xs → first_of f (take (i + 1) xs) ≡ or_else (first_of f (take i xs)) (f (get_or xs i d))
-first_of_more f xs i d l =
-    ap (first_of f) (take_more xs i d l) ∙ first_of_both f (take i xs) (get_or xs i d ∷ []) ∙ ap (or_else (first_of f (take i xs))) (last_one (f (get_or xs i d)))
-  where
-    last_one : (o : Option Refusal) → or_else o None ≡ o
-    last_one None = refl
-    last_one (Some r) = refl
-
-pub noted_none : (all : Judged) → all.of_step ≡ None → all.of_name ≡ None → all.of_state ≡ None → all.of_path ≡ None → IsNoted [] all
-noted_none all s n t p = record { step = ap as_refusal s; name = ap as_refusal n; state = ap as_refusal t; path = ap as_refusal p }
-
--- one operand more
-pub noted_more : (js : List Judged) (i : ℕ) (d all new : Judged) → i < length js → IsNoted (take i js) all →
-    (let j = get_or js i d in
-    (as_refusal new.of_step ≡ or_else (as_refusal all.of_step) (as_refusal j.of_step))
-    × (as_refusal new.of_name ≡ or_else (as_refusal all.of_name) (as_refusal j.of_name)) × (as_refusal new.of_state ≡ or_else (as_refusal all.of_state) (as_refusal j.of_state))
-    × (as_refusal new.of_path ≡ or_else (as_refusal all.of_path) (as_refusal j.of_path))) →
-    IsNoted (take (i + 1) js) new
-noted_more js i d all new l n h = record {
-  step = h.0 ∙ ap (λ o. or_else o (as_refusal (get_or js i d).of_step)) n.step ∙ sym (first_of_more (λ (x : Judged). as_refusal x.of_step) js i d l);
-  name = h.1 ∙ ap (λ o. or_else o (as_refusal (get_or js i d).of_name)) n.name ∙ sym (first_of_more (λ (x : Judged). as_refusal x.of_name) js i d l);
-  state = h.2 ∙ ap (λ o. or_else o (as_refusal (get_or js i d).of_state)) n.state ∙ sym (first_of_more (λ (x : Judged). as_refusal x.of_state) js i d l);
-  path = h.3 ∙ ap (λ o. or_else o (as_refusal (get_or js i d).of_path)) n.path ∙ sym (first_of_more (λ (x : Judged). as_refusal x.of_path) js i d l);
+pub last_tells : (slots : List Slot) (types : List ValueType) (count : ℕ) (rs : List Resolved) (xs : List Operand) (js : List Judged) → Tells slots types rs xs js →
+    Tells slots types (last_of count rs) (last_of count xs) (last_of count js)
+last_tells slots types count rs xs js h = record {
+  kinds = ap (last_of count) h.kinds ∙ last_told slots types count rs;
+  judged = last_judged slots types count rs js h.judged;
 }
+
+two_judged : (slots : List Slot) (types : List ValueType) (r s : Resolved) (i j : Judged) → IsJudged slots types r i → IsJudged slots types s j → AreJudged slots types (r ∷ s ∷ []) (i ∷ j ∷ [])
+two_judged slots types r s i j a b = record { long = refl; each = each }
+  where
+    each : (k : ℕ) → IsJudged slots types (slice_index_or (r ∷ s ∷ []) k Resolved.Stuck) (slice_index_or (i ∷ j ∷ []) k nothing)
+    each zero = a
+    each (suc zero) = b
+    each (suc (suc k)) = of_nothing slots types
+
+-- what is told at a number is told of the part of this number
+pub told_is : (slots : List Slot) (types : List ValueType) (parts : List Resolved) (xs : List Operand) (js : List Judged) → Tells slots types parts xs js → (k : ℕ) → told_at xs k ≡ told slots types (part_at parts k)
+told_is slots types parts xs js h k = ap (λ ys. told_at ys k) h.kinds ∙ told_part slots types parts k
+
+pub judged_is : (slots : List Slot) (types : List ValueType) (parts : List Resolved) (xs : List Operand) (js : List Judged) → Tells slots types parts xs js → (k : ℕ) → IsJudged slots types (part_at parts k) (judged_at js k)
+judged_is slots types parts xs js h k = h.judged.each k
+
+pub two_tell : (slots : List Slot) (types : List ValueType) (parts : List Resolved) (xs : List Operand) (js : List Judged) → Tells slots types parts xs js → (a b : ℕ) →
+    Tells slots types (part_at parts a ∷ part_at parts b ∷ []) (told_at xs a ∷ told_at xs b ∷ []) (judged_at js a ∷ judged_at js b ∷ [])
+two_tell slots types parts xs js h a b =
+    let left : told_at xs a ≡ told slots types (part_at parts a) = told_is slots types parts xs js h a in
+    let right : told_at xs b ≡ told slots types (part_at parts b) = told_is slots types parts xs js h b in
+    record {
+      kinds = ap (λ x. x ∷ told_at xs b ∷ []) left ∙ ap (λ x. told slots types (part_at parts a) ∷ x ∷ []) right;
+      judged = two_judged slots types (part_at parts a) (part_at parts b) (judged_at js a) (judged_at js b) (h.judged.each a) (h.judged.each b);
+    }
+
+-- the first refusal of operands, with one more
+
+or_else_both : (a b c : Option Refusal) → or_else a (or_else b c) ≡ or_else (or_else a b) c
+or_else_both None b c = refl
+or_else_both (Some r) b c = refl
+
+last_of_all : (a : Option Refusal) → or_else a None ≡ a
+last_of_all None = refl
+last_of_all (Some r) = refl
+
+module _ (slots : List Slot) (types : List ValueType) (o : Operator) (c : Context) where
+  operand_more : (n : ℕ) (rs : List Resolved) (k : ℕ) → k < length rs →
+      operands_refusal slots types o n c (operands_of (take (k + 1) rs))
+      ≡ or_else (operands_refusal slots types o n c (operands_of (take k rs))) (kind_refusal slots types (under_operand o (n + k) c) (part_at rs k))
+  operand_more n [] k l = absurd (omega arith)
+  operand_more n (r ∷ rs) zero l =
+      let here : n ≡ n + 0 = omega arith in
+      last_of_all (kind_refusal slots types (under_operand o n c) r) ∙ ap (λ m. kind_refusal slots types (under_operand o m c) r) here
+  operand_more n (r ∷ rs) (suc k) l =
+      let here : n + 1 + k ≡ n + suc k = omega arith in
+      let up : suc k + 1 ≡ suc (k + 1) = omega arith in
+      ap (λ m. operands_refusal slots types o n c (operands_of (take m (r ∷ rs)))) up
+      ∙ ap (or_else (kind_refusal slots types (under_operand o n c) r)) (operand_more (n + 1) rs k (omega arith))
+      ∙ or_else_both (kind_refusal slots types (under_operand o n c) r) (operands_refusal slots types o (n + 1) c (operands_of (take k rs))) (kind_refusal slots types (under_operand o (n + 1 + k) c) (part_at rs k))
+      ∙ ap (λ m. or_else (operands_refusal slots types o n c (operands_of (take (suc k) (r ∷ rs)))) (kind_refusal slots types (under_operand o m c) (part_at rs k))) here
+
+-- notes of what is the same in each context
+pub notes_same : (f g : Context → Option Refusal) (n : Notes) → ((c : Context) → f c ≡ g c) → AreNotes f n → AreNotes g n
+notes_same f g n same h = record {
+  step = h.step ∙ same _;
+  step_set = h.step_set ∙ same _;
+  name = h.name ∙ same _;
+  name_set = h.name_set ∙ same _;
+  state = h.state ∙ same _;
+  state_set = h.state_set ∙ same _;
+  path = h.path ∙ same _;
+}
+
+pub notes_more : (slots : List Slot) (types : List ValueType) (o : Operator) (rs : List Resolved) (k : ℕ) (new : Notes) → k < length rs →
+    AreNotes (λ c. or_else (operands_refusal slots types o 0 c (operands_of (take k rs))) (kind_refusal slots types (under_operand o k c) (part_at rs k))) new →
+    AreNotes (λ c. operands_refusal slots types o 0 c (operands_of (take (k + 1) rs))) new
+notes_more slots types o rs k new within h =
+    notes_same (λ c. or_else (operands_refusal slots types o 0 c (operands_of (take k rs))) (kind_refusal slots types (under_operand o k c) (part_at rs k)))
+    (λ c. operands_refusal slots types o 0 c (operands_of (take (k + 1) rs))) new
+    (λ c. let zero_first : 0 + k ≡ k = omega arith in
+    ap (λ m. or_else (operands_refusal slots types o 0 c (operands_of (take k rs))) (kind_refusal slots types (under_operand o m c) (part_at rs k))) (sym zero_first)
+    ∙ sym (operand_more slots types o c 0 rs k within)) h

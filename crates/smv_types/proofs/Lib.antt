@@ -1,7 +1,9 @@
+pub mod Assigning
 pub mod Judging
-pub mod Ordered
-pub mod Once
-pub mod Firsts
+pub mod Singles
+pub mod Evaluated
+pub mod Gathered
 pub mod SlotValues
-pub mod Operated
 pub mod Known
+pub mod Once
+pub mod Ordered

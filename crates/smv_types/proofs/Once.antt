@@ -1,6 +1,6 @@
 -- What is right to say is one thing.
 use Rattle.smv_tree.specs.declared.tree.Program.{Program}
-use Rattle.smv_names.specs.Verdicts.{Exactly}
+use Rattle.smv_verdicts.specs.Verdicts.{Exactly}
 use Rattle.smv_names.specs.Rules.{names_verdict}
 use Rattle.smv_names.proofs.Once.{One, one_known, one_then, names_judged_once}
 use Rattle.smv_types.specs.Rules.{kinds_refusal, types_verdict}

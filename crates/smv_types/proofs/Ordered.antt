@@ -3,7 +3,7 @@ use Rattle.std.proofs.Common.{inr, None, Result, Ok, Err, sym}
 use Rattle.smv_tree.specs.declared.refusal.TextStop.{TextStop}
 use Rattle.smv_tree.specs.declared.refusal.TextStop.TheVariants.{Refused, NoMemory}
 use Rattle.smv_tree.specs.declared.tree.Program.{Program}
-use Rattle.smv_names.specs.Verdicts.{Exactly, Judges, Gives}
+use Rattle.smv_verdicts.specs.Verdicts.{Exactly, Judges, Gives}
 use Rattle.smv_names.specs.Rules.{names_verdict}
 use Rattle.smv_names.proofs.Saying.{Stops, then_stops}
 use Rattle.smv_types.specs.Rules.{kinds_refusal, types_verdict}

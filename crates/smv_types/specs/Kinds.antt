@@ -1,20 +1,33 @@
 -- The rules of depth, kinds and contexts: an own choice of this project (the kinds are those of manual 2.1 and 2.2).
-use Rattle.std.specs.Prelude.{ℕ, nat_lt, nat_le, ◌==◌, Bool, true, false, not, ◌&&◌, if◌then◌else◌, List, [], ◌∷◌, ◌++◌, codes, length, Option, None, Some, slice_get}
+use Rattle.std.specs.Prelude.{ℕ, ◌+◌, nat_lt, Bool, true, false, not, ◌&&◌, if◌then◌else◌, List, [], ◌∷◌, ◌++◌, codes, length, Option, None, Some, Ok, Err, slice_get}
 use Rattle.std.specs.Fmt.{decimal}
-use Rattle.std.specs.List.{list_all}
+use Rattle.std.specs.List.{list_any}
 use Rattle.smv_value.specs.declared.operator.Operator.{Operator}
 use Rattle.smv_value.specs.declared.operator.Operator.TheVariants as operator
-use Rattle.smv_value.specs.declared.operator.Temporal.{Temporal}
-use Rattle.smv_value.specs.declared.operator.Temporal.TheVariants as tense
+use Rattle.smv_value.specs.declared.value.Value.{Value}
+use Rattle.smv_value.specs.Results.{is_value}
+use Rattle.value_types.specs.declared.interval.Interval.{Interval as Span}
+use Rattle.value_types.specs.declared.value_type.Element.{Element}
+use Rattle.value_types.specs.declared.value_type.Element.TheVariants as element
+use Rattle.value_types.specs.declared.value_type.ValueType.{ValueType}
+use Rattle.value_types.specs.declared.value_type.ValueType.TheVariants as type
+use Rattle.value_types.specs.Intervals.{interval_of}
+use Rattle.smv_kinds.specs.declared.kind.Interval.{Interval}
+use Rattle.smv_kinds.specs.declared.kind.Kind.{Kind}
+use Rattle.smv_kinds.specs.declared.kind.Kind.TheVariants as kind
+use Rattle.smv_kinds.specs.declared.kind.KindRule.{KindRule}
+use Rattle.smv_kinds.specs.declared.kind.KindRule.TheVariants as broken
+use Rattle.smv_kinds.specs.declared.kind.Operand.{Operand}
+use Rattle.smv_kinds.specs.Constants.{constant_given, integer_in}
+use Rattle.smv_kinds.specs.Contexts.{kind_in_context, takes_sets}
+use Rattle.smv_kinds.specs.Kinds.{Given, kind_given, kind_of_value, is_boolean, next_kind, takes}
 use Rattle.smv_tree.specs.declared.place.Place.{Place}
 use Rattle.smv_tree.specs.declared.refusal.Refusal.{Refusal}
+use Rattle.smv_tree.specs.declared.refusal.Rule.{Rule}
 use Rattle.smv_tree.specs.declared.refusal.Rule.TheVariants as rule
 use Rattle.smv_tree.specs.declared.tree.Program.{Program}
-use Rattle.smv_tree.specs.declared.tree.Variable.{Variable}
 use Rattle.smv_tree.specs.declared.tree.VariableKind.{VariableKind}
 use Rattle.smv_tree.specs.declared.tree.VariableKind.TheVariants as sort
-use Rattle.smv_tree.specs.declared.tree.TypeExpr.{TypeExpr}
-use Rattle.smv_tree.specs.declared.tree.TypeExpr.TheVariants as written
 use Rattle.smv_tree.specs.declared.tree.AssignmentKind.{AssignmentKind}
 use Rattle.smv_tree.specs.declared.tree.AssignmentKind.TheVariants as side
 use Rattle.smv_tree.specs.declared.tree.ConstraintKind.{ConstraintKind}
@@ -22,22 +35,16 @@ use Rattle.smv_tree.specs.declared.tree.ConstraintKind.TheVariants as asked
 use Rattle.smv_tree.specs.declared.tree.SpecificationKind.{SpecificationKind}
 use Rattle.smv_tree.specs.declared.tree.SpecificationKind.TheVariants as claim
 use Rattle.smv_tree.specs.Places.{start}
-use Rattle.smv_scope.specs.declared.instance.Instance.{Instance}
+use Rattle.smv_scope.specs.declared.slot.Slot.{Slot}
+use Rattle.smv_scope.specs.Slots.{slots_of, is_input}
 use Rattle.smv_resolve.specs.declared.item.ItemKind.{ItemKind}
 use Rattle.smv_resolve.specs.declared.item.ItemKind.TheVariants as item
-use Rattle.smv_scope.specs.declared.slot.Slot.{Slot}
-use Rattle.smv_scope.specs.declared.slot.ValueType.{ValueType}
-use Rattle.smv_scope.specs.declared.slot.ValueType.TheVariants as type
-use Rattle.smv_scope.specs.Modules.{variables_of}
-use Rattle.smv_scope.specs.Instances.{instances_of}
-use Rattle.smv_scope.specs.Slots.{slots_of, is_input}
 use Rattle.smv_resolve.specs.declared.node.Naming.TheVariants as naming
 use Rattle.smv_resolve.specs.Resolved.{Operands, Resolved}
 use Rattle.smv_resolve.specs.Items.{ResolvedItem, items_of, first_stuck}
-use Rattle.smv_names.specs.Verdicts.{or_else, first_of, plain, detailed}
+use Rattle.smv_declared.specs.Types.{types_of}
+use Rattle.smv_verdicts.specs.Verdicts.{or_else, first_of, plain, detailed}
 use Rattle.smv_meaning.specs.Formulas.{is_over_formulas, is_temporal}
-use Rattle.smv_types.specs.declared.judged.Kind.{Kind}
-use Rattle.smv_types.specs.declared.judged.Kind.TheVariants as kinds
 
 abbrev pub deep_at : Option Place → Option Refusal
 deep_at None = None
@@ -47,18 +54,6 @@ deep_at (Some place) = Some (plain rule.UnfoldedDepth place)
 abbrev pub too_deep : Program → Option Refusal
 too_deep p = deep_at (first_stuck (items_of p))
 
-abbrev pub instance_by : VariableKind → TypeExpr → Option Refusal
-instance_by sort.State declared = None
-instance_by other (written.Boolean place) = None
-instance_by other (written.Instance place name given) = Some (plain rule.TypeMismatch place)
-
--- `VAR` alone declares instances: refused at the module's name
-abbrev pub instance_among : VariableKind × Variable → Option Refusal
-instance_among v = instance_by v.0 v.1.declared
-
-abbrev pub misdeclared : Program → Option Refusal
-misdeclared p = first_of (λ (x : Instance). first_of instance_among (variables_of p x.of_module)) (instances_of p)
-
 -- a program has at most this many slots: an own choice of this project
 abbrev pub most_slots : ℕ
 most_slots = 65536
@@ -67,84 +62,97 @@ most_slots = 65536
 abbrev pub too_many_slots : Program → Option Refusal
 too_many_slots p = if nat_lt most_slots (length (slots_of p)) then Some (plain rule.TooManySlots start) else None
 
--- what may stand somewhere: `next`, inputs, and temporal operators
+-- What may stand somewhere: `next`, inputs, temporal operators, and sets.
 pub record Context : Type 0 where
   pub next : Bool
   pub input : Bool
   pub temporal : Bool
+  pub set : Bool
 
 -- where a step is spoken of (manual 2.3.7, TRANS Constraint), where a state is, and where a path is (manual 2.4.3, LTL
--- Specifications)
-abbrev pub of_step : Context
-of_step = record { next = true; input = true; temporal = false }
+-- Specifications); sets may stand in what is assigned alone (manual 2.3.8, ASSIGN Constraint)
+abbrev pub of_step : Bool → Context
+of_step set = record { next = true; input = true; temporal = false; set = set }
 
-abbrev pub of_state : Context
-of_state = record { next = false; input = false; temporal = false }
+abbrev pub of_state : Bool → Context
+of_state set = record { next = false; input = false; temporal = false; set = set }
 
 abbrev pub of_path : Context
-of_path = record { next = false; input = true; temporal = true }
+of_path = record { next = false; input = true; temporal = true; set = false }
 
 -- in what a name stands for there is no `next` and no temporal operator
 abbrev pub under_name : Context → Context
-under_name c = record { next = false; input = c.input; temporal = false }
+under_name c = record { next = false; input = c.input; temporal = false; set = c.set }
 
--- temporal operators stand under propositions and temporal operators alone
-abbrev pub under_operator : Operator → Context → Context
-under_operator o c = record c { temporal = c.temporal && is_over_formulas o }
+-- under `next` there is no input either
+abbrev pub under_next : Context → Context
+under_next c = of_state c.set
 
--- Kinds: each operator is a line of the table.
+-- Under the operand of this number: temporal operators stand under propositions and temporal operators alone, and sets on the
+-- right of `in`, too.
+abbrev pub under_operand : Operator → ℕ → Context → Context
+under_operand o k c = record c { temporal = c.temporal && is_over_formulas o; set = takes_sets o k c.set }
 
-abbrev pub is_boolean : Option Kind → Bool
-is_boolean (Some kinds.Boolean) = true
-is_boolean other = false
+-- Kinds.
 
--- what has so many operands, all booleans, is a boolean
-abbrev pub booleans : ℕ → List (Option Kind) → Option Kind
-booleans count ks = if (length ks == count) && list_all is_boolean ks then Some kinds.Boolean else None
+abbrev pub interval_with : Option Span → Option Interval
+interval_with None = None
+interval_with (Some i) = Some (record { low = i.low; high = i.high })
 
-abbrev pub operands_of_temporal : Temporal → ℕ
-operands_of_temporal tense.Until = 2
-operands_of_temporal tense.Releases = 2
-operands_of_temporal tense.Since = 2
-operands_of_temporal tense.Triggered = 2
-operands_of_temporal other = 1
+abbrev pub is_symbol : Element → Bool
+is_symbol (element.Sym n) = true
+is_symbol (element.Int z) = false
 
--- The table: the kind of an operator over operands of these kinds; none where it takes no such operands.
-abbrev pub typed : Operator → List (Option Kind) → Option Kind
-typed operator.Not = booleans 1
-typed (operator.Logic o) = booleans 2
-typed operator.Equal = booleans 2
-typed operator.NotEqual = booleans 2
-typed operator.Choice = booleans 3
-typed (operator.Temporal o) = booleans (operands_of_temporal o)
-typed (operator.Bounded o low high) = booleans 1
-typed other = λ ks. None
-
+-- the kind of a variable of a type
 abbrev pub kind_of_type : ValueType → Kind
-kind_of_type type.Boolean = kinds.Boolean
+kind_of_type type.Boolean = kind.Boolean
+kind_of_type (type.Word signed width) = kind.Word signed width
+kind_of_type (type.Range low high) = kind.Discrete (record { integers = interval_with (interval_of (type.Range low high)); symbols = false })
+kind_of_type (type.Enumeration elements) =
+    kind.Discrete (record { integers = interval_with (interval_of (type.Enumeration elements)); symbols = list_any is_symbol elements })
 
-abbrev pub kind_of_slot : Option Slot → Option Kind
-kind_of_slot None = None
-kind_of_slot (Some slot) = Some (kind_of_type slot.declared)
+abbrev pub kind_of_some : Option ValueType → Kind
+kind_of_some None = kind.Nothing
+kind_of_some (Some t) = kind_of_type t
 
--- the kind of an expression
+abbrev pub kind_of_slot : List ValueType → Option Slot → Kind
+kind_of_slot types None = kind.Nothing
+kind_of_slot types (Some slot) = kind_of_some (slice_get types slot.declared)
+
+abbrev pub kind_in : Given → Kind
+kind_in (Ok k) = k
+kind_in (Err r) = kind.Nothing
+
+-- what is no constant
+abbrev pub of_kind : Kind → Operand
+of_kind k = record { kind = k; constant = None }
+
+-- Expressions: the kind of each, and the integer that it is if it is a constant. There are no arrays.
 abbrev mutual
-  pub kind_of : List Slot → Resolved → Option Kind
-  kind_of slots (Resolved.Constant place b) = Some kinds.Boolean
-  kind_of slots (Resolved.Slot place n) = kind_of_slot (slice_get slots n)
-  kind_of slots (Resolved.Whole place i) = Some kinds.Instance
-  kind_of slots (Resolved.Named place naming r) = kind_of slots r
-  kind_of slots (Resolved.Next place r) = kind_of slots r
-  kind_of slots (Resolved.Apply place o rs) = typed o (kinds_of slots rs)
-  kind_of slots Resolved.Stuck = None
+  pub told : List Slot → List ValueType → Resolved → Operand
+  told slots types (Resolved.Constant place v) = record { kind = kind_of_value v; constant = integer_in (Some v) }
+  told slots types (Resolved.Slot place n) = of_kind (kind_of_slot types (slice_get slots n))
+  told slots types (Resolved.Whole place i) = of_kind kind.Instance
+  told slots types (Resolved.Named place naming r) = told slots types r
+  told slots types (Resolved.Next place r) = of_kind (kind_in (next_kind (told slots types r).kind))
+  told slots types (Resolved.Apply place o rs) =
+      record { kind = kind_in (kind_given [] o (all_told slots types rs)); constant = constant_given o (all_told slots types rs) }
+  told slots types Resolved.Stuck = of_kind kind.Nothing
 
-  pub kinds_of : List Slot → Operands → List (Option Kind)
-  kinds_of slots Operands.End = []
-  kinds_of slots (Operands.With r rs) = kind_of slots r ∷ kinds_of slots rs
+  pub all_told : List Slot → List ValueType → Operands → List Operand
+  all_told slots types Operands.End = []
+  all_told slots types (Operands.With r rs) = told slots types r ∷ all_told slots types rs
+
+-- values of this kind, one or a set of them
+abbrev pub has_values : Kind → Bool
+has_values (kind.Array n) = false
+has_values kind.Instance = false
+has_values kind.Nothing = false
+has_values other = true
 
 -- a place where a value is wanted, and there is none
-abbrev pub mismatch : Place → Option Kind → Option Refusal
-mismatch place k = if is_boolean k then None else Some (plain rule.TypeMismatch place)
+abbrev pub no_value : Place → Kind → Option Refusal
+no_value place k = if has_values k then None else Some (plain rule.TypeMismatch place)
 
 abbrev pub is_input_slot : Option Slot → Bool
 is_input_slot None = false
@@ -165,19 +173,35 @@ temporal_at place o = if is_temporal o then Some (plain rule.TemporalHere place)
 abbrev pub temporal_here : Context → Place → Operator → Option Refusal
 temporal_here c place o = if c.temporal then None else temporal_at place o
 
--- bounds of a temporal operator are in order and no greater than this: an own choice of this project
-abbrev pub greatest_bound : ℕ
-greatest_bound = 255
+abbrev pub rule_of : KindRule → Rule
+rule_of broken.SetHere = rule.SetHere
+rule_of broken.TypeMismatch = rule.TypeMismatch
+rule_of broken.WordWidth = rule.WordWidth
+rule_of broken.NotConstant = rule.NotConstant
+rule_of broken.BadSelection = rule.BadSelection
+rule_of broken.IntWidth = rule.IntWidth
+rule_of broken.BadBound = rule.BadBound
 
 abbrev pub bounds_text : ℕ → ℕ → List ℕ
 bounds_text low high = decimal low ++ codes "," ++ decimal high
 
-abbrev pub bounds_at : Place → ℕ → ℕ → Option Refusal
-bounds_at place low high = if nat_le low high && nat_le high greatest_bound then None else Some (detailed rule.BadBound place (bounds_text low high))
+-- a rule that operands break; of bounds these are told
+abbrev pub broken_by : Place → Operator → KindRule → Refusal
+broken_by place (operator.Bounded o low high) broken.BadBound = detailed rule.BadBound place (bounds_text low high)
+broken_by place o r = plain (rule_of r) place
 
-abbrev pub bounds_refusal : Place → Operator → Option Refusal
-bounds_refusal place (operator.Bounded o low high) = bounds_at place low high
-bounds_refusal place other = None
+abbrev pub kinds_broken : Place → Operator → Given → Option Refusal
+kinds_broken place o (Ok k) = None
+kinds_broken place o (Err r) = Some (broken_by place o r)
+
+-- `next` of what has no single value
+abbrev pub next_broken : Place → Given → Option Refusal
+next_broken place (Ok k) = None
+next_broken place (Err r) = Some (plain (rule_of r) place)
+
+-- what is no value: an integer of more than 32 bits, which no source has
+abbrev pub constant_here : Place → Value → Option Refusal
+constant_here place v = if is_value v then None else Some (plain rule.IntWidth place)
 
 -- the place of an expression
 abbrev pub place_of : Resolved → Place
@@ -190,23 +214,27 @@ place_of (Resolved.Apply place o rs) = place
 place_of Resolved.Stuck = start
 
 -- The first refusal in an expression: operands before their operator, from left to right; at an operator contexts before kinds.
--- What a definition stands for has to be a value, and is refused at its own place where it is an instance.
+-- What a definition stands for has to have values, and is refused at its own place where it is an instance.
 abbrev mutual
-  pub kind_refusal : List Slot → Context → Resolved → Option Refusal
-  kind_refusal slots c (Resolved.Constant place b) = None
-  kind_refusal slots c (Resolved.Slot place n) = input_here c place (is_input_slot (slice_get slots n))
-  kind_refusal slots c (Resolved.Whole place i) = None
-  kind_refusal slots c (Resolved.Named place naming.Given r) = kind_refusal slots (under_name c) r
-  kind_refusal slots c (Resolved.Named place naming.Defined r) = or_else (kind_refusal slots (under_name c) r) (mismatch (place_of r) (kind_of slots r))
-  kind_refusal slots c (Resolved.Next place r) = or_else (kind_refusal slots of_state r) (or_else (next_here c place) (mismatch place (kind_of slots r)))
-  kind_refusal slots c (Resolved.Apply place o rs) =
-      or_else (operands_refusal slots (under_operator o c) rs)
-      (or_else (temporal_here c place o) (or_else (mismatch place (typed o (kinds_of slots rs))) (bounds_refusal place o)))
-  kind_refusal slots c Resolved.Stuck = None
+  pub kind_refusal : List Slot → List ValueType → Context → Resolved → Option Refusal
+  kind_refusal slots types c (Resolved.Constant place v) = constant_here place v
+  kind_refusal slots types c (Resolved.Slot place n) = input_here c place (is_input_slot (slice_get slots n))
+  kind_refusal slots types c (Resolved.Whole place i) = None
+  kind_refusal slots types c (Resolved.Named place naming.Given r) = kind_refusal slots types (under_name c) r
+  kind_refusal slots types c (Resolved.Named place naming.Defined r) =
+      or_else (kind_refusal slots types (under_name c) r) (no_value (place_of r) (told slots types r).kind)
+  kind_refusal slots types c (Resolved.Next place r) =
+      or_else (kind_refusal slots types (under_next c) r) (or_else (next_here c place) (next_broken place (next_kind (told slots types r).kind)))
+  kind_refusal slots types c (Resolved.Apply place o rs) =
+      or_else (operands_refusal slots types o 0 c rs)
+      (or_else (temporal_here c place o) (kinds_broken place o (kind_in_context c.set [] o (all_told slots types rs))))
+  kind_refusal slots types c Resolved.Stuck = None
 
-  pub operands_refusal : List Slot → Context → Operands → Option Refusal
-  operands_refusal slots c Operands.End = None
-  operands_refusal slots c (Operands.With r rs) = or_else (kind_refusal slots c r) (operands_refusal slots c rs)
+  -- the first one in operands of this operator, the first of which has number k
+  pub operands_refusal : List Slot → List ValueType → Operator → ℕ → Context → Operands → Option Refusal
+  operands_refusal slots types o k c Operands.End = None
+  operands_refusal slots types o k c (Operands.With r rs) =
+      or_else (kind_refusal slots types (under_operand o k c) r) (operands_refusal slots types o (k + 1) c rs)
 
 -- a variable of this kind may be assigned so: a frozen one by `init` alone (manual 2.3.8, ASSIGN Constraint)
 abbrev pub takes_assignment : AssignmentKind → VariableKind → Bool
@@ -228,9 +256,9 @@ is_assignable slots which (Resolved.Named place naming.Given r) = is_assignable 
 is_assignable slots which other = false
 
 -- What a parameter was given is judged on a left side, too: no `next` stands in it. A left side is in no context else.
-abbrev pub given_refusal : List Slot → Resolved → Option Refusal
-given_refusal slots (Resolved.Named place naming.Given r) = kind_refusal slots (under_name of_step) r
-given_refusal slots other = None
+abbrev pub given_refusal : List Slot → List ValueType → Resolved → Option Refusal
+given_refusal slots types (Resolved.Named place naming.Given r) = kind_refusal slots types (under_name (of_step true)) r
+given_refusal slots types other = None
 
 -- told at the left side, with which the assignment begins
 abbrev pub target_refusal : List Slot → Place → AssignmentKind → Resolved → Option Refusal
@@ -238,40 +266,48 @@ target_refusal slots place which r = if is_assignable slots which r then None el
 
 -- what may stand in the value of an assignment: what `next(x) := e` says is of a step
 abbrev pub context_of_side : AssignmentKind → Context
-context_of_side side.Next = of_step
-context_of_side other = of_state
+context_of_side side.Next = of_step true
+context_of_side other = of_state true
 
 abbrev pub context_of_constraint : ConstraintKind → Context
-context_of_constraint asked.Trans = of_step
-context_of_constraint other = of_state
+context_of_constraint asked.Trans = of_step false
+context_of_constraint other = of_state false
 
 abbrev pub context_of_specification : SpecificationKind → Context
-context_of_specification claim.Invariant = of_state
+context_of_specification claim.Invariant = of_state false
 context_of_specification claim.Temporal = of_path
 
 -- an expression that has to be a boolean
-abbrev pub formula_refusal : List Slot → Context → Resolved → Option Refusal
-formula_refusal slots c r = or_else (kind_refusal slots c r) (mismatch (place_of r) (kind_of slots r))
+abbrev pub no_boolean : Place → Kind → Option Refusal
+no_boolean place k = if is_boolean k then None else Some (plain rule.TypeMismatch place)
 
--- The left side of an assignment: what a parameter was given there, what may be assigned, and its kind.
-abbrev pub left_refusal : List Slot → Place → AssignmentKind → Resolved → Option Refusal
-left_refusal slots place which target =
-    or_else (given_refusal slots target) (or_else (target_refusal slots place which target) (mismatch place (kind_of slots target)))
+abbrev pub formula_refusal : List Slot → List ValueType → Context → Resolved → Option Refusal
+formula_refusal slots types c r = or_else (kind_refusal slots types c r) (no_boolean (place_of r) (told slots types r).kind)
+
+-- The left side of an assignment: what a parameter was given there, what may be assigned, and that it has values.
+abbrev pub left_refusal : List Slot → List ValueType → Place → AssignmentKind → Resolved → Option Refusal
+left_refusal slots types place which target =
+    or_else (given_refusal slots types target) (or_else (target_refusal slots place which target) (no_value place (told slots types target).kind))
+
+-- the value of an assignment is of the kind of what is assigned, or a set of such values
+abbrev pub no_taker : Place → Kind → Kind → Option Refusal
+no_taker place x e = if takes x e then None else Some (plain rule.TypeMismatch place)
 
 -- the left side before the right one
-abbrev pub assignment_refusal : List Slot → Place → AssignmentKind → Option Resolved → Resolved → Option Refusal
-assignment_refusal slots place which None e = Some (plain rule.NotAssignable place)
-assignment_refusal slots place which (Some target) e =
-    or_else (left_refusal slots place which target) (or_else (kind_refusal slots (context_of_side which) e) (mismatch place (kind_of slots e)))
+abbrev pub assignment_refusal : List Slot → List ValueType → Place → AssignmentKind → Option Resolved → Resolved → Option Refusal
+assignment_refusal slots types place which None e = Some (plain rule.NotAssignable place)
+assignment_refusal slots types place which (Some target) e =
+    or_else (left_refusal slots types place which target)
+    (or_else (kind_refusal slots types (context_of_side which) e) (no_taker place (told slots types target).kind (told slots types e).kind))
 
-abbrev pub refusal_by_kind : List Slot → Place → Option Resolved → Resolved → ItemKind → Option Refusal
-refusal_by_kind slots place target e (item.Assignment which) = assignment_refusal slots place which target e
-refusal_by_kind slots place target e (item.Constraint which) = formula_refusal slots (context_of_constraint which) e
-refusal_by_kind slots place target e (item.Specification which) = formula_refusal slots (context_of_specification which) e
+abbrev pub refusal_by_kind : List Slot → List ValueType → Place → Option Resolved → Resolved → ItemKind → Option Refusal
+refusal_by_kind slots types place target e (item.Assignment which) = assignment_refusal slots types place which target e
+refusal_by_kind slots types place target e (item.Constraint which) = formula_refusal slots types (context_of_constraint which) e
+refusal_by_kind slots types place target e (item.Specification which) = formula_refusal slots types (context_of_specification which) e
 
 -- the first refusal of an item by kinds and contexts
-abbrev pub item_refusal : List Slot → ResolvedItem → Option Refusal
-item_refusal slots x = refusal_by_kind slots x.place x.target x.value x.kind
+abbrev pub item_refusal : List Slot → List ValueType → ResolvedItem → Option Refusal
+item_refusal slots types x = refusal_by_kind slots types x.place x.target x.value x.kind
 
 abbrev pub misused : Program → Option Refusal
-misused p = first_of (item_refusal (slots_of p)) (items_of p)
+misused p = first_of (item_refusal (slots_of p) (types_of p)) (items_of p)

@@ -1,3 +1,3 @@
 pub mod Kinds
-pub mod Rules
 pub mod Judged
+pub mod Rules

@@ -1,34 +1,47 @@
 //! The rules of kinds and contexts, over items.
 
 ghost use Rattle.std.specs.Prelude.{◌≡◌, List, Some, map, IfOk};
+ghost use Rattle.value_types.specs.declared.value_type.ValueType.{ValueType};
 ghost use Rattle.smv_scope.specs.declared.slot.Slot.{Slot};
 ghost use Rattle.smv_resolve.specs.Items.{item_by};
-ghost use Rattle.smv_resolve.specs.Resolved.{Resolved, parts_of};
-ghost use Rattle.smv_types.specs.Judged.{IsJudged, Tells, as_refusal};
-ghost use Rattle.smv_types.specs.Kinds.{assignment_refusal, bounds_text, context_of_constraint, context_of_specification, context_of_side, formula_refusal, is_assignable, item_refusal, kind_refusal, left_refusal, of_state, target_refusal};
-ghost use Rattle.smv_names.specs.Verdicts.{Judges, first_of};
+ghost use Rattle.smv_resolve.specs.Resolved.{Resolved, part_at, parts_of};
+ghost use Rattle.smv_verdicts.specs.Verdicts.{Judges, first_of};
+ghost use Rattle.smv_types.specs.Judged.{IsJudged, IsOf, Tells, as_refusal};
+ghost use Rattle.smv_types.specs.Kinds.{assignment_refusal, bounds_text, context_of_constraint, context_of_side, context_of_specification, formula_refusal, is_assignable, item_refusal, kind_refusal, left_refusal, no_boolean, no_taker, target_refusal};
 
 use crate::judged::{Judged, Violation};
-use crate::kinds::{first, judged_at, mismatched, or_mismatch};
+use crate::kinds::{Table, judged_at, no_value};
+use crate::notes::first;
+use crate::told::told_at;
 use plain_text::Text;
+use smv_kinds::{Kind, takes};
 use smv_resolve::{Item, ItemKind, Node};
 use smv_scope::Slot;
 use smv_tree::{AssignmentKind, ConstraintKind, Place, Refusal, Rule, SpecificationKind, TextStop};
 use std::alloc::{AllocError, Global};
+use value_types::ValueType;
+
+/// What is told and noted of an expression.
+#[derive(Clone, Copy, Debug)]
+pub struct Part {
+    pub kind: Kind,
+    pub judged: Judged,
+}
 
 // The first item whose expressions are of other kinds, or stand where they may not.
 pub(crate) fn misused(
     alloc: Global,
     slots: &[Slot],
+    types: &[ValueType],
     nodes: &[Node],
-    table: &[Judged],
+    table: &Table,
     items: &[Item],
 ) -> Result<(), TextStop>
-    requires { Tells slots.now (parts_of nodes.now) table.now }
-    ensures { Judges result (first_of (item_refusal slots.now) (map (item_by nodes.now) items.now)) }
+    requires { Tells slots.now types.now (parts_of nodes.now) table.now.operands.items table.now.judged.items }
+    ensures { Judges result (first_of (item_refusal slots.now types.now) (map (item_by nodes.now) items.now)) }
 {
     for item in items {
-        if let Some(violation) = item_violation(slots, nodes, table, item) {
+        if let Some(violation) = item_violation(slots, types, nodes, table, item) {
             return refused_by(alloc, violation);
         }
     }
@@ -37,65 +50,89 @@ pub(crate) fn misused(
 
 fn item_violation(
     _slots: &[Slot],
+    _types: &[ValueType],
     _nodes: &[Node],
-    table: &[Judged],
+    table: &Table,
     item: &Item,
 ) -> Option<Violation>
-    requires { Tells _slots.now (parts_of _nodes.now) table.now }
-    ensures { as_refusal result ≡ item_refusal _slots.now (item_by _nodes.now item.now) }
+    requires { Tells _slots.now _types.now (parts_of _nodes.now) table.now.operands.items table.now.judged.items }
+    ensures { as_refusal result ≡ item_refusal _slots.now _types.now (item_by _nodes.now item.now) }
 {
-    let value = judged_at(table, item.value);
+    let value = part_at(table, item.value);
     match item.kind {
         ItemKind::Assignment(which) => match item.target {
             None => Some(Violation::new(Rule::NotAssignable, item.place)),
-            Some(k) => assignment_violation(item.place, which, judged_at(table, k), value),
+            Some(k) => assignment_violation(item.place, which, part_at(table, k), value),
         },
         ItemKind::Constraint(which) => constraint_violation(which, value),
         ItemKind::Specification(which) => specification_violation(which, value),
     }
 }
 
+// What is told and noted of the node of this number.
+fn part_at(table: &Table, k: usize) -> Part
+    ensures { (slots : List Slot) (types : List ValueType) (parts : List Resolved) → Tells slots types parts table.now.operands.items table.now.judged.items → IsOf slots types (part_at parts k) result }
+{
+    Part {
+        kind: told_at(table.operands.as_slice(), k).kind,
+        judged: judged_at(table.judged.as_slice(), k),
+    }
+}
+
 fn assignment_violation(
     place: Place,
     which: AssignmentKind,
-    target: Judged,
-    value: Judged,
+    target: Part,
+    value: Part,
 ) -> Option<Violation>
-    ensures { (slots : List Slot) (r e : Resolved) → IsJudged slots r target → IsJudged slots e value → as_refusal result ≡ assignment_refusal slots place which (Some r) e }
+    ensures { (slots : List Slot) (types : List ValueType) (r e : Resolved) → IsOf slots types r target → IsOf slots types e value → as_refusal result ≡ assignment_refusal slots types place which (Some r) e }
 {
     first(
         left_violation(place, which, target),
-        first(value_violation(which, value), mismatched(place, value.kind)),
+        first(
+            value_violation(which, value.judged),
+            no_taker(place, target.kind, value.kind),
+        ),
     )
 }
 
+fn no_taker(place: Place, x: Kind, e: Kind) -> Option<Violation>
+    ensures { as_refusal result ≡ no_taker place x e }
+{
+    if takes(x, e) {
+        None
+    } else {
+        Some(Violation::new(Rule::TypeMismatch, place))
+    }
+}
+
 // The left side, which begins at this place.
-fn left_violation(place: Place, which: AssignmentKind, target: Judged) -> Option<Violation>
-    ensures { (slots : List Slot) (r : Resolved) → IsJudged slots r target → as_refusal result ≡ left_refusal slots place which r }
+fn left_violation(place: Place, which: AssignmentKind, target: Part) -> Option<Violation>
+    ensures { (slots : List Slot) (types : List ValueType) (r : Resolved) → IsOf slots types r target → as_refusal result ≡ left_refusal slots types place which r }
 {
     first(
-        target.given,
+        target.judged.given,
         first(
-            target_violation(place, which, target),
-            mismatched(place, target.kind),
+            target_violation(place, which, target.judged),
+            no_value(place, target.kind),
         ),
     )
 }
 
 // What is assigned is no variable that may be assigned so; the left side begins at this place.
 fn target_violation(place: Place, which: AssignmentKind, target: Judged) -> Option<Violation>
-    ensures { (slots : List Slot) (r : Resolved) → IsJudged slots r target → as_refusal result ≡ target_refusal slots place which r }
+    ensures { (slots : List Slot) (types : List ValueType) (r : Resolved) → IsJudged slots types r target → as_refusal result ≡ target_refusal slots place which r }
 {
-    if takes(which, target) {
+    if takes_so(which, target) {
         None
     } else {
         Some(Violation::new(Rule::NotAssignable, place))
     }
 }
 
-#[tactic(auto, using(crate::proofs::Judging::later_same))]
-fn takes(which: AssignmentKind, target: Judged) -> bool
-    ensures { (slots : List Slot) (r : Resolved) → IsJudged slots r target → result ≡ is_assignable slots which r }
+#[tactic(auto, using(crate::proofs::Assigning::later_same))]
+fn takes_so(which: AssignmentKind, target: Judged) -> bool
+    ensures { (slots : List Slot) (types : List ValueType) (r : Resolved) → IsJudged slots types r target → result ≡ is_assignable slots which r }
 {
     match which {
         AssignmentKind::Init => target.takes_init,
@@ -105,32 +142,44 @@ fn takes(which: AssignmentKind, target: Judged) -> bool
 }
 
 fn value_violation(which: AssignmentKind, value: Judged) -> Option<Violation>
-    ensures { (slots : List Slot) (e : Resolved) → IsJudged slots e value → as_refusal result ≡ kind_refusal slots (context_of_side which) e }
+    ensures { (slots : List Slot) (types : List ValueType) (e : Resolved) → IsJudged slots types e value → as_refusal result ≡ kind_refusal slots types (context_of_side which) e }
 {
     match which {
-        AssignmentKind::Next => value.of_step,
-        AssignmentKind::Init | AssignmentKind::Current => value.of_state,
+        AssignmentKind::Next => value.notes.step_set,
+        AssignmentKind::Init | AssignmentKind::Current => value.notes.state_set,
     }
 }
 
-fn constraint_violation(which: ConstraintKind, value: Judged) -> Option<Violation>
-    ensures { (slots : List Slot) (e : Resolved) → IsJudged slots e value → as_refusal result ≡ formula_refusal slots (context_of_constraint which) e }
+fn constraint_violation(which: ConstraintKind, value: Part) -> Option<Violation>
+    ensures { (slots : List Slot) (types : List ValueType) (e : Resolved) → IsOf slots types e value → as_refusal result ≡ formula_refusal slots types (context_of_constraint which) e }
 {
     let inside = match which {
-        ConstraintKind::Trans => value.of_step,
-        ConstraintKind::Init | ConstraintKind::Invar | ConstraintKind::Justice => value.of_state,
+        ConstraintKind::Trans => value.judged.notes.step,
+        ConstraintKind::Init | ConstraintKind::Invar | ConstraintKind::Justice => {
+            value.judged.notes.state
+        }
     };
-    or_mismatch(inside, value.place, value.kind)
+    first(inside, no_boolean(value.judged.place, value.kind))
 }
 
-fn specification_violation(which: SpecificationKind, value: Judged) -> Option<Violation>
-    ensures { (slots : List Slot) (e : Resolved) → IsJudged slots e value → as_refusal result ≡ formula_refusal slots (context_of_specification which) e }
+fn specification_violation(which: SpecificationKind, value: Part) -> Option<Violation>
+    ensures { (slots : List Slot) (types : List ValueType) (e : Resolved) → IsOf slots types e value → as_refusal result ≡ formula_refusal slots types (context_of_specification which) e }
 {
     let inside = match which {
-        SpecificationKind::Invariant => value.of_state,
-        SpecificationKind::Temporal => value.of_path,
+        SpecificationKind::Invariant => value.judged.notes.state,
+        SpecificationKind::Temporal => value.judged.notes.path,
     };
-    or_mismatch(inside, value.place, value.kind)
+    first(inside, no_boolean(value.judged.place, value.kind))
+}
+
+// A place where TRUE or FALSE is wanted, and there is something else.
+fn no_boolean(place: Place, kind: Kind) -> Option<Violation>
+    ensures { as_refusal result ≡ no_boolean place kind }
+{
+    match kind {
+        Kind::Boolean => None,
+        _ => Some(Violation::new(Rule::TypeMismatch, place)),
+    }
 }
 
 // The refusal by the rule that is broken.

@@ -26,29 +26,24 @@ impl Violation {
     }
 }
 
-/// What an expression gives.
+/// The first rule that an expression breaks, by where it stands: where a step is spoken of, in what a name stands for there, where
+/// a state is spoken of, each without sets and with them; and where a path is spoken of.
 #[derive(Clone, Copy, Debug)]
-pub enum Kind {
-    /// TRUE or FALSE.
-    Boolean,
-    /// An instance, which is no value.
-    Instance,
+pub struct Notes {
+    pub step: Option<Violation>,
+    pub step_set: Option<Violation>,
+    pub name: Option<Violation>,
+    pub name_set: Option<Violation>,
+    pub state: Option<Violation>,
+    pub state_set: Option<Violation>,
+    pub path: Option<Violation>,
 }
 
 /// What is noted of an expression.
 #[derive(Clone, Copy, Debug)]
 pub struct Judged {
-    /// Its kind; none where its operands do not fit.
-    pub kind: Option<Kind>,
     pub place: Place,
-    /// The first rule that it breaks where a step is spoken of.
-    pub of_step: Option<Violation>,
-    /// The same in what a name stands for there.
-    pub of_name: Option<Violation>,
-    /// The first rule that it breaks where a state is spoken of.
-    pub of_state: Option<Violation>,
-    /// The first rule that it breaks where a path is spoken of.
-    pub of_path: Option<Violation>,
+    pub notes: Notes,
     /// The first rule that it breaks on the left side of an assignment, where a parameter was given it.
     pub given: Option<Violation>,
     /// It may be assigned by `init`.

@@ -1,61 +1,85 @@
 //! The rules of kinds and contexts, over nodes.
 
-ghost use Rattle.std.specs.Prelude.{◌≡◌, ℕ, Bool, List, map, IfOk, None, Some, false};
-ghost use Rattle.std.specs.List.{list_all};
+ghost use Rattle.std.specs.Prelude.{◌≡◌, ℕ, List, [], IfOk, None, Some, false};
 ghost use Rattle.smv_tree.specs.declared.tree.AssignmentKind.TheVariants as side;
+ghost use Rattle.value_types.specs.declared.value_type.ValueType.{ValueType};
+ghost use Rattle.smv_kinds.specs.Contexts.{kind_in_context};
+ghost use Rattle.smv_kinds.specs.Kinds.{next_kind};
 ghost use Rattle.smv_scope.specs.declared.slot.Slot.{Slot};
+ghost use Rattle.smv_scope.specs.Slots.{is_input};
 ghost use Rattle.smv_resolve.specs.declared.node.Naming.TheVariants as naming;
 ghost use Rattle.smv_resolve.specs.Resolved.{Resolved, Resolved as R, operands_of, parts_of, resolved_by};
-ghost use Rattle.smv_scope.specs.Slots.{is_input};
-ghost use Rattle.smv_types.specs.Judged.{IsJudged, IsNoted, Tells, as_refusal, judged_at};
-ghost use Rattle.smv_types.specs.Kinds.{booleans, bounds_at, bounds_refusal, input_here, is_boolean, kind_of_type, mismatch, of_path, of_state, operands_of_temporal, operands_refusal, takes_assignment, temporal_at, typed, under_operator};
-ghost use Rattle.smv_types.specs.declared.judged.Kind.TheVariants.{Boolean};
-ghost use Rattle.smv_names.specs.Verdicts.{or_else};
+ghost use Rattle.smv_types.specs.Judged.{AreJudged, AreNotes, IsJudged, Tells, as_refusal, judged_at};
+ghost use Rattle.smv_types.specs.Kinds.{broken_by, constant_here, has_values, input_here, kinds_broken, next_broken, no_value, operands_refusal, rule_of, takes_assignment, told};
 
-use crate::judged::{Judged, Kind, Violation};
-use smv_meaning::{is_over_formulas, is_temporal};
-use smv_names::START;
+use crate::judged::{Judged, Notes, Violation};
+use crate::notes::{
+    both, by_sets, everywhere, input_here, next_here, temporal_here, under_name, under_next,
+    under_operand,
+};
+use crate::told::{kinds_of, told, told_at};
+use smv_kinds::{Kind, KindRule, Operand, kind_in_context, next_kind};
 use smv_resolve::{Naming, Node, last};
-use smv_scope::{Slot, ValueType};
+use smv_scope::Slot;
 use smv_tree::{Place, Rule, VariableKind};
-use smv_value::{Operator, Temporal};
+use smv_value::{Operator, Value, is_value};
+use smv_verdicts::START;
 use std::alloc::{AllocError, Global};
+use value_types::ValueType;
 
-// The bounds of temporal operators are no greater.
-const GREATEST_BOUND: u32 = 255;
+/// What is told and noted of nodes.
+#[derive(Drop)]
+pub(crate) struct Table {
+    pub operands: Vec<Operand>,
+    pub judged: Vec<Judged>,
+}
 
-/// What is noted of each node.
+/// What is told and noted of each node. Linear in the nodes.
 pub(crate) fn judge_nodes(
     alloc: Global,
     slots: &[Slot],
+    types: &[ValueType],
     nodes: &[Node],
-) -> Result<Vec<Judged>, AllocError>
-    ensures { IfOk result (λ table. Tells slots.now (parts_of nodes.now) table.items) }
+) -> Result<Table, AllocError>
+    ensures { IfOk result (λ table. Tells slots.now types.now (parts_of nodes.now) table.operands.items table.judged.items) }
 {
-    let mut table = Vec::new(alloc);
+    let kinds = kinds_of(alloc, types)?;
+    let mut operands = Vec::new(alloc);
+    let mut judged = Vec::new(alloc);
     for node in nodes {
-        let judged = judge(slots, *node, table.as_slice());
-        table.push(judged)?;
+        let operand = told(slots, kinds.as_slice(), *node, operands.as_slice());
+        let one = judge(slots, *node, operands.as_slice(), judged.as_slice());
+        operands.push(operand)?;
+        judged.push(one)?;
     }
-    Ok(table)
+    Ok(Table { operands, judged })
 }
 
-// What is noted of a node, over what is noted of those before it.
-fn judge(slots: &[Slot], node: Node, table: &[Judged]) -> Judged
-    ensures { (parts : List Resolved) → Tells slots.now parts table.now → IsJudged slots.now (resolved_by parts node) result }
+// What is noted of a node, over what is told and noted of those before it.
+fn judge(slots: &[Slot], node: Node, operands: &[Operand], table: &[Judged]) -> Judged
+    ensures { (types : List ValueType) (parts : List Resolved) → Tells slots.now types parts operands.now table.now → IsJudged slots.now types (resolved_by parts node) result }
 {
     match node {
-        Node::Constant(place, _) => judge_constant(place),
+        Node::Constant(place, value) => judge_constant(place, value),
         Node::Slot(place, n) => judge_slot(slots, place, n),
         Node::Whole(place, _) => judge_whole(place),
-        Node::Named(place, Naming::Given, a) => judge_given(place, judged_at(table, a)),
-        Node::Named(place, Naming::Defined, a) => judge_defined(place, judged_at(table, a)),
-        Node::Next(place, a) => judge_next(place, judged_at(table, a)),
+        Node::Named(place, naming, a) => {
+            judge_named(
+                place,
+                naming,
+                judged_at(table, a),
+                told_at(operands, a).kind,
+            )
+        }
+        Node::Next(place, a) => judge_next(place, judged_at(table, a), told_at(operands, a).kind),
         Node::Operand(a) => judged_at(table, a),
-        Node::Apply(place, operator, count) => judge_apply(place, operator, last(table, count)),
+        Node::Apply(place, operator, count) => {
+            judge_apply(place, operator, last(operands, count), last(table, count))
+        }
         Node::Link(place, operator, a, b) => judge_apply(
             place,
             operator,
+            &[told_at(operands, a), told_at(operands, b)],
             &[judged_at(table, a), judged_at(table, b)],
         ),
     }
@@ -65,326 +89,220 @@ pub(crate) fn judged_at(table: &[Judged], k: usize) -> Judged
     ensures { result ≡ judged_at table.now k }
 {
     match table.get(k) {
-        None => Judged {
-            kind: None,
-            place: START,
-            of_step: None,
-            of_name: None,
-            of_state: None,
-            of_path: None,
-            given: None,
-            takes_init: false,
-            takes_later: false,
-        },
+        None => noted(START, everywhere(None)),
         Some(judged) => *judged,
     }
 }
 
-// What is noted of a boolean that breaks no rule and cannot be assigned.
-fn sound(place: Place) -> Judged
-    ensures { result ≡ record { kind = Some Boolean; place = place; of_step = None; of_name = None; of_state = None; of_path = None; given = None; takes_init = false; takes_later = false } }
+// What is noted of what cannot be assigned.
+fn noted(place: Place, notes: Notes) -> Judged
+    ensures { result ≡ record { place = place; notes = notes; given = None; takes_init = false; takes_later = false } }
 {
     Judged {
-        kind: Some(Kind::Boolean),
         place,
-        of_step: None,
-        of_name: None,
-        of_state: None,
-        of_path: None,
+        notes,
         given: None,
         takes_init: false,
         takes_later: false,
     }
 }
 
-fn judge_constant(place: Place) -> Judged
-    ensures { (slots : List Slot) (b : Bool) → IsJudged slots (R.Constant place b) result }
+fn judge_constant(place: Place, value: Value) -> Judged
+    ensures { (slots : List Slot) (types : List ValueType) → IsJudged slots types (R.Constant place value) result }
 {
-    sound(place)
+    noted(place, everywhere(constant_here(place, value)))
+}
+
+fn constant_here(place: Place, value: Value) -> Option<Violation>
+    ensures { as_refusal result ≡ constant_here place value }
+{
+    if is_value(value) {
+        None
+    } else {
+        Some(Violation::new(Rule::IntWidth, place))
+    }
 }
 
 fn judge_whole(place: Place) -> Judged
-    ensures { (slots : List Slot) (i : ℕ) → IsJudged slots (R.Whole place i) result }
+    ensures { (slots : List Slot) (types : List ValueType) (i : ℕ) → IsJudged slots types (R.Whole place i) result }
 {
     Judged {
-        kind: Some(Kind::Instance),
         takes_init: true,
         takes_later: true,
-        ..sound(place)
+        ..noted(place, everywhere(None))
     }
 }
 
+// What is noted of the slot of this number.
 fn judge_slot(slots: &[Slot], place: Place, n: usize) -> Judged
-    ensures { IsJudged slots.now (R.Slot place n) result }
+    ensures { (types : List ValueType) → IsJudged slots.now types (R.Slot place n) result }
 {
     match slots.get(n) {
-        None => Judged {
-            kind: None,
-            ..sound(place)
-        },
-        Some(slot) => Judged {
-            kind: Some(kind_of_type(slot.declared)),
-            given: None,
-            ..judge_slot_of(place, slot.kind)
-        },
+        None => noted(place, everywhere(None)),
+        Some(slot) => judge_slot_of(place, slot.kind),
     }
 }
 
-fn kind_of_type(declared: ValueType) -> Kind
-    ensures { result ≡ kind_of_type declared }
-{
-    match declared {
-        ValueType::Boolean => Kind::Boolean,
-    }
-}
-
-// The same of a slot of this kind, whatever its type.
 fn judge_slot_of(place: Place, kind: VariableKind) -> Judged
     ensures place { result.place ≡ place }
-    ensures step { as_refusal result.of_step ≡ None }
-    ensures name { as_refusal result.of_name ≡ None }
-    ensures state { as_refusal result.of_state ≡ input_here of_state place (is_input kind) }
-    ensures path { as_refusal result.of_path ≡ None }
+    ensures notes { AreNotes (λ c. input_here c place (is_input kind)) result.notes }
+    ensures given { result.given ≡ None }
     ensures init { result.takes_init ≡ takes_assignment side.Init kind }
     ensures later { result.takes_later ≡ takes_assignment side.Next kind }
 {
-    let input = Violation::new(Rule::InputHere, place);
     match kind {
         VariableKind::State => Judged {
             takes_init: true,
             takes_later: true,
-            ..sound(place)
-        },
-        VariableKind::Input => Judged {
-            of_state: Some(input),
-            ..sound(place)
+            ..noted(place, input_here(place, false))
         },
         VariableKind::Frozen => Judged {
             takes_init: true,
-            ..sound(place)
+            ..noted(place, input_here(place, false))
         },
+        VariableKind::Input => noted(place, input_here(place, true)),
     }
 }
 
-// What a name stands for may look at inputs where the name may, and never ahead.
+// What a name stands for, which is of this kind.
+fn judge_named(place: Place, naming: Naming, a: Judged, kind: Kind) -> Judged
+    ensures { (slots : List Slot) (types : List ValueType) (r : Resolved) → IsJudged slots types r a → kind ≡ (told slots types r).kind → IsJudged slots types (R.Named place naming r) result }
+{
+    match naming {
+        Naming::Given => judge_given(place, a),
+        Naming::Defined => judge_defined(place, a, kind),
+    }
+}
+
+// What a parameter was given.
 fn judge_given(place: Place, a: Judged) -> Judged
-    ensures { (slots : List Slot) (r : Resolved) → IsJudged slots r a → IsJudged slots (R.Named place naming.Given r) result }
+    ensures { (slots : List Slot) (types : List ValueType) (r : Resolved) → IsJudged slots types r a → IsJudged slots types (R.Named place naming.Given r) result }
 {
     Judged {
         place,
-        of_step: a.of_name,
-        of_path: a.of_name,
-        given: a.of_name,
-        ..a
+        notes: under_name(a.notes),
+        given: a.notes.name_set,
+        takes_init: a.takes_init,
+        takes_later: a.takes_later,
     }
 }
 
-// What a definition stands for has to be a value.
-fn judge_defined(place: Place, a: Judged) -> Judged
-    ensures { (slots : List Slot) (r : Resolved) → IsJudged slots r a → IsJudged slots (R.Named place naming.Defined r) result }
+// What a definition stands for, which is of this kind.
+fn judge_defined(place: Place, a: Judged, kind: Kind) -> Judged
+    ensures { (slots : List Slot) (types : List ValueType) (r : Resolved) → IsJudged slots types r a → kind ≡ (told slots types r).kind → IsJudged slots types (R.Named place naming.Defined r) result }
 {
-    let of_name = or_mismatch(a.of_name, a.place, a.kind);
-    Judged {
-        kind: a.kind,
-        of_step: of_name,
-        of_name,
-        of_state: or_mismatch(a.of_state, a.place, a.kind),
-        of_path: of_name,
-        ..sound(place)
-    }
+    let whole = everywhere(no_value(a.place, kind));
+    noted(place, both(under_name(a.notes), whole))
 }
 
-// The first violation, or where there is none, that of what is no value.
-pub(crate) fn or_mismatch(
-    first: Option<Violation>,
-    place: Place,
-    kind: Option<Kind>,
-) -> Option<Violation>
-    ensures { as_refusal result ≡ or_else (as_refusal first) (mismatch place kind) }
+// A place where a value is wanted, and there is none.
+pub(crate) fn no_value(place: Place, kind: Kind) -> Option<Violation>
+    ensures { as_refusal result ≡ no_value place kind }
 {
-    match first {
-        Some(violation) => Some(violation),
-        None => mismatched(place, kind),
-    }
-}
-
-pub(crate) fn mismatched(place: Place, kind: Option<Kind>) -> Option<Violation>
-    ensures { as_refusal result ≡ mismatch place kind }
-{
-    if is_boolean(kind) {
+    if has_values(kind) {
         None
     } else {
         Some(Violation::new(Rule::TypeMismatch, place))
     }
 }
 
-fn is_boolean(kind: Option<Kind>) -> bool
-    ensures { result ≡ is_boolean kind }
+fn has_values(kind: Kind) -> bool
+    ensures { result ≡ has_values kind }
 {
     match kind {
-        Some(Kind::Boolean) => true,
-        Some(Kind::Instance) => false,
-        None => false,
+        Kind::Array(_) | Kind::Instance | Kind::Nothing => false,
+        Kind::Boolean
+        | Kind::Word { .. }
+        | Kind::Discrete(_)
+        | Kind::BooleanSet
+        | Kind::DiscreteSet(_) => true,
     }
 }
 
-pub(crate) fn first(a: Option<Violation>, b: Option<Violation>) -> Option<Violation>
-    ensures { as_refusal result ≡ or_else (as_refusal a) (as_refusal b) }
+// `next` of what is of this kind.
+fn judge_next(place: Place, a: Judged, kind: Kind) -> Judged
+    ensures { (slots : List Slot) (types : List ValueType) (r : Resolved) → IsJudged slots types r a → kind ≡ (told slots types r).kind → IsJudged slots types (R.Next place r) result }
 {
-    match a {
-        Some(violation) => Some(violation),
-        None => b,
-    }
-}
-
-fn judge_next(place: Place, a: Judged) -> Judged
-    ensures { (slots : List Slot) (r : Resolved) → IsJudged slots r a → IsJudged slots (R.Next place r) result }
-{
-    let misplaced = first(a.of_state, Some(Violation::new(Rule::NextHere, place)));
-    Judged {
-        kind: a.kind,
-        of_step: or_mismatch(a.of_state, place, a.kind),
-        of_name: misplaced,
-        of_state: misplaced,
-        of_path: misplaced,
-        ..sound(place)
-    }
-}
-
-// An operator, over what is noted of its operands.
-fn judge_apply(place: Place, operator: Operator, operands: &[Judged]) -> Judged
-    ensures { (slots : List Slot) (rs : List Resolved) → Tells slots rs operands.now → IsJudged slots (R.Apply place operator (operands_of rs)) result }
-{
-    let all = noted(place, operands);
-    let kind = typed(operator, operands);
-    let whole = whole_violation(place, operator, kind);
-    let misplaced = first(temporal_at(place, operator), whole);
-    Judged {
-        kind,
-        of_step: first(all.of_step, misplaced),
-        of_name: first(all.of_name, misplaced),
-        of_state: first(all.of_state, misplaced),
-        of_path: first(under_path(operator, all), whole),
-        ..sound(place)
-    }
-}
-
-// What operands break where a path is spoken of: no temporal operator stands under what is no proposition.
-fn under_path(operator: Operator, all: Judged) -> Option<Violation>
-    ensures { (js : List Judged) → IsNoted js all → (slots : List Slot) (rs : List Resolved) → Tells slots rs js → as_refusal result ≡ operands_refusal slots (under_operator operator of_path) (operands_of rs) }
-{
-    if is_over_formulas(operator) {
-        all.of_path
-    } else {
-        all.of_name
-    }
-}
-
-// A temporal operator where none may stand.
-fn temporal_at(place: Place, operator: Operator) -> Option<Violation>
-    ensures { as_refusal result ≡ temporal_at place operator }
-{
-    if is_temporal(operator) {
-        Some(Violation::new(Rule::TemporalHere, place))
-    } else {
-        None
-    }
-}
-
-// The kind of an operator and its bounds.
-fn whole_violation(place: Place, operator: Operator, kind: Option<Kind>) -> Option<Violation>
-    ensures { as_refusal result ≡ or_else (mismatch place kind) (bounds_refusal place operator) }
-{
-    first(mismatched(place, kind), bounds_violation(place, operator))
-}
-
-fn bounds_violation(place: Place, operator: Operator) -> Option<Violation>
-    ensures { as_refusal result ≡ bounds_refusal place operator }
-{
-    match operator {
-        Operator::Bounded(_, low, high) => bounds_at(place, low, high),
-        _ => None,
-    }
-}
-
-fn bounds_at(place: Place, low: u32, high: u32) -> Option<Violation>
-    ensures { as_refusal result ≡ bounds_at place low high }
-{
-    if low <= high && high <= GREATEST_BOUND {
-        return None;
-    }
-    Some(Violation {
-        rule: Rule::BadBound,
+    let whole = everywhere(next_broken(place, kind));
+    noted(
         place,
-        bounds: Some((low, high)),
-    })
+        both(under_next(a.notes), both(next_here(place), whole)),
+    )
 }
 
-// The kind of an operator over these operands.
-fn typed(operator: Operator, operands: &[Judged]) -> Option<Kind>
-    ensures { result ≡ typed operator (map (λ (j : Judged). j.kind) operands.now) }
+fn next_broken(place: Place, kind: Kind) -> Option<Violation>
+    ensures { as_refusal result ≡ next_broken place (next_kind kind) }
 {
-    match operator {
-        Operator::Not => booleans(1, operands),
-        Operator::Logic(_) => booleans(2, operands),
-        Operator::Equal => booleans(2, operands),
-        Operator::NotEqual => booleans(2, operands),
-        Operator::Choice => booleans(3, operands),
-        Operator::Temporal(o) => booleans(operands_of_temporal(o), operands),
-        Operator::Bounded(..) => booleans(1, operands),
-        _ => None,
+    match next_kind(kind) {
+        Ok(_) => None,
+        Err(rule) => Some(Violation::new(rule_of(rule), place)),
     }
 }
 
-fn operands_of_temporal(operator: Temporal) -> usize
-    ensures { result ≡ operands_of_temporal operator }
+// An operator, over what is told and noted of its operands.
+fn judge_apply(place: Place, operator: Operator, operands: &[Operand], table: &[Judged]) -> Judged
+    ensures { (slots : List Slot) (types : List ValueType) (rs : List Resolved) → Tells slots types rs operands.now table.now → IsJudged slots types (R.Apply place operator (operands_of rs)) result }
 {
-    match operator {
-        Temporal::Until | Temporal::Releases | Temporal::Since | Temporal::Triggered => 2,
-        _ => 1,
-    }
+    let inside = all_noted(operator, table);
+    let kinds = by_sets(
+        kinds_broken(place, operator, false, operands),
+        kinds_broken(place, operator, true, operands),
+    );
+    noted(
+        place,
+        both(inside, both(temporal_here(place, operator), kinds)),
+    )
 }
 
-// So many booleans give one.
-fn booleans(count: usize, operands: &[Judged]) -> Option<Kind>
-    ensures { result ≡ booleans count (map (λ (j : Judged). j.kind) operands.now) }
+// What is noted of all operands of an operator.
+fn all_noted(operator: Operator, table: &[Judged]) -> Notes
+    ensures { (slots : List Slot) (types : List ValueType) (rs : List Resolved) → AreJudged slots types rs table.now → AreNotes (λ c. operands_refusal slots types operator 0 c (operands_of rs)) result }
 {
-    if operands.len() == count && all_booleans(operands) {
-        Some(Kind::Boolean)
-    } else {
-        None
-    }
-}
-
-fn all_booleans(operands: &[Judged]) -> bool
-    ensures { result ≡ list_all is_boolean (map (λ (j : Judged). j.kind) operands.now) }
-{
-    operands.iter().map(|j| j.kind).all(is_boolean)
-}
-
-// What is noted of all operands.
-fn noted(place: Place, operands: &[Judged]) -> Judged
-    ensures { IsNoted operands.now result }
-{
-    let mut all = sound(place);
-    for j in operands {
-        all = with_operand(all, *j);
+    let mut all = everywhere(None);
+    for (k, judged) in table.iter().enumerate() {
+        all = both(all, under_operand(operator, k, judged.notes));
     }
     all
 }
 
-// The same with one operand more.
-fn with_operand(all: Judged, j: Judged) -> Judged
-    ensures step { as_refusal result.of_step ≡ or_else (as_refusal all.of_step) (as_refusal j.of_step) }
-    ensures name { as_refusal result.of_name ≡ or_else (as_refusal all.of_name) (as_refusal j.of_name) }
-    ensures state { as_refusal result.of_state ≡ or_else (as_refusal all.of_state) (as_refusal j.of_state) }
-    ensures path { as_refusal result.of_path ≡ or_else (as_refusal all.of_path) (as_refusal j.of_path) }
+// The rule that operands break by their kinds, where sets may stand or may not.
+fn kinds_broken(
+    place: Place,
+    operator: Operator,
+    sets: bool,
+    operands: &[Operand],
+) -> Option<Violation>
+    ensures { as_refusal result ≡ kinds_broken place operator (kind_in_context sets [] operator operands.now) }
 {
-    Judged {
-        of_step: first(all.of_step, j.of_step),
-        of_name: first(all.of_name, j.of_name),
-        of_state: first(all.of_state, j.of_state),
-        of_path: first(all.of_path, j.of_path),
-        ..all
+    match kind_in_context(sets, &[], operator, operands) {
+        Ok(_) => None,
+        Err(rule) => Some(broken_by(place, operator, rule)),
+    }
+}
+
+fn broken_by(place: Place, operator: Operator, rule: KindRule) -> Violation
+    ensures { as_refusal (Some result) ≡ Some (broken_by place operator rule) }
+{
+    match (operator, rule) {
+        (Operator::Bounded(_, low, high), KindRule::BadBound) => Violation {
+            rule: Rule::BadBound,
+            place,
+            bounds: Some((low, high)),
+        },
+        _ => Violation::new(rule_of(rule), place),
+    }
+}
+
+fn rule_of(rule: KindRule) -> Rule
+    ensures { result ≡ rule_of rule }
+{
+    match rule {
+        KindRule::SetHere => Rule::SetHere,
+        KindRule::TypeMismatch => Rule::TypeMismatch,
+        KindRule::WordWidth => Rule::WordWidth,
+        KindRule::NotConstant => Rule::NotConstant,
+        KindRule::BadSelection => Rule::BadSelection,
+        KindRule::IntWidth => Rule::IntWidth,
+        KindRule::BadBound => Rule::BadBound,
     }
 }

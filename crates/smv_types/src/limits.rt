@@ -1,11 +1,11 @@
 //! How many slots a program may have.
 
 ghost use Rattle.smv_types.specs.Kinds.{too_many_slots};
-ghost use Rattle.smv_names.specs.Verdicts.{Judges};
+ghost use Rattle.smv_verdicts.specs.Verdicts.{Judges};
 
-use smv_names::{START, refused};
 use smv_scope::Scope;
 use smv_tree::{Rule, TextStop};
+use smv_verdicts::{START, refused};
 
 /// A program has at most this many slots.
 const MOST_SLOTS: usize = 65536;

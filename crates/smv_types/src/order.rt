@@ -1,24 +1,27 @@
 //! The rules in the order in which they are judged.
 
 ghost use Rattle.std.specs.Prelude.{◌≡◌, map, IfOk};
+ghost use Rattle.smv_declared.specs.Types.{types_of};
 ghost use Rattle.smv_resolve.specs.Items.{item_by, items_of};
-ghost use Rattle.smv_names.specs.Verdicts.{Gives, Judges, or_else};
-ghost use Rattle.smv_types.specs.Kinds.{misdeclared, misused, too_deep, too_many_slots};
+ghost use Rattle.smv_verdicts.specs.Verdicts.{Gives, Judges, or_else};
+ghost use Rattle.smv_types.specs.Kinds.{misused, too_deep, too_many_slots};
 ghost use Rattle.smv_types.specs.Rules.{kinds_refusal, types_verdict};
 
-use crate::instances::misdeclared;
 use crate::items::misused;
 use crate::kinds::judge_nodes;
 use crate::limits::too_many_slots;
-use smv_meaning::Typed;
-use smv_names::{check_names, refused};
+use smv_declared::declared_types;
+use smv_meaning::{Typed, are_boolean};
+use smv_names::check_names;
 use smv_resolve::{Resolution, ResolveStop, resolve_items};
 use smv_scope::Scope;
 use smv_tree::{Program, Rule, TextStop};
+use smv_verdicts::refused;
 use std::alloc::Global;
+use value_types::ValueType;
 
-/// The program with its instances, its slots and its items, where it breaks no rule of names and kinds; else the first rule that
-/// it breaks, at that rule's first place.
+/// The program with its instances, its slots, their types and its items, where it breaks no rule of names, types and kinds; else
+/// the first rule that it breaks, at that rule's first place.
 ///
 /// First the rules of names are judged, as `smv_names::check_names` says; then these, of the items of all instances, in preorder
 /// and in the order of the text. Their order is an own choice of this project, as their numbers and places are (NuSMV 2.6 User
@@ -26,19 +29,29 @@ use std::alloc::Global;
 ///
 /// - `UnfoldedDepth`: more than 2000 levels are open in an expression, where names are followed. At the item that it stands in,
 ///   with no detail.
-/// - `TypeMismatch`: `IVAR` or `FROZENVAR` declares an instance (2.3.1). At the module's name, with no detail.
+/// - The rules of declared types, as `smv_declared::declared_types` says.
 /// - `TooManySlots`: there are more than 65536 variables. At the first byte, with no detail.
 ///
-/// And then item by item, operands before their operator, with no detail but for the last:
+/// And then item by item, operands before their operator, and at one place in this order, with no detail but for the last:
 ///
-/// - `NotAssignable`: what is assigned is no variable that may be assigned so (2.3.8). At the assignment.
-/// - `InputHere`: an input stands where no step and no path is spoken of (2.3.5, 2.3.6). At its name.
 /// - `NextHere`: `next` stands elsewhere than in the right side of `next(x) := e` and in TRANS, or it stands under `next` or in
 ///   what a name stands for (2.3.5, 2.3.7, 2.3.8). At the `next`.
+/// - `InputHere`: an input stands where no step and no path is spoken of (2.3.5, 2.3.6). At its name.
 /// - `TemporalHere`: a temporal operator stands elsewhere than in LTLSPEC, or there under what is neither a proposition nor a
 ///   temporal operator, or in what a name stands for (2.4.3). At the operator.
-/// - `TypeMismatch`: an instance stands where a value is wanted. At the operator, the assignment or the whole expression.
+/// - `SetHere`: a set stands elsewhere than in what is assigned and on the right of `in` (2.3.8). At the operator that makes it.
+/// - `TypeMismatch`: the operands of an operator are of other kinds, or there are more or fewer of them, as `smv_kinds` says; what
+///   is assigned and its value are not both boolean, of one word type, or both discrete; what is asked for or claimed is no
+///   boolean; an instance stands where a value is wanted. At the operator, the assignment or the whole expression.
+/// - `WordWidth`: an operator gives a word wider than 128 bits, `resize` takes bits from a signed word, or a word constant is not
+///   in the range of its type. At the operator.
+/// - `NotConstant`: what is no constant stands where one is asked. At the operator that asks for it.
+/// - `BadSelection`: bits are taken that a word does not have. At the operator.
+/// - `NotAssignable`: what is assigned is no variable that may be assigned so (2.3.8). At the assignment.
+/// - `IntWidth`: an operator may give integers of more than 32 bits. At the operator.
 /// - `BadBound`: the bounds of a temporal operator are out of order, or greater than 255. At the operator, with the bounds.
+///
+/// Linear in the nodes of all expressions, where what several items name counts once.
 ///
 /// `NoMemory` comes where memory was refused, which may be at any time.
 pub fn check(alloc: Global, program: Program) -> Result<Typed, TextStop>
@@ -49,15 +62,20 @@ pub fn check(alloc: Global, program: Program) -> Result<Typed, TextStop>
     with_kinds(alloc, scope)
 }
 
-// The program with its items, where these break no rule of depth and kinds.
+// The program with its types and items, where these break no rule of depth, types and kinds.
 fn with_kinds(alloc: Global, scope: Scope) -> Result<Typed, TextStop>
     ensures same { IfOk result (λ t. t.scope.program ≡ scope.program) }
     ensures judged { Judges result (kinds_refusal scope.program) }
 {
     let resolution = resolved(alloc, &scope)?;
-    kinds(alloc, &scope, &resolution)?;
+    let types = declared_types(alloc, &scope)?;
+    kinds(alloc, &scope, types.as_slice(), &resolution)?;
+    if !are_boolean(types.as_slice(), scope.slots.as_slice()) {
+        return Err(TextStop::NoMemory);
+    }
     Ok(Typed {
         scope,
+        types,
         nodes: resolution.nodes,
         items: resolution.items,
     })
@@ -75,15 +93,27 @@ fn resolved(alloc: Global, scope: &Scope) -> Result<Resolution, TextStop>
     }
 }
 
-// The items break no rule of kinds.
-fn kinds(alloc: Global, scope: &Scope, resolution: &Resolution) -> Result<(), TextStop>
-    requires { map (item_by resolution.now.nodes) resolution.now.items ≡ items_of scope.now.program }
-    ensures { Judges result (or_else (misdeclared scope.now.program) (or_else (too_many_slots scope.now.program) (misused scope.now.program))) }
+// There are not too many slots, and the items break no rule of kinds.
+fn kinds(
+    alloc: Global,
+    scope: &Scope,
+    types: &[ValueType],
+    resolution: &Resolution,
+) -> Result<(), TextStop>
+    requires types { types.now ≡ types_of scope.now.program }
+    requires items { map (item_by resolution.now.nodes) resolution.now.items ≡ items_of scope.now.program }
+    ensures { Judges result (or_else (too_many_slots scope.now.program) (misused scope.now.program)) }
 {
-    misdeclared(scope)?;
     too_many_slots(scope)?;
     let slots = scope.slots.as_slice();
     let nodes = resolution.nodes.as_slice();
-    let table = judge_nodes(alloc, slots, nodes)?;
-    misused(alloc, slots, nodes, &table, resolution.items.as_slice())
+    let table = judge_nodes(alloc, slots, types, nodes)?;
+    misused(
+        alloc,
+        slots,
+        types,
+        nodes,
+        &table,
+        resolution.items.as_slice(),
+    )
 }

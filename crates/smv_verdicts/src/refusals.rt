@@ -20,12 +20,7 @@ pub fn refused(rule: Rule, place: Place) -> TextStop
 }
 
 /// The refusal by a rule, at a place, for a name. `NoMemory` comes where memory was refused.
-pub fn refuse_name(
-    alloc: Global,
-    rule: Rule,
-    place: Place,
-    name: &Text,
-) -> Result<(), TextStop>
+pub fn refuse_name(alloc: Global, rule: Rule, place: Place, name: &Text) -> Result<(), TextStop>
     ensures { Judges result (Some (detailed rule place name.now)) }
 {
     let detail = Some(name.copy(alloc)?);

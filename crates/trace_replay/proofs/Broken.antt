@@ -121,7 +121,7 @@ module _ (p : Program) (types : AreTypes p) where
 
   state_back : (s : List Value) → is_state p s ≡ true → row_read (terms_of p) (state_columns p) (bindings_of (terms_of p) (state_columns p) s) ≡ Some s
   unfolding state_columns terms_of
-  state_back s h = row_back p (state_slots (slots_of p)) s h
+  state_back s h = row_back p types (state_slots (slots_of p)) s h
 
   pub states_back : (rows : List (List Value)) (i : ℕ) → i < length rows → is_state p (at_time rows i) ≡ true → line_read (terms_of p) (state_columns p) (slice_get (map (bindings_of (terms_of p) (state_columns p)) rows) i) ≡ Some (at_time rows i)
   unfolding state_columns terms_of

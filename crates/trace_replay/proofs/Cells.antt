@@ -1,5 +1,5 @@
 -- Bindings tell just the values of which they are made.
-use Rattle.std.proofs.Common.{◌≡◌, inl, inr, ℕ, zero, suc, true, false, List, [], ◌∷◌, length, map, slice_get, Option, None, Some, refl, sym, ap, ◌∙◌, arith, bytes_eq}
+use Rattle.std.proofs.Common.{◌≡◌, inl, inr, ℕ, zero, suc, true, List, [], ◌∷◌, length, map, slice_get, Option, None, Some, refl, sym, ap, ◌∙◌, arith, bytes_eq}
 use lib.Dec.{eqb}
 use Rattle.std.specs.List.{list_all, zip}
 use Rattle.std.proofs.lemmas.Bool.{and_parts, cases_Bool, cond-false, cond-true, eqb-true}
@@ -62,6 +62,10 @@ among_types [] n t all e = absurd (let never : ⊥ = cc in never)
 among_types (x ∷ types) zero t all e = let same : x ≡ t = cc in ap is_type (sym same) ∙ (and_parts (is_type x) (list_all is_type types) all).0
 among_types (x ∷ types) (suc n) t all e = among_types types n t (and_parts (is_type x) (list_all is_type types) all).1 e
 
+pub terms_types : (p : Program) → AreTypes p → list_all is_type (terms_of p).types ≡ true
+unfolding terms_of
+terms_types p types = types
+
 typed_back : (names : List (List ℕ)) (t : Option ValueType) (v : Value) → ((x : ValueType) → t ≡ Some x → is_type x ≡ true) → in_type t v ≡ true → typed_read names t (told_text names v) ≡ Some v
 typed_back names None v typed h = absurd (let never : ⊥ = cc in never)
 typed_back names (Some t) v typed h = (reading names t (typed t refl)).back v h
@@ -72,7 +76,7 @@ module _ (p : Program) (types : AreTypes p) where
       let names = (terms_of p).names in
       let t = slice_get (terms_of p).types slot.declared in
       cond-true (bytes_eq (column_of p slot).name (column_of p slot).name) (typed_read names t (told_text names v)) None ((bytes_eq-Decides (column_of p slot).name (column_of p slot).name).1 refl)
-      ∙ typed_back names t v (λ x is. among_types (terms_of p).types slot.declared x types is) h
+      ∙ typed_back names t v (λ x is. among_types (terms_of p).types slot.declared x (terms_types p types) is) h
 
   row_made : (slots : List Slot) (s : List Value) → length slots ≡ length s → list_all (λ (pair : Slot × Value). in_type (slice_get (terms_of p).types pair.0.declared) pair.1) (zip slots s) ≡ true
       → row_read (terms_of p) (map (column_of p) slots) (bindings_of (terms_of p) (map (column_of p) slots) s) ≡ Some s

@@ -36,7 +36,7 @@ pub line_row : (terms : Terms) (cs : List Column) (o : Option (List Binding)) (s
 line_row terms cs None s e = absurd (let no : ⊥ = cc in no)
 line_row terms cs (Some bs) s e = (bs, refl, e)
 
-abbrev pub row_told : List Column → List Binding → List Value
+abbrev pub row_told : Terms → List Column → List Binding → List Value
 row_told terms cs bs = unwrap_or (row_read terms cs bs) []
 
 -- one row more

@@ -1,5 +1,5 @@
 -- The lines of the trace of a run are in form, if the names of the slots are.
-use Rattle.std.proofs.Common.{◌≡◌, inl, inr, ℕ, zero, suc, ◌+◌, ◌-◌, ◌<◌, ◌≤◌, ◌^◌, max, Bool, true, false, ◌&&◌, List, [], ◌∷◌, ◌++◌, length, map, slice_get, Option, None, Some, refl, sym, subst, ap, ◌∙◌, arith}
+use Rattle.std.proofs.Common.{◌≡◌, inl, inr, ℕ, zero, suc, ◌+◌, ◌-◌, ◌<◌, ◌≤◌, ◌^◌, max, Bool, true, ◌&&◌, List, [], ◌∷◌, ◌++◌, length, map, slice_get, Option, None, Some, refl, sym, subst, ap, ◌∙◌, arith}
 use lib.Dec.{eqb}
 use Rattle.std.specs.List.{flat_map, list_all, range_with_len, zip}
 use Rattle.std.specs.Option.{option_map}
@@ -21,7 +21,7 @@ use Rattle.trace_replay.specs.Lines.{entries_of, input_entries, loop_entries, mo
 use Rattle.trace_replay.specs.Reading.{in_form, is_binding, is_small}
 use Rattle.trace_replay.specs.Rows.{AreTypes, are_told, bindings_of, column_of, given_rows, has_form, input_columns, run_trace, state_columns, terms_of}
 use Rattle.trace_replay.proofs.Broken.{first_parts, step_parts}
-use Rattle.trace_replay.proofs.Cells.{among_types}
+use Rattle.trace_replay.proofs.Cells.{among_types, terms_types}
 use Rattle.trace_replay.proofs.OfForms.{typed_formed}
 use Rattle.trace_replay.proofs.OfLines.{numbers_more}
 
@@ -45,7 +45,7 @@ module _ (p : Program) (types : AreTypes p) where
       let form = and_parts (is_name (column_of p x).name) (are_told names declared) a.0 in
       let b = and_parts (in_type (slice_get (terms_of p).types x.declared) v) (list_all (λ (pair : Slot × Value). in_type (slice_get (terms_of p).types pair.0.declared) pair.1) (zip slots vs)) typed in
       and_from (is_name (column_of p x).name && is_value (told_text names v)) (list_all is_binding (bindings_of (terms_of p) (map (column_of p) slots) vs))
-      (and_from (is_name (column_of p x).name) (is_value (told_text names v)) form.0 (typed_formed names declared v (λ t is. among_types (terms_of p).types x.declared t types is) form.1 b.0))
+      (and_from (is_name (column_of p x).name) (is_value (told_text names v)) form.0 (typed_formed names declared v (λ t is. among_types (terms_of p).types x.declared t (terms_types p types) is) form.1 b.0))
       (row_formed slots vs a.1 b.1)
 
   abbrev AllFit : List Slot → List (List Value) → Type 0

@@ -67,16 +67,16 @@ false_is (Fault f place) h = absurd (let never : ⊥ = cc in never)
 
 -- whether the inputs of a number are told as they should be, by the columns, where so many are due: beside the states of a run, and
 -- beside those of a lasso
-abbrev pub fits_due : List Column → List (List Binding) → ℕ → ℕ → Bool
+abbrev pub fits_due : Terms → List Column → List (List Binding) → ℕ → ℕ → Bool
 fits_due terms cs rows m i = cond (ltb i m) (is_some (line_read terms cs (slice_get rows i))) (cond (eqb i m) (leb (length rows) i) true)
 
-abbrev pub fit : List Column → List (List Binding) → ℕ → ℕ → Bool
+abbrev pub fit : Terms → List Column → List (List Binding) → ℕ → ℕ → Bool
 fit terms cs rows n i = fits_due terms cs rows (due_beside cs n) i
 
-abbrev pub each_fit : List Column → List (List Binding) → ℕ → ℕ → Bool
+abbrev pub each_fit : Terms → List Column → List (List Binding) → ℕ → ℕ → Bool
 each_fit terms cs rows n i = fits_due terms cs rows (due_each cs n) i
 
-abbrev pub read_at : List Column → List (List Binding) → ℕ → List Value
+abbrev pub read_at : Terms → List Column → List (List Binding) → ℕ → List Value
 read_at terms cs rows i = unwrap_or (line_read terms cs (slice_get rows i)) []
 
 -- From a trace that passes to a run.

@@ -23,7 +23,7 @@ use Rattle.trace_replay.specs.declared.telling.Told.{Told}
 use Rattle.trace_replay.specs.declared.telling.Telling.{Telling}
 use Rattle.trace_replay.specs.declared.telling.Telling.TheVariants as telling
 use Rattle.trace_replay.specs.declared.trace.Trace.{Trace}
-use Rattle.trace_replay.specs.Rows.{bindings_of, given_rows, input_columns, inputs_read, state_columns, states_told}
+use Rattle.trace_replay.specs.Rows.{bindings_of, given_rows, input_columns, inputs_read, state_columns, states_told, terms_of}
 use Rattle.trace_replay.specs.Telling.{FirstFailing}
 use Rattle.trace_replay.specs.Tests.{IsEarlier, IsReplay, ShowsBroken, begins, goes_on, state_fits, stays}
 

@@ -1,5 +1,5 @@
 -- The values of slots as the lines of a trace tell them.
-use Rattle.std.specs.Prelude.{◌≡◌, ℕ, ◌-◌, Bool, ◌&&◌, if◌then◌else◌, List, [], ◌∷◌, length, map, bytes_eq, codes, Option, None, Some, slice_get, unwrap_or, true, false}
+use Rattle.std.specs.Prelude.{◌≡◌, ℕ, ◌-◌, Bool, ◌&&◌, if◌then◌else◌, List, [], ◌∷◌, length, map, bytes_eq, Option, None, Some, slice_get, unwrap_or, true}
 use Rattle.std.specs.List.{list_all, range_with_len}
 use Rattle.smv_tree.specs.declared.tree.Program.{Program}
 use Rattle.smv_value.specs.declared.value.Value.{Value}
@@ -13,6 +13,7 @@ use Rattle.smv_scope.specs.declared.slot.Slot.{Slot}
 use Rattle.smv_scope.specs.Enumerated.{symbols_of}
 use Rattle.smv_scope.specs.Paths.{slot_name}
 use Rattle.smv_scope.specs.Slots.{slots_of}
+use Rattle.smv_declared.specs.Types.{types_of}
 use Rattle.smv_meaning.specs.Runs.{input_slots, state_slots}
 use Rattle.trace_replay.specs.declared.columns.Column.{Column}
 use Rattle.trace_replay.specs.declared.entry.Binding.{Binding}
@@ -40,7 +41,7 @@ terms_of p = record { names = symbols_of p; types = types_of p }
 
 -- the types are such as declarations keep
 abbrev pub AreTypes : Program → Type 0
-AreTypes p = list_all is_type (terms_of p).types ≡ true
+AreTypes p = list_all is_type (types_of p) ≡ true
 
 -- the texts of the type's elements are such as may stand in a line
 abbrev pub are_told : List (List ℕ) → Option ValueType → Bool

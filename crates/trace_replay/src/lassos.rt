@@ -9,6 +9,7 @@ ghost use Rattle.smv_meaning.specs.Lassos.{Holds, Lasso};
 ghost use Rattle.smv_meaning.specs.Runs.{is_true};
 ghost use Rattle.smv_meaning.specs.Values.{outcome_in};
 ghost use Rattle.trace_replay.specs.Lassos.{IsLassoReplay, IsLassoTold, is_fair, is_justice, is_loop, justices_of};
+ghost use Rattle.trace_replay.specs.Rows.{AreTypes};
 ghost use Rattle.trace_replay.specs.Telling.{IsFirstFailing};
 
 use crate::replaying::{failing_first, failing_inv, failing_step, outcome_in, rejected};
@@ -29,6 +30,7 @@ pub fn judge_lasso(
     spec: &Item,
     trace: &Trace,
 ) -> Result<Replayed, AllocError>
+    requires types { AreTypes typed.now.scope.program }
     ensures { IfOk result (IsLassoReplay typed.now.scope.program (item_by typed.now.nodes spec.now) trace.now) }
 {
     match tell_lasso(alloc, typed, trace)? {

@@ -6,6 +6,7 @@ ghost use Rattle.smv_scope.specs.Slots.{slots_of};
 ghost use Rattle.smv_meaning.specs.Runs.{specifications_of};
 ghost use Rattle.smv_meaning.specs.Values.{outcome_in};
 ghost use Rattle.trace_replay.specs.Lassos.{IsReplayOf, Shows};
+ghost use Rattle.trace_replay.specs.Rows.{AreTypes};
 ghost use Rattle.trace_replay.specs.Telling.{IsFirstFailing, IsTold};
 ghost use Rattle.trace_replay.specs.Tests.{IsReplay, ShowsBroken, begins, ends, goes_on, is_false, specification_at, stays};
 
@@ -62,6 +63,7 @@ pub fn replay_run(
 
 // What comes of the tests of a trace of this specification.
 fn judge(alloc: Global, typed: &Typed, spec: &Item, trace: &Trace) -> Result<Replayed, AllocError>
+    requires types { AreTypes typed.now.scope.program }
     ensures { IfOk result (IsReplayOf spec.now.kind typed.now.scope.program (item_by typed.now.nodes spec.now) trace.now) }
 {
     match spec.kind {
@@ -83,6 +85,7 @@ fn judge_run(
     spec: &Item,
     trace: &Trace,
 ) -> Result<Replayed, AllocError>
+    requires types { AreTypes typed.now.scope.program }
     ensures { IfOk result (IsReplay typed.now.scope.program (item_by typed.now.nodes spec.now) trace.now) }
 {
     match tell(alloc, typed, trace)? {

@@ -2,7 +2,7 @@
 
 ghost use Rattle.std.specs.Prelude.{◌≡◌, slice_get, IfOk};
 ghost use Rattle.trace_replay.specs.Lassos.{AreEachInputs, IsLassoTelling, due_each};
-ghost use Rattle.trace_replay.specs.Rows.{cell_read, input_columns, line_read, row_read, state_columns, state_read, terms_of, typed_read};
+ghost use Rattle.trace_replay.specs.Rows.{AreTypes, cell_read, input_columns, line_read, row_read, state_columns, state_read, terms_of, typed_read};
 ghost use Rattle.trace_replay.specs.Telling.{AreInputs, IsTelling};
 ghost use Rattle.trace_replay.specs.Tests.{due_beside};
 
@@ -31,6 +31,7 @@ pub enum Telling {
 
 /// The values that a trace tells.
 pub fn tell(alloc: Global, typed: &Typed, trace: &Trace) -> Result<Telling, AllocError>
+    requires types { AreTypes typed.now.scope.program }
     ensures { IfOk result (IsTelling typed.now.scope.program trace.now) }
 {
     let held = state_columns(alloc, typed)?;
@@ -58,6 +59,7 @@ pub fn tell(alloc: Global, typed: &Typed, trace: &Trace) -> Result<Telling, Allo
 
 /// The values that the trace of a lasso tells.
 pub fn tell_lasso(alloc: Global, typed: &Typed, trace: &Trace) -> Result<Telling, AllocError>
+    requires types { AreTypes typed.now.scope.program }
     ensures { IfOk result (IsLassoTelling typed.now.scope.program trace.now) }
 {
     let held = state_columns(alloc, typed)?;
@@ -92,7 +94,8 @@ fn state_at(
     trace: &Trace,
     i: usize,
 ) -> Result<Option<State>, AllocError>
-    requires { columns.now ≡ state_columns typed.now.scope.program }
+    requires columns { columns.now ≡ state_columns typed.now.scope.program }
+    requires types { AreTypes typed.now.scope.program }
     ensures { IfOk result (λ read. read ≡ state_read typed.now.scope.program trace.now i) }
 {
     line_read(alloc, typed, columns, trace.states.as_slice(), i)
@@ -106,7 +109,8 @@ fn inputs_at(
     trace: &Trace,
     i: usize,
 ) -> Result<Option<Inputs>, AllocError>
-    requires { columns.now ≡ input_columns typed.now.scope.program }
+    requires columns { columns.now ≡ input_columns typed.now.scope.program }
+    requires types { AreTypes typed.now.scope.program }
     ensures { IfOk result (AreInputs typed.now.scope.program trace.now i) }
 {
     let due = due_beside(columns, trace.states.len());
@@ -131,7 +135,8 @@ fn each_input_at(
     trace: &Trace,
     i: usize,
 ) -> Result<Option<Inputs>, AllocError>
-    requires { columns.now ≡ input_columns typed.now.scope.program }
+    requires columns { columns.now ≡ input_columns typed.now.scope.program }
+    requires types { AreTypes typed.now.scope.program }
     ensures { IfOk result (AreEachInputs typed.now.scope.program trace.now i) }
 {
     let due = due_each(columns, trace.states.len());
@@ -173,6 +178,7 @@ fn line_read(
     lines: &[Items<Binding>],
     i: usize,
 ) -> Result<Option<Items<Value>>, AllocError>
+    requires types { AreTypes typed.now.scope.program }
     ensures { IfOk result (λ read. read ≡ line_read (terms_of typed.now.scope.program) columns.now (slice_get lines.now i)) }
 {
     match lines.get(i) {
@@ -188,6 +194,7 @@ fn row_read(
     columns: &[Column],
     bindings: &[Binding],
 ) -> Result<Option<Items<Value>>, AllocError>
+    requires types { AreTypes typed.now.scope.program }
     ensures { IfOk result (λ read. read ≡ row_read (terms_of typed.now.scope.program) columns.now bindings.now) }
 {
     if columns.len() != bindings.len() {
@@ -209,6 +216,7 @@ fn cell_read(
     column: &Column,
     binding: &Binding,
 ) -> Result<Option<Value>, AllocError>
+    requires types { AreTypes typed.now.scope.program }
     ensures { IfOk result (λ read. read ≡ cell_read (terms_of typed.now.scope.program) column.now binding.now) }
 {
     if !column.name.is(&binding.name) {
@@ -225,6 +233,7 @@ fn typed_read(
     n: usize,
     text: &str,
 ) -> Result<Option<Value>, AllocError>
+    requires types { AreTypes typed.now.scope.program }
     ensures { IfOk result (λ read. read ≡ typed_read (terms_of typed.now.scope.program).names (slice_get (terms_of typed.now.scope.program).types n) text.now) }
 {
     match typed.types.get(n) {

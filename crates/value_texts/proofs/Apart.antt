@@ -1,5 +1,5 @@
 -- The values of a type are told apart.
-use Rattle.std.proofs.Common.{◌≡◌, inl, inr, ℕ, ◌<◌, ◌≤◌, ◌^◌, Bool, true, false, ◌&&◌, ◌||◌, cond, List, [], ◌∷◌, ◌++◌, Option, None, Some, codes, refl, sym, ap, subst, ◌∙◌, arith, ℤ, pos, negsuc}
+use Rattle.std.proofs.Common.{◌≡◌, inl, inr, ℕ, ◌<◌, ◌≤◌, ◌^◌, Bool, true, false, ◌&&◌, ◌||◌, List, [], ◌∷◌, ◌++◌, refl, sym, ap, subst, ◌∙◌, arith, ℤ, pos, negsuc}
 use lib.Dec.{eqb, leb, ltb}
 use lib.Signed.{mag}
 use Rattle.std.specs.Bool.{beq}
@@ -20,7 +20,7 @@ use Rattle.value_types.specs.declared.value_type.ValueType.TheVariants as type
 use Rattle.value_types.specs.Types.{element_value, is_between, is_boolean, is_distinct, is_element, is_of_type, is_type, is_word_of}
 use Rattle.value_types.proofs.Elements.{element_is}
 use Rattle.value_types.proofs.Ranges.{within_int}
-use Rattle.value_texts.specs.Told.{symbol_text, told_text}
+use Rattle.value_texts.specs.Told.{told_text}
 use Rattle.value_texts.specs.Read.{word_front}
 use Rattle.value_texts.proofs.Starts.{decimal_once, no_number, symbol_once}
 

@@ -1,5 +1,5 @@
 -- The value of a type that is told so is the only one.
-use Rattle.std.proofs.Common.{◌≡◌, ℕ, zero, suc, ◌+◌, ◌<◌, Bool, true, false, List, length, get_or, Option, None, Some, Result, Ok, Err, IfOk, position, bytes_eq, refl, sym, ap, subst, ◌∙◌, arith}
+use Rattle.std.proofs.Common.{◌≡◌, ℕ, ◌+◌, ◌<◌, Bool, true, List, length, get_or, Option, None, Some, Result, Ok, Err, IfOk, position, refl, sym, ap, subst, ◌∙◌, arith}
 use Rattle.std.specs.List.{list_any, position_or_len, range_with_len}
 use Rattle.std.proofs.lemmas.List.Folds.{list_any_at}
 use Rattle.std.proofs.lemmas.List.FromFn.{get_or-range_with_len, length-range_with_len}
@@ -7,7 +7,7 @@ use Rattle.std.proofs.lemmas.List.Quantifiers.{position-Some}
 use Rattle.std.proofs.lemmas.Slice.Eq.{bytes_eq-Decides}
 use Rattle.smv_value.specs.declared.value.Value.{Value}
 use Rattle.value_types.specs.declared.value_type.ValueType.{ValueType}
-use Rattle.value_types.specs.Codes.{HasCode, IsCoding, count, value_at}
+use Rattle.value_types.specs.Codes.{count, value_at}
 use Rattle.value_types.specs.Types.{is_of_type, is_type}
 use Rattle.value_types.proofs.Coding.{coding}
 use Rattle.value_types.proofs.Elements.{position_found}

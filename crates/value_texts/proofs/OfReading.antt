@@ -1,23 +1,21 @@
 -- Values that are read by the kind of their type.
-use Rattle.std.proofs.Common.{◌≡◌, ◌≢◌, inl, inr, ℕ, ◌<◌, ◌^◌, Bool, true, false, not, List, [], ◌∷◌, ◌++◌, Option, None, Some, Result, Ok, bytes_eq, codes, refl, sym, ap, subst, ◌∙◌, arith, ℤ, pos, negsuc}
+use Rattle.std.proofs.Common.{◌≡◌, ℕ, ◌<◌, ◌^◌, Bool, true, false, List, ◌++◌, None, Some, Result, Ok, bytes_eq, sym, ap, subst, ◌∙◌, arith, ℤ, pos, negsuc}
 use Rattle.std.specs.Fmt.{decimal, signed_decimal}
-use Rattle.std.specs.Prelude.{int_le}
 use Rattle.std.specs.Str.Parse.{ParsesSigned, ParsesUnsigned}
-use Rattle.std.proofs.lemmas.Bool.{and_parts, cases_Bool, eq-eqb, eqb-true}
+use Rattle.std.proofs.lemmas.Bool.{eq-eqb, eqb-true}
 use Rattle.std.proofs.lemmas.Bool.Decides.{nat_tests, same_from_decides}
 use Rattle.std.specs.Int.RustNames.{FitsSigned}
 use mir.Syntax.{w32}
 use mir.Val.{SFits, of_z, to_z}
 use lib.Dec.{eqb}
 use Rattle.std.proofs.lemmas.Int.{to_z-of_z}
-use lib.Signed.{mag}
 use Rattle.std.proofs.lemmas.Fmt.{parse-decimal_wide, parse-signed_decimal}
 use Rattle.std.proofs.lemmas.Slice.Eq.{bytes_eq-Decides}
 use Rattle.smv_value.specs.declared.value.Value.{Value}
 use Rattle.smv_value.specs.declared.value.Value.TheVariants as value
 use Rattle.smv_value.specs.Results.{is_int, is_word}
 use Rattle.value_types.specs.declared.value_type.ValueType.TheVariants as type
-use Rattle.value_types.specs.Types.{is_between, is_of_type, is_type}
+use Rattle.value_types.specs.Types.{is_between, is_type}
 use Rattle.value_texts.specs.Told.{told_text}
 use Rattle.value_texts.specs.Read.{IsIntRead, IsNumberRead, IsRead, word_front}
 use Rattle.value_texts.proofs.Apart.{int_once, range_shape, same_behind, small, word_shape, word_small}

@@ -77,8 +77,8 @@ joined-requires c =
     let side = c.in_ok-side.side in
     let n_is = long p reads c.args.layout.now c.len.result c.len.ensures c.requires.layout in
     let e = c.in_ok-side.ensures in
-    let is = side_is p reads atoms parts side c.in_ok-parts.ensures c.one_way.ensures.law _ n_is e.init e.gives e.defines e.justices e.init_within e.defs_within e.literals_within in
-    can_be_joined p reads atoms _ c.in_ok-steps.steps side n_is c.in_ok-steps.ensures is (omega (arith, n_is, e.room, c.in_ok-steps.ensures.room))
+    let is = side_is p c.args.typed.now.booleans reads atoms parts side c.in_ok-parts.ensures c.one_way.ensures.law _ n_is e.init e.gives e.defines e.justices e.init_within e.defs_within e.literals_within in
+    can_be_joined p c.args.typed.now.booleans reads atoms _ c.in_ok-steps.steps side n_is c.in_ok-steps.ensures is (omega (arith, n_is, e.room, c.in_ok-steps.ensures.room))
 
 pub returns : goal.returns
 returns c =
@@ -89,6 +89,6 @@ returns c =
     let side = c.in_ok-side.side in
     let n_is = long p reads c.args.layout.now c.len.result c.len.ensures c.requires.layout in
     let e = c.in_ok-side.ensures in
-    let is = side_is p reads atoms parts side c.in_ok-parts.ensures c.one_way.ensures.law _ n_is e.init e.gives e.defines e.justices e.init_within e.defs_within e.literals_within in
-    joined_is p reads atoms _ c.in_ok-steps.steps side c.in_ok-system.system n_is c.in_ok-steps.ensures is (omega (arith, n_is, e.room, c.in_ok-steps.ensures.room))
+    let is = side_is p c.args.typed.now.booleans reads atoms parts side c.in_ok-parts.ensures c.one_way.ensures.law _ n_is e.init e.gives e.defines e.justices e.init_within e.defs_within e.literals_within in
+    joined_is p c.args.typed.now.booleans reads atoms _ c.in_ok-steps.steps side c.in_ok-system.system n_is c.in_ok-steps.ensures is (omega (arith, n_is, e.room, c.in_ok-steps.ensures.room))
     c.in_ok-system.ensures.system c.in_ok-system.ensures.atoms

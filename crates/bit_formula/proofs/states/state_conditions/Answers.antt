@@ -77,6 +77,6 @@ returns c =
           c.in_ok-defined.ensures.told v consistent
           ∙ ap (λ (s : List Value). map (is_just_in p s) (justices_of p) ++ map (λ (e : Resolved). is_true (outcome (slots_of p) s (state_under v inputs) [] e)) parts) (state_is v)
           ∙ ap (λ (u : List Value). map (is_just_in p (state_in p reads v)) (justices_of p) ++ map (λ (e : Resolved). is_true (outcome (slots_of p) (state_in p reads v) u [] e)) parts) (inputs_are v consistent)
-          ∙ defined_told p reads parts v (states_fit p reads v);
+          ∙ defined_told p reads parts v (states_fit p reads c.args.typed.now.booleans v);
       justices = c.in_ok-defined.ensures.justices;
     }

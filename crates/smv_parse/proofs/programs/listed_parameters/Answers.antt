@@ -1,13 +1,15 @@
 use Rattle.std.proofs.Common.{sym, ◌∙◌}
 use Rattle.std.proofs.lemmas.Result.{err_from_is_err_and}
-use Rattle.phrase_forms.specs.Forms.{to}
 use Rattle.smv_tree.specs.declared.token.TokenKind.TheVariants as kind
 use Rattle.smv_tree.specs.Kinds.{is_kind}
+use Rattle.phrase_forms.specs.Forms.{to}
 use Rattle.smv_phrases.specs.Names.{identifier}
-use Rattle.smv_parse.specs.Programs.{further, parameter_of}
+use Rattle.smv_parse.specs.Programs.{parameter_of}
+use Rattle.smv_phrases.specs.Lists.{further}
 use Rattle.smv_phrases.proofs.OfNames.{begins_same}
+use Rattle.smv_phrases.proofs.OfLists.{listed_begins}
 use Rattle.smv_phrases.proofs.Repeats.{loop_on, loop_ends, loop_stops, loop_shortens}
-use Rattle.smv_parse.proofs.OfLoops.{parameters, listed_begins}
+use Rattle.smv_parse.proofs.OfLoops.{parameters}
 use Rattle.smv_parse.proofs.programs.listed_parameters.Goals as goal
 
 pub phrases-init : goal.phrases-init

@@ -1,7 +1,8 @@
 use Rattle.std.proofs.Common.{length}
 use Rattle.phrase_forms.specs.Forms.{to}
 use Rattle.smv_phrases.specs.Names.{identifier}
-use Rattle.smv_parse.specs.Programs.{further, listed, parameter_of}
+use Rattle.smv_parse.specs.Programs.{parameter_of}
+use Rattle.smv_phrases.specs.Lists.{further, listed}
 use Rattle.smv_phrases.proofs.Repeats.{Totals}
 use Rattle.smv_parse.proofs.programs.listed_parameters.Given as goal
 

@@ -1,21 +1,22 @@
--- An operator over what is noted of its operands.
-use Rattle.std.proofs.Common.{◌≡◌, ◌∙◌, refl, ap}
-use Rattle.smv_names.specs.Verdicts.{or_else}
-use Rattle.smv_resolve.specs.Resolved.{operands_of}
-use Rattle.smv_types.specs.Judged.{as_refusal}
-use Rattle.smv_types.specs.Kinds.{of_path, operands_refusal, temporal_at, under_operator}
-use Rattle.smv_types.proofs.Judging.{apply_judged, plain_refusal}
+-- An operator breaks what its operands do, or else a rule of its own.
+use Rattle.std.proofs.Common.{◌≡◌, ◌∙◌, Bool, true, false, [], Option, refl, ap, sym}
+use Rattle.smv_kinds.specs.Contexts.{kind_in_context}
+use Rattle.smv_resolve.specs.Resolved.{Resolved, operands_of}
+use Rattle.smv_tree.specs.declared.refusal.Refusal.{Refusal}
+use Rattle.smv_verdicts.specs.Verdicts.{or_else}
+use Rattle.smv_types.specs.Kinds.{all_told, kinds_broken, operands_refusal, temporal_here}
+use Rattle.smv_types.proofs.Judging.{all_told_same, unassigned}
 use Rattle.smv_types.proofs.kinds.judge_apply.Goals as goal
 
 pub returns : goal.returns
-returns c = λ slots rs told.
-    let all = c.noted-all.result in
-    let whole = c.whole_violation-whole in
-    let misplaced : as_refusal c.first-misplaced.result ≡ plain_refusal c.args.place c.args.operator c.typed-kind.result =
-    c.first-misplaced.ensures ∙ ap (λ r. or_else r (as_refusal whole.result)) c.temporal_at.ensures ∙ ap (or_else (temporal_at c.args.place c.args.operator)) whole.ensures in
-    apply_judged slots c.args.place c.args.operator rs c.args.operands.now all _ c.typed-kind.result told c.noted-all.ensures c.typed-kind.ensures refl (ap (λ j. j.place) c.sound.ensures)
-    (ap (λ j. j.given) c.sound.ensures) (ap (λ j. j.takes_init) c.sound.ensures) (ap (λ j. j.takes_later) c.sound.ensures)
-    (c.first.ensures ∙ ap (or_else (as_refusal all.of_step)) misplaced) (c.first-2.ensures ∙ ap (or_else (as_refusal all.of_name)) misplaced)
-    (c.first-3.ensures ∙ ap (or_else (as_refusal all.of_state)) misplaced)
-    (c.first-4.ensures ∙ ap (λ r. or_else r (as_refusal whole.result)) (c.under_path.ensures c.args.operands.now c.noted-all.ensures slots rs told)
-    ∙ ap (or_else (operands_refusal slots (under_operator c.args.operator of_path) (operands_of rs))) whole.ensures)
+returns c = λ slots types rs h.
+    let place = c.args.place in
+    let o = c.args.operator in
+    let operands : c.args.operands.now ≡ all_told slots types (operands_of rs) = h.kinds ∙ sym (all_told_same slots types rs) in
+    let broken : Bool → Option Refusal = λ sets. kinds_broken place o (kind_in_context sets [] o (all_told slots types (operands_of rs))) in
+    let kinds = c.by_sets-kinds.ensures broken (c.kinds_broken.ensures ∙ ap (λ xs. kinds_broken place o (kind_in_context false [] o xs)) operands)
+    (c.kinds_broken-2.ensures ∙ ap (λ xs. kinds_broken place o (kind_in_context true [] o xs)) operands) in
+    let own = c.both.ensures (λ x. temporal_here x place o) (λ x. broken x.set) c.temporal_here.ensures kinds in
+    unassigned slots types (Resolved.Apply place o (operands_of rs)) c.noted.result place c.both-2.result c.noted.ensures refl
+    (c.both-2.ensures (λ x. operands_refusal slots types o 0 x (operands_of rs)) (λ x. or_else (temporal_here x place o) (broken x.set)) (c.all_noted-inside.ensures slots types rs h.judged) own)
+    refl refl refl

@@ -4,7 +4,7 @@ use Rattle.std.proofs.lemmas.Result.{err_from_is_err_and}
 use Rattle.smv_tree.specs.declared.tree.Program.{Program}
 use Rattle.smv_scope.specs.declared.scope.Scope.{Scope}
 use Rattle.smv_names.specs.Rules.{names_verdict}
-use Rattle.smv_names.specs.Verdicts.{Judges}
+use Rattle.smv_verdicts.specs.Verdicts.{Judges}
 use Rattle.smv_names.proofs.Saying.{gives_err, err_gives}
 use Rattle.smv_types.specs.Rules.{kinds_refusal, types_verdict}
 use Rattle.smv_types.proofs.Ordered.{names_stop, kinds_give}

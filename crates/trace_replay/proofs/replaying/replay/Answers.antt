@@ -19,4 +19,7 @@ returns-clause-accepted c =
     let nodes = c.args.typed.now.nodes in
     let within : c.args.spec - 1 < length (specifications_of p) = omega (arith, c.requires.first, c.requires.last) in
     shown_at p (item_by nodes) c.as_slice.result.now (specifications_of p) (c.args.spec - 1) _ c.args.trace.now c.judge.result
-    (ap (map (item_by nodes)) c.as_slice.ensures ∙ c.in_ok-specs.ensures.resolved) within c.judge.ensures
+    (ap (map (item_by nodes)) c.as_slice.ensures ∙ c.in_ok-specs.ensures.resolved) within c.args.typed.now.right_types c.judge.ensures
+
+pub judge-requires : goal.judge-requires
+judge-requires c = record { types = c.args.typed.now.right_types }

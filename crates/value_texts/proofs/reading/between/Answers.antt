@@ -1,5 +1,5 @@
 -- An integer that is not between the bounds.
-use Rattle.std.proofs.Common.{subst, sym, ◌∙◌}
+use Rattle.std.proofs.Common.{subst, ◌∙◌}
 use Rattle.std.proofs.lemmas.Bool.{false≢true}
 use Rattle.value_texts.specs.Read.{IsIntRead}
 use Rattle.value_texts.proofs.OfReading.{between_passed, fits, outside}

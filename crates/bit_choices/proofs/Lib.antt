@@ -1,0 +1,4 @@
+pub mod OfSymbols
+pub mod OfValues
+pub mod OfElements
+pub mod OfRanges

@@ -1,0 +1,2 @@
+pub mod OfComputing
+pub mod OfResults

@@ -1,0 +1,10 @@
+//! The table of the operators on values as edges: what each gives of its operands, and where it faults.
+#![tactic(auto)]
+
+mod compared;
+mod known;
+mod laws;
+mod table;
+
+pub use laws::what_operators_give;
+pub use table::apply;

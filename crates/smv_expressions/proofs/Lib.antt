@@ -1,0 +1,10 @@
+pub mod Heights
+pub mod Levels
+pub mod Reaching
+pub mod OfExpressions
+pub mod ExpressionsAlike
+pub mod Temporals
+pub mod Conditionals
+pub mod Links
+pub mod Loops
+pub mod Enclosed

@@ -1,0 +1,4 @@
+pub mod Operators
+pub mod Tokens
+pub mod Expressions
+pub mod Ranks

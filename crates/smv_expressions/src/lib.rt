@@ -1,0 +1,11 @@
+//! Expressions, and the limits of types: from tokens to their trees (NuSMV 2.6 User Manual, 2.2).
+#![tactic(auto)]
+
+mod expressions;
+mod nodes;
+mod ranks;
+mod temporal;
+mod tokens;
+
+pub use expressions::{expression, indexed, limit, limit_start, limited, listed};
+pub use tokens::{begins_expression, goes_on_limit, names_function};

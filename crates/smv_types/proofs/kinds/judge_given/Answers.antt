@@ -1,0 +1,13 @@
+-- What a parameter was given is judged as under a name.
+use Rattle.std.proofs.Common.{refl}
+use Rattle.smv_types.specs.Kinds.{kind_refusal}
+use Rattle.smv_types.proofs.kinds.judge_given.Goals as goal
+
+pub returns : goal.returns
+returns c = λ slots types r h. record {
+  place = refl;
+  notes = c.under_name.ensures (λ x. kind_refusal slots types x r) h.notes;
+  given = h.notes.name_set;
+  init = h.init;
+  later = h.later;
+}

@@ -1,0 +1,168 @@
+//! The first rule that is broken in each context.
+
+ghost use Rattle.std.specs.Prelude.{◌≡◌, Bool, true, false, Option};
+ghost use Rattle.smv_tree.specs.declared.refusal.Refusal.{Refusal};
+ghost use Rattle.smv_kinds.specs.Contexts.{kind_in_context};
+ghost use Rattle.smv_verdicts.specs.Verdicts.{or_else};
+ghost use Rattle.smv_types.specs.Judged.{AreNotes, as_refusal};
+ghost use Rattle.smv_types.specs.Kinds.{Context, input_here, next_here, temporal_here, under_name, under_next, under_operand};
+
+use crate::judged::{Notes, Violation};
+use smv_kinds::takes_sets;
+use smv_meaning::{is_over_formulas, is_temporal};
+use smv_tree::{Place, Rule};
+use smv_value::Operator;
+
+// The same in all contexts.
+pub(crate) fn everywhere(violation: Option<Violation>) -> Notes
+    ensures { AreNotes (λ c. as_refusal violation) result }
+{
+    Notes {
+        step: violation,
+        step_set: violation,
+        name: violation,
+        name_set: violation,
+        state: violation,
+        state_set: violation,
+        path: violation,
+    }
+}
+
+// One thing where sets may stand, and another where they may not.
+pub(crate) fn by_sets(without: Option<Violation>, with: Option<Violation>) -> Notes
+    ensures { (refusal : Bool → Option Refusal) → as_refusal without ≡ refusal false → as_refusal with ≡ refusal true → AreNotes (λ c. refusal c.set) result }
+{
+    Notes {
+        step: without,
+        step_set: with,
+        name: without,
+        name_set: with,
+        state: without,
+        state_set: with,
+        path: without,
+    }
+}
+
+// First what one breaks, and then what the other does.
+pub(crate) fn both(a: Notes, b: Notes) -> Notes
+    ensures { (first later : Context → Option Refusal) → AreNotes first a → AreNotes later b → AreNotes (λ c. or_else (first c) (later c)) result }
+{
+    Notes {
+        step: first(a.step, b.step),
+        step_set: first(a.step_set, b.step_set),
+        name: first(a.name, b.name),
+        name_set: first(a.name_set, b.name_set),
+        state: first(a.state, b.state),
+        state_set: first(a.state_set, b.state_set),
+        path: first(a.path, b.path),
+    }
+}
+
+pub(crate) fn first(a: Option<Violation>, b: Option<Violation>) -> Option<Violation>
+    ensures { as_refusal result ≡ or_else (as_refusal a) (as_refusal b) }
+{
+    match a {
+        Some(violation) => Some(violation),
+        None => b,
+    }
+}
+
+// In what a name stands for.
+pub(crate) fn under_name(n: Notes) -> Notes
+    ensures { (refusal : Context → Option Refusal) → AreNotes refusal n → AreNotes (λ c. refusal (under_name c)) result }
+{
+    Notes {
+        step: n.name,
+        step_set: n.name_set,
+        name: n.name,
+        name_set: n.name_set,
+        state: n.state,
+        state_set: n.state_set,
+        path: n.name,
+    }
+}
+
+// Under `next`.
+pub(crate) fn under_next(n: Notes) -> Notes
+    ensures { (refusal : Context → Option Refusal) → AreNotes refusal n → AreNotes (λ c. refusal (under_next c)) result }
+{
+    Notes {
+        step: n.state,
+        step_set: n.state_set,
+        name: n.state,
+        name_set: n.state_set,
+        state: n.state,
+        state_set: n.state_set,
+        path: n.state,
+    }
+}
+
+// As an operand of this number.
+pub(crate) fn under_operand(operator: Operator, operand: usize, n: Notes) -> Notes
+    ensures { (refusal : Context → Option Refusal) → AreNotes refusal n → AreNotes (λ c. refusal (under_operand operator operand c)) result }
+{
+    if takes_sets(operator, operand, false) {
+        with_sets(n)
+    } else if is_over_formulas(operator) {
+        n
+    } else {
+        Notes { path: n.name, ..n }
+    }
+}
+
+// Where sets may stand, and no temporal operator.
+fn with_sets(n: Notes) -> Notes
+    ensures { result ≡ record { step = n.step_set; step_set = n.step_set; name = n.name_set; name_set = n.name_set; state = n.state_set; state_set = n.state_set; path = n.name_set } }
+{
+    Notes {
+        step: n.step_set,
+        step_set: n.step_set,
+        name: n.name_set,
+        name_set: n.name_set,
+        state: n.state_set,
+        state_set: n.state_set,
+        path: n.name_set,
+    }
+}
+
+// An input, where none may stand.
+pub(crate) fn input_here(place: Place, is_input: bool) -> Notes
+    ensures { AreNotes (λ c. input_here c place is_input) result }
+{
+    let misplaced = if is_input {
+        Some(Violation::new(Rule::InputHere, place))
+    } else {
+        None
+    };
+    Notes {
+        state: misplaced,
+        state_set: misplaced,
+        ..everywhere(None)
+    }
+}
+
+// A `next`, where none may stand.
+pub(crate) fn next_here(place: Place) -> Notes
+    ensures { AreNotes (λ c. next_here c place) result }
+{
+    Notes {
+        step: None,
+        step_set: None,
+        ..everywhere(Some(Violation::new(Rule::NextHere, place)))
+    }
+}
+
+// A temporal operator, where none may stand.
+pub(crate) fn temporal_here(place: Place, operator: Operator) -> Notes
+    ensures { AreNotes (λ c. temporal_here c place operator) result }
+{
+    let misplaced = if is_temporal(operator) {
+        Some(Violation::new(Rule::TemporalHere, place))
+    } else {
+        None
+    };
+    Notes {
+        path: None,
+        ..everywhere(misplaced)
+    }
+}
