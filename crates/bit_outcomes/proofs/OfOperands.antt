@@ -25,7 +25,7 @@ use Rattle.bit_outcomes.specs.declared.told.Member.{Member}
 use Rattle.bit_outcomes.specs.declared.told.Which.TheVariants as which
 use Rattle.bit_outcomes.specs.Telling.{IsThere, TellsOne, TellsSet, is_member}
 use Rattle.bit_outcomes.specs.Gathering.{TellsEach, beside, bound}
-use Rattle.bit_outcomes.specs.Pending.{Computes, is_fault}
+use Rattle.bit_table.specs.Computing.{Computes, is_fault}
 use Rattle.bit_outcomes.proofs.OfMembers.{or_right, or_same}
 
 -- one operand more

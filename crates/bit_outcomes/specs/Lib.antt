@@ -1,4 +1,3 @@
 pub mod Telling
 pub mod Gathering
 pub mod Asked
-pub mod Pending

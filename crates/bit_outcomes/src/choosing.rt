@@ -15,8 +15,8 @@ ghost use Rattle.bit_operators.specs.Denoting.{StandsIn, denoted};
 ghost use Rattle.bit_outcomes.specs.Telling.{AllTold, IsThere, MembersStand, Tells, TellsAll, TellsOne, TellsSet, ToldStands, is_member};
 
 use crate::members::{Row, as_row, with_members};
-use crate::pending::choose;
 use crate::told::{Member, Told, copied, copied_value};
+use bit_choices::choose;
 use bit_graph::{Edge, Graph};
 use bit_operators::Symbolic;
 use sqlite_items::Items;

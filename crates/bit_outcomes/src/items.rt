@@ -17,8 +17,8 @@ ghost use Rattle.bit_outcomes.specs.Telling.{IsThere, MemberStands, MembersStand
 ghost use Rattle.bit_outcomes.specs.Asked.{is_false, is_out};
 
 use crate::members::{among, as_row};
-use crate::pending::is_in_type;
 use crate::told::{Member, Told, Which};
+use bit_choices::is_in_type;
 use bit_graph::{Edge, Graph};
 use bit_operators::Symbolic;
 use std::alloc::{AllocError, Global};

@@ -9,7 +9,6 @@ mod items;
 mod members;
 mod nodes;
 mod operators;
-mod pending;
 mod told;
 
 pub use items::{false_edge, fault_edge, outside_edge, takes_edge, true_edge};

@@ -11,8 +11,8 @@ ghost use Rattle.bit_operators.specs.Denoting.{StandsIn, denoted};
 ghost use Rattle.bit_outcomes.specs.Telling.{AllTold, IsThere, MemberStands, MembersStand, Tells, TellsAll, TellsSet, ToldStands, both, is_member};
 ghost use Rattle.bit_outcomes.specs.declared.told.Which.TheVariants as which;
 
-use crate::pending::equal;
 use crate::told::{Member, Told, Which, copied, copied_members, copied_value, copied_which};
+use bit_choices::equal;
 use bit_graph::{Edge, Graph};
 use bit_numbers::is_between;
 use bit_operators::Symbolic;

@@ -18,11 +18,11 @@ ghost use Rattle.bit_outcomes.specs.declared.told.Which.TheVariants as which;
 
 use crate::choosing::choice;
 use crate::members::{among, as_row, united};
-use crate::pending::apply;
 use crate::told::{Member, Told, Which, copied_value};
 use bit_graph::{Edge, Graph};
 use bit_numbers::known_integer;
 use bit_operators::Symbolic;
+use bit_table::apply;
 use smv_value::Operator;
 use sqlite_items::Items;
 use std::alloc::{AllocError, Global};

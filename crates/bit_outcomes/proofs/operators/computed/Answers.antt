@@ -1,7 +1,7 @@
 -- What the operator gives, or a fault of an operand or of its own.
 use Rattle.std.proofs.Common.{List, subst}
 use Rattle.bit_operators.specs.declared.symbolic.Symbolic.{Symbolic}
-use Rattle.bit_outcomes.specs.Pending.{Computes}
+use Rattle.bit_table.specs.Computing.{Computes}
 use Rattle.bit_outcomes.proofs.OfOperands.{computed_told}
 use Rattle.bit_outcomes.proofs.operators.computed.Goals as goal
 
