@@ -1,10 +1,11 @@
 -- Values that are the same, one of two values, and values by their kinds.
-use Rattle.std.proofs.Common.{◌≡◌, ℕ, zero, suc, ◌+◌, ◌*◌, ◌<◌, ◌≤◌, ◌==◌, Bool, true, false, not, ◌&&◌, ◌||◌, cond, List, [], ◌∷◌, length, get_or, ℤ, pos, ◌+ℤ◌, refl, sym, ap, subst, ◌∙◌, arith, eqb, nat_lt}
+use Rattle.std.proofs.Common.{◌≡◌, ℕ, zero, suc, ◌+◌, ◌*◌, ◌^◌, ◌<◌, ◌≤◌, ◌==◌, Bool, true, false, not, ◌&&◌, ◌||◌, cond, List, [], ◌∷◌, length, get_or, ℤ, pos, ◌+ℤ◌, refl, sym, ap, subst, ◌∙◌, arith, eqb, nat_lt}
 use Rattle.std.specs.Prelude.{Option, None, Some, int_le, slice_get}
 use Rattle.std.specs.Bool.{beq}
+use Rattle.std.proofs.lemmas.Bool.{eqb-true, lt-ltb}
 use Rattle.smv_value.specs.declared.value.Value.{Value}
 use Rattle.smv_value.specs.declared.value.Value.TheVariants as value
-use Rattle.smv_value.specs.Results.{alike, is_value, is_word, same}
+use Rattle.smv_value.specs.Results.{alike, is_width, is_word, same}
 use Rattle.value_types.specs.declared.value_type.ValueType.{ValueType}
 use Rattle.value_types.specs.declared.value_type.ValueType.TheVariants as type
 use Rattle.value_types.specs.Types.{is_boolean, is_word_of}
@@ -13,6 +14,7 @@ use Rattle.bit_graph.specs.declared.edge.Edge.{Edge}
 use Rattle.bit_graph.specs.Meaning.{edge_value, exclusive_or}
 use Rattle.bit_arith.specs.Number.{bit, flip, number_of, values_of}
 use Rattle.bit_arith.proofs.Horner.{number_of-chosen}
+use Rattle.bit_arith.proofs.Numbers.{number-lt}
 use Rattle.bit_operators.specs.declared.symbolic.Discrete.{Discrete}
 use Rattle.bit_operators.specs.declared.symbolic.Symbolic.{Symbolic}
 use Rattle.bit_operators.specs.declared.symbolic.Symbolic.TheVariants as symbolic
@@ -153,14 +155,28 @@ pub discrete_fails : (test : Value → Bool) (v : ℕ → Bool) (a : Symbolic) (
 discrete_fails test v a d x hs hi ia h =
     not_discrete test (edge_value v d.is_symbol) (slice_get d.symbols (number_of v d.code)) (integer_of v d.number) x hs hi (sym (ap (denoted v) ia) ∙ h)
 
-and_true : (b c : Bool) → c ≡ true → b ≡ (b && c)
-and_true true c h = sym h
+and_true : (b c : Bool) → (b ≡ true → c ≡ true) → b ≡ (b && c)
+and_true true c h = sym (h refl)
 and_true false c h = refl
 
-pub word_kind : (v : ℕ → Bool) (a : Symbolic) (s t : Bool) (w : ℕ) (l : List Edge) (x : Value) → a ≡ symbolic.Word t l → denoted v a ≡ Some x → is_value x ≡ true → alike s w t (length l) ≡ is_word_of s w x
+and_right : (b c : Bool) → (b && c) ≡ true → c ≡ true
+and_right true c h = h
+and_right false c h = absurd cc
+
+same_width : (s t : Bool) (w u : ℕ) → alike s w t u ≡ true → w ≡ u
+same_width s t w u h = eqb-true w u (and_right (beq s t) (w == u) h)
+
+-- a number of so many bits is one of a word
+is_word_by : (w n : ℕ) → is_width w ≡ true → n < 2 ^ w → is_word w n ≡ true
+is_word_by w n h lt = let test : nat_lt n (2 ^ w) ≡ true = lt-ltb n (2 ^ w) lt in (λ i. h i && test i)
+
+pub word_kind : (v : ℕ → Bool) (a : Symbolic) (s t : Bool) (w : ℕ) (l : List Edge) (x : Value) → a ≡ symbolic.Word t l → denoted v a ≡ Some x → is_width w ≡ true → alike s w t (length l) ≡ is_word_of s w x
 word_kind v a s t w l x ia h i =
     let e : value.Word t (length l) (number_of v l) ≡ x = some_same (value.Word t (length l) (number_of v l)) x (sym (ap (denoted v) ia) ∙ h) in
-    and_true (alike s w t (length l)) (is_word (length l) (number_of v l)) (ap is_value e ∙ i) ∙ ap (is_word_of s w) e
+    let P : ℕ → Type 0 = λ n. is_width n ≡ true in
+    let whole : alike s w t (length l) ≡ true → is_word (length l) (number_of v l) ≡ true =
+    λ k. is_word_by (length l) (number_of v l) (subst P (same_width s t w (length l) k) i) (number-lt (edge_value v) l) in
+    and_true (alike s w t (length l)) (is_word (length l) (number_of v l)) whole ∙ ap (is_word_of s w) e
 
 pub boolean_no_word : (v : ℕ → Bool) (a : Symbolic) (s : Bool) (w : ℕ) (e : Edge) (x : Value) → a ≡ symbolic.Boolean e → denoted v a ≡ Some x → false ≡ is_word_of s w x
 boolean_no_word v a s w e x ia h = ap (is_word_of s w) (some_same (value.Bool (edge_value v e)) x (sym (ap (denoted v) ia) ∙ h))

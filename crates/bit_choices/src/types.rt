@@ -1,14 +1,14 @@
 //! Which values are of a type.
 
-ghost use Rattle.std.specs.Prelude.{◌≡◌, ℕ, Bool, IfOk, Some, not, slice_get, true, ◌==◌, ◌&&◌, ◌||◌};
+ghost use Rattle.std.specs.Prelude.{◌≡◌, ℕ, Bool, IfOk, IsTrue, Some, not, slice_get, ◌==◌, ◌&&◌, ◌||◌};
 ghost use Rattle.std.specs.List.{list_any};
 ghost use Rattle.bit_graph.specs.Meaning.{Consistent, Denotes, Stands, edge_value};
 ghost use Rattle.bit_graph.specs.Growth.{Extends};
 ghost use Rattle.bit_arith.specs.Number.{AllStand, number_of};
 ghost use Rattle.smv_value.specs.declared.value.Value.{Value};
 ghost use Rattle.smv_value.specs.declared.value.Value.TheVariants.{Int, Sym};
-ghost use Rattle.smv_value.specs.Results.{is_value};
-ghost use Rattle.value_types.specs.Types.{is_boolean, is_element, is_of_type, is_word_of};
+ghost use Rattle.smv_value.specs.Results.{is_width};
+ghost use Rattle.value_types.specs.Types.{is_boolean, is_element, is_of_type, is_type, is_word_of};
 ghost use Rattle.bit_operators.specs.Denoting.{DiscreteStands, StandsIn, denoted, discrete_value, integer_of};
 
 use crate::enumerations::run_of;
@@ -27,10 +27,11 @@ pub fn is_in_type(
     declared: &ValueType,
     a: &Symbolic,
 ) -> Result<Edge, AllocError>
-    requires { StandsIn graph.old a.now }
+    requires declared { IsTrue (is_type declared.now) }
+    requires stands { StandsIn graph.old a.now }
     ensures extends { Extends graph.old graph.new }
     ensures stands { IfOk result (λ e. Stands graph.new e) }
-    ensures value { IfOk result (λ e. (v : ℕ → Bool) (x : Value) → Consistent v graph.new → denoted v a.now ≡ Some x → is_value x ≡ true →
+    ensures value { IfOk result (λ e. (v : ℕ → Bool) (x : Value) → Consistent v graph.new → denoted v a.now ≡ Some x →
         edge_value v e ≡ is_of_type x declared.now) }
 {
     match declared {
@@ -78,7 +79,8 @@ fn is_boolean(a: &Symbolic) -> bool
 }
 
 fn is_word_of(signed: bool, width: u32, a: &Symbolic) -> bool
-    ensures { (v : ℕ → Bool) (x : Value) → denoted v a.now ≡ Some x → is_value x ≡ true → result ≡ is_word_of signed width x }
+    requires { IsTrue (is_width width) }
+    ensures { (v : ℕ → Bool) (x : Value) → denoted v a.now ≡ Some x → result ≡ is_word_of signed width x }
 {
     match a {
         Symbolic::Word {

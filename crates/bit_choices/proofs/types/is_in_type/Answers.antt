@@ -7,7 +7,7 @@ use Rattle.bit_choices.proofs.OfRanges.{widened}
 use Rattle.bit_choices.proofs.types.is_in_type.Goals as goal
 
 pub returns-in_ok-e-in-Range-clause-value : goal.returns-in_ok-e-in-Range-clause-value
-returns-in_ok-e-in-Range-clause-value c = λ v x h e i.
+returns-in_ok-e-in-Range-clause-value c = λ v x h e.
     let f : SFits w32 c.in-Range.low = search rules in
     let g : SFits w32 c.in-Range.high = search rules in
     let low = widened c.from.result c.in-Range.low f c.from.ensures in

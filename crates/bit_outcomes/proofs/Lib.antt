@@ -1,0 +1,7 @@
+pub mod Kept
+pub mod OfMembers
+pub mod OfChoices
+pub mod OfOperands
+pub mod OfAsked
+pub mod OfNodes
+pub mod OfTable
