@@ -1,8 +1,11 @@
 pub mod Numbers
+pub mod Marking
+pub mod Outcomes
+pub mod Starts
+pub mod Chunks
+pub mod Joint
+pub mod Placing
+pub mod Defining
+pub mod OfStates
 pub mod Agreed
 pub mod Systems
-pub mod Joint
-pub mod Marking
-pub mod OfStates
-pub mod Outcomes
-pub mod Placing

@@ -1,12 +1,11 @@
 -- Where numbers stand in a list.
-use Rattle.std.proofs.Common.{◌≡◌, ◌∙◌, ℕ, zero, suc, ◌+◌, ◌-◌, ◌<◌, ◌≤◌, ◌==◌, Bool, true, false, not, ◌&&◌, ◌||◌, cond, List, [], ◌∷◌, ◌++◌, length, get_or, slice_get, Option, Some, None, refl, sym, ap, subst, arith, inl, inr, append-nil}
+use Rattle.std.proofs.Common.{◌≡◌, ◌∙◌, ℕ, zero, suc, ◌+◌, ◌<◌, ◌≤◌, ◌==◌, Bool, true, false, ◌&&◌, ◌||◌, cond, List, [], ◌∷◌, ◌++◌, length, get_or, slice_get, Option, Some, None, refl, sym, ap, subst, arith, inl, inr, append-nil}
 use Rattle.std.specs.List.{filter, range_with_len}
-use Rattle.std.proofs.lemmas.Bool.{cases_Bool, eq-eqb, eqb-true, false_from_ne_true, ne_eqb, or_left, or_right}
+use Rattle.std.proofs.lemmas.Bool.{cases_Bool, eq-eqb, eqb-true, false_from_ne_true, or_left, or_right}
 use Rattle.std.proofs.lemmas.List.{map-id}
-use Rattle.std.proofs.lemmas.List.Filters.{length-filter_both}
 use Rattle.std.proofs.lemmas.List.FromFn.{filter_of_map_range_with_len_more, length-range_with_len}
 use Rattle.std.proofs.lemmas.Option.{get_or_from_slice_get, slice_get-get_or, slice_get_within}
-use Rattle.bit_formula.specs.Coding.{is_in, others, place_in}
+use Rattle.bit_formula.specs.Coding.{is_in}
 use Rattle.bit_formula.specs.Numbers.{AreInOrder, is_number}
 
 -- a number of a list stands at its place
@@ -14,12 +13,14 @@ pub record StandsAt (ns : List ℕ) (place k : ℕ) : Type 0 where
   pub inside : place < length ns
   pub there : get_or ns place 0 ≡ k
 
-place_step : (n : ℕ) (ns : List ℕ) (k : ℕ) (b : Bool) → (n == k) ≡ b → (b || is_in ns k) ≡ true → (is_in ns k ≡ true → StandsAt ns (place_in ns k) k)
-    → StandsAt (n ∷ ns) (cond b 0 (suc (place_in ns k))) k
-place_step n ns k true e h rest = record { inside = omega arith; there = eqb-true n k e }
-place_step n ns k false e h rest = let r = rest h in record { inside = let i = r.inside in omega (arith, i); there = r.there }
+abbrev Somewhere : List ℕ → ℕ → Type 0
+Somewhere ns k = (place : ℕ) × StandsAt ns place k
 
-pub place_of : (ns : List ℕ) (k : ℕ) → is_in ns k ≡ true → StandsAt ns (place_in ns k) k
+place_step : (n : ℕ) (ns : List ℕ) (k : ℕ) (b : Bool) → (n == k) ≡ b → (b || is_in ns k) ≡ true → (is_in ns k ≡ true → Somewhere ns k) → Somewhere (n ∷ ns) k
+place_step n ns k true e h rest = (0, record { inside = omega arith; there = eqb-true n k e })
+place_step n ns k false e h rest = let r = rest h in (suc r.0, record { inside = let i = r.1.inside in omega (arith, i); there = r.1.there })
+
+pub place_of : (ns : List ℕ) (k : ℕ) → is_in ns k ≡ true → (place : ℕ) × StandsAt ns place k
 place_of [] k h = cc
 place_of (n ∷ ns) k h = place_step n ns k (n == k) refl h (place_of ns k)
 
@@ -61,31 +62,22 @@ module _ (f : ℕ → Bool) where
   abbrev pub rank : ℕ → ℕ → ℕ
   rank a j = length (filter f (range_with_len a j))
 
-  pub record IsRanked (a n j k : ℕ) : Type 0 where
-    pub at : StandsAt (filter f (range_with_len a n)) (rank a j) k
-    pub place : place_in (filter f (range_with_len a n)) k ≡ rank a j
-
   abbrev Ranked : (xs rest : List ℕ) (k : ℕ) → Type 0
-  Ranked xs rest k = StandsAt xs (length rest) k × (place_in xs k ≡ length rest)
+  Ranked xs rest k = StandsAt xs (length rest) k
 
   rank_first : (a : ℕ) (xs : List ℕ) (k : ℕ) (b : Bool) → b ≡ true → k ≡ a + 0 → Ranked (cond b (a ∷ xs) xs) [] k
   rank_first a xs k false on k_is = cc
-  rank_first a xs k true on k_is =
-      let here : (a == k) ≡ true = eq-eqb a k (omega (arith, k_is)) in
-      (record { inside = omega arith; there = omega (arith, k_is) }, rw here refl)
+  rank_first a xs k true on k_is = record { inside = omega arith; there = omega (arith, k_is) }
 
-  rank_later : (a : ℕ) (xs rest : List ℕ) (k : ℕ) (b : Bool) → (a ≡ k → ⊥) → Ranked xs rest k → Ranked (cond b (a ∷ xs) xs) (cond b (a ∷ rest) rest) k
-  rank_later a xs rest k false other r = r
-  rank_later a xs rest k true other r =
-      let there : (a == k) ≡ false = ne_eqb a k other in
-      let inside = r.0.inside in
-      (record { inside = omega (arith, inside); there = r.0.there }, rw there (ap suc r.1))
+  rank_later : (a : ℕ) (xs rest : List ℕ) (k : ℕ) (b : Bool) → Ranked xs rest k → Ranked (cond b (a ∷ xs) xs) (cond b (a ∷ rest) rest) k
+  rank_later a xs rest k false r = r
+  rank_later a xs rest k true r = record { inside = let inside = r.inside in omega (arith, inside); there = r.there }
 
   ranks : (a n j k : ℕ) → j < n → k ≡ a + j → f k ≡ true → Ranked (filter f (range_with_len a n)) (filter f (range_with_len a j)) k
   ranks a zero j k lt k_is on = absurd (let no : ⊥ = omega (arith, lt) in no)
   ranks a (suc n) zero k lt k_is on = rank_first a (filter f (range_with_len (a + 1) n)) k (f a) (ap f (let e : a ≡ k = omega (arith, k_is) in e) ∙ on) k_is
   ranks a (suc n) (suc j) k lt k_is on =
-      rank_later a (filter f (range_with_len (a + 1) n)) (filter f (range_with_len (a + 1) j)) k (f a) (λ e. omega (arith, e, k_is))
+      rank_later a (filter f (range_with_len (a + 1) n)) (filter f (range_with_len (a + 1) j)) k (f a)
       (ranks (a + 1) n j k (omega (arith, lt)) (omega (arith, k_is)) on)
 
   -- one number more
@@ -141,7 +133,7 @@ module _ (n : ℕ) (reads : List ℕ) (order : AreInOrder n reads) (k : ℕ) (be
 
   number_true : is_in reads k ≡ true → is_number (slice_get reads at) k ≡ true
   number_true here =
-      let r = (ranks (is_in reads) 0 n k k below (omega arith) here).0 in
+      let r = ranks (is_in reads) 0 n k k below (omega arith) here in
       let s : StandsAt reads at k = subst (λ (xs : List ℕ). StandsAt xs at k) (sym order) r in
       ap (λ (o : Option ℕ). is_number o k) (slice_get-get_or reads at 0 s.inside) ∙ eq-eqb (get_or reads at 0) k s.there
 
@@ -159,17 +151,6 @@ module _ (n : ℕ) (reads : List ℕ) (order : AreInOrder n reads) (k : ℕ) (be
     | inr off ↦ off ∙ sym (false_from_ne_true (is_number (slice_get reads at) k) (λ t.
         let e : true ≡ false = sym (number_found (slice_get reads at) refl t) ∙ off in cc))
   ]
-
-  -- where it stands among those of the list, or among the others
-  pub place_read : is_in reads k ≡ true → place_in reads k ≡ at
-  place_read on = subst (λ (xs : List ℕ). place_in xs k ≡ at) (sym order) (ranks (is_in reads) 0 n k k below (omega arith) on).1
-
-  pub place_other : is_in reads k ≡ false → place_in (others n reads) k ≡ k - at
-  place_other off =
-      let other : ℕ → Bool = λ j. not (is_in reads j) in
-      let found : place_in (others n reads) k ≡ rank other 0 k = (ranks other 0 n k k below (omega arith) (ap not off)).1 in
-      let both : at + rank other 0 k ≡ k = length-filter_both (is_in reads) other (λ j. refl) (range_with_len 0 k) ∙ length-range_with_len 0 k in
-      omega (arith, found, both)
 
 pub cond_same : {A : Type 0} (b c : Bool) (x y v w : A) → b ≡ c → (b ≡ true → x ≡ v) → (b ≡ false → y ≡ w) → cond b x y ≡ cond c v w
 cond_same true true x y v w e on off = on refl

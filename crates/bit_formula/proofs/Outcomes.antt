@@ -12,9 +12,8 @@ use Rattle.smv_resolve.specs.Resolved.{Resolved, Operands}
 use Rattle.smv_meaning.specs.declared.outcome.Outcome.{Outcome}
 use Rattle.smv_meaning.specs.Outcomes.{applied, valued}
 use Rattle.smv_meaning.specs.Values.{outcome, outcomes}
-use Rattle.bit_system.specs.Coding.{input_width}
 use Rattle.bit_formula.specs.Agreeing.{AreAllRead}
-use Rattle.bit_formula.specs.Coding.{place_in}
+use Rattle.bit_formula.specs.Coding.{input_count}
 use Rattle.bit_formula.specs.Reading.{AgreeOn, is_read, is_read_in, is_some_input, is_this_input, reads_of, reads_slot, some_reads_slot}
 use Rattle.bit_formula.proofs.Numbers.{in_below, place_of}
 
@@ -92,16 +91,15 @@ read_in slots k (x ∷ parts) (suc i) r lt at h =
     or_right (is_read slots k x) (list_any (is_read slots k) parts) (read_in slots k parts i r (omega (arith, lt)) at h)
 
 module _ (p : Program) (parts : List Resolved) where
-  agree_at : (u v : List Value) → AgreeOn (reads_of p parts) u v → (k : ℕ) → k < input_width p → is_read_in p parts k ≡ true → slice_get u k ≡ slice_get v k
+  agree_at : (u v : List Value) → AgreeOn (reads_of p parts) u v → (k : ℕ) → k < input_count p → is_read_in p parts k ≡ true → slice_get u k ≡ slice_get v k
   agree_at u v agree k below read =
-      let reads = reads_of p parts in
-      let s = place_of reads k (in_below (is_read_in p parts) (input_width p) k below ∙ read) in
-      subst (λ j. slice_get u j ≡ slice_get v j) s.there (agree (place_in reads k) s.inside)
+      let at = place_of (reads_of p parts) k (in_below (is_read_in p parts) (input_count p) k below ∙ read) in
+      subst (λ j. slice_get u j ≡ slice_get v j) at.1.there (agree at.0 at.1.inside)
 
   pub all_read : AreAllRead p parts
   all_read u v u_long v_long agree r (i, lt, at) s t =
       outcome_same (slots_of p) u v s t r (λ k h.
-      elim (cases_lt k (input_width p)) [
+      elim (cases_lt k (input_count p)) [
         | inl below ↦ agree_at u v agree k below (read_in (slots_of p) k parts i r lt at h)
         | inr past ↦ slice_get_past u k (omega (arith, past, u_long)) ∙ sym (slice_get_past v k (omega (arith, past, v_long)))
       ])

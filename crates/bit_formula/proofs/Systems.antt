@@ -1,10 +1,8 @@
 -- The clauses of both sides as a system.
-use Rattle.std.proofs.Common.{◌≡◌, ◌∙◌, ℕ, ◌+◌, ◌<◌, ◌≤◌, ◌++◌, Bool, true, not, List, [], ◌∷◌, length, map, refl, sym, ap, subst, arith, inl}
-use Rattle.std.specs.List.{All, range_with_len}
+use Rattle.std.proofs.Common.{◌≡◌, ◌∙◌, ℕ, ◌<◌, ◌≤◌, ◌++◌, Bool, ◌&&◌, List, [], ◌∷◌, length, map, refl, sym, ap, subst, arith, inl}
+use Rattle.std.specs.List.{All}
 use Rattle.std.proofs.lemmas.List.{length-map, map-id}
 use Rattle.std.proofs.lemmas.List.Elements.{All-nil, All-cons, All-head}
-use Rattle.std.proofs.lemmas.List.Filters.{length-filter_both}
-use Rattle.std.proofs.lemmas.List.FromFn.{length-range_with_len}
 use Rattle.clause_core.specs.Assignments.{Agrees, ClauseTrue}
 use Rattle.clause_core.specs.Literals.{Within}
 use Rattle.clause_core.specs.Systems.{Gives, IsSystem, Opposed, TransitionSystem}
@@ -16,23 +14,23 @@ use Rattle.smv_value.specs.declared.value.Value.{Value}
 use Rattle.smv_scope.specs.Slots.{slots_of}
 use Rattle.smv_resolve.specs.Items.{ResolvedItem}
 use Rattle.smv_resolve.specs.Resolved.{Resolved}
-use Rattle.smv_meaning.specs.Runs.{has_booleans_alone, is_first_state, is_step, is_true}
+use Rattle.smv_meaning.specs.Runs.{are_inputs, is_state, is_true}
 use Rattle.smv_meaning.specs.Values.{outcome}
 use Rattle.bit_clauses.specs.declared.deciding.Decided.{Decided}
 use Rattle.bit_clauses.specs.Deciding.{Decides}
 use Rattle.bit_clauses.specs.Gated.{DecidesGroup, DefinesAll, DefinesEdges}
 use Rattle.bit_clauses.proofs.Deciders.{all_left, all_right}
-use Rattle.bit_system.specs.Standing.{is_just_in, justices_of}
+use Rattle.bit_conditions.specs.Asked.{is_just_in, justices_of}
 use Rattle.bit_system.proofs.OfSides.{all_within_more, decides_told, defines_as}
 use Rattle.bit_formula.specs.declared.sides.JointSide.{JointSide}
 use Rattle.bit_formula.specs.declared.states.JointConditions.{JointConditions}
 use Rattle.bit_formula.specs.declared.joining.JointSystem.{JointSystem}
-use Rattle.bit_formula.specs.Coding.{inputs_in, is_in, joint_named, joint_width, next_in, others, read_inputs, state_in}
-use Rattle.bit_formula.specs.Conditions.{TellsJoint, defined_values, values_at}
-use Rattle.bit_formula.specs.Numbers.{AreInOrder}
+use Rattle.bit_formula.specs.Coding.{joint_named, joint_width, state_in}
+use Rattle.bit_formula.specs.Conditions.{TellsJoint, defined_values, truths_in}
 use Rattle.bit_formula.specs.Sides.{CanBeJoined, IsJointSide, IsJointStep, IsJointSystem, joined_system}
-use Rattle.bit_formula.specs.Standing.{atom_values, joint_just_values}
-use Rattle.bit_formula.proofs.Joint.{defines_split, read_same, state_same, states_fit}
+use Rattle.bit_formula.specs.Standing.{atom_values, is_first_at, is_step_at, joint_just_values}
+use Rattle.bit_formula.proofs.Defining.{defines_split}
+use Rattle.bit_formula.proofs.Joint.{first_same, read_same, state_same}
 use Rattle.bit_formula.proofs.OfStates.{defined_told}
 
 -- no state meets an empty clause
@@ -68,21 +66,15 @@ is_system width steps side can = record {
   gives = gives_first width side.fair side.atoms.items side.defs can.gives;
 }
 
--- as many as are read and as are not
-pub others_long : (n : ℕ) (reads : List ℕ) → AreInOrder n reads → length reads + length (others n reads) ≡ n
-others_long n reads order =
-    ap (λ (xs : List ℕ). length xs + length (others n reads)) order
-    ∙ length-filter_both (is_in reads) (λ (k : ℕ). not (is_in reads k)) (λ k. refl) (range_with_len 0 n) ∙ length-range_with_len 0 n
-
-module _ (p : Program) (booleans : has_booleans_alone p ≡ true) (reads : List ℕ) (parts : List Resolved) where
+module _ (p : Program) (reads : List ℕ) (parts : List Resolved) where
   -- the same bits, the same values
-  values_same : (v a : ℕ → Bool) → Agrees (joint_width p reads) v a → values_at v (defined_values p reads parts) ≡ values_at a (defined_values p reads parts)
+  values_same : (v a : ℕ → Bool) → Agrees (joint_width p reads) v a → truths_in v (defined_values p reads parts) ≡ truths_in a (defined_values p reads parts)
   values_same v a agrees =
-      sym (defined_told p reads parts v (states_fit p reads booleans v))
-      ∙ ap (λ (s : List Value). map (is_just_in p s) (justices_of p) ++ map (λ (e : Resolved). is_true (outcome (slots_of p) s (read_inputs p reads v) [] e)) parts) (state_same p reads v a agrees)
-      ∙ ap (λ (u : List Value). map (is_just_in p (state_in p reads a)) (justices_of p) ++ map (λ (e : Resolved). is_true (outcome (slots_of p) (state_in p reads a) u [] e)) parts)
-      (read_same p reads v a agrees)
-      ∙ defined_told p reads parts a (states_fit p reads booleans a)
+      let states = state_same p reads v a agrees in
+      let inputs = read_same p reads v a agrees in
+      let same : List Value → List Value → List Bool =
+      λ s u. map (is_just_in p s) (justices_of p) ++ map (λ (e : Resolved). (is_state p s && are_inputs p u) && is_true (outcome (slots_of p) s u [] e)) parts in
+      sym (defined_told p reads parts v) ∙ (λ i. same (states i) (inputs i)) ∙ defined_told p reads parts a
 
   module _ (c : JointConditions) (r : JointSide) (tells : TellsJoint p reads parts c) (law : OneWay c.graph) where
     abbrev j : ℕ
@@ -95,7 +87,7 @@ module _ (p : Program) (booleans : has_booleans_alone p ≡ true) (reads : List 
     all_defined defines =
         let value_of : Edge → (ℕ → Bool) → Bool = λ e x. value_under x c.graph e in
         let told : ((ℕ → Bool) → Bool) → (ℕ → Bool) → Bool = λ f x. f x in
-        let same : (a : ℕ → Bool) → map (λ (e : Edge). value_under a c.graph e) c.defined.items ≡ values_at a (defined_values p reads parts) =
+        let same : (a : ℕ → Bool) → map (λ (e : Edge). value_under a c.graph e) c.defined.items ≡ truths_in a (defined_values p reads parts) =
         λ a. tells.told (values a c.graph) (law.some a).0 ∙ values_same (values a c.graph) a (inputs_agree a) in
         subst (λ (fs : List ((ℕ → Bool) → Bool)). DefinesAll j r.defs (r.fair ++ r.atoms.items) fs) (map-id (defined_values p reads parts))
         (defines_as j r.defs value_of told c.defined.items (defined_values p reads parts) (r.fair ++ r.atoms.items) same defines)
@@ -109,8 +101,8 @@ module _ (p : Program) (booleans : has_booleans_alone p ≡ true) (reads : List 
         let split = defines_split j r.defs r.fair r.atoms.items (joint_just_values p reads) (atom_values p reads parts) long
         (all_defined (subst (λ k. DefinesEdges k c.graph c.defined.items r.defs (r.fair ++ r.atoms.items)) n_is defines)) in
         record {
-          init = decides_told j c.graph c.first.items r.init (λ x. is_first_state p (state_in p reads x)) tells.inputs law tells.first.holds
-              (λ a b agrees. ap (is_first_state p) (state_same p reads a b agrees)) (subst (λ k. DecidesGroup k c.graph c.first.items r.init) n_is init);
+          init = decides_told j c.graph c.first.items r.init (is_first_at p reads) tells.inputs law tells.first.holds
+              (first_same p reads) (subst (λ k. DecidesGroup k c.graph c.first.items r.init) n_is init);
           defs = subst (λ k. Gives k (r.fair ++ r.atoms.items) r.defs) n_is gives;
           fair = split.0;
           atoms = split.1;
@@ -140,8 +132,8 @@ module _ (p : Program) (booleans : has_booleans_alone p ≡ true) (reads : List 
       record {
         bits = ap (λ (s : TransitionSystem). s.state_bits) system_is ∙ n_is;
         room = subst (λ (s : TransitionSystem). joint_named p reads ≤ s.all_bits) (sym system_is) (let room = is_steps.room in omega (arith, room, above));
-        first = subst (λ (s : TransitionSystem). Decides j s.init (λ x. is_first_state p (state_in p reads x))) (sym system_is) is.init;
-        step = subst (λ (s : TransitionSystem). Decides (joint_named p reads) s.step (λ x. is_step p (state_in p reads x) (inputs_in p reads x) (next_in p reads x))) (sym system_is) is_steps.step;
+        first = subst (λ (s : TransitionSystem). Decides j s.init (is_first_at p reads)) (sym system_is) is.init;
+        step = subst (λ (s : TransitionSystem). Decides (joint_named p reads) s.step (is_step_at p reads)) (sym system_is) is_steps.step;
         defs = subst (λ (s : TransitionSystem). Gives j (s.fair ++ r.atoms.items) s.defs) (sym system_is)
             (subst (λ (ls : List Lit). Gives j (side.fair ++ ls) side.defs) (sym atoms_are) is.defs);
         fair = subst (λ (s : TransitionSystem). DefinesAll j s.defs s.fair (joint_just_values p reads)) (sym system_is) is.fair;

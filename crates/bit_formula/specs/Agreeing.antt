@@ -1,5 +1,5 @@
 -- What follows of the bits of states with inputs, and of a system that stands for a formula.
-use Rattle.std.specs.Prelude.{◌≡◌, ℕ, ◌↔◌, Bool, true, List, length, map, All, Contains}
+use Rattle.std.specs.Prelude.{◌≡◌, ℕ, ◌↔◌, Bool, true, List, length, map, All, Contains, IsTrue}
 use Rattle.clause_core.specs.Assignments.{Agrees, ClauseTrue}
 use Rattle.clause_core.specs.Systems.{FirstBits, StepBits}
 use Rattle.ltl_monitor.specs.States.{Extends, value}
@@ -9,32 +9,32 @@ use Rattle.smv_scope.specs.Slots.{slots_of}
 use Rattle.smv_resolve.specs.Resolved.{Resolved}
 use Rattle.smv_meaning.specs.Runs.{are_inputs, is_state, IsFirstState, IsStep}
 use Rattle.smv_meaning.specs.Values.{outcome}
-use Rattle.bit_system.specs.Coding.{input_width}
-use Rattle.bit_system.specs.Standing.{is_just_in, justices_of}
-use Rattle.bit_formula.specs.Coding.{inputs_in, joint_code, joint_width, next_in, read_inputs, state_in}
+use Rattle.bit_conditions.specs.Asked.{is_just_in, justices_of}
+use Rattle.bit_formula.specs.Coding.{input_count, inputs_in, joint_code, joint_width, next_in, read_inputs, state_in}
 use Rattle.bit_formula.specs.Reading.{AgreeOn, reads_of}
 use Rattle.bit_formula.specs.Standing.{FormulaSystem, is_true_at}
 
--- A state with inputs is what its code decodes to, as far as the inputs are read. All bits are those of a state and of inputs, and
--- only the bits of a state with the inputs that are read tell them.
+-- A state with inputs is what its code decodes to, as far as the inputs are read. Only the bits of a state with these inputs tell them.
+-- Where inputs have their types, so have those that agree with them where they are read, with bits that are false elsewhere.
 pub record IsJointCoding (p : Program) (reads : List ℕ) : Type 0 where
   pub state : (s u : List Value) → is_state p s ≡ true → state_in p reads (joint_code p reads s u) ≡ s
-  pub read : (s u : List Value) → are_inputs p u ≡ true → AgreeOn reads (read_inputs p reads (joint_code p reads s u)) u
+  pub read : (s u : List Value) → is_state p s ≡ true → are_inputs p u ≡ true → AgreeOn reads (read_inputs p reads (joint_code p reads s u)) u
   pub own_bits : (x y : ℕ → Bool) → Agrees (joint_width p reads) x y → (state_in p reads x ≡ state_in p reads y) × (read_inputs p reads x ≡ read_inputs p reads y)
-  pub states : (x : ℕ → Bool) → is_state p (state_in p reads x) ≡ true
-  pub inputs : (x : ℕ → Bool) → are_inputs p (read_inputs p reads x) ≡ true
+  pub typed : (x : ℕ → Bool) (u : List Value) → are_inputs p u ≡ true → AgreeOn reads (read_inputs p reads x) u → are_inputs p (read_inputs p reads x) ≡ true
 
 -- inputs that agree where some expressions read them give each of these the same outcome
 abbrev pub AreAllRead : Program → List Resolved → Type 0
 AreAllRead p parts =
-    (u v : List Value) → length u ≡ input_width p → length v ≡ input_width p → AgreeOn (reads_of p parts) u v →
+    (u v : List Value) → length u ≡ input_count p → length v ≡ input_count p → AgreeOn (reads_of p parts) u v →
     (r : Resolved) → Contains parts r → (s t : List Value) → outcome (slots_of p) s u t r ≡ outcome (slots_of p) s v t r
 
--- What follows of bit states and of steps between them. A step has the inputs that the state it leads from has, where they are read.
+-- What follows of bit states and of steps between them. A step has the inputs that the state it leads from has, where they are read. In a
+-- first state, and in that to which a step leads, inputs that are read have their types.
 pub record FormulaAgrees (p : Program) (r : FormulaSystem) (parts : List Resolved) : Type 0 where
-  pub first : (x : ℕ → Bool) → FirstBits r.system x ↔ IsFirstState p (state_in p r.reads x)
+  pub first : (x : ℕ → Bool) → FirstBits r.system x ↔ (IsFirstState p (state_in p r.reads x) × IsTrue (are_inputs p (read_inputs p r.reads x)))
   pub step : (x y : ℕ → Bool) → StepBits r.system x y
-      ↔ ((u : List Value) × IsStep p (state_in p r.reads x) u (state_in p r.reads y) × AgreeOn r.reads u (read_inputs p r.reads x))
+      ↔ ((u : List Value) × IsStep p (state_in p r.reads x) u (state_in p r.reads y) × AgreeOn r.reads u (read_inputs p r.reads x)
+      × IsTrue (are_inputs p (read_inputs p r.reads y)))
   -- the states and the inputs of a step
   pub inputs : (a : ℕ → Bool) → All (ClauseTrue a) r.system.step → IsStep p (state_in p r.reads a) (inputs_in p r.reads a) (next_in p r.reads a)
   pub read : (a : ℕ → Bool) → AgreeOn r.reads (inputs_in p r.reads a) (read_inputs p r.reads a)

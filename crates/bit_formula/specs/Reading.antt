@@ -6,7 +6,7 @@ use Rattle.smv_value.specs.declared.value.Value.{Value}
 use Rattle.smv_scope.specs.declared.slot.Slot.{Slot}
 use Rattle.smv_scope.specs.Slots.{is_input, slots_of}
 use Rattle.smv_resolve.specs.Resolved.{Resolved, Operands}
-use Rattle.bit_system.specs.Coding.{input_width}
+use Rattle.bit_formula.specs.Coding.{input_count}
 
 -- the slot is an input
 abbrev pub is_some_input : Option Slot → Bool
@@ -43,7 +43,7 @@ is_read_in p parts k = list_any (is_read (slots_of p) k) parts
 
 -- the numbers of the inputs that some of these expressions read, in their order
 abbrev pub reads_of : Program → List Resolved → List ℕ
-reads_of p parts = filter (is_read_in p parts) (range_with_len 0 (input_width p))
+reads_of p parts = filter (is_read_in p parts) (range_with_len 0 (input_count p))
 
 -- both give the inputs of these numbers the same values
 abbrev pub AgreeOn : List ℕ → List Value → List Value → Type 0

@@ -4,18 +4,17 @@ use Rattle.clause_core.specs.Literals.{Within}
 use Rattle.clause_core.specs.Systems.{Gives, TransitionSystem}
 use Rattle.smv_tree.specs.declared.tree.Program.{Program}
 use Rattle.smv_resolve.specs.Resolved.{Resolved}
-use Rattle.smv_meaning.specs.Runs.{is_first_state, is_step}
 use Rattle.bit_clauses.specs.declared.deciding.Decided.{Decided}
 use Rattle.bit_clauses.specs.Deciding.{Decides}
 use Rattle.bit_clauses.specs.Gated.{DefinesAll}
 use Rattle.bit_formula.specs.declared.joining.JointSystem.{JointSystem}
 use Rattle.bit_formula.specs.declared.sides.JointSide.{JointSide}
-use Rattle.bit_formula.specs.Coding.{inputs_in, joint_named, joint_width, next_in, state_in}
-use Rattle.bit_formula.specs.Standing.{atom_values, joint_just_values}
+use Rattle.bit_formula.specs.Coding.{joint_named, joint_width}
+use Rattle.bit_formula.specs.Standing.{atom_values, is_first_at, is_step_at, joint_just_values}
 
 -- the clauses of first states, and of what is defined of a state with inputs
 pub record IsJointSide (p : Program) (reads : List ℕ) (parts : List Resolved) (r : JointSide) : Type 0 where
-  pub init : Decides (joint_width p reads) r.init (λ x. is_first_state p (state_in p reads x))
+  pub init : Decides (joint_width p reads) r.init (is_first_at p reads)
   pub defs : Gives (joint_width p reads) (r.fair ++ r.atoms.items) r.defs
   pub fair : DefinesAll (joint_width p reads) r.defs r.fair (joint_just_values p reads)
   pub atoms : DefinesAll (joint_width p reads) r.defs r.atoms.items (atom_values p reads parts)
@@ -26,7 +25,7 @@ pub record IsJointSide (p : Program) (reads : List ℕ) (parts : List Resolved) 
 
 -- the clauses of steps
 pub record IsJointStep (p : Program) (reads : List ℕ) (r : Decided) : Type 0 where
-  pub step : Decides (joint_named p reads) r.clauses (λ x. is_step p (state_in p reads x) (inputs_in p reads x) (next_in p reads x))
+  pub step : Decides (joint_named p reads) r.clauses (is_step_at p reads)
   pub room : joint_named p reads ≤ r.vars
   pub within : All (Within r.vars) r.clauses
 
@@ -57,8 +56,8 @@ joined_system width steps side = record {
 pub record IsJointSystem (p : Program) (reads : List ℕ) (parts : List Resolved) (r : JointSystem) : Type 0 where
   pub bits : r.system.state_bits ≡ joint_width p reads
   pub room : joint_named p reads ≤ r.system.all_bits
-  pub first : Decides (joint_width p reads) r.system.init (λ x. is_first_state p (state_in p reads x))
-  pub step : Decides (joint_named p reads) r.system.step (λ x. is_step p (state_in p reads x) (inputs_in p reads x) (next_in p reads x))
+  pub first : Decides (joint_width p reads) r.system.init (is_first_at p reads)
+  pub step : Decides (joint_named p reads) r.system.step (is_step_at p reads)
   pub defs : Gives (joint_width p reads) (r.system.fair ++ r.atoms.items) r.system.defs
   pub fair : DefinesAll (joint_width p reads) r.system.defs r.system.fair (joint_just_values p reads)
   pub within : Within r.system.all_bits r.atoms.items

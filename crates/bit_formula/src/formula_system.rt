@@ -1,26 +1,34 @@
 //! What is built for an LTLSPEC.
 
 ghost use Rattle.std.specs.Prelude.{◌≡◌, ◌≤◌, IfOk};
+ghost use Rattle.std.specs.List.{Contains};
 ghost use Rattle.clause_core.specs.Assignments.{assignment_of};
 ghost use Rattle.ltl_meaning.specs.Temporal.{formula_of};
 ghost use Rattle.smv_resolve.specs.Items.{item_by};
-ghost use Rattle.bit_system.specs.Building.{bit_limit, bits_of};
-ghost use Rattle.bit_system.specs.Coding.{decoded};
+ghost use Rattle.smv_tree.specs.declared.tree.SpecificationKind.TheVariants as claim;
+ghost use Rattle.smv_resolve.specs.declared.item.ItemKind.TheVariants as item;
+ghost use Rattle.smv_meaning.specs.Runs.{specifications_of};
+ghost use Rattle.bit_states.specs.Coding.{decoded};
+ghost use Rattle.bit_states.specs.Layouts.{bit_limit, bits_of, input_types};
+ghost use Rattle.bit_formula.specs.Coding.{input_count, joint_layout, joint_named, joint_width};
+ghost use Rattle.bit_formula.specs.Numbers.{AreInOrder};
 ghost use Rattle.bit_formula.specs.Standing.{StandsForFormula};
 
 use crate::joining::{JointSystem, joint_system};
-use crate::places::joint_layout;
+use crate::places::{Places, joint_places};
 use crate::reading::reads_of;
-use bit_system::{Layout, decoded, input_width, state_width};
+use bit_states::{Layout, input_types, state_types, width_of_all};
 use clause_core::{Bits, Lit, System};
 use ltl_meaning::formula::Formula;
 use ltl_monitor::atoms_below;
 use smv_flat::Flat;
 use smv_formulas::formula_of;
-use smv_meaning::{Inputs, State};
+use smv_meaning::{Inputs, State, Typed};
 use smv_resolve::Item;
+use sqlite_items::Items;
 use std::alloc::{AllocError, Global};
 use std::marker::Model;
+use value_types::ValueType;
 
 /// What stands for an LTLSPEC over bits: a system, the formula, and a literal for each of its atoms. A state has a bit for each of its
 /// slots, and behind them one for each input that the formula reads. Contracts see these, and where the bits stand.
@@ -99,16 +107,16 @@ impl FormulaSystem {
 
     /// The state that the bits are; bits past the end of the list are false. The only error is want of memory.
     pub fn decode(&self, alloc: Global, bits: &Bits) -> Result<State, AllocError>
-        ensures { IfOk result (λ s. s ≡ decoded self.now.layout.state (assignment_of bits.now)) }
+        ensures { IfOk result (λ s. s ≡ decoded self.now.layout.state_types self.now.layout.state (assignment_of bits.now)) }
     {
-        decoded(alloc, self.layout.state.as_slice(), bits.as_slice())
+        self.layout.decode(alloc, bits.as_slice())
     }
 
     /// The inputs of a step that the values of all bits are. The only error is want of memory.
     pub fn decode_inputs(&self, alloc: Global, bits: &Bits) -> Result<Inputs, AllocError>
-        ensures { IfOk result (λ u. u ≡ decoded self.now.layout.inputs (assignment_of bits.now)) }
+        ensures { IfOk result (λ u. u ≡ decoded self.now.layout.input_types self.now.layout.inputs (assignment_of bits.now)) }
     {
-        decoded(alloc, self.layout.inputs.as_slice(), bits.as_slice())
+        self.layout.decode_inputs(alloc, bits.as_slice())
     }
 }
 
@@ -124,18 +132,40 @@ impl FormulaSystem {
 /// Only want of memory. So counts what `formula_of` says, and a formula with more atoms than literals, which none has.
 pub fn build_formula(alloc: Global, flat: &Flat, spec: &Item) -> Result<FormulaSystem, AllocError>
     requires narrow { bits_of flat.now.typed.scope.program ≤ bit_limit }
+    requires among { Contains (specifications_of flat.now.typed.scope.program) (item_by flat.now.typed.nodes spec.now) }
+    requires temporal { spec.now.kind ≡ item.Specification claim.Temporal }
     ensures { IfOk result (StandsForFormula flat.now.typed.scope.program (item_by flat.now.typed.nodes spec.now)) }
 {
     let typed = &flat.typed;
     let specified = formula_of(alloc, typed, spec)?;
     let atoms = specified.atoms.as_slice();
-    let reads = reads_of(alloc, typed, atoms)?;
-    let width = state_width(alloc, typed)?;
-    let given = input_width(alloc, typed)?;
-    let layout = joint_layout(alloc, width, &reads, given)?;
-    let joint = joint_system(alloc, typed, &layout, &reads, atoms, given)?;
+    let given = input_types(alloc, typed)?;
+    let reads = reads_of(alloc, typed, atoms, given.as_slice().len())?;
+    let places = places_of(alloc, typed, given, &reads)?;
+    let joint = joint_system(alloc, typed, &places, &reads, atoms)?;
     if !atoms_below(&specified.formula, joint.atoms.as_slice().len()) {
         return Err(AllocError);
     }
-    Ok(FormulaSystem::new(reads, layout, joint, specified.formula))
+    Ok(FormulaSystem::new(reads, places.layout, joint, specified.formula))
+}
+
+// Where the bits of states with the inputs of these numbers stand, where these are the types of all inputs.
+fn places_of(
+    alloc: Global,
+    typed: &Typed,
+    given: Items<ValueType>,
+    reads: &[usize],
+) -> Result<Places, AllocError>
+    requires narrow { bits_of typed.now.scope.program ≤ bit_limit }
+    requires given { given ≡ input_types typed.now.scope.program }
+    requires order { AreInOrder (input_count typed.now.scope.program) reads.now }
+    ensures layout { IfOk result (λ r. r.layout ≡ joint_layout typed.now.scope.program reads.now) }
+    ensures joint { IfOk result (λ r. r.joint ≡ joint_width typed.now.scope.program reads.now) }
+    ensures named { IfOk result (λ r. r.named ≡ joint_named typed.now.scope.program reads.now) }
+{
+    let slots = state_types(alloc, typed)?;
+    match width_of_all(slots.as_slice()) {
+        None => Err(AllocError),
+        Some(width) => joint_places(alloc, width, slots, given, reads),
+    }
 }

@@ -1,16 +1,15 @@
 //! The system of the clauses of states and steps.
 
-ghost use Rattle.std.specs.Prelude.{◌≡◌, ◌≤◌, length, IfOk};
+ghost use Rattle.std.specs.Prelude.{◌≡◌, IfOk};
 ghost use Rattle.smv_formulas.specs.Says.{atom_parts};
-ghost use Rattle.bit_system.specs.Coding.{input_width, state_width};
-ghost use Rattle.bit_formula.specs.Coding.{joint_layout};
-ghost use Rattle.bit_formula.specs.Numbers.{AreInOrder};
+ghost use Rattle.bit_formula.specs.Coding.{joint_layout, joint_named, joint_width};
+ghost use Rattle.bit_formula.specs.Conditions.{AreGiven};
 ghost use Rattle.bit_formula.specs.Sides.{CanBeJoined, IsJointSystem, joined_system};
 
+use crate::places::Places;
 use crate::sides::{JointSide, joint_side, step_side};
 use crate::states::state_conditions;
 use bit_clauses::Decided;
-use bit_system::Layout;
 use clause_core::{Clauses, Lit, Parts, System};
 use smv_meaning::Typed;
 use std::alloc::{AllocError, Global};
@@ -51,29 +50,25 @@ fn joined(
     })
 }
 
-/// The system of a program with the inputs of these numbers in its states, and the literals of the atoms. There are `given` inputs,
-/// and atoms are numbers of nodes.
+/// The system of a program with the inputs of these numbers in its states, and the literals of the atoms, which are numbers of nodes.
 pub fn joint_system(
     alloc: Global,
     typed: &Typed,
-    layout: &Layout,
+    places: &Places,
     reads: &[usize],
     atoms: &[usize],
-    given: usize,
 ) -> Result<JointSystem, AllocError>
-    requires layout { layout.now ≡ joint_layout typed.now.scope.program reads.now }
-    requires given { given ≡ input_width typed.now.scope.program }
-    requires few { state_width typed.now.scope.program ≤ 65536 }
-    requires small { given ≤ 65536 }
-    requires short { length reads.now ≤ given }
-    requires order { AreInOrder given reads.now }
+    requires layout { places.now.layout ≡ joint_layout typed.now.scope.program reads.now }
+    requires joint { places.now.joint ≡ joint_width typed.now.scope.program reads.now }
+    requires named { places.now.named ≡ joint_named typed.now.scope.program reads.now }
+    requires given { AreGiven typed.now.scope.program (atom_parts typed.now.nodes atoms.now) }
     ensures { IfOk result (IsJointSystem typed.now.scope.program reads.now (atom_parts typed.now.nodes atoms.now)) }
 {
-    let parts = state_conditions(alloc, typed, layout, reads, atoms, given)?;
+    let layout = &places.layout;
+    let joint = places.joint;
+    let parts = state_conditions(alloc, typed, layout, reads, atoms, joint)?;
     parts.graph.one_way();
-    let joint = layout.state.len() + reads.len();
-    let named = joint + joint + (given - reads.len());
-    let steps = step_side(alloc, typed, layout, reads, named)?;
+    let steps = step_side(alloc, typed, layout, reads, joint, places.named)?;
     let side = joint_side(alloc, &parts, joint, steps.vars - joint)?;
     let system = joined(alloc, joint, steps, side)?;
     Ok(system)

@@ -1,18 +1,17 @@
 //! Laws of the coding of states with inputs, and of systems that stand for a program and a formula.
 
-ghost use Rattle.std.specs.Prelude.{◌≡◌, true, List};
+ghost use Rattle.std.specs.Prelude.{List};
 ghost use Rattle.smv_tree.specs.declared.tree.Program.{Program};
 ghost use Rattle.smv_resolve.specs.Items.{ResolvedItem};
 ghost use Rattle.smv_resolve.specs.Resolved.{Resolved};
-ghost use Rattle.smv_meaning.specs.Runs.{has_booleans_alone};
+ghost use Rattle.bit_states.specs.Layouts.{HasTypes};
 ghost use Rattle.bit_formula.specs.Agreeing.{AreAllRead, FormulaAgrees, IsJointCoding};
 ghost use Rattle.bit_formula.specs.Reading.{reads_of};
 ghost use Rattle.bit_formula.specs.Standing.{FormulaSystem, StandsForFormula};
 
-/// The law of the coding: states with the inputs that some expressions read go to bits and back, where a
-/// program has booleans alone.
+/// The law of the coding: states with the inputs that some expressions read go to bits and back, where the types of a program are types.
 pub fn is_joint_coding()
-    ensures { (p : Program) (parts : List Resolved) → has_booleans_alone p ≡ true → IsJointCoding p (reads_of p parts) }
+    ensures { (p : Program) (parts : List Resolved) → HasTypes p → IsJointCoding p (reads_of p parts) }
 {}
 
 /// Inputs that agree where expressions read them give each of these the same outcome.

@@ -4,11 +4,10 @@ ghost use Rattle.std.specs.Prelude.{◌≡◌, ℕ, Bool, List, Some, filter, sl
 ghost use Rattle.std.specs.List.{list_any, range_with_len};
 ghost use Rattle.smv_scope.specs.Slots.{is_input, slots_of};
 ghost use Rattle.smv_formulas.specs.Says.{atom_parts};
-ghost use Rattle.bit_system.specs.Coding.{input_width};
+ghost use Rattle.bit_formula.specs.Coding.{input_count};
 ghost use Rattle.bit_formula.specs.Marks.{is_asked, mark_at, mark_by, marks_of};
 ghost use Rattle.bit_formula.specs.Reading.{is_read, reads_of, reads_slot};
 
-use bit_system::input_width;
 use smv_meaning::{Typed, slots};
 use smv_resolve::{Node, last};
 use smv_scope::Slot;
@@ -140,16 +139,21 @@ fn all_read(
     Ok(reads)
 }
 
-/// The numbers of the inputs that the atoms read, in their order; atoms are numbers of nodes.
+/// The numbers of the inputs, of which there are `given`, that the atoms read, in their order; atoms are numbers of nodes.
 ///
 /// Time and memory grow with the nodes. Where some input is read, the time grows with the nodes times the inputs. The only error
 /// is want of memory.
-pub fn reads_of(alloc: Global, typed: &Typed, atoms: &[usize]) -> Result<Vec<usize>, AllocError>
+pub fn reads_of(
+    alloc: Global,
+    typed: &Typed,
+    atoms: &[usize],
+    given: usize,
+) -> Result<Vec<usize>, AllocError>
+    requires { given ≡ input_count typed.now.scope.program }
     ensures { IfOk result (λ reads. reads.items ≡ reads_of typed.now.scope.program (atom_parts typed.now.nodes atoms.now)) }
 {
     let slots = slots(typed);
     let nodes = typed.nodes.as_slice();
-    let given = input_width(alloc, typed)?;
     let read = is_read(alloc, slots, nodes, atoms, Asked::Every)?;
     if read {
         all_read(alloc, slots, nodes, atoms, given)

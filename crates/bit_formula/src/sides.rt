@@ -4,20 +4,20 @@ ghost use Rattle.std.specs.Prelude.{◌≡◌, ◌+◌, ◌≤◌, ◌++◌, All
 ghost use Rattle.bit_graph.specs.Meaning.{HasInputs};
 ghost use Rattle.clause_core.specs.Literals.{Within};
 ghost use Rattle.clause_core.specs.Systems.{Gives};
-ghost use Rattle.smv_meaning.specs.Runs.{is_step};
-ghost use Rattle.bit_expr.specs.Edges.{AllStand};
+ghost use Rattle.bit_arith.specs.Number.{AllStand};
 ghost use Rattle.bit_clauses.specs.Asserted.{EithersStand};
 ghost use Rattle.bit_clauses.specs.Gated.{DecidesGroup, DefinesEdges};
-ghost use Rattle.bit_system.specs.Conditions.{Tells};
-ghost use Rattle.bit_formula.specs.Coding.{inputs_in, joint_layout, joint_named, next_in, state_in};
+ghost use Rattle.bit_conditions.specs.Told.{Tells};
+ghost use Rattle.bit_formula.specs.Coding.{joint_layout, joint_named, joint_width};
 ghost use Rattle.bit_formula.specs.Sides.{IsJointStep};
+ghost use Rattle.bit_formula.specs.Standing.{is_step_at};
 
-use crate::states::JointConditions;
-use bit_clauses::{Decided, decide, define};
+use crate::states::{JointConditions, read_inputs};
+use bit_clauses::{Decided, ask, decide, define};
+use bit_conditions::{nowhere, step_conditions};
 use bit_graph::Graph;
-use bit_system::{
-    Layout, StepConditions, edges_of, framed_state, higher, nowhere_in, step_conditions,
-};
+use bit_states::Layout;
+use bit_system::{StepConditions, framed_inputs, framed_state, higher};
 use clause_core::{Clause, Clauses, Lit};
 use smv_meaning::Typed;
 use std::alloc::{AllocError, Global};
@@ -86,41 +86,52 @@ pub fn joint_side(
     })
 }
 
-// What is asked of a step, of so many bits.
+// What is asked of a step, of so many bits, and of the inputs that are read in the state to which it leads, of so many.
 fn conditions_of_step(
     alloc: Global,
     typed: &Typed,
     layout: &Layout,
     reads: &[usize],
+    joint: usize,
     named: usize,
 ) -> Result<StepConditions, AllocError>
     requires layout { layout.now ≡ joint_layout typed.now.scope.program reads.now }
+    requires joint { joint ≡ joint_width typed.now.scope.program reads.now }
     requires named { named ≡ joint_named typed.now.scope.program reads.now }
     ensures inputs { IfOk result (λ r. HasInputs named r.graph) }
-    ensures step { IfOk result (λ r. Tells r.graph r.step.items (λ v. is_step typed.now.scope.program (state_in typed.now.scope.program reads.now v) (inputs_in typed.now.scope.program reads.now v) (next_in typed.now.scope.program reads.now v))) }
+    ensures step { IfOk result (λ r. Tells r.graph r.step.items (is_step_at typed.now.scope.program reads.now)) }
 {
+    let types = layout.state_types();
+    let given = layout.input_types();
+    let first = layout.state();
+    let second = layout.next();
+    let between = layout.inputs();
     let mut graph = Graph::new(alloc, named)?;
-    let nowhere = nowhere_in(alloc, &graph, typed)?;
-    let inputs = edges_of(alloc, layout.inputs.as_slice())?;
-    let from = framed_state(alloc, &mut graph, typed, &nowhere, layout.state.as_slice())?;
-    let to = framed_state(alloc, &mut graph, typed, &nowhere, layout.next.as_slice())?;
-    let step = step_conditions(alloc, &mut graph, typed, &from, inputs.as_slice(), &to)?;
+    let none = nowhere(alloc, &mut graph, typed)?;
+    let from = framed_state(alloc, &mut graph, typed, types, none.as_slice(), first)?;
+    let to = framed_state(alloc, &mut graph, typed, types, none.as_slice(), second)?;
+    let inputs = framed_inputs(alloc, &mut graph, typed, given, between)?;
+    let read = read_inputs(alloc, &mut graph, typed, given, between, joint, joint)?;
+    let mut step = step_conditions(alloc, &mut graph, typed, &from, &inputs, &to)?;
+    ask(&graph, &mut step, read.valid)?;
     Ok(StepConditions { graph, step })
 }
 
-/// The clauses of steps, whose bits are so many.
+/// The clauses of steps, whose bits are so many, between states with inputs, of so many.
 pub fn step_side(
     alloc: Global,
     typed: &Typed,
     layout: &Layout,
     reads: &[usize],
+    joint: usize,
     named: usize,
 ) -> Result<Decided, AllocError>
     requires layout { layout.now ≡ joint_layout typed.now.scope.program reads.now }
+    requires joint { joint ≡ joint_width typed.now.scope.program reads.now }
     requires named { named ≡ joint_named typed.now.scope.program reads.now }
     ensures { IfOk result (IsJointStep typed.now.scope.program reads.now) }
 {
-    let parts = conditions_of_step(alloc, typed, layout, reads, named)?;
+    let parts = conditions_of_step(alloc, typed, layout, reads, joint, named)?;
     parts.graph.one_way();
     let step = decide(alloc, &parts.graph, named, &parts.step, 0)?;
     Ok(step)

@@ -1,33 +1,35 @@
 //! What is asked of states with inputs, as conditions of edges.
 
-ghost use Rattle.std.specs.Prelude.{◌≡◌, ℕ, ◌+◌, ◌≤◌, ◌++◌, Bool, false, [], length, map, slice_get, if◌then◌else◌, IfOk};
-ghost use Rattle.std.specs.List.{range_with_len};
+ghost use Rattle.std.specs.Prelude.{◌≡◌, ℕ, ◌+◌, ◌<◌, ◌≤◌, ◌^◌, ◌&&◌, ◌++◌, Bool, List, true, [], length, map, IfOk};
+ghost use Rattle.bit_arith.specs.Number.{AllStand, values_of};
 ghost use Rattle.bit_graph.specs.Growth.{Extends};
 ghost use Rattle.bit_graph.specs.Meaning.{Consistent, Denotes, Stands, edge_value};
-ghost use Rattle.smv_scope.specs.Slots.{slots_of};
+ghost use Rattle.bit_outcomes.specs.Telling.{AllTold, TellsAll};
 ghost use Rattle.smv_resolve.specs.Resolved.{Resolved};
+ghost use Rattle.smv_scope.specs.Slots.{slots_of};
 ghost use Rattle.smv_formulas.specs.Says.{atom_parts};
-ghost use Rattle.smv_meaning.specs.Runs.{is_true};
-ghost use Rattle.smv_meaning.specs.Tables.{outcome_at, outcomes_of};
+ghost use Rattle.smv_meaning.specs.declared.outcome.Outcome.{Outcome};
+ghost use Rattle.smv_meaning.specs.Runs.{are_inputs, is_first_state, is_given, is_state, is_true};
+ghost use Rattle.smv_meaning.specs.Tables.{outcome_at};
 ghost use Rattle.smv_meaning.specs.Values.{outcome};
-ghost use Rattle.bit_expr.specs.Edges.{AllStand, TellsEach, TruthsStand, all_told, state_under};
-ghost use Rattle.bit_system.specs.Coding.{decoded, input_width, state_width};
-ghost use Rattle.bit_system.specs.Conditions.{TellsState};
-ghost use Rattle.bit_system.specs.Standing.{is_just_in, justices_of};
-ghost use Rattle.bit_formula.specs.Coding.{joint_layout, read_bit};
-ghost use Rattle.bit_formula.specs.Conditions.{TellsJoint};
-ghost use Rattle.bit_formula.specs.Numbers.{AreInOrder, is_number};
+ghost use Rattle.bit_states.specs.Layouts.{input_types, input_width};
+ghost use Rattle.bit_conditions.specs.Asked.{is_just_in, justices_of};
+ghost use Rattle.bit_conditions.specs.Told.{Tells, TellsInputs, TellsNowhere, TellsState, inputs_under, state_under};
+ghost use Rattle.bit_formula.specs.Coding.{joint_layout, joint_width, kept_below};
+ghost use Rattle.bit_formula.specs.Conditions.{AreGiven, TellsAtoms, TellsJoint, TellsRead};
 
-use crate::places::{is_number, place_after};
-use bit_clauses::Either;
-use bit_expr::{Truth, table};
-use bit_graph::{Edge, Graph};
-use bit_system::{
-    Layout, StateTruths, first_conditions, framed_state, just_edges, nowhere_in, true_edge,
+use bit_clauses::{Either, ask};
+use bit_conditions::{
+    ToldInputs, ToldState, first_conditions, just_edges, nowhere, told_inputs, told_moment,
 };
+use bit_graph::{Edge, Graph};
+use bit_outcomes::{Told, true_edge};
+use bit_states::Layout;
+use bit_system::framed_state;
 use smv_meaning::Typed;
 use sqlite_items::Items;
 use std::alloc::{AllocError, Global};
+use value_types::ValueType;
 
 /// What is asked of a state with inputs, over a graph with an input for each of its bits.
 #[derive(Drop)]
@@ -41,111 +43,140 @@ pub struct JointConditions {
     pub justices: usize,
 }
 
-// The edge of input k, where so many inputs before it are read: its bit where it is read, else the constant FALSE.
-fn input_edge(graph: &Graph, width: usize, reads: &[usize], read: usize, k: usize) -> Edge
-    requires few { width ≤ 65536 }
-    requires short { length reads.now ≤ 65536 }
-    requires room { width + length reads.now ≤ length graph.now }
+// The edge of the bit at this place among so many, which begin at `start`; past them it is the constant FALSE.
+fn read_edge(graph: &Graph, place: usize, joint: usize, start: usize) -> Edge
+    requires room { start + joint ≤ length graph.now }
+    requires fits { start + joint < 2 ^ 64 }
     ensures stands { Stands graph.now result }
-    ensures value { Denotes graph.now result (λ v. if is_number (slice_get reads.now read) k then v (width + read) else false) }
+    ensures value { Denotes graph.now result (λ v. kept_below joint (λ (k : ℕ). v (start + k)) place) }
 {
-    if is_number(reads, read, k) {
-        Edge::to(width + read)
+    if place < joint {
+        Edge::to(start + place)
     } else {
         graph.constant(false)
     }
 }
 
-// The edges of the inputs, of which there are so many, in a state of so many slots.
-fn input_edges(
+// The edges of the bits at these places.
+fn read_edges(
     alloc: Global,
     graph: &Graph,
-    width: usize,
-    reads: &[usize],
-    given: usize,
+    places: &[usize],
+    joint: usize,
+    start: usize,
 ) -> Result<Items<Edge>, AllocError>
-    requires few { width ≤ 65536 }
-    requires small { given ≤ 65536 }
-    requires short { length reads.now ≤ 65536 }
-    requires order { AreInOrder given reads.now }
-    requires room { width + length reads.now ≤ length graph.now }
+    requires room { start + joint ≤ length graph.now }
+    requires fits { start + joint < 2 ^ 64 }
+    ensures long { IfOk result (λ r. length r ≡ length places.now) }
     ensures stand { IfOk result (λ r. AllStand graph.now r) }
-    ensures told { IfOk result (λ r. (v : ℕ → Bool) → Consistent v graph.now → state_under v r ≡ decoded (range_with_len 0 given) (read_bit width reads.now v)) }
+    ensures value { IfOk result (λ r. (v : ℕ → Bool) → Consistent v graph.now → values_of v r ≡ map (kept_below joint (λ (k : ℕ). v (start + k))) places.now) }
 {
     let mut edges = Vec::new(alloc);
-    let mut read = 0;
-    for k in 0..given {
-        edges.push(input_edge(graph, width, reads, read, k))?;
-        read = place_after(reads, read, k);
+    for place in places {
+        edges.push(read_edge(graph, *place, joint, start))?;
     }
     Ok(Items::from_vec(edges))
 }
 
-// The truths of the nodes in a state with inputs of these edges.
-fn joint_truths(
+/// The inputs that are read in a state with inputs of so many bits, which begin at `start`. The places are those of all inputs. Each edge
+/// that was made earlier keeps its value, also after want of memory, which is the only error.
+pub fn read_inputs(
     alloc: Global,
     graph: &mut Graph,
     typed: &Typed,
-    nowhere: &Items<Truth>,
-    state: &StateTruths,
-    inputs: &[Edge],
-) -> Result<Items<Truth>, AllocError>
-    requires nowhere { TellsEach graph.old nowhere.now (λ v. outcomes_of (slots_of typed.now.scope.program) [] [] [] typed.now.nodes) }
-    requires state { TellsState graph.old typed.now state.now }
-    requires inputs { AllStand graph.old inputs.now }
+    types: &[ValueType],
+    places: &[usize],
+    joint: usize,
+    start: usize,
+) -> Result<ToldInputs, AllocError>
+    requires types { types.now ≡ input_types typed.now.scope.program }
+    requires width { length places.now ≡ input_width typed.now.scope.program }
+    requires room { start + joint ≤ length graph.old }
+    requires fits { start + joint < 2 ^ 64 }
     ensures extends { Extends graph.old graph.new }
-    ensures told { IfOk result (λ here. TellsEach graph.new here (λ v. outcomes_of (slots_of typed.now.scope.program) (state_under v state.now.bits) (state_under v inputs.now) [] typed.now.nodes)) }
+    ensures told { IfOk result (TellsInputs graph.new typed.now) }
+    ensures value { IfOk result (λ inputs. TellsRead graph.new typed.now.scope.program inputs (λ v. map (kept_below joint (λ (k : ℕ). v (start + k))) places.now)) }
 {
-    let here = table(
-        alloc,
-        graph,
-        typed.scope.slots.as_slice(),
-        typed.nodes.as_slice(),
-        state.bits.as_slice(),
-        inputs,
-        nowhere.as_slice(),
-    )?;
-    Ok(here)
+    let edges = read_edges(alloc, graph, places, joint, start)?;
+    let inputs = told_inputs(alloc, graph, typed, types, edges)?;
+    Ok(inputs)
 }
 
-// An edge for each atom, that is true where it is TRUE; atoms are numbers of nodes.
+// The edge that is true where the node of this number is TRUE. Want of memory is answered too where there is no such node.
+fn true_at(graph: &mut Graph, told: &[Told], k: usize) -> Result<Edge, AllocError>
+    requires { AllTold graph.old told.now }
+    ensures extends { Extends graph.old graph.new }
+    ensures stands { IfOk result (λ e. Stands graph.new e) }
+    ensures value { IfOk result (λ e. (v : ℕ → Bool) (os : List Outcome) → Consistent v graph.new → TellsAll v told.now os → is_given (outcome_at os k) ≡ true →
+        edge_value v e ≡ is_true (outcome_at os k)) }
+{
+    if k < told.len() {
+        let edge = true_edge(graph, &told[k])?;
+        Ok(edge)
+    } else {
+        Err(AllocError)
+    }
+}
+
+// The edge that is true where the node is TRUE and `valid` is. There its outcome is given.
+fn atom_edge(graph: &mut Graph, told: &[Told], valid: Edge, atom: usize) -> Result<Edge, AllocError>
+    requires told { AllTold graph.old told.now }
+    requires valid { Stands graph.old valid }
+    ensures extends { Extends graph.old graph.new }
+    ensures stands { IfOk result (λ e. Stands graph.new e) }
+    ensures value { IfOk result (λ e. (v : ℕ → Bool) (os : List Outcome) → Consistent v graph.new → (edge_value v valid ≡ true → TellsAll v told.now os × (is_given (outcome_at os atom) ≡ true))
+        → edge_value v e ≡ (edge_value v valid && is_true (outcome_at os atom))) }
+{
+    let truth = true_at(graph, told, atom)?;
+    let edge = graph.and(valid, truth)?;
+    Ok(edge)
+}
+
+// An edge for each atom, that is true where it is TRUE and `valid` is; atoms are numbers of nodes. There their outcomes are given.
 fn atom_edges(
     alloc: Global,
     graph: &mut Graph,
-    truths: &[Truth],
+    told: &[Told],
+    valid: Edge,
     atoms: &[usize],
 ) -> Result<Vec<Edge>, AllocError>
-    requires { TruthsStand graph.old truths.now }
+    requires told { AllTold graph.old told.now }
+    requires valid { Stands graph.old valid }
     ensures extends { Extends graph.old graph.new }
     ensures stand { IfOk result (λ r. AllStand graph.new r.items) }
-    ensures told { IfOk result (λ r. (v : ℕ → Bool) → Consistent v graph.new → map (edge_value v) r.items ≡ map (λ (a : ℕ). is_true (outcome_at (all_told v truths.now) a)) atoms.now) }
+    ensures value { IfOk result (λ r. TellsAtoms graph.new told.now valid atoms.now r.items) }
 {
     let mut edges = Vec::new(alloc);
     for atom in atoms {
-        edges.push(true_edge(graph, truths, *atom)?)?;
+        edges.push(atom_edge(graph, told, valid, *atom)?)?;
     }
     Ok(edges)
 }
 
-// An edge for each atom in the state, whose bits are those of the first slots and of the inputs that are read.
+// An edge for each atom in a state with inputs, that is true where the edges are those of these and it is TRUE.
 fn framed_atoms(
     alloc: Global,
     graph: &mut Graph,
     typed: &Typed,
-    nowhere: &Items<Truth>,
-    state: &StateTruths,
-    inputs: &[Edge],
+    nowhere: &[Told],
+    state: &ToldState,
+    inputs: &ToldInputs,
     atoms: &[usize],
 ) -> Result<Vec<Edge>, AllocError>
-    requires nowhere { TellsEach graph.old nowhere.now (λ v. outcomes_of (slots_of typed.now.scope.program) [] [] [] typed.now.nodes) }
+    requires nowhere { TellsNowhere graph.old typed.now nowhere.now }
     requires state { TellsState graph.old typed.now state.now }
-    requires inputs { AllStand graph.old inputs.now }
+    requires inputs { TellsInputs graph.old typed.now inputs.now }
+    requires given { AreGiven typed.now.scope.program (atom_parts typed.now.nodes atoms.now) }
     ensures extends { Extends graph.old graph.new }
     ensures stand { IfOk result (λ r. AllStand graph.new r.items) }
-    ensures told { IfOk result (λ r. (v : ℕ → Bool) → Consistent v graph.new → map (edge_value v) r.items ≡ map (λ (e : Resolved). is_true (outcome (slots_of typed.now.scope.program) (state_under v state.now.bits) (state_under v inputs.now) [] e)) (atom_parts typed.now.nodes atoms.now)) }
+    ensures told { IfOk result (λ r. (v : ℕ → Bool) → Consistent v graph.new → map (edge_value v) r.items ≡ map (λ (e : Resolved).
+        (is_state typed.now.scope.program (state_under typed.now.scope.program v state.now.bits) && are_inputs typed.now.scope.program (inputs_under typed.now.scope.program v inputs.now.bits))
+        && is_true (outcome (slots_of typed.now.scope.program) (state_under typed.now.scope.program v state.now.bits) (inputs_under typed.now.scope.program v inputs.now.bits) [] e))
+        (atom_parts typed.now.nodes atoms.now)) }
 {
-    let here = joint_truths(alloc, graph, typed, nowhere, state, inputs)?;
-    let edges = atom_edges(alloc, graph, here.as_slice(), atoms)?;
+    let told = told_moment(alloc, graph, typed, nowhere, state, inputs)?;
+    let valid = graph.and(state.valid, inputs.valid)?;
+    let edges = atom_edges(alloc, graph, told.as_slice(), valid, atoms)?;
     Ok(edges)
 }
 
@@ -163,19 +194,23 @@ fn defined_edges(
     alloc: Global,
     graph: &mut Graph,
     typed: &Typed,
-    nowhere: &Items<Truth>,
-    state: &StateTruths,
-    inputs: &[Edge],
+    nowhere: &[Told],
+    state: &ToldState,
+    inputs: &ToldInputs,
     atoms: &[usize],
 ) -> Result<Defined, AllocError>
-    requires nowhere { TellsEach graph.old nowhere.now (λ v. outcomes_of (slots_of typed.now.scope.program) [] [] [] typed.now.nodes) }
+    requires nowhere { TellsNowhere graph.old typed.now nowhere.now }
     requires state { TellsState graph.old typed.now state.now }
-    requires inputs { AllStand graph.old inputs.now }
+    requires inputs { TellsInputs graph.old typed.now inputs.now }
+    requires given { AreGiven typed.now.scope.program (atom_parts typed.now.nodes atoms.now) }
     ensures extends { Extends graph.old graph.new }
     ensures stand { IfOk result (λ r. AllStand graph.new r.edges.items) }
     ensures told { IfOk result (λ r. (v : ℕ → Bool) → Consistent v graph.new → map (edge_value v) r.edges.items
-        ≡ map (is_just_in typed.now.scope.program (state_under v state.now.bits)) (justices_of typed.now.scope.program)
-        ++ map (λ (e : Resolved). is_true (outcome (slots_of typed.now.scope.program) (state_under v state.now.bits) (state_under v inputs.now) [] e)) (atom_parts typed.now.nodes atoms.now)) }
+        ≡ map (is_just_in typed.now.scope.program (state_under typed.now.scope.program v state.now.bits)) (justices_of typed.now.scope.program)
+        ++ map (λ (e : Resolved).
+        (is_state typed.now.scope.program (state_under typed.now.scope.program v state.now.bits) && are_inputs typed.now.scope.program (inputs_under typed.now.scope.program v inputs.now.bits))
+        && is_true (outcome (slots_of typed.now.scope.program) (state_under typed.now.scope.program v state.now.bits) (inputs_under typed.now.scope.program v inputs.now.bits) [] e))
+        (atom_parts typed.now.nodes atoms.now)) }
     ensures justices { IfOk result (λ r. r.justices ≡ length (justices_of typed.now.scope.program)) }
     ensures within { IfOk result (λ r. r.justices ≤ length r.edges.items) }
 {
@@ -187,39 +222,64 @@ fn defined_edges(
     Ok(Defined { edges, justices })
 }
 
-/// What is asked of a state with the inputs of these numbers, and what is defined there: the formulas of JUSTICE and the atoms.
-/// There are `given` inputs, and atoms are numbers of nodes.
+// What is asked of a first state with inputs.
+fn first_with_inputs(
+    alloc: Global,
+    graph: &mut Graph,
+    typed: &Typed,
+    state: &ToldState,
+    inputs: &ToldInputs,
+) -> Result<Vec<Either>, AllocError>
+    requires state { TellsState graph.old typed.now state.now }
+    requires inputs { TellsInputs graph.old typed.now inputs.now }
+    ensures extends { Extends graph.old graph.new }
+    ensures told { IfOk result (λ r. Tells graph.new r.items (λ v. is_first_state typed.now.scope.program (state_under typed.now.scope.program v state.now.bits)
+        && are_inputs typed.now.scope.program (inputs_under typed.now.scope.program v inputs.now.bits))) }
+{
+    let mut first = first_conditions(alloc, graph, typed, state)?;
+    ask(graph, &mut first, inputs.valid)?;
+    Ok(first)
+}
+
+/// What is asked of a state with the inputs of these numbers, and what is defined there: the formulas of JUSTICE and the atoms, which
+/// are numbers of nodes. A state has so many bits with these inputs.
 pub fn state_conditions(
     alloc: Global,
     typed: &Typed,
     layout: &Layout,
     reads: &[usize],
     atoms: &[usize],
-    given: usize,
+    joint: usize,
 ) -> Result<JointConditions, AllocError>
     requires layout { layout.now ≡ joint_layout typed.now.scope.program reads.now }
-    requires given { given ≡ input_width typed.now.scope.program }
-    requires few { state_width typed.now.scope.program ≤ 65536 }
-    requires small { given ≤ 65536 }
-    requires short { length reads.now ≤ 65536 }
-    requires order { AreInOrder given reads.now }
+    requires joint { joint ≡ joint_width typed.now.scope.program reads.now }
+    requires given { AreGiven typed.now.scope.program (atom_parts typed.now.nodes atoms.now) }
     ensures { IfOk result (TellsJoint typed.now.scope.program reads.now (atom_parts typed.now.nodes atoms.now)) }
 {
-    let width = layout.state.len();
-    let mut graph = Graph::new(alloc, width + reads.len())?;
-    let nowhere = nowhere_in(alloc, &graph, typed)?;
-    let inputs = input_edges(alloc, &graph, width, reads, given)?;
-    let state = framed_state(alloc, &mut graph, typed, &nowhere, layout.state.as_slice())?;
+    let bits = layout.state();
+    let types = layout.state_types();
+    let mut graph = Graph::new(alloc, joint)?;
+    let none = nowhere(alloc, &mut graph, typed)?;
+    let state = framed_state(alloc, &mut graph, typed, types, none.as_slice(), bits)?;
+    let inputs = read_inputs(
+        alloc,
+        &mut graph,
+        typed,
+        layout.input_types(),
+        layout.inputs(),
+        joint,
+        0,
+    )?;
     let defined = defined_edges(
         alloc,
         &mut graph,
         typed,
-        &nowhere,
+        none.as_slice(),
         &state,
-        inputs.as_slice(),
+        &inputs,
         atoms,
     )?;
-    let first = first_conditions(alloc, &graph, typed, &state)?;
+    let first = first_with_inputs(alloc, &mut graph, typed, &state, &inputs)?;
     Ok(JointConditions {
         graph,
         first,

@@ -1,7 +1,7 @@
 -- The bits of the states of a lasso violate the formula just where the lasso violates the specification.
-use Rattle.std.proofs.Common.{inl, inr, ◌≡◌, ◌∙◌, ℕ, zero, suc, ◌+◌, ◌-◌, ◌*◌, ◌<◌, ◌≤◌, Bool, true, false, ◌&&◌, ◌++◌, List, [], ◌∷◌, length, map, get_or, refl, sym, ap, subst, arith, cond, filter, None, Some}
+use Rattle.std.proofs.Common.{inl, inr, ◌≡◌, ◌∙◌, ℕ, zero, suc, ◌+◌, ◌-◌, ◌*◌, ◌<◌, ◌≤◌, Bool, true, false, ◌&&◌, ◌++◌, List, [], ◌∷◌, length, map, get_or, refl, sym, ap, subst, arith, cond, filter}
 use Rattle.std.specs.Prelude.{◌↔◌, ◌/◌, ◌%◌, nat_lt, if◌then◌else◌, Contains}
-use Rattle.std.proofs.lemmas.Bool.{cases_lt}
+use Rattle.std.proofs.lemmas.Bool.{and_from, cases_lt}
 use Rattle.std.proofs.lemmas.Bool.Decides.{nat_tests}
 use Rattle.std.proofs.lemmas.List.{get_or-append-add, get_or-map, get_or_append_left, get_or_default, length-map, map-append}
 use Rattle.std.proofs.lemmas.List.Elements.{All-contains_itself, All-filter, filter_passes}
@@ -27,20 +27,30 @@ use Rattle.smv_resolve.specs.Items.{ResolvedItem, items_of}
 use Rattle.smv_resolve.specs.Resolved.{Resolved, part_at}
 use Rattle.smv_scope.specs.Slots.{slots_of}
 use Rattle.smv_meaning.specs.declared.outcome.Outcome.{Outcome}
+use Rattle.smv_meaning.specs.declared.outcome.Outcome.TheVariants.{Fault, Nothing, Values}
 use Rattle.smv_meaning.specs.Lassos.{Holds, Lasso, MeetsJustice, place_at}
-use Rattle.smv_meaning.specs.Runs.{are_inputs, at_time, input_slots, is_state, is_true}
+use Rattle.smv_meaning.specs.Runs.{are_inputs, at_time, is_state, is_true}
 use Rattle.smv_meaning.specs.Outcomes.{one}
 use Rattle.smv_meaning.specs.Values.{outcome, outcome_in}
 use Rattle.smv_formulas.specs.Says.{atoms_on}
-use Rattle.bit_system.specs.Coding.{input_width}
-use Rattle.bit_system.specs.Standing.{is_just_in, is_justice, justices_of}
-use Rattle.bit_expr.proofs.Known.{true_only}
-use Rattle.bit_system.proofs.Codes.{fits_long}
-use Rattle.smv_declared.specs.Types.{types_of}
+use Rattle.bit_conditions.specs.Asked.{is_just_in, is_justice, justices_of}
 use Rattle.bit_formula.specs.Agreeing.{AreAllRead, FormulaAgrees, IsJointCoding}
-use Rattle.bit_formula.specs.Coding.{read_inputs, state_in}
+use Rattle.bit_formula.specs.Coding.{input_count, read_inputs, state_in}
 use Rattle.bit_formula.specs.Reading.{AgreeOn}
-use Rattle.bit_formula.specs.Standing.{FormulaSystem, StandsForFormula, is_true_at}
+use Rattle.bit_formula.specs.Standing.{FormulaSystem, StandsForFormula, is_coded, is_true_at}
+use Rattle.bit_formula.proofs.Joint.{inputs_apart}
+
+-- what is TRUE has the one value TRUE
+true_only : (o : Outcome) → is_true o ≡ true → o ≡ one (value.Bool true)
+true_only (Fault rule place) h = absurd (let no : ⊥ = cc in no)
+true_only Nothing h = absurd (let no : ⊥ = cc in no)
+true_only (Values []) h = absurd (let no : ⊥ = cc in no)
+true_only (Values (value.Bool true ∷ [])) h = refl
+true_only (Values (value.Bool false ∷ [])) h = absurd (let no : ⊥ = cc in no)
+true_only (Values (value.Int z ∷ [])) h = absurd (let no : ⊥ = cc in no)
+true_only (Values (value.Sym k ∷ [])) h = absurd (let no : ⊥ = cc in no)
+true_only (Values (value.Word s k b ∷ [])) h = absurd (let no : ⊥ = cc in no)
+true_only (Values (v ∷ u ∷ vs)) h = absurd (let no : ⊥ = cc in no)
 
 true_either : (o : Outcome) → (is_true o ≡ true) ↔ (o ≡ one (value.Bool true))
 true_either o = (true_only o, λ e. ap is_true e)
@@ -115,6 +125,7 @@ pub record Matches (p : Program) (r : FormulaSystem) (w : Lasso) (xs : ℕ → �
   pub long : length w.states ≡ length w.inputs
   pub inside : w.start < length w.states
   pub states : (i : ℕ) → i < length w.states → state_in p r.reads (xs i) ≡ at_time w.states i
+  pub typed : (i : ℕ) → i < length w.states → is_state p (at_time w.states i) ≡ true
   pub inputs : (i : ℕ) → i < length w.states → are_inputs p (at_time w.inputs i) ≡ true
   pub reads : (i : ℕ) → i < length w.states → AgreeOn r.reads (read_inputs p r.reads (xs i)) (at_time w.inputs i)
 
@@ -186,8 +197,15 @@ module _ (p : Program) (spec : ResolvedItem) (r : FormulaSystem) (stands : Stand
   and_true true b h = refl
   and_true false b h = absurd (let never : ⊥ = cc in never)
 
-  many_inputs : (u : List Value) → are_inputs p u ≡ true → length u ≡ input_width p
-  many_inputs u h = fits_long (types_of p) (input_slots (slots_of p)) u h
+  many_inputs : (u : List Value) → are_inputs p u ≡ true → length u ≡ input_count p
+  many_inputs u h = sym (inputs_apart p stands.types u h).0
+
+  -- the bits are those of a state, and of inputs that are read
+  state_typed : (i : ℕ) → i < n → is_state p (state_in p r.reads (xs i)) ≡ true
+  state_typed i below = ap (is_state p) (matches.states i below) ∙ matches.typed i below
+
+  read_typed : (i : ℕ) → i < n → are_inputs p (read_inputs p r.reads (xs i)) ≡ true
+  read_typed i below = coding.typed (xs i) (at_time w.inputs i) (matches.inputs i below) (matches.reads i below)
 
   part_there : (a i : ℕ) → a < length parts → i < n → is_true_at p r.reads (part_at parts a) (xs i) ≡ is_true_there (part_at parts a) i
   part_there a i lt below =
@@ -197,16 +215,16 @@ module _ (p : Program) (spec : ResolvedItem) (r : FormulaSystem) (stands : Stand
       let u = read_inputs p r.reads x in
       let contained : Contains parts e = (a, lt, get_or_default parts a e Resolved.Stuck lt) in
       let same : outcome (slots_of p) s u [] e ≡ outcome (slots_of p) s (at_time w.inputs i) [] e =
-      all_read u (at_time w.inputs i) (many_inputs u (coding.inputs x)) (many_inputs (at_time w.inputs i) (matches.inputs i below))
+      all_read u (at_time w.inputs i) (many_inputs u (read_typed i below)) (many_inputs (at_time w.inputs i) (matches.inputs i below))
       (subst (λ (reads : List ℕ). AgreeOn reads u (at_time w.inputs i)) stands.reads (matches.reads i below)) e contained s [] in
-      and_true (is_state p s) (is_true (outcome (slots_of p) s u [] e)) (coding.states x)
+      and_true (is_coded p r.reads x) (is_true (outcome (slots_of p) s u [] e)) (and_from (is_state p s) (are_inputs p u) (state_typed i below) (read_typed i below))
       ∙ ap is_true same
       ∙ ap (λ (z : List Value). is_true (outcome (slots_of p) z (at_time w.inputs i) [] e)) (matches.states i below)
 
   just_there : (x : ResolvedItem) (i : ℕ) → i < n → is_just_in p (state_in p r.reads (xs i)) x ≡ is_just_there x i
   just_there x i below =
       let s = state_in p r.reads (xs i) in
-      and_true (is_state p s) (is_true (outcome_in (slots_of p) s x.value)) (coding.states (xs i))
+      and_true (is_state p s) (is_true (outcome_in (slots_of p) s x.value)) (state_typed i below)
       ∙ ap (λ (z : List Value). is_true (outcome_in (slots_of p) z x.value)) (matches.states i below)
 
   -- The specification.

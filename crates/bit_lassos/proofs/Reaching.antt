@@ -41,9 +41,13 @@ module _ (p : Program) (spec : ResolvedItem) (r : FormulaSystem) (stands : Stand
       long = v.lasso.lasso.long;
       inside = v.lasso.lasso.inside;
       states = state_back;
+      typed = λ i lt. (typed i lt).0;
       inputs = λ i lt. (typed i lt).1;
-      reads = λ i lt. coding.read (at_time w.states i) (at_time w.inputs i) (typed i lt).1;
+      reads = λ i lt. coding.read (at_time w.states i) (at_time w.inputs i) (typed i lt).0 (typed i lt).1;
     }
+
+    read_typed : (i : ℕ) → i < length w.states → are_inputs p (read_inputs p r.reads (xs i)) ≡ true
+    read_typed i lt = coding.typed (xs i) (at_time w.inputs i) (typed i lt).1 (matches.reads i lt)
 
     step_bits : (i j : ℕ) → i < length w.states → j < length w.states → is_step p (at_time w.states i) (at_time w.inputs i) (at_time w.states j) ≡ true
         → StepBits r.system (xs i) (xs j)
@@ -53,14 +57,17 @@ module _ (p : Program) (spec : ResolvedItem) (r : FormulaSystem) (stands : Stand
         let both : is_step p (state_in p r.reads (xs i)) (at_time w.inputs i) (state_in p r.reads (xs j)) ≡ true =
         subst (λ (t : List Value). is_step p (state_in p r.reads (xs i)) (at_time w.inputs i) t ≡ true) (sym (state_back j to)) from in
         (agrees.step (xs i) (xs j)).1
-        (at_time w.inputs i, both, agree_back r.reads (read_inputs p r.reads (xs i)) (at_time w.inputs i) (matches.reads i at))
+        (at_time w.inputs i, both, agree_back r.reads (read_inputs p r.reads (xs i)) (at_time w.inputs i) (matches.reads i at), read_typed j to)
 
     is_lasso : IsBitLasso r.system xs (length w.states) w.start
     is_lasso =
         let inside = v.lasso.lasso.inside in
         record {
           inside = inside;
-          first = (agrees.first (xs 0)).1 (subst (λ (s : List Value). is_first_state p s ≡ true) (sym (state_back 0 (omega (arith, inside)))) v.lasso.lasso.first);
+          first =
+              let some : 0 < length w.states = omega (arith, inside) in
+              (agrees.first (xs 0)).1
+              (subst (λ (s : List Value). is_first_state p s ≡ true) (sym (state_back 0 some)) v.lasso.lasso.first, read_typed 0 some);
           steps = λ i lt. step_bits i (i + 1) (omega (arith, lt)) lt (v.lasso.lasso.steps i lt);
           back = step_bits (length w.states - 1) w.start (omega (arith, inside)) inside v.lasso.lasso.back;
         }

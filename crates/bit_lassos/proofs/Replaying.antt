@@ -16,10 +16,9 @@ use Rattle.smv_resolve.specs.Items.{ResolvedItem, items_of}
 use Rattle.smv_scope.specs.Slots.{slots_of}
 use Rattle.smv_meaning.specs.Lassos.{IsLasso, Lasso, Violates}
 use Rattle.smv_meaning.specs.Runs.{IsStep, allows_step, are_inputs, at_time, is_first_state, is_state, is_step, keeps_frozen, meets_invariants}
-use Rattle.bit_system.specs.declared.widths.Layout.{Layout}
-use Rattle.bit_system.specs.Coding.{decoded, state_width}
-use Rattle.bit_system.proofs.Codes.{plain}
-use Rattle.bit_system.proofs.Frames.{decoded_moved}
+use Rattle.bit_states.specs.Coding.{decoded}
+use Rattle.bit_states.specs.Layouts.{BitLayout, state_types, state_width}
+use Rattle.bit_system.proofs.Frames.{decoded_moved, plain}
 use Rattle.bit_formula.specs.Agreeing.{AreAllRead, FormulaAgrees, IsJointCoding}
 use Rattle.bit_formula.specs.Coding.{inputs_in, joint_width, next_in, read_inputs, state_in}
 use Rattle.bit_formula.specs.Reading.{AgreeOn}
@@ -64,30 +63,30 @@ module _ (p : Program) (spec : ResolvedItem) (r : FormulaSystem) (stands : Stand
   xs i = row_at rows i
 
   long_states : length w.states ≡ length rows
-  long_states = length-map rows (λ (row : List Bool). decoded r.layout.state (assignment_of row))
+  long_states = length-map rows (λ (row : List Bool). decoded r.layout.state_types r.layout.state (assignment_of row))
 
   long_inputs : length w.inputs ≡ length rows
-  long_inputs = length-map rows (λ (row : List Bool). decoded r.layout.inputs (assignment_of row))
+  long_inputs = length-map rows (λ (row : List Bool). decoded r.layout.input_types r.layout.inputs (assignment_of row))
 
   in_rows : (i : ℕ) → i < length w.states → i < length rows
   in_rows i lt = subst (λ n. i < n) long_states lt
 
   state_of_row : (i : ℕ) → i < length rows → at_time w.states i ≡ state_in p r.reads (xs i)
   state_of_row i lt =
-      get_or-map (λ (row : List Bool). decoded r.layout.state (assignment_of row)) rows i [] [] lt
-      ∙ ap (λ (y : Layout). decoded y.state (xs i)) stands.layout
+      get_or-map (λ (row : List Bool). decoded r.layout.state_types r.layout.state (assignment_of row)) rows i [] [] lt
+      ∙ ap (λ (y : BitLayout). decoded y.state_types y.state (xs i)) stands.layout
 
   inputs_of_row : (i : ℕ) → i < length rows → at_time w.inputs i ≡ inputs_in p r.reads (xs i)
   inputs_of_row i lt =
-      get_or-map (λ (row : List Bool). decoded r.layout.inputs (assignment_of row)) rows i [] [] lt
-      ∙ ap (λ (y : Layout). decoded y.inputs (xs i)) stands.layout
+      get_or-map (λ (row : List Bool). decoded r.layout.input_types r.layout.inputs (assignment_of row)) rows i [] [] lt
+      ∙ ap (λ (y : BitLayout). decoded y.input_types y.inputs (xs i)) stands.layout
 
   next_of_row : (i : ℕ) → i < length rows → next_in p r.reads (xs i) ≡ state_in p r.reads (xs (row_after rows start i))
   next_of_row i lt =
       let k = state_width p in
       let y = xs (row_after rows start i) in
       let link : NextIs (joint_width p r.reads) (xs i) y = subst (λ n. NextIs n (xs i) y) stands.bits (h.next i lt) in
-      decoded_moved (xs i) y k (joint_width p r.reads) 0 (λ j below. link j (omega (arith, below)) ∙ ap y (sym (plain j)))
+      decoded_moved (state_types p) (xs i) y k (joint_width p r.reads) 0 (λ j below. link j (omega (arith, below)) ∙ ap y (sym (plain j)))
 
   step_of_row : (i : ℕ) → i < length rows → IsStep p (at_time w.states i) (at_time w.inputs i) (at_time w.states (row_after rows start i))
   step_of_row i lt =
@@ -105,6 +104,7 @@ module _ (p : Program) (spec : ResolvedItem) (r : FormulaSystem) (stands : Stand
     long = long_states ∙ sym long_inputs;
     inside = subst (λ n. start < n) (sym long_states) h.inside;
     states = λ i lt. sym (state_of_row i (in_rows i lt));
+    typed = λ i lt. (step_parts p (at_time w.states i) (at_time w.inputs i) (at_time w.states (row_after rows start i)) (step_of_row i (in_rows i lt))).0;
     inputs = λ i lt. (step_parts p (at_time w.states i) (at_time w.inputs i) (at_time w.states (row_after rows start i)) (step_of_row i (in_rows i lt))).1;
     reads = λ i lt.
         subst (λ (u : List Value). AgreeOn r.reads (read_inputs p r.reads (xs i)) u) (sym (inputs_of_row i (in_rows i lt)))
@@ -125,7 +125,7 @@ module _ (p : Program) (spec : ResolvedItem) (r : FormulaSystem) (stands : Stand
   is_lasso = record {
     long = matches.long;
     inside = matches.inside;
-    first = subst (λ (s : List Value). is_first_state p s ≡ true) (sym (state_of_row 0 (let i = h.inside in omega (arith, i)))) ((agrees.first (xs 0)).0 h.first);
+    first = subst (λ (s : List Value). is_first_state p s ≡ true) (sym (state_of_row 0 (let i = h.inside in omega (arith, i)))) ((agrees.first (xs 0)).0 h.first).0;
     steps = λ i lt.
         let below : i + 1 < length rows = subst (λ n. i + 1 < n) long_states lt in
         subst (λ j. IsStep p (at_time w.states i) (at_time w.inputs i) (at_time w.states j)) (after_is rows start i below) (step_of_row i (omega (arith, below)));

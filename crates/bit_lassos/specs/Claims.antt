@@ -4,7 +4,7 @@ use Rattle.clause_core.specs.Assignments.{assignment_of}
 use Rattle.smv_tree.specs.declared.tree.Program.{Program}
 use Rattle.smv_resolve.specs.Items.{ResolvedItem}
 use Rattle.smv_meaning.specs.Lassos.{Lasso, Violates}
-use Rattle.bit_system.specs.Coding.{decoded}
+use Rattle.bit_states.specs.Coding.{decoded}
 use Rattle.bit_formula.specs.Standing.{FormulaSystem}
 
 -- no fair lasso violates it
@@ -23,7 +23,7 @@ IsViolated p spec = (w : Lasso) × Violates p spec w
 -- the states and the inputs of the steps that rows of bits are
 abbrev pub lasso_in : FormulaSystem → List (List Bool) → ℕ → Lasso
 lasso_in r rows start = record {
-  states = map (λ (row : List Bool). decoded r.layout.state (assignment_of row)) rows;
-  inputs = map (λ (row : List Bool). decoded r.layout.inputs (assignment_of row)) rows;
+  states = map (λ (row : List Bool). decoded r.layout.state_types r.layout.state (assignment_of row)) rows;
+  inputs = map (λ (row : List Bool). decoded r.layout.input_types r.layout.inputs (assignment_of row)) rows;
   start = start;
 }

@@ -1,5 +1,5 @@
 -- The rows of a bad run are a run of the program.
-use Rattle.std.proofs.Common.{◌≡◌, ◌∙◌, ℕ, ◌+◌, ◌-◌, ◌<◌, Bool, true, false, Some, None, List, [], length, take, refl, sym, ap, subst, arith}
+use Rattle.std.proofs.Common.{◌≡◌, ◌∙◌, ℕ, ◌+◌, ◌-◌, ◌<◌, Bool, true, false, List, [], ◌∷◌, length, take, refl, sym, ap, subst, arith}
 use Rattle.std.proofs.lemmas.Bool.{and_parts}
 use Rattle.std.proofs.lemmas.List.{get_or-map, get_or-take, length-map, length-take-le}
 use Rattle.clause_core.specs.Assignments.{assignment_of}
@@ -10,17 +10,30 @@ use Rattle.smv_value.specs.declared.value.Value.TheVariants as value
 use Rattle.smv_resolve.specs.Items.{ResolvedItem}
 use Rattle.smv_scope.specs.Slots.{slots_of}
 use Rattle.smv_meaning.specs.declared.outcome.Outcome.{Outcome}
+use Rattle.smv_meaning.specs.declared.outcome.Outcome.TheVariants.{Fault, Nothing, Values}
 use Rattle.smv_meaning.specs.Outcomes.{one}
 use Rattle.smv_meaning.specs.Values.{outcome_in}
 use Rattle.smv_meaning.specs.Runs.{Breaks, at_time, is_first_state, is_state, is_step}
 use Rattle.frame_core.specs.Runs.{IsBadRun, row_at}
-use Rattle.bit_expr.specs.Edges.{is_one}
-use Rattle.bit_expr.proofs.Known.{false_only}
-use Rattle.bit_system.specs.Coding.{inputs_of, next_of, state_of, state_width}
-use Rattle.bit_system.specs.Standing.{AgreesWith, StandsFor, is_broken_in}
-use Rattle.bit_system.proofs.Codes.{plain}
-use Rattle.bit_system.proofs.Frames.{decoded_moved}
+use Rattle.bit_outcomes.specs.Asked.{is_false}
+use Rattle.bit_states.specs.Coding.{inputs_of, next_of, state_of}
+use Rattle.bit_states.specs.Layouts.{state_types, state_width}
+use Rattle.bit_conditions.specs.Asked.{is_broken_in}
+use Rattle.bit_system.specs.Standing.{AgreesWith, StandsFor}
+use Rattle.bit_system.proofs.Frames.{decoded_moved, plain}
 use Rattle.bit_runs.specs.Running.{inputs_in, states_in}
+
+-- what is FALSE has the one value FALSE
+false_only : (o : Outcome) → is_false o ≡ true → o ≡ one (value.Bool false)
+false_only (Fault rule place) h = absurd (let never : ⊥ = cc in never)
+false_only Nothing h = absurd (let never : ⊥ = cc in never)
+false_only (Values []) h = absurd (let never : ⊥ = cc in never)
+false_only (Values (value.Bool true ∷ [])) h = absurd (let never : ⊥ = cc in never)
+false_only (Values (value.Bool false ∷ [])) h = refl
+false_only (Values (value.Int z ∷ [])) h = absurd (let never : ⊥ = cc in never)
+false_only (Values (value.Sym k ∷ [])) h = absurd (let never : ⊥ = cc in never)
+false_only (Values (value.Word s k b ∷ [])) h = absurd (let never : ⊥ = cc in never)
+false_only (Values (v ∷ u ∷ vs)) h = absurd (let never : ⊥ = cc in never)
 
 module _ (p : Program) (spec : ResolvedItem) (sys : TransitionSystem) (stands : StandsFor p spec sys) (agrees : AgreesWith p spec sys) (rows : List (List Bool)) (run : IsBadRun sys rows) where
   abbrev state_in : List Bool → List Value
@@ -48,7 +61,7 @@ module _ (p : Program) (spec : ResolvedItem) (sys : TransitionSystem) (stands : 
   next_at k lt =
       let w = state_width p in
       let link : NextIs w (row_at rows k) (row_at rows (k + 1)) = subst (λ n. NextIs n (row_at rows k) (row_at rows (k + 1))) stands.bits (run.run.links k lt) in
-      decoded_moved (row_at rows k) (row_at rows (k + 1)) w w 0 (λ i below. link i below ∙ ap (row_at rows (k + 1)) (sym (plain i)))
+      decoded_moved (state_types p) (row_at rows k) (row_at rows (k + 1)) w w 0 (λ i below. link i below ∙ ap (row_at rows (k + 1)) (sym (plain i)))
 
   pub replayed : Breaks p spec (states_in p rows) (inputs_in p rows)
   replayed =
@@ -73,5 +86,5 @@ module _ (p : Program) (spec : ResolvedItem) (sys : TransitionSystem) (stands : 
         broken =
             ap (λ n. outcome_in (slots_of p) (at_time (states_in p rows) n) spec.value) steps_long
             ∙ ap (λ s. outcome_in (slots_of p) s spec.value) (state_at last ends)
-            ∙ false_only (outcome_in (slots_of p) (state_of p (row_at rows last)) spec.value) (and_parts (is_state p (state_of p (row_at rows last))) (is_one false (outcome_in (slots_of p) (state_of p (row_at rows last)) spec.value)) bad).1;
+            ∙ false_only (outcome_in (slots_of p) (state_of p (row_at rows last)) spec.value) (and_parts (is_state p (state_of p (row_at rows last))) (is_false (outcome_in (slots_of p) (state_of p (row_at rows last)) spec.value)) bad).1;
       }

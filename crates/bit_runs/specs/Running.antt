@@ -4,7 +4,7 @@ use Rattle.clause_core.specs.Assignments.{assignment_of}
 use Rattle.smv_tree.specs.declared.tree.Program.{Program}
 use Rattle.smv_value.specs.declared.value.Value.{Value}
 use Rattle.smv_meaning.specs.Lassos.{Lasso}
-use Rattle.bit_system.specs.Coding.{inputs_of, state_of}
+use Rattle.bit_states.specs.Coding.{inputs_of, state_of}
 use Rattle.bit_runs.specs.declared.lassos.Lasso.{Lasso as ToldLasso}
 
 -- the states that the rows are, and the inputs of the steps between them

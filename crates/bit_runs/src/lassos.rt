@@ -1,25 +1,28 @@
 //! The lasso of a program that a lasso over bits is.
 
-ghost use Rattle.std.specs.Prelude.{◌≡◌, Bool, List, map, IfOk};
+ghost use Rattle.std.specs.Prelude.{◌≡◌, Bool, List, map, true, IfOk};
 ghost use Rattle.clause_core.specs.Assignments.{assignment_of};
 ghost use Rattle.ltl_meaning.specs.Unfolded.{unfolded};
 ghost use Rattle.smv_tree.specs.declared.tree.Program.{Program};
 ghost use Rattle.smv_resolve.specs.Items.{ResolvedItem};
 ghost use Rattle.smv_meaning.specs.Lassos.{Violates};
 ghost use Rattle.ltl_lassos.specs.Violating.{AreViolating};
-ghost use Rattle.bit_system.specs.Coding.{decoded};
+ghost use Rattle.std.specs.List.{list_all};
+ghost use Rattle.value_types.specs.Types.{is_type};
+ghost use Rattle.bit_states.specs.Coding.{decoded};
 ghost use Rattle.bit_formula.specs.Standing.{StandsForFormula};
 ghost use Rattle.bit_lassos.specs.Claims.{lasso_in};
 ghost use Rattle.bit_runs.specs.Running.{lasso_at};
 
 use bit_formula::FormulaSystem;
 use bit_lassos::what_violates_over_bits;
-use bit_system::decoded;
+use bit_states::decoded;
 use lasso_search::BitLasso;
 use smv_meaning::{Inputs, State};
 use smv_value::Value;
 use sqlite_items::Items;
 use std::alloc::{AllocError, Global};
+use value_types::ValueType;
 
 /// A lasso of a program: its states, the inputs of the step from each, and the number of the state at which it goes on after the last.
 #[derive(Debug, Drop)]
@@ -44,8 +47,8 @@ pub fn lasso_of(
 {
     what_violates_over_bits();
     let layout = system.layout();
-    let states = decoded_rows(alloc, layout.state.as_slice(), lasso)?;
-    let inputs = decoded_rows(alloc, layout.inputs.as_slice(), lasso)?;
+    let states = decoded_rows(alloc, layout.state_types(), layout.state(), lasso)?;
+    let inputs = decoded_rows(alloc, layout.input_types(), layout.inputs(), lasso)?;
     Ok(Lasso {
         states,
         inputs,
@@ -53,17 +56,19 @@ pub fn lasso_of(
     })
 }
 
-// The values that these bits of each row are.
+// The values of these types that these bits of each row are.
 fn decoded_rows(
     alloc: Global,
+    types: &[ValueType],
     places: &[usize],
     lasso: &BitLasso,
 ) -> Result<Items<Items<Value>>, AllocError>
-    ensures { IfOk result (λ rows. rows ≡ map (λ (row : List Bool). decoded places.now (assignment_of row)) lasso.now.rows) }
+    requires { list_all is_type types.now ≡ true }
+    ensures { IfOk result (λ rows. rows ≡ map (λ (row : List Bool). decoded types.now places.now (assignment_of row)) lasso.now.rows) }
 {
     let mut rows = Vec::new(alloc);
     for k in 0..lasso.len() {
-        rows.push(decoded(alloc, places, lasso.row(k).as_slice())?)?;
+        rows.push(decoded(alloc, types, places, lasso.row(k).as_slice())?)?;
     }
     Ok(Items::from_vec(rows))
 }

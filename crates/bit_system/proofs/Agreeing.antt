@@ -1,6 +1,6 @@
 -- A system that stands for a program has its first states, steps, bad and good states.
 use Rattle.std.proofs.Common.{◌≡◌, ◌∙◌, ℕ, ◌+◌, ◌-◌, ◌<◌, ◌≤◌, Bool, true, false, ◌&&◌, cond, List, [], ◌∷◌, map, ◌↔◌, refl, sym, ap, subst, arith, All}
-use Rattle.std.specs.Prelude.{nat_lt}
+use Rattle.std.specs.Prelude.{nat_lt, slice_index_or}
 use Rattle.std.specs.Bool.{beq}
 use Rattle.std.specs.List.{list_all, range_with_len}
 use Rattle.std.proofs.lemmas.Bool.{lt-ltb, le-ltb}
@@ -11,14 +11,16 @@ use Rattle.smv_tree.specs.declared.tree.Program.{Program}
 use Rattle.smv_value.specs.declared.value.Value.{Value}
 use Rattle.smv_resolve.specs.Items.{ResolvedItem, items_of}
 use Rattle.smv_scope.specs.Slots.{slots_of}
-use Rattle.smv_declared.specs.Types.{types_of}
-use Rattle.smv_meaning.specs.Runs.{allows_step, are_inputs, input_slots, is_state, is_step, keeps_frozen, meets_invariants}
+use Rattle.smv_meaning.specs.Runs.{allows_step, are_inputs, is_state, is_step, keeps_frozen, meets_invariants}
 use Rattle.bit_clauses.specs.Deciding.{Decides, Defines}
 use Rattle.bit_clauses.specs.Gated.{DefinesAll}
-use Rattle.bit_system.specs.Coding.{HoldsAt, code_of, inputs_of, layout_of, next_of, state_of, state_width}
-use Rattle.bit_system.specs.Standing.{AgreesWith, AreTrueWhere, StandsFor, is_just_in, justices_of}
-use Rattle.bit_system.proofs.Codes.{code_at, coding, fits_long, plain}
-use Rattle.bit_system.proofs.Frames.{decoded_moved}
+use Rattle.bit_states.specs.Coding.{HoldsAt, inputs_of, next_of, state_of}
+use Rattle.bit_states.specs.Layouts.{HasTypes, input_types, input_width, layout_of, state_types, state_width}
+use Rattle.bit_states.specs.Values.{encoded_all}
+use Rattle.bit_states.proofs.Codes.{coding, codes_at, long_code, of_inputs}
+use Rattle.bit_conditions.specs.Asked.{is_just_in, justices_of}
+use Rattle.bit_system.specs.Standing.{AgreesWith, AreTrueWhere, StandsFor}
+use Rattle.bit_system.proofs.Frames.{decoded_moved, map_moved, plain}
 use Rattle.bit_system.proofs.OfSides.{state_same}
 
 pub and_left : (a b : Bool) → (a && b) ≡ true → a ≡ true
@@ -63,6 +65,17 @@ module _ (w : ℕ) (x y z : ℕ → Bool) where
       let back : ((w + w) + i) - (w + w) ≡ i = omega arith in
       rw (le-ltb ((w + w) + i) w past, le-ltb ((w + w) + i) (w + w) past_both) (ap z back)
 
+-- the bits of inputs, false for all others
+abbrev pub code_of_inputs : Program → List Value → ℕ → Bool
+code_of_inputs p u k = slice_index_or (encoded_all (input_types p) u) k false
+
+-- where bits from a number on are the code of inputs, they hold them
+pub inputs_at : (p : Program) → HasTypes p → (u : List Value) (start : ℕ) (a : ℕ → Bool) → are_inputs p u ≡ true → ((k : ℕ) → a (start + k) ≡ code_of_inputs p u k)
+    → HoldsAt (input_types p) (range_with_len start (input_width p)) a u
+inputs_at p types u start a fit at =
+    map_moved a (code_of_inputs p u) (input_width p) start 0 (λ i lt. at i ∙ ap (code_of_inputs p u) (sym (plain i)))
+    ∙ codes_at (encoded_all (input_types p) u) (input_width p) (long_code p types of_inputs u fit)
+
 module _ (p : Program) (spec : ResolvedItem) (sys : TransitionSystem) (stands : StandsFor p spec sys) where
   abbrev w : ℕ
   w = state_width p
@@ -73,24 +86,23 @@ module _ (p : Program) (spec : ResolvedItem) (sys : TransitionSystem) (stands : 
   step_to : (x y : ℕ → Bool) → StepBits sys x y → (u : List Value) × (is_step p (state_of p x) u (state_of p y) ≡ true)
   step_to x y (a, agrees, next, met) =
       let first : state_of p a ≡ state_of p x = state_same p a x (subst (λ n. Agrees n a x) stands.bits agrees) in
-      let second : next_of p a ≡ state_of p y = decoded_moved a y w w 0 (λ i lt. subst (λ n. NextIs n a y) stands.bits next i lt ∙ ap y (sym (plain i))) in
+      let second : next_of p a ≡ state_of p y = decoded_moved (state_types p) a y w w 0 (λ i lt. subst (λ n. NextIs n a y) stands.bits next i lt ∙ ap y (sym (plain i))) in
       (inputs_of p a, ap (λ s. is_step p s (inputs_of p a) (state_of p y)) (sym first) ∙ ap (is_step p (state_of p a) (inputs_of p a)) (sym second) ∙ step_inputs a met)
 
   step_from : (x y : ℕ → Bool) → (u : List Value) × (is_step p (state_of p x) u (state_of p y) ≡ true) → StepBits sys x y
   step_from x y (u, step) =
-      let a = bits w x y (code_of u) in
-      let first : state_of p a ≡ state_of p x = state_same p a x (first_bits w x y (code_of u)) in
-      let second : next_of p a ≡ state_of p y = decoded_moved a y w w 0 (λ i lt. second_bits w x y (code_of u) i lt ∙ ap y (sym (plain i))) in
+      let a = bits w x y (code_of_inputs p u) in
+      let first : state_of p a ≡ state_of p x = state_same p a x (first_bits w x y (code_of_inputs p u)) in
+      let second : next_of p a ≡ state_of p y = decoded_moved (state_types p) a y w w 0 (λ i lt. second_bits w x y (code_of_inputs p u) i lt ∙ ap y (sym (plain i))) in
       let fit : are_inputs p u ≡ true = inputs_fit p (state_of p x) u (state_of p y) step in
-      let at : HoldsAt (layout_of p).inputs a u =
-      subst (λ n. HoldsAt (range_with_len (w + w) n) a u) (fits_long (types_of p) (input_slots (slots_of p)) u fit) (code_at u (w + w) a (λ k lt. input_bits w x y (code_of u) k)) in
-      let given : inputs_of p a ≡ u = (coding p stands.booleans).given u a fit at in
+      let at : HoldsAt (input_types p) (layout_of p).inputs a u = inputs_at p stands.types u (w + w) a fit (input_bits w x y (code_of_inputs p u)) in
+      let given : inputs_of p a ≡ u = (coding p stands.types).given u a fit at in
       let holds : is_step p (state_of p a) (inputs_of p a) (next_of p a) ≡ true =
       ap (λ s. is_step p s (inputs_of p a) (next_of p a)) first ∙ ap (λ v. is_step p (state_of p x) v (next_of p a)) given ∙ ap (is_step p (state_of p x) u) second ∙ step in
       let found = (stands.step.meets a).1 holds in
       let b = found.0 in
-      let agrees : Agrees w b x = λ k lt. found.1 k (omega (arith, lt)) ∙ first_bits w x y (code_of u) k lt in
-      let next : NextIs w b y = λ k lt. found.1 (w + k) (omega (arith, lt)) ∙ second_bits w x y (code_of u) k lt in
+      let agrees : Agrees w b x = λ k lt. found.1 k (omega (arith, lt)) ∙ first_bits w x y (code_of_inputs p u) k lt in
+      let next : NextIs w b y = λ k lt. found.1 (w + k) (omega (arith, lt)) ∙ second_bits w x y (code_of_inputs p u) k lt in
       (b, subst (λ n. Agrees n b x) (sym stands.bits) agrees, subst (λ n. NextIs n b y) (sym stands.bits) next, found.2)
 
   pub beq_true : (a b : Bool) → beq a b ≡ true → a ≡ b

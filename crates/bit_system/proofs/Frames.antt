@@ -1,25 +1,21 @@
--- Edges of inputs and the states that they are.
-use Rattle.std.proofs.Common.{◌≡◌, ◌∙◌, ℕ, zero, suc, ◌+◌, ◌<◌, ◌≤◌, Bool, List, [], ◌∷◌, ◌++◌, ap, sym, refl, arith, length, All}
+-- Edges of inputs and the values that they are.
+use Rattle.std.proofs.Common.{◌≡◌, ◌∙◌, ℕ, zero, suc, ◌+◌, ◌<◌, ◌≤◌, Bool, List, ◌∷◌, map, ap, refl, arith, length, All}
 use Rattle.std.specs.List.{range_with_len}
 use Rattle.std.proofs.lemmas.Simd.{map-map}
-use Rattle.std.proofs.lemmas.List.{map-id, length-map}
+use Rattle.std.proofs.lemmas.List.{length-map}
 use Rattle.std.proofs.lemmas.List.Elements.{All-map}
-use Rattle.std.proofs.lemmas.List.FromFn.{map-range_with_len_more, length-range_with_len}
+use Rattle.std.proofs.lemmas.List.FromFn.{length-range_with_len}
 use Rattle.bit_graph.specs.declared.edge.Edge.{Edge}
 use Rattle.bit_graph.specs.declared.edge.Node.{Node}
 use Rattle.bit_graph.specs.Meaning.{edge_value, Stands}
-use Rattle.smv_value.specs.declared.value.Value.{Value}
-use Rattle.smv_value.specs.declared.value.Value.TheVariants as value
-use Rattle.bit_expr.specs.Edges.{AllStand, state_under}
-use Rattle.bit_system.specs.Coding.{decoded}
+use Rattle.bit_arith.specs.Number.{AllStand, values_of}
+use Rattle.value_types.specs.declared.value_type.ValueType.{ValueType}
+use Rattle.bit_states.specs.Coding.{decoded}
+use Rattle.bit_states.specs.Values.{decoded_all}
 use Rattle.bit_system.specs.Conditions.{edges_of, input}
 
-pub range_more : (start n : ℕ) (made : List ℕ) (k : ℕ) → made ≡ range_with_len start n → k ≡ start + n → made ++ k ∷ [] ≡ range_with_len start (n + 1)
-range_more start n made k made_is k_is =
-    ap (λ (l : List ℕ). l ++ k ∷ []) made_is ∙ ap (λ j. range_with_len start n ++ j ∷ []) k_is
-    ∙ ap (λ (l : List ℕ). l ++ (start + n) ∷ []) (sym (map-id (range_with_len start n)))
-    ∙ sym (map-range_with_len_more (λ (i : ℕ). i) start n (start + n) refl)
-    ∙ map-id (range_with_len start (n + 1))
+pub plain : (k : ℕ) → 0 + k ≡ k
+plain k = omega arith
 
 -- numbers of a range are below its end
 pub range_below : (k start end : ℕ) → start + k ≤ end → All (λ i. i < end) (range_with_len start k)
@@ -34,18 +30,30 @@ pub length_edges : (start k : ℕ) → length (edges_of (range_with_len start k)
 length_edges start k = length-map (range_with_len start k) input ∙ length-range_with_len start k
 
 -- the values of inputs' edges are those of the bits
-pub edges_decoded : (v : ℕ → Bool) (bits : List ℕ) → state_under v (edges_of bits) ≡ decoded bits v
-edges_decoded v bits = map-map (λ (e : Edge). value.Bool (edge_value v e)) input bits
+pub values_framed : (v : ℕ → Bool) (bits : List ℕ) → values_of v (edges_of bits) ≡ map v bits
+values_framed v bits = map-map (edge_value v) input bits
+
+-- edges that are those of these bits have the values that the bits are
+pub framed : (types : List ValueType) (v : ℕ → Bool) (bits : List Edge) (ns ms : List ℕ) → bits ≡ edges_of ns → ns ≡ ms → decoded_all types (values_of v bits) ≡ decoded types ms v
+framed types v bits ns ms bits_are ns_are =
+    ap (λ (es : List Edge). decoded_all types (values_of v es)) bits_are
+    ∙ ap (decoded_all types) (values_framed v ns)
+    ∙ ap (λ (ks : List ℕ). decoded types ks v) ns_are
 
 -- bits elsewhere, the same values
-pub decoded_moved : (a b : ℕ → Bool) (k from to : ℕ) → ((i : ℕ) → i < k → a (from + i) ≡ b (to + i)) → decoded (range_with_len from k) a ≡ decoded (range_with_len to k) b
-decoded_moved a b zero from to same = refl
-decoded_moved a b (suc k) from to same =
+pub map_moved : (a b : ℕ → Bool) (k from to : ℕ) → ((i : ℕ) → i < k → a (from + i) ≡ b (to + i)) → map a (range_with_len from k) ≡ map b (range_with_len to k)
+map_moved a b zero from to same = refl
+map_moved a b (suc k) from to same =
     let here : a from ≡ b to = ap a (let e : from ≡ from + 0 = omega arith in e) ∙ same 0 (omega arith) ∙ ap b (let e : to + 0 ≡ to = omega arith in e) in
-    ap (λ (x : Bool). value.Bool x ∷ decoded (range_with_len (from + 1) k) a) here
-    ∙ ap (λ (s : List Value). value.Bool (b to) ∷ s) (decoded_moved a b k (from + 1) (to + 1) (λ i lt.
-    ap a (let e : (from + 1) + i ≡ from + suc i = omega arith in e) ∙ same (suc i) (omega (arith, lt)) ∙ ap b (let e : to + suc i ≡ (to + 1) + i = omega arith in e)))
+    let rest : map a (range_with_len (from + 1) k) ≡ map b (range_with_len (to + 1) k) =
+    map_moved a b k (from + 1) (to + 1) (λ i lt.
+    ap a (let e : (from + 1) + i ≡ from + suc i = omega arith in e) ∙ same (suc i) (omega (arith, lt)) ∙ ap b (let e : to + suc i ≡ (to + 1) + i = omega arith in e)) in
+    λ i. here i ∷ rest i
+
+pub decoded_moved : (types : List ValueType) (a b : ℕ → Bool) (k from to : ℕ) → ((i : ℕ) → i < k → a (from + i) ≡ b (to + i))
+    → decoded types (range_with_len from k) a ≡ decoded types (range_with_len to k) b
+decoded_moved types a b k from to same = ap (decoded_all types) (map_moved a b k from to same)
 
 -- the same bits, the same values
-pub decoded_same : (a b : ℕ → Bool) (start k : ℕ) → ((i : ℕ) → i < start + k → a i ≡ b i) → decoded (range_with_len start k) a ≡ decoded (range_with_len start k) b
-decoded_same a b start k same = decoded_moved a b k start start (λ i lt. same (start + i) (omega (arith, lt)))
+pub decoded_same : (types : List ValueType) (a b : ℕ → Bool) (start k : ℕ) → ((i : ℕ) → i < start + k → a i ≡ b i) → decoded types (range_with_len start k) a ≡ decoded types (range_with_len start k) b
+decoded_same types a b start k same = decoded_moved types a b k start start (λ i lt. same (start + i) (omega (arith, lt)))

@@ -1,5 +1,5 @@
 -- A run of the program is one of the system.
-use Rattle.std.proofs.Common.{◌≡◌, ℕ, zero, suc, ◌+◌, ◌-◌, ◌≤◌, Bool, true, false, ◌&&◌, List, length, sym, ap, subst, arith, inl, inr}
+use Rattle.std.proofs.Common.{◌≡◌, ℕ, zero, suc, ◌+◌, ◌-◌, ◌≤◌, Bool, true, ◌&&◌, List, length, sym, ap, subst, arith, inl, inr}
 use Rattle.std.specs.List.{list_all}
 use Rattle.std.proofs.lemmas.Bool.{and_from, and_parts}
 use Rattle.clause_core.specs.Systems.{TransitionSystem, BadBits, ReachedWithin}
@@ -9,9 +9,10 @@ use Rattle.smv_resolve.specs.Items.{ResolvedItem, items_of}
 use Rattle.smv_scope.specs.Slots.{slots_of}
 use Rattle.smv_meaning.specs.Values.{outcome_in}
 use Rattle.smv_meaning.specs.Runs.{Breaks, allows_first, allows_step, are_inputs, at_time, is_first_state, is_state, is_step, keeps_frozen, meets_invariants}
-use Rattle.bit_expr.specs.Edges.{is_one}
-use Rattle.bit_system.specs.Coding.{IsCoding, code_of, state_of}
-use Rattle.bit_system.specs.Standing.{AgreesWith, is_broken_in}
+use Rattle.bit_outcomes.specs.Asked.{is_false}
+use Rattle.bit_states.specs.Coding.{IsCoding, code_of, state_of}
+use Rattle.bit_conditions.specs.Asked.{is_broken_in}
+use Rattle.bit_system.specs.Standing.{AgreesWith}
 use Rattle.bit_system.specs.Claims.{NeverBad, NeverBadWithin, IsUnbroken, IsUnbrokenWithin}
 
 first_is : (p : Program) (s : List Value) → is_first_state p s ≡ true → is_state p s ≡ true
@@ -31,7 +32,7 @@ ends_are p s u t h =
 module _ (p : Program) (spec : ResolvedItem) (sys : TransitionSystem) (agrees : AgreesWith p spec sys) (coding : IsCoding p) where
   module _ (states inputs : List (List Value)) (breaks : Breaks p spec states inputs) where
     abbrev code : ℕ → ℕ → Bool
-    code i = code_of (at_time states i)
+    code i = code_of p (at_time states i)
 
     abbrev back : (i : ℕ) → is_state p (at_time states i) ≡ true → state_of p (code i) ≡ at_time states i
     back i is = coding.back (at_time states i) is
@@ -64,8 +65,8 @@ module _ (p : Program) (spec : ResolvedItem) (sys : TransitionSystem) (agrees : 
         let m = length inputs in
         let is = a_state m (omega arith) in
         let s = at_time states m in
-        let wrong : is_one false (outcome_in (slots_of p) s spec.value) ≡ true = ap (is_one false) breaks.broken in
-        (agrees.bad (code m)).1 (subst (λ t. is_broken_in p spec t ≡ true) (sym (back m is)) (and_from (is_state p s) (is_one false (outcome_in (slots_of p) s spec.value)) is wrong))
+        let wrong : is_false (outcome_in (slots_of p) s spec.value) ≡ true = ap is_false breaks.broken in
+        (agrees.bad (code m)).1 (subst (λ t. is_broken_in p spec t ≡ true) (sym (back m is)) (and_from (is_state p s) (is_false (outcome_in (slots_of p) s spec.value)) is wrong))
 
   pub unbroken_within : (n : ℕ) → NeverBadWithin sys n → IsUnbrokenWithin p spec n
   unbroken_within n safe states inputs short breaks =

@@ -1,18 +1,23 @@
 -- What the systems of a program are made of: what they share, and the clauses of each specification.
-use Rattle.std.specs.Prelude.{◌≡◌, ℕ, ◌*◌, ◌≤◌, true, not, List, [], ◌∷◌, All}
+use Rattle.std.specs.Prelude.{◌≡◌, ℕ, ◌*◌, ◌≤◌, Bool, not, List, All}
 use Rattle.clause_core.specs.Literals.{Within}
 use Rattle.clause_core.specs.Systems.{Gives, Opposed, TransitionSystem}
 use Rattle.smv_tree.specs.declared.tree.Program.{Program}
 use Rattle.smv_resolve.specs.Items.{ResolvedItem}
-use Rattle.smv_meaning.specs.Runs.{has_booleans_alone, is_first_state, is_step}
+use Rattle.smv_meaning.specs.Runs.{is_first_state, is_step}
+use Rattle.bit_graph.specs.declared.edge.Edge.{Edge}
+use Rattle.bit_graph.specs.declared.edge.Node.{Node}
+use Rattle.bit_graph.specs.Values.{value_under}
 use Rattle.bit_clauses.specs.declared.deciding.Decided.{Decided}
 use Rattle.bit_clauses.specs.Deciding.{Decides}
 use Rattle.bit_clauses.specs.Gated.{DefinesAll}
+use Rattle.bit_states.specs.Coding.{inputs_of, next_of, state_of}
+use Rattle.bit_states.specs.Layouts.{HasTypes, named_width, state_width}
 use Rattle.bit_system.specs.declared.sides.Claim.{Claim}
 use Rattle.bit_system.specs.declared.sides.StateSide.{StateSide}
 use Rattle.bit_system.specs.declared.systems.Shared.{Shared}
-use Rattle.bit_system.specs.Coding.{inputs_of, named_width, next_of, state_of, state_width}
-use Rattle.bit_system.specs.Standing.{is_broken_in, just_values}
+use Rattle.bit_system.specs.Conditions.{is_bad_in}
+use Rattle.bit_system.specs.Standing.{just_values}
 
 -- the clauses of first states and of the formulas of JUSTICE
 pub record IsStateSide (p : Program) (r : StateSide) : Type 0 where
@@ -29,23 +34,24 @@ pub record IsStepSide (p : Program) (r : Decided) : Type 0 where
   pub room : named_width p ≤ r.vars
   pub within : All (Within r.vars) r.clauses
 
--- the clauses of a specification
-pub record IsClaim (p : Program) (spec : ResolvedItem) (r : Claim) : Type 0 where
-  pub bad : Decides (state_width p) r.bad (λ x. is_broken_in p spec (state_of p x))
-  pub good : Decides (state_width p) r.good (λ x. not (is_broken_in p spec (state_of p x)))
+-- the clauses decide a question of the first bits, and its opposite
+pub record DecidesBoth (width : ℕ) (question : (ℕ → Bool) → Bool) (r : Claim) : Type 0 where
+  pub bad : Decides width r.bad question
+  pub good : Decides width r.good (λ x. not (question x))
   pub bad_within : All (Within r.vars) r.bad
   pub good_within : All (Within r.vars) r.good
 
--- two lists of one length, whose elements at each place are in this relation
-unfoldable pub Each : {A B : Type 0} → (A → B → Type 0) → List A → List B → Type 0
-Each R [] [] = Unit {0}
-Each R [] (y ∷ ys) = ⊥
-Each R (x ∷ xs) [] = ⊥
-Each R (x ∷ xs) (y ∷ ys) = R x y × Each R xs ys
+-- whether an edge is true
+abbrev pub DecidesEdge : ℕ → List Node → Edge → Claim → Type 0
+DecidesEdge width g e r = DecidesBoth width (λ x. value_under x g e) r
+
+-- the clauses of a specification
+abbrev pub IsClaim : Program → ResolvedItem → Claim → Type 0
+IsClaim p spec r = DecidesBoth (state_width p) (λ x. is_bad_in p spec (state_of p x)) r
 
 -- what all systems share
 pub record IsShared (p : Program) (shared : Shared) : Type 0 where
-  pub booleans : has_booleans_alone p ≡ true
+  pub types : HasTypes p
   pub width : shared.width ≡ state_width p
   pub steps : IsStepSide p shared.steps
   pub states : IsStateSide p shared.states

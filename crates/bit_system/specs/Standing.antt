@@ -1,37 +1,17 @@
 -- A system over bits that stands for a program and a specification.
-use Rattle.std.specs.Prelude.{◌≡◌, ℕ, ◌≤◌, ◌↔◌, Bool, true, false, not, ◌&&◌, List, [], ◌∷◌, filter, map, IsTrue, All}
+use Rattle.std.specs.Prelude.{◌≡◌, ℕ, ◌≤◌, ◌↔◌, Bool, not, List, [], ◌∷◌, map, IsTrue, All}
 use Rattle.clause_core.specs.Assignments.{ClauseTrue}
 use Rattle.clause_core.specs.Systems.{TransitionSystem, FirstBits, StepBits, BadBits, GoodBits, DefinedTrue, Gives}
 use Rattle.clause_core.specs.declared.literal.Lit.{Lit}
 use Rattle.smv_tree.specs.declared.tree.Program.{Program}
-use Rattle.smv_tree.specs.declared.tree.ConstraintKind.TheVariants as asked
 use Rattle.smv_value.specs.declared.value.Value.{Value}
-use Rattle.smv_resolve.specs.declared.item.ItemKind.{ItemKind}
-use Rattle.smv_resolve.specs.declared.item.ItemKind.TheVariants as item
-use Rattle.smv_resolve.specs.Items.{ResolvedItem, items_of}
-use Rattle.smv_scope.specs.Slots.{slots_of}
-use Rattle.smv_meaning.specs.Runs.{has_booleans_alone, is_first_state, is_state, is_step, is_true, IsFirstState, IsStep}
-use Rattle.smv_meaning.specs.Values.{outcome_in}
-use Rattle.bit_expr.specs.Edges.{is_one}
+use Rattle.smv_resolve.specs.Items.{ResolvedItem}
+use Rattle.smv_meaning.specs.Runs.{is_first_state, is_step, IsFirstState, IsStep}
+use Rattle.bit_states.specs.Layouts.{HasTypes, named_width, state_width}
+use Rattle.bit_states.specs.Coding.{inputs_of, next_of, state_of}
+use Rattle.bit_conditions.specs.Asked.{is_broken_in, is_just_in, justices_of}
 use Rattle.bit_clauses.specs.Deciding.{Decides}
 use Rattle.bit_clauses.specs.Gated.{DefinesAll}
-use Rattle.bit_system.specs.Coding.{inputs_of, named_width, next_of, state_of, state_width}
-
--- a state in which the specification is FALSE
-abbrev pub is_broken_in : Program → ResolvedItem → List Value → Bool
-is_broken_in p spec s = is_state p s && is_one false (outcome_in (slots_of p) s spec.value)
-
-abbrev pub is_justice : ItemKind → Bool
-is_justice (item.Constraint asked.Justice) = true
-is_justice other = false
-
--- what is asked to come again and again, in the order of the items
-abbrev pub justices_of : Program → List ResolvedItem
-justices_of p = filter (λ (x : ResolvedItem). is_justice x.kind) (items_of p)
-
--- a state in which the formula is TRUE
-abbrev pub is_just_in : Program → List Value → ResolvedItem → Bool
-is_just_in p s x = is_state p s && is_true (outcome_in (slots_of p) s x.value)
 
 -- that, of each of those formulas, by the bits of a state
 abbrev pub just_values : Program → List ((ℕ → Bool) → Bool)
@@ -40,7 +20,7 @@ just_values p = map (λ (x : ResolvedItem). λ (b : ℕ → Bool). is_just_in p 
 -- The clauses of first states, steps, bad and good states say what the program says of the states that the bits are, alone and
 -- by unit propagation: from the bits of a state, and of a step from those of both states and of the inputs.
 pub record StandsFor (p : Program) (spec : ResolvedItem) (sys : TransitionSystem) : Type 0 where
-  pub booleans : has_booleans_alone p ≡ true
+  pub types : HasTypes p
   pub bits : sys.state_bits ≡ state_width p
   pub room : named_width p ≤ sys.all_bits
   pub first : Decides (state_width p) sys.init (λ x. is_first_state p (state_of p x))

@@ -1,17 +1,16 @@
 //! The systems of a program, and states and inputs as bits.
 
-ghost use Rattle.std.specs.Prelude.{◌≡◌, ◌<◌, length, map, true, IfOk};
+ghost use Rattle.std.specs.Prelude.{◌≡◌, ◌<◌, length, true, IfOk};
 ghost use Rattle.clause_core.specs.Assignments.{assignment_of};
 ghost use Rattle.smv_tree.specs.declared.tree.Program.{Program};
 ghost use Rattle.smv_meaning.specs.Runs.{is_state};
+ghost use Rattle.bit_states.specs.Coding.{decoded, state_of};
+ghost use Rattle.bit_states.specs.Values.{encoded_all};
 ghost use Rattle.bit_system.specs.Building.{IsBuilt, system_of};
-ghost use Rattle.bit_system.specs.Coding.{decoded, state_of, truth_value};
 
-use crate::widths::Layout;
+use bit_states::Layout;
 use clause_core::{Bits, System};
 use smv_meaning::{Inputs, State};
-use smv_value::Value;
-use sqlite_items::Items;
 use std::alloc::{AllocError, Global};
 use std::marker::Model;
 
@@ -68,67 +67,26 @@ impl Built {
         &self.layout
     }
 
-    /// The bits of a state. Time and memory grow with its values; the only error is want of memory.
+    /// The bits of a state. Time and memory grow with them; the only error is want of memory.
     pub fn encode(&self, alloc: Global, s: &State) -> Result<Bits, AllocError>
-        ensures values { IfOk result (λ bits. bits ≡ map truth_value s.now) }
+        ensures values { IfOk result (λ bits. bits ≡ encoded_all self.now.layout.state_types s.now) }
         ensures code { (p : Program) → IsBuilt p self.now → is_state p s.now ≡ true → IfOk result (λ bits. state_of p (assignment_of bits) ≡ s.now) }
     {
-        let values = truth_values(alloc, s.as_slice())?;
-        Ok(Bits::from_vec(values))
+        let bits = self.layout().encode(alloc, s)?;
+        Ok(Bits::from_vec(bits))
     }
 
     /// The state that the bits are; bits past the end of the list are false. The only error is want of memory.
     pub fn decode(&self, alloc: Global, bits: &Bits) -> Result<State, AllocError>
-        ensures { IfOk result (λ s. s ≡ decoded self.now.layout.state (assignment_of bits.now)) }
+        ensures { IfOk result (λ s. s ≡ decoded self.now.layout.state_types self.now.layout.state (assignment_of bits.now)) }
     {
-        decoded(alloc, self.layout.state.as_slice(), bits.as_slice())
+        self.layout.decode(alloc, bits.as_slice())
     }
 
     /// The inputs of a step that the values of all bits are. The only error is want of memory.
     pub fn decode_inputs(&self, alloc: Global, bits: &Bits) -> Result<Inputs, AllocError>
-        ensures { IfOk result (λ u. u ≡ decoded self.now.layout.inputs (assignment_of bits.now)) }
+        ensures { IfOk result (λ u. u ≡ decoded self.now.layout.input_types self.now.layout.inputs (assignment_of bits.now)) }
     {
-        decoded(alloc, self.layout.inputs.as_slice(), bits.as_slice())
-    }
-}
-
-// The value of a variable, false past the end of the list.
-fn value_at(values: &[bool], i: usize) -> bool
-    ensures { result ≡ assignment_of values.now i }
-{
-    match values.get(i) {
-        None => false,
-        Some(value) => *value,
-    }
-}
-
-/// The values that these bits are; bits past the end of the list are false. The only error is want of memory.
-pub fn decoded(alloc: Global, places: &[usize], bits: &[bool]) -> Result<Items<Value>, AllocError>
-    ensures { IfOk result (λ values. values ≡ decoded places.now (assignment_of bits.now)) }
-{
-    let mut values = Vec::new(alloc);
-    for place in places {
-        values.push(Value::Bool(value_at(bits, *place)))?;
-    }
-    Ok(Items::from_vec(values))
-}
-
-// The values as booleans.
-fn truth_values(alloc: Global, values: &[Value]) -> Result<Vec<bool>, AllocError>
-    ensures { IfOk result (λ r. r.items ≡ map truth_value values.now) }
-{
-    let mut made = Vec::new(alloc);
-    for value in values {
-        made.push(truth_value(*value))?;
-    }
-    Ok(made)
-}
-
-fn truth_value(value: Value) -> bool
-    ensures { result ≡ truth_value value }
-{
-    match value {
-        Value::Bool(b) => b,
-        Value::Int(_) | Value::Sym(_) | Value::Word { .. } => false,
+        self.layout.decode_inputs(alloc, bits.as_slice())
     }
 }

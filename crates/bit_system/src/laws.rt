@@ -1,18 +1,11 @@
-//! Laws of the coding and of systems that stand for a program.
+//! Laws of systems that stand for a program.
 
-ghost use Rattle.std.specs.Prelude.{◌≡◌, ℕ, true};
+ghost use Rattle.std.specs.Prelude.{ℕ};
 ghost use Rattle.clause_core.specs.Systems.{TransitionSystem};
 ghost use Rattle.smv_tree.specs.declared.tree.Program.{Program};
 ghost use Rattle.smv_resolve.specs.Items.{ResolvedItem};
-ghost use Rattle.smv_meaning.specs.Runs.{has_booleans_alone};
 ghost use Rattle.bit_system.specs.Claims.{IsUnbroken, IsUnbrokenWithin, NeverBad, NeverBadWithin};
-ghost use Rattle.bit_system.specs.Coding.{IsCoding};
 ghost use Rattle.bit_system.specs.Standing.{AgreesWith, StandsFor};
-
-/// The law of the coding: states and bit states go to one another, where a program has booleans alone.
-pub fn is_coding()
-    ensures { (p : Program) → has_booleans_alone p ≡ true → IsCoding p }
-{}
 
 /// A system that stands for a program and a specification has the program's first states and steps, and as bad states those in
 /// which the specification is FALSE.

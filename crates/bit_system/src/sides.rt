@@ -1,39 +1,39 @@
 //! The clauses of states and of steps.
 
-ghost use Rattle.std.specs.Prelude.{◌≡◌, ◌≤◌, ◌+◌, [], length, IfOk};
-ghost use Rattle.bit_graph.specs.Growth.{Extends};
-ghost use Rattle.bit_graph.specs.Meaning.{HasInputs};
+ghost use Rattle.std.specs.Prelude.{◌≡◌, ◌≤◌, ◌+◌, map, All, IfOk};
+ghost use Rattle.clause_core.specs.Literals.{Within};
+ghost use Rattle.bit_graph.specs.Meaning.{HasInputs, Stands};
+ghost use Rattle.bit_graph.specs.Values.{value_under};
+ghost use Rattle.bit_clauses.specs.Deciding.{Decides};
 ghost use Rattle.smv_resolve.specs.Items.{item_by};
-ghost use Rattle.smv_scope.specs.Slots.{slots_of};
-ghost use Rattle.smv_meaning.specs.Runs.{is_step};
-ghost use Rattle.smv_meaning.specs.Tables.{outcomes_of};
-ghost use Rattle.bit_expr.specs.Edges.{AllStand, TellsEach};
-ghost use Rattle.bit_system.specs.Coding.{inputs_of, layout_of, named_width, next_of, state_of, state_width};
-ghost use Rattle.bit_system.specs.Conditions.{Tells, TellsState, TellsStates, edges_of};
-ghost use Rattle.bit_system.specs.Sharing.{IsClaim, IsStateSide, IsStepSide};
+ghost use Rattle.smv_meaning.specs.Runs.{is_step, specifications_of};
+ghost use Rattle.bit_states.specs.Coding.{inputs_of, next_of, state_of};
+ghost use Rattle.bit_states.specs.Layouts.{layout_of, named_width, state_width};
+ghost use Rattle.bit_conditions.specs.Told.{Tells};
+ghost use Rattle.bit_system.specs.Conditions.{TellsStates};
+ghost use Rattle.bit_system.specs.Sharing.{DecidesEdge, IsStateSide, IsStepSide};
 
-use crate::justice::just_edges;
-use crate::states::{StateTruths, bad_conditions, first_conditions, good_conditions, state_truths};
-use crate::steps::step_conditions;
-use crate::widths::{Layout, edges_of};
-use bit_clauses::{Decided, Either, decide, define};
-use bit_expr::{Truth, nowhere};
+use crate::claims::bad_edges;
+use crate::framing::{framed_inputs, framed_state};
+use bit_clauses::{Decided, Either, ask, decide, define};
+use bit_conditions::{first_conditions, just_edges, nowhere, step_conditions};
 use bit_graph::{Edge, Graph};
+use bit_states::Layout;
 use clause_core::{Clause, Clauses};
 use smv_meaning::Typed;
 use smv_resolve::Item;
-use sqlite_items::Items;
 use std::alloc::{AllocError, Global};
 
 /// What is asked of a state, over a graph with an input for each of its bits.
 #[derive(Drop)]
 pub struct StateConditions {
     pub graph: Graph,
-    pub state: StateTruths,
     /// What is asked of a first state.
     pub first: Vec<Either>,
     /// The formulas of JUSTICE.
     pub fair: Vec<Edge>,
+    /// The bad states of each specification.
+    pub bad: Vec<Edge>,
 }
 
 /// What is asked of a step, over a graph with an input for each bit of the state, of the next one and of the inputs.
@@ -61,58 +61,30 @@ pub struct Claim {
     pub good: Clauses,
 }
 
-/// The truths of the nodes where there is no state.
-pub fn nowhere_in(alloc: Global, graph: &Graph, typed: &Typed) -> Result<Items<Truth>, AllocError>
-    ensures { IfOk result (λ truths. TellsEach graph.now truths (λ v. outcomes_of (slots_of typed.now.scope.program) [] [] [] typed.now.nodes)) }
-{
-    let truths = nowhere(
-        alloc,
-        graph,
-        typed.scope.slots.as_slice(),
-        typed.nodes.as_slice(),
-    )?;
-    Ok(truths)
-}
-
-/// The state whose bits are these inputs of the graph.
-pub fn framed_state(
-    alloc: Global,
-    graph: &mut Graph,
-    typed: &Typed,
-    nowhere: &Items<Truth>,
-    bits: &[usize],
-) -> Result<StateTruths, AllocError>
-    requires nowhere { TellsEach graph.old nowhere.now (λ v. outcomes_of (slots_of typed.now.scope.program) [] [] [] typed.now.nodes) }
-    requires width { length bits.now ≡ state_width typed.now.scope.program }
-    requires stand { AllStand graph.old (edges_of bits.now) }
-    ensures extends { Extends graph.old graph.new }
-    ensures bits { IfOk result (λ state. state.bits ≡ edges_of bits.now) }
-    ensures told { IfOk result (λ state. TellsState graph.new typed.now state) }
-{
-    let edges = edges_of(alloc, bits)?;
-    let state = state_truths(alloc, graph, typed, nowhere, edges)?;
-    Ok(state)
-}
-
-/// What is asked of a state.
+/// What is asked of a state, with an edge for each of the specifications.
 pub fn state_side_conditions(
     alloc: Global,
     typed: &Typed,
     layout: &Layout,
+    specs: &[Item],
 ) -> Result<StateConditions, AllocError>
-    requires { layout.now ≡ layout_of typed.now.scope.program }
-    ensures { IfOk result (TellsStates typed.now) }
+    requires layout { layout.now ≡ layout_of typed.now.scope.program }
+    requires specs { map (item_by typed.now.nodes) specs.now ≡ specifications_of typed.now.scope.program }
+    ensures { IfOk result (TellsStates typed.now.scope.program) }
 {
-    let mut graph = Graph::new(alloc, layout.state.len())?;
-    let nowhere = nowhere_in(alloc, &graph, typed)?;
-    let state = framed_state(alloc, &mut graph, typed, &nowhere, layout.state.as_slice())?;
+    let bits = layout.state();
+    let types = layout.state_types();
+    let mut graph = Graph::new(alloc, bits.len())?;
+    let none = nowhere(alloc, &mut graph, typed)?;
+    let state = framed_state(alloc, &mut graph, typed, types, none.as_slice(), bits)?;
     let fair = just_edges(alloc, &mut graph, typed, &state)?;
-    let first = first_conditions(alloc, &graph, typed, &state)?;
+    let bad = bad_edges(alloc, &mut graph, typed, &state, specs)?;
+    let first = first_conditions(alloc, &mut graph, typed, &state)?;
     Ok(StateConditions {
         graph,
-        state,
         first,
         fair,
+        bad,
     })
 }
 
@@ -128,12 +100,17 @@ fn step_side_conditions(
     ensures inputs { IfOk result (λ r. HasInputs named r.graph) }
     ensures step { IfOk result (λ r. Tells r.graph r.step.items (λ v. is_step typed.now.scope.program (state_of typed.now.scope.program v) (inputs_of typed.now.scope.program v) (next_of typed.now.scope.program v))) }
 {
+    let types = layout.state_types();
+    let given = layout.input_types();
+    let first = layout.state();
+    let second = layout.next();
+    let between = layout.inputs();
     let mut graph = Graph::new(alloc, named)?;
-    let nowhere = nowhere_in(alloc, &graph, typed)?;
-    let inputs = edges_of(alloc, layout.inputs.as_slice())?;
-    let from = framed_state(alloc, &mut graph, typed, &nowhere, layout.state.as_slice())?;
-    let to = framed_state(alloc, &mut graph, typed, &nowhere, layout.next.as_slice())?;
-    let step = step_conditions(alloc, &mut graph, typed, &from, inputs.as_slice(), &to)?;
+    let none = nowhere(alloc, &mut graph, typed)?;
+    let from = framed_state(alloc, &mut graph, typed, types, none.as_slice(), first)?;
+    let to = framed_state(alloc, &mut graph, typed, types, none.as_slice(), second)?;
+    let inputs = framed_inputs(alloc, &mut graph, typed, given, between)?;
+    let step = step_conditions(alloc, &mut graph, typed, &from, &inputs, &to)?;
     Ok(StepConditions { graph, step })
 }
 
@@ -154,7 +131,7 @@ pub fn state_side(
     width: usize,
     by: usize,
 ) -> Result<StateSide, AllocError>
-    requires parts { TellsStates typed.now parts.now }
+    requires parts { TellsStates typed.now.scope.program parts.now }
     requires width { width ≡ state_width typed.now.scope.program }
     ensures side { IfOk result (IsStateSide typed.now.scope.program) }
     ensures room { IfOk result (λ r. width + by ≤ r.vars) }
@@ -171,24 +148,41 @@ pub fn state_side(
     })
 }
 
-/// The clauses of states in which the value of the item is FALSE, and those of states in which it is not.
-pub fn claim_side(
+// The clauses that decide whether the edge is true, by the inputs of the graph, which are so many.
+fn clauses_of(
     alloc: Global,
-    typed: &Typed,
-    parts: &StateConditions,
+    graph: &Graph,
     width: usize,
     by: usize,
-    spec: Item,
-) -> Result<Claim, AllocError>
-    requires parts { TellsStates typed.now parts.now }
-    requires width { width ≡ state_width typed.now.scope.program }
-    ensures { IfOk result (IsClaim typed.now.scope.program (item_by typed.now.nodes spec)) }
+    edge: Edge,
+) -> Result<Decided, AllocError>
+    requires inputs { HasInputs width graph.now }
+    requires stands { Stands graph.now edge }
+    ensures decides { IfOk result (λ r. Decides width r.clauses (λ x. value_under x graph.now edge)) }
+    ensures within { IfOk result (λ r. All (Within r.vars) r.clauses) }
 {
-    parts.graph.one_way();
-    let asked = bad_conditions(alloc, &parts.graph, typed, &parts.state, spec)?;
-    let bad = decide(alloc, &parts.graph, width, &asked, by)?;
-    let opposite = good_conditions(alloc, &parts.graph, typed, &parts.state, spec)?;
-    let good = decide(alloc, &parts.graph, width, &opposite, by)?;
+    graph.one_way();
+    let mut asked = Vec::new(alloc);
+    ask(graph, &mut asked, edge)?;
+    let decided = decide(alloc, graph, width, &asked, by)?;
+    Ok(decided)
+}
+
+/// The clauses of states in which the edge is true, and those of states in which it is not. The variables behind the inputs of the
+/// graph, which are so many, are moved up by `by`.
+pub fn claim_side(
+    alloc: Global,
+    graph: &Graph,
+    width: usize,
+    by: usize,
+    edge: Edge,
+) -> Result<Claim, AllocError>
+    requires inputs { HasInputs width graph.now }
+    requires stands { Stands graph.now edge }
+    ensures { IfOk result (DecidesEdge width graph.now edge) }
+{
+    let bad = clauses_of(alloc, graph, width, by, edge)?;
+    let good = clauses_of(alloc, graph, width, by, edge.negation())?;
     let vars = higher(bad.vars, good.vars);
     Ok(Claim {
         vars,

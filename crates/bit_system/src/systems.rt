@@ -1,16 +1,15 @@
 //! A system for each specification.
 
 ghost use Rattle.std.specs.Prelude.{◌≡◌, ◌≤◌, map, IfOk, All};
-ghost use Rattle.smv_resolve.specs.Items.{item_by};
-ghost use Rattle.bit_system.specs.Coding.{state_width};
-ghost use Rattle.bit_system.specs.Conditions.{TellsStates};
-ghost use Rattle.bit_system.specs.Sharing.{CanBeClaimed, Each, HasRoom, IsClaim, system_by};
+ghost use Rattle.bit_graph.specs.Meaning.{HasInputs};
+ghost use Rattle.bit_arith.specs.Number.{AllStand};
+ghost use Rattle.bit_system.specs.Conditions.{Each};
+ghost use Rattle.bit_system.specs.Sharing.{CanBeClaimed, DecidesEdge, HasRoom, system_by};
 
-use crate::sides::{Claim, StateConditions, StateSide, claim_side, higher};
+use crate::sides::{Claim, StateSide, claim_side, higher};
 use bit_clauses::Decided;
+use bit_graph::{Edge, Graph};
 use clause_core::{Clause, Clauses, Parts, System};
-use smv_meaning::Typed;
-use smv_resolve::Item;
 use std::alloc::{AllocError, Global};
 
 /// What all systems of a program share.
@@ -22,22 +21,21 @@ pub struct Shared {
     pub states: StateSide,
 }
 
-/// The clauses of each of the specifications.
+/// The clauses of each of these edges: of where it is true, and of where it is not. The graph has so many inputs.
 pub fn claims(
     alloc: Global,
-    typed: &Typed,
-    parts: &StateConditions,
+    graph: &Graph,
     width: usize,
     by: usize,
-    specs: &[Item],
+    edges: &[Edge],
 ) -> Result<Vec<Claim>, AllocError>
-    requires parts { TellsStates typed.now parts.now }
-    requires width { width ≡ state_width typed.now.scope.program }
-    ensures { IfOk result (λ r. Each (IsClaim typed.now.scope.program) (map (item_by typed.now.nodes) specs.now) r.items) }
+    requires inputs { HasInputs width graph.now }
+    requires stand { AllStand graph.now edges.now }
+    ensures { IfOk result (λ r. Each (DecidesEdge width graph.now) edges.now r.items) }
 {
     let mut claims = Vec::new(alloc);
-    for spec in specs {
-        claims.push(claim_side(alloc, typed, parts, width, by, *spec)?)?;
+    for edge in edges {
+        claims.push(claim_side(alloc, graph, width, by, *edge)?)?;
     }
     Ok(claims)
 }

@@ -9,13 +9,13 @@ use Rattle.command_words.specs.declared.command.Command.{Command}
 use Rattle.command_words.specs.Grammar.{HasNumber, IsCommandLine, Tells, program}
 use Rattle.command_words.proofs.Said.{is_said}
 
-module _ (found : Found) (word : Text) (most : ℕ) where
+module _ (found : Found) (word : Text) (least most : ℕ) where
   -- an option that has a number has a text
-  pub text_given : (n : ℕ) → HasNumber (rows_of found) word most n → (text : Option Text) → text ≡ first_value found word → (t : Text) × (text ≡ Some t)
+  pub text_given : (n : ℕ) → HasNumber (rows_of found) word least most n → (text : Option Text) → text ≡ first_value found word → (t : Text) × (text ≡ Some t)
   text_given n h text e = (h.text, e ∙ first_value-rows found word ∙ h.given)
 
   -- that text is read as this number
-  pub number_read : {E : Type 0} (n : ℕ) → HasNumber (rows_of found) word most n → (text : Text) → Some text ≡ first_value found word → (r : Result ℕ E) → ParsesUnsigned 64 10 text r → r ≡ Ok n
+  pub number_read : {E : Type 0} (n : ℕ) → HasNumber (rows_of found) word least most n → (text : Text) → Some text ≡ first_value found word → (r : Result ℕ E) → ParsesUnsigned 64 10 text r → r ≡ Ok n
   number_read n h text e (Ok m) read =
       let both : Some text ≡ Some h.text = e ∙ first_value-rows found word ∙ h.given in
       let same : text ≡ h.text = cc in

@@ -8,8 +8,9 @@ use Rattle.clap.specs.Faults.{fault_of}
 use Rattle.clap.specs.declared.builder.action.ArgAction.TheVariants.{SetTrue}
 use Rattle.clap.specs.declared.builder.value_parser.ValueParser.TheVariants as parser
 use Rattle.command_words.specs.declared.command.Command.{Command}
-use Rattle.command_words.specs.declared.command.Command.TheVariants.{Check, Recheck, Flat}
+use Rattle.command_words.specs.declared.command.Command.TheVariants.{Check, Recheck, Flat, Ring}
 use Rattle.command_words.specs.declared.command.Effort.{Effort}
+use Rattle.command_words.specs.declared.command.Ring.{Ring as RingOf}
 
 -- a row of an option: its word, the least and the greatest number that it takes, and what stands for its number where
 -- it is left out
@@ -19,9 +20,17 @@ pub record OptionRow : Type 0 where
   pub greatest : ℕ
   pub default : Text
 
--- a row of a command: its word, its options, and the words of its flags
+-- a row of a number that stands in its place among the words after the command, without a word before it: what it is called, and the
+-- least and the greatest number that it takes
+pub record PlaceRow : Type 0 where
+  pub name : Text
+  pub least : ℕ
+  pub greatest : ℕ
+
+-- a row of a command: its word, the numbers in their places, its options, and the words of its flags
 pub record CommandRow : Type 0 where
   pub word : Text
+  pub places : List PlaceRow
   pub options : List OptionRow
   pub flags : List Text
 
@@ -53,25 +62,38 @@ cert_flag = codes "cert"
 abbrev pub upgrade_flag : Text
 upgrade_flag = codes "upgrade"
 
+-- how many cells the ring has
+abbrev pub cells_place : PlaceRow
+cells_place = record { name = codes "N"; least = 2; greatest = 12 }
+
+-- what picks the cell that begins with the token
+abbrev pub seed_place : PlaceRow
+seed_place = record { name = codes "SEED"; least = 0; greatest = 4294967295 }
+
 -- specifications are decided
 abbrev pub check_row : CommandRow
 check_row = record {
   word = codes "check";
+  places = [];
   options = conflicts_option ∷ bound_option ∷ frames_option ∷ counter_option ∷ [];
   flags = together_flag ∷ cert_flag ∷ [];
 }
 
 -- a report is judged again
 abbrev pub recheck_row : CommandRow
-recheck_row = record { word = codes "recheck"; options = []; flags = upgrade_flag ∷ [] }
+recheck_row = record { word = codes "recheck"; places = []; options = []; flags = upgrade_flag ∷ [] }
 
 -- slots and items are listed
 abbrev pub flat_row : CommandRow
-flat_row = record { word = codes "flat"; options = []; flags = [] }
+flat_row = record { word = codes "flat"; places = []; options = []; flags = [] }
+
+-- a ring is made, and its specifications are decided
+abbrev pub ring_row : CommandRow
+ring_row = record { word = codes "self"; places = cells_place ∷ seed_place ∷ []; options = []; flags = [] }
 
 -- the table
 abbrev pub commands : List CommandRow
-commands = check_row ∷ recheck_row ∷ flat_row ∷ []
+commands = check_row ∷ recheck_row ∷ flat_row ∷ ring_row ∷ []
 
 -- `--WORD N` and `--WORD=N`, with a number in this range, and what stands for it where it is left out
 abbrev pub number_rule : Text → ℕ → ℕ → Text → Rule
@@ -85,13 +107,17 @@ number_rule word least greatest default = record (new_rule word) {
 abbrev pub option_rule : OptionRow → Rule
 option_rule row = number_rule row.word row.least row.greatest row.default
 
+-- a number in this range, which has to be there
+abbrev pub place_rule : PlaceRow → Rule
+place_rule row = record (new_rule row.name) { parser = Some (parser.Unsigned row.least row.greatest); required = true }
+
 -- `--WORD`, which takes no value
 abbrev pub flag_rule : Text → Rule
 flag_rule word = record (new_rule word) { long = Some word; action = Some SetTrue }
 
--- a command with the rules of its options and then of its flags
+-- a command with the rules of the numbers in their places, then of its options and then of its flags
 abbrev pub command_app : CommandRow → App
-command_app row = fold with_rule (new_app row.word) (map option_rule row.options ++ map flag_rule row.flags)
+command_app row = fold with_rule (new_app row.word) (map place_rule row.places ++ map option_rule row.options ++ map flag_rule row.flags)
 
 -- a program that wants a command, and has no help of its own
 abbrev pub bare_program : App
@@ -102,19 +128,25 @@ bare_program = on_top (λ (s : Shape). record s {
   disable_help_subcommand = true;
 }) (new_app (codes "smvcheck"))
 
+-- the program with these commands
+abbrev pub program_with : List CommandRow → App
+program_with = fold (λ app row. with_subcommand app (command_app row).top) bare_program
+
 -- the program with the commands of the table
 abbrev pub program : App
-program = fold (λ app row. with_subcommand app (command_app row).top) bare_program commands
+program = program_with commands
 
 -- the words are in the grammar
 abbrev pub IsCommandLine : List Text → Type 0
 IsCommandLine words = fault_of program words ≡ []
 
--- the option of this word has this number: its word on the command line, or its default, is read as that
-pub record HasNumber (rows : List Row) (word : Text) (greatest n : ℕ) : Type 0 where
+-- The option of this word, or the number in its place that is called so, has this number in its range: what stands for it on the
+-- command line, or else its default, is read as that.
+pub record HasNumber (rows : List Row) (word : Text) (least greatest n : ℕ) : Type 0 where
   pub text : Text
   pub given : first_of word rows ≡ Some text
   pub read : (let number : Result ℕ ℕ = Ok n in ParsesUnsigned 64 10 text number)
+  pub enough : least ≤ n
   pub within : n ≤ greatest
 
 -- how `clap` writes whether a flag is there
@@ -128,12 +160,21 @@ HasFlag rows word is_there = one_of word rows ≡ Some (flag_text is_there)
 
 -- the options of `check` have these numbers, and its flags are there or not
 pub record HasEffort (rows : List Row) (effort : Effort) : Type 0 where
-  pub conflicts : HasNumber rows conflicts_option.word conflicts_option.greatest effort.conflicts
-  pub bound : HasNumber rows bound_option.word bound_option.greatest effort.bound
-  pub frames : HasNumber rows frames_option.word frames_option.greatest effort.frames
-  pub counter : HasNumber rows counter_option.word counter_option.greatest effort.counter
+  pub conflicts : HasNumber rows conflicts_option.word conflicts_option.least conflicts_option.greatest effort.conflicts
+  pub bound : HasNumber rows bound_option.word bound_option.least bound_option.greatest effort.bound
+  pub frames : HasNumber rows frames_option.word frames_option.least frames_option.greatest effort.frames
+  pub counter : HasNumber rows counter_option.word counter_option.least counter_option.greatest effort.counter
   pub together : HasFlag rows together_flag effort.together
   pub cert : HasFlag rows cert_flag effort.cert
+
+-- the effort of a `check` without options
+abbrev pub default_effort : Effort
+default_effort = record { conflicts = 1000000; bound = 30; frames = 1000; counter = 16; together = false; cert = false }
+
+-- the numbers in the places of `self` are these
+pub record HasRing (rows : List Row) (ring : RingOf) : Type 0 where
+  pub cells : HasNumber rows cells_place.name cells_place.least cells_place.greatest ring.cells
+  pub seed : HasNumber rows seed_place.name seed_place.least seed_place.greatest ring.seed
 
 -- the command that was found, with its options and flags, is this one
 abbrev pub Tells : Option (Text × List Row) → Command → Type 0
@@ -141,6 +182,7 @@ Tells None command = ⊥
 Tells (Some found) (Check effort) = (found.0 ≡ check_row.word) × HasEffort found.1 effort
 Tells (Some found) (Recheck upgrade) = (found.0 ≡ recheck_row.word) × HasFlag found.1 upgrade_flag upgrade
 Tells (Some found) Flat = found.0 ≡ flat_row.word
+Tells (Some found) (Ring ring) = (found.0 ≡ ring_row.word) × HasRing found.1 ring
 
 -- the words say this command
 abbrev pub Says : List Text → Command → Type 0

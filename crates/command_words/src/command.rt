@@ -1,5 +1,8 @@
 //! What a command line asks for.
 
+ghost use Rattle.std.specs.Prelude.{◌≡◌};
+ghost use Rattle.command_words.specs.Grammar.{default_effort};
+
 /// What a command line asks for.
 #[derive(Clone, Copy, Debug, Drop, PartialEq, Eq)]
 pub enum Command {
@@ -10,6 +13,17 @@ pub enum Command {
     Recheck { upgrade: bool },
     /// A model is read, and its slots and items are listed.
     Flat,
+    /// The model of this ring is made, and each of its specifications is decided with the effort of a `check` without options.
+    Ring(Ring),
+}
+
+/// A ring of cells that hand a token on.
+#[derive(Clone, Copy, Debug, Drop, PartialEq, Eq)]
+pub struct Ring {
+    /// How many cells it has.
+    pub cells: usize,
+    /// What picks the cell that begins with the token: the rest of a division by the number of cells.
+    pub seed: u64,
 }
 
 /// How much effort a specification may cost.
@@ -27,4 +41,18 @@ pub struct Effort {
     pub together: bool,
     /// Whether the certificate of what is true is printed.
     pub cert: bool,
+}
+
+/// The effort of a `check` without options.
+pub fn default_effort() -> Effort
+    ensures { result ≡ default_effort }
+{
+    Effort {
+        conflicts: 1_000_000,
+        bound: 30,
+        frames: 1000,
+        counter: 16,
+        together: false,
+        cert: false,
+    }
 }

@@ -8,6 +8,6 @@ mod laws;
 mod reading;
 mod table;
 
-pub use command::{Command, Effort};
+pub use command::{Command, Effort, Ring, default_effort};
 pub use laws::is_said_once;
 pub use reading::{WordsStop, read_words};

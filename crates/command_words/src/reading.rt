@@ -4,11 +4,13 @@ ghost use Rattle.std.specs.Prelude.{◌≡◌, ◌≤◌, ℕ, Bool, map, IfOk, 
 ghost use Rattle.clap.specs.Words.{found_of, rows_of, subcommand_rows_of};
 ghost use Rattle.command_words.specs.declared.command.Command.{Command as CommandOf};
 ghost use Rattle.command_words.specs.declared.command.Effort.{Effort as EffortOf};
-ghost use Rattle.command_words.specs.Grammar.{HasEffort, HasFlag, HasNumber, IsCommandLine, Says, Tells, bound_option, cert_flag, conflicts_option, counter_option, frames_option, together_flag, upgrade_flag};
+ghost use Rattle.command_words.specs.declared.command.Ring.{Ring as RingOf};
+ghost use Rattle.command_words.specs.Grammar.{HasEffort, HasFlag, HasNumber, HasRing, IsCommandLine, Says, Tells, bound_option, cells_place, cert_flag, conflicts_option, counter_option, frames_option, seed_place, together_flag, upgrade_flag};
 
-use crate::command::{Command, Effort};
+use crate::command::{Command, Effort, Ring};
 use crate::table::{
-    BOUND, CERT, CONFLICTS, COUNTER, FLAT, FRAMES, RECHECK, TOGETHER, UPGRADE, program,
+    BOUND, CELLS, CERT, CHECK, CONFLICTS, COUNTER, FLAT, FRAMES, RECHECK, SEED, TOGETHER, UPGRADE,
+    program,
 };
 use clap::ArgMatches;
 use clap::error::ErrorKind;
@@ -23,16 +25,16 @@ pub enum WordsStop {
     NoMemory,
 }
 
-// The number of an option that has one.
-fn number_of(found: &ArgMatches<'_>, word: &str, greatest: u64) -> u64
-    requires { (n : ℕ) × HasNumber (rows_of (found_of found.now)) word.now greatest n }
-    ensures { HasNumber (rows_of (found_of found.now)) word.now greatest result }
+// The number of an option, or in a place, that has one.
+fn number_of(found: &ArgMatches<'_>, word: &str, least: u64, greatest: u64) -> u64
+    requires { (n : ℕ) × HasNumber (rows_of (found_of found.now)) word.now least greatest n }
+    ensures { HasNumber (rows_of (found_of found.now)) word.now least greatest result }
 {
     let Some(text) = found.get_str(word) else {
         unreachable!()
     };
     match text.parse::<u64>() {
-        Ok(number) if number <= greatest => number,
+        Ok(number) if least <= number && number <= greatest => number,
         _ => unreachable!(),
     }
 }
@@ -50,10 +52,10 @@ fn effort_of(found: &ArgMatches<'_>) -> Effort
     requires { (effort : EffortOf) × HasEffort (rows_of (found_of found.now)) effort }
     ensures { HasEffort (rows_of (found_of found.now)) result }
 {
-    let conflicts = number_of(found, CONFLICTS, 1_099_511_627_776);
-    let bound = number_of(found, BOUND, 10_000);
-    let frames = number_of(found, FRAMES, 100_000);
-    let counter = number_of(found, COUNTER, 64);
+    let conflicts = number_of(found, CONFLICTS, 0, 1_099_511_627_776);
+    let bound = number_of(found, BOUND, 0, 10_000);
+    let frames = number_of(found, FRAMES, 0, 100_000);
+    let counter = number_of(found, COUNTER, 0, 64);
     Effort {
         conflicts,
         bound: bound as usize,
@@ -61,6 +63,19 @@ fn effort_of(found: &ArgMatches<'_>) -> Effort
         counter: counter as usize,
         together: flag_of(found, TOGETHER),
         cert: flag_of(found, CERT),
+    }
+}
+
+// The ring that the numbers in the places of `self` give.
+fn ring_of(found: &ArgMatches<'_>) -> Ring
+    requires { (ring : RingOf) × HasRing (rows_of (found_of found.now)) ring }
+    ensures { HasRing (rows_of (found_of found.now)) result }
+{
+    let cells = number_of(found, CELLS, 2, 12);
+    let seed = number_of(found, SEED, 0, 4_294_967_295);
+    Ring {
+        cells: cells as usize,
+        seed,
     }
 }
 
@@ -78,8 +93,10 @@ fn command_of(matches: &ArgMatches<'_>) -> Command
         Command::Recheck {
             upgrade: flag_of(found, UPGRADE),
         }
-    } else {
+    } else if word == CHECK {
         Command::Check(effort_of(found))
+    } else {
+        Command::Ring(ring_of(found))
     }
 }
 

@@ -1,9 +1,9 @@
 //! The table of commands and options, as `clap` takes it.
 
-ghost use Rattle.std.specs.Prelude.{◌≡◌, [], false, IfOk};
+ghost use Rattle.std.specs.Prelude.{◌≡◌, ◌∷◌, [], false, IfOk};
 ghost use Rattle.clap.specs.Words.{app_of, rule_of};
 ghost use Rattle.clap.specs.declared.Command.TheViews.{out-Command};
-ghost use Rattle.command_words.specs.Grammar.{bare_program, bound_option, cert_flag, check_row, command_app, conflicts_option, counter_option, flag_rule, flat_row, frames_option, number_rule, option_rule, program, recheck_row, together_flag, upgrade_flag};
+ghost use Rattle.command_words.specs.Grammar.{bare_program, bound_option, cells_place, cert_flag, check_row, command_app, conflicts_option, counter_option, flag_rule, flat_row, frames_option, number_rule, option_rule, place_rule, program, program_with, recheck_row, ring_row, seed_place, together_flag, upgrade_flag};
 
 use clap::builder::ValueParser;
 use clap::{Arg, ArgAction, Command};
@@ -17,6 +17,15 @@ pub const RECHECK: &str = "recheck";
 
 /// The word of the command that lists slots and items.
 pub const FLAT: &str = "flat";
+
+/// The word of the command that makes a ring and decides its specifications.
+pub const RING: &str = "self";
+
+/// What the number of cells is called.
+pub const CELLS: &str = "N";
+
+/// What the number is called that picks the cell that begins with the token.
+pub const SEED: &str = "SEED";
 
 /// The word of the option that says how many tickets a specification may cost.
 pub const CONFLICTS: &str = "conflicts";
@@ -84,6 +93,26 @@ fn counter_option<'a>(alloc: Global) -> Arg<'a>
     number_option(alloc, COUNTER, 0, 64, "16")
 }
 
+// The number of cells, in its place.
+fn cells_place<'a>(alloc: Global) -> Arg<'a>
+    ensures rule { rule_of result ≡ place_rule cells_place }
+    ensures local { result.global ≡ false }
+{
+    Arg::new(alloc, CELLS)
+        .value_parser(ValueParser::unsigned(2, 12))
+        .required(true)
+}
+
+// The seed, in its place.
+fn seed_place<'a>(alloc: Global) -> Arg<'a>
+    ensures rule { rule_of result ≡ place_rule seed_place }
+    ensures local { result.global ≡ false }
+{
+    Arg::new(alloc, SEED)
+        .value_parser(ValueParser::unsigned(0, 4_294_967_295))
+        .required(true)
+}
+
 // A word that is there or is not.
 fn flag<'a>(alloc: Global, word: &'a str) -> Arg<'a>
     ensures rule { rule_of result ≡ flag_rule word.now }
@@ -129,6 +158,15 @@ fn flat_command<'a>(alloc: Global) -> Command<'a>
     Command::new(alloc, FLAT)
 }
 
+fn ring_command<'a>(alloc: Global) -> Result<Command<'a>, AllocError>
+    ensures app { IfOk result (λ c. app_of c ≡ command_app ring_row) }
+    ensures local { IfOk result (λ c. (out-Command c).has_globals ≡ false) }
+{
+    Command::new(alloc, RING)
+        .arg(cells_place(alloc))?
+        .arg(seed_place(alloc))
+}
+
 // The program without its commands: it wants one, and has no help of its own.
 fn bare_program<'a>(alloc: Global) -> Command<'a>
     ensures app { app_of result ≡ bare_program }
@@ -141,14 +179,21 @@ fn bare_program<'a>(alloc: Global) -> Command<'a>
         .disable_help_subcommand(true)
 }
 
+// The program with the commands that decide specifications of a model, or judge a report.
+fn judging_program<'a>(alloc: Global) -> Result<Command<'a>, AllocError>
+    ensures { IfOk result (λ c. app_of c ≡ program_with (check_row ∷ recheck_row ∷ [])) }
+{
+    let check = check_command(alloc)?;
+    let recheck = recheck_command(alloc)?;
+    bare_program(alloc).subcommand(check)?.subcommand(recheck)
+}
+
 /// The whole table.
 pub fn program<'a>(alloc: Global) -> Result<Command<'a>, AllocError>
     ensures { IfOk result (λ c. app_of c ≡ program) }
 {
-    let check = check_command(alloc)?;
-    let recheck = recheck_command(alloc)?;
-    bare_program(alloc)
-        .subcommand(check)?
-        .subcommand(recheck)?
-        .subcommand(flat_command(alloc))
+    let ring = ring_command(alloc)?;
+    judging_program(alloc)?
+        .subcommand(flat_command(alloc))?
+        .subcommand(ring)
 }

@@ -2,12 +2,12 @@
 
 use crate::program_of;
 use smv_tree::{Expr, Name, Place, Program, Section, Start};
-use smv_value::{Logic, Operator, Value};
+use smv_value::{Arithmetic, Logic, Operator, Order, Shift, Value};
 use std::alloc::{AllocError, Global};
 use std::test::Fail;
 
 /// A constraint, and its formula with each node in parentheses; what stands in parentheses itself, in brackets.
-const SHAPES: [(&str, &str); 17] = [
+const SHAPES: [(&str, &str); 23] = [
     ("MODULE main INVAR a -> b -> c", "(a -> (b -> c))"),
     ("MODULE main INVAR (a -> b) -> c", "([(a -> b)] -> c)"),
     ("MODULE main INVAR !a = b", "((! a) = b)"),
@@ -43,6 +43,24 @@ const SHAPES: [(&str, &str); 17] = [
     ("MODULE main INVAR self.a.b = c.d", "(self.a.b = c.d)"),
     ("MODULE main INVAR (a) & (b) -> c", "(([a] & [b]) -> c)"),
     ("MODULE main INVAR a ? b : c -> d", "((a ? b : c) -> d)"),
+    (
+        "MODULE main INVAR a + b * c = -d",
+        "((a + (b * c)) = (- d))",
+    ),
+    ("MODULE main INVAR -a * b :: c", "((- a) * (b :: c))"),
+    (
+        "MODULE main INVAR a + b in c union d",
+        "((a + b) in (c union d))",
+    ),
+    ("MODULE main INVAR !w[h:l][i]", "(! ((w [ h : l) [ i))"),
+    (
+        "MODULE main INVAR case a : b; c : {d, e}; esac",
+        "(? a : b : c : ({ d : e))",
+    ),
+    (
+        "MODULE main INVAR a << b + c < max(d, e)",
+        "((a << (b + c)) < (max d : e))",
+    ),
 ];
 
 fn operator_text(operator: Operator) -> &'static str {
@@ -57,6 +75,17 @@ fn operator_text(operator: Operator) -> &'static str {
         Operator::Not => "!",
         Operator::Logic(Logic::Implies) => "->",
         Operator::Choice => "?",
+        Operator::Arithmetic(Arithmetic::Add) => "+",
+        Operator::Arithmetic(Arithmetic::Multiply) => "*",
+        Operator::Negate => "-",
+        Operator::Join => "::",
+        Operator::Shift(Shift::Left) => "<<",
+        Operator::Order(Order::Less) => "<",
+        Operator::In => "in",
+        Operator::Union => "union",
+        Operator::Members => "{",
+        Operator::Index | Operator::Select => "[",
+        Operator::Maximum => "max",
         _ => "",
     }
 }

@@ -6,7 +6,7 @@ use std::alloc::{AllocError, Global};
 use std::test::Fail;
 
 /// A source, and the line by which it is refused; or nothing, where it is read.
-const VERDICTS: [(&str, &str); 46] = [
+const VERDICTS: [(&str, &str); 54] = [
     ("", ""),
     ("MODULE main", ""),
     (
@@ -107,12 +107,57 @@ const VERDICTS: [(&str, &str); 46] = [
         "-- refused 203 Unsupported at 1:9: integer\n",
     ),
     (
-        "MODULE main\nINIT abs(x)",
-        "-- refused 203 Unsupported at 2:6: abs\n",
+        "MODULE main\nVAR x : array 0..3 of boolean;",
+        "-- refused 203 Unsupported at 2:9: array\n",
+    ),
+    // Values of the other types: ranges, enumerations, words; sets, cases, functions and selections.
+    (
+        "MODULE main VAR x : 0..7; y : {a, -1, b}; w : word[8]; s : signed word[2 * N]; u : unsigned word[4]; z : -N..self.n mod 3;",
+        "",
     ),
     (
-        "MODULE main\nINIT x + y IVAR",
-        "-- refused 203 Unsupported at 2:8: +\n",
+        "MODULE main CONSTANTS a, b; ASSIGN init(x) := {0, 1}; next(x) := case x < 3 : x + 1; TRUE : 0..2; esac;",
+        "",
+    ),
+    (
+        "MODULE main INIT abs(x) = max(y, -1) & min(x, 2) in {1} union y & count(a, b) >= 1 & count",
+        "",
+    ),
+    (
+        "MODULE main INIT w[7:4] :: 0ub4_1 = extend(w << 1, 2)[3] & bool(word1(x)) = (swconst(1, 2) > resize(signed(w), sizeof(u)))",
+        "",
+    ),
+    (
+        "MODULE main ASSIGN init(x[3]) := 0; x[i + 1][0] := 1 / y - z * 2;",
+        "",
+    ),
+    (
+        "MODULE main\nINIT x +",
+        "-- refused 201 Unexpected at 2:9: end\n",
+    ),
+    (
+        "MODULE main\nINIT case a : b esac",
+        "-- refused 201 Unexpected at 2:17: esac\n",
+    ),
+    (
+        "MODULE main\nINIT {}",
+        "-- refused 201 Unexpected at 2:7: }\n",
+    ),
+    (
+        "MODULE main\nVAR x : {a.b};",
+        "-- refused 201 Unexpected at 2:11: .\n",
+    ),
+    (
+        "MODULE main\nVAR x : word 8;",
+        "-- refused 201 Unexpected at 2:14: 8\n",
+    ),
+    (
+        "MODULE main\nINIT w[1:2:3]",
+        "-- refused 201 Unexpected at 2:11: :\n",
+    ),
+    (
+        "MODULE main\nINIT abs()",
+        "-- refused 201 Unexpected at 2:10: )\n",
     ),
     (
         "MODULE main\nVAR x",
@@ -131,19 +176,6 @@ const VERDICTS: [(&str, &str); 46] = [
         "MODULE main\nLTLSPEC A x",
         "-- refused 203 Unsupported at 2:9: A\n",
     ),
-    // An integer and a bracket that are none of their bounds go beyond the language.
-    (
-        "MODULE main\nINIT x = 3",
-        "-- refused 203 Unsupported at 2:10: 3\n",
-    ),
-    (
-        "MODULE main\nINIT x[3]",
-        "-- refused 203 Unsupported at 2:7: [\n",
-    ),
-    (
-        "MODULE main\nVAR x : 0..3;",
-        "-- refused 203 Unsupported at 2:9: 0\n",
-    ),
     (
         "MODULE main\nLTLSPEC F [3] x",
         "-- refused 201 Unexpected at 2:13: ]\n",
@@ -154,7 +186,7 @@ const VERDICTS: [(&str, &str); 46] = [
     ),
     (
         "MODULE main\nLTLSPEC F [0 3] x",
-        "-- refused 203 Unsupported at 2:14: 3\n",
+        "-- refused 201 Unexpected at 2:14: 3\n",
     ),
     (
         "MODULE main\nLTLSPEC F [0, 3 x",
@@ -167,7 +199,7 @@ const VERDICTS: [(&str, &str); 46] = [
     ),
     (
         "MODULE main\nLTLSPEC x 3]",
-        "-- refused 203 Unsupported at 2:11: 3\n",
+        "-- refused 201 Unexpected at 2:11: 3\n",
     ),
     (
         "MODULE main\nLTLSPEC x ]",
@@ -176,7 +208,7 @@ const VERDICTS: [(&str, &str); 46] = [
 ];
 
 /// The head of a source, what opens and closes a level before and behind `x`, how often, and the line by which it is refused.
-const LEVELS: [(&str, &str, &str, usize, &str); 8] = [
+const LEVELS: [(&str, &str, &str, usize, &str); 13] = [
     ("MODULE main\nINIT ", "(", ")", 256, ""),
     (
         "MODULE main\nINIT ",
@@ -214,6 +246,23 @@ const LEVELS: [(&str, &str, &str, usize, &str); 8] = [
         ")",
         256,
         "-- refused 202 TooDeep at 2:266\n",
+    ),
+    ("MODULE main\nINIT ", "- ", "", 256, ""),
+    (
+        "MODULE main\nINIT ",
+        "- ",
+        "",
+        257,
+        "-- refused 202 TooDeep at 2:518\n",
+    ),
+    ("MODULE main\nINIT ", "{", "}", 256, ""),
+    ("MODULE main\nINIT ", "y[", "]", 256, ""),
+    (
+        "MODULE main\nINIT ",
+        "y[",
+        "]",
+        257,
+        "-- refused 202 TooDeep at 2:519\n",
     ),
 ];
 

@@ -1,6 +1,11 @@
+ghost use Rattle.frame_core.specs.Law.{AreAlike};
+
 use bit_runs::what_is_built_is_alike;
+use bit_states::BuildStop;
 use bit_system::build;
+use clause_core::System;
 use prove_run::{Answer, Cause, Effort, prove_all};
+use smv_flat::Flat;
 use smv_front::read_model;
 use std::alloc::{AllocError, Global};
 use std::test::Fail;
@@ -124,28 +129,42 @@ fn letters(alloc: Global, answers: &[Answer]) -> Result<Vec<u8>, AllocError> {
     Ok(letters)
 }
 
-fn answered(alloc: Global, row: Row) -> Result<Vec<u8>, Fail> {
-    let Ok(flat) = read_model(alloc, row.source.as_bytes()) else {
-        return Err("the model is refused".into());
-    };
-    let Ok(built) = build(alloc, &flat) else {
-        return Err("the model has no system".into());
-    };
+// Whether these systems are answered as the row wants.
+fn are_answered(alloc: Global, systems: &[System], row: Row) -> Result<bool, AllocError>
+    requires alike { AreAlike systems.now }
+{
     let effort = Effort {
         conflicts: row.conflicts,
         frames: u32::from(row.frames),
     };
-    what_is_built_is_alike();
-    let done = prove_all(alloc, built.systems(), &effort)?;
-    Ok(letters(alloc, &done.answers)?)
+    let done = prove_all(alloc, systems, &effort)?;
+    let found = letters(alloc, &done.answers)?;
+    Ok(found.as_slice() == row.wanted.as_bytes())
+}
+
+fn is_answered(alloc: Global, flat: &Flat, row: Row) -> Result<bool, AllocError> {
+    match build(alloc, flat) {
+        Ok(built) => {
+            what_is_built_is_alike();
+            are_answered(alloc, built.systems(), row)
+        }
+        Err(BuildStop::TooManyBits) => Ok(false),
+        Err(BuildStop::NoMemory) => Err(AllocError),
+    }
+}
+
+fn is_right(alloc: Global, row: Row) -> Result<bool, AllocError> {
+    match read_model(alloc, row.source.as_bytes()) {
+        Ok(flat) => is_answered(alloc, &flat, row),
+        Err(_) => Ok(false),
+    }
 }
 
 // The number of the first row that is answered otherwise.
-fn first_wrong(alloc: Global) -> Result<Option<usize>, Fail> {
+fn first_wrong(alloc: Global) -> Result<Option<usize>, AllocError> {
     for n in 0..ROWS.len() {
         let row = ROWS[n];
-        let letters = answered(alloc, row)?;
-        if letters.as_slice() != row.wanted.as_bytes() {
+        if !is_right(alloc, row)? {
             return Ok(Some(n));
         }
     }

@@ -148,3 +148,39 @@ fn a_sound_block_is_printed_again(rt: HostRuntime) -> Result<(), Fail> {
     );
     Ok(())
 }
+
+const RANGED: &str =
+    "MODULE main\nVAR n : 0..2;\nASSIGN next(n) := case n = 2 : 0; TRUE : n + 1; esac;\nINVARSPEC n <= 2\n";
+
+const RANGED_SOUND: &str =
+    "--% sound\n--% part item 0\n--% step 1 2 0\n--% step 1 -2 0\n--% step 1 0\n--% step -1 2 0\n--% step 0\n--% end\n";
+
+// What is said of a model whose items are asked about, with these lines behind it, where accepted blocks are printed again.
+fn ranged_again(alloc: Global, lines: &str) -> Result<Vec<u8>, Fail> {
+    let text = both(alloc, RANGED, lines)?;
+    let found = said(alloc, &text, true)?;
+    Ok(found.text.as_str().as_bytes().to_vec(alloc)?)
+}
+
+#[test]
+fn an_accepted_sound_block_is_printed_again(rt: HostRuntime) -> Result<(), Fail> {
+    let found = ranged_again(rt.alloc(), RANGED_SOUND)?;
+    assert_eq!(rt;
+        found.as_slice(),
+        "--% sound\n--% part item 0\n--% step 1 2 0\n--% step 1 -2 0\n--% step 1 0\n--% step -1 2 0\n--% step 0\n--% end\n-- spec 1 INVARSPEC has nothing shown\n".as_bytes()
+    );
+    Ok(())
+}
+
+#[test]
+fn a_rejected_sound_block_is_not_printed_again(rt: HostRuntime) -> Result<(), Fail> {
+    let found = ranged_again(
+        rt.alloc(),
+        "--% sound\n--% part item 0\n--% step 1 2 0\n--% end\n",
+    )?;
+    assert_eq!(rt;
+        found.as_slice(),
+        "-- spec 1 INVARSPEC has nothing shown\n".as_bytes()
+    );
+    Ok(())
+}

@@ -15,12 +15,19 @@ const TWO: &str =
 
 const UNASKED: &str = "MODULE main\nVAR x : boolean;\n";
 
+// Its first item would fault where a value above 1 is counted up.
+const RANGED: &str =
+    "MODULE main\nVAR n : 0..2;\nASSIGN next(n) := case n = 2 : 0; TRUE : n + 1; esac;\nINVARSPEC n <= 2\n";
+
+// Its first item faults where n is 2.
+const FAULTY: &str = "MODULE main\nVAR n : 0..2;\nASSIGN next(n) := n + 1;\nINVARSPEC n <= 2\n";
+
 const UNKNOWN: &str = "MODULE main\nINVARSPEC x\n";
 
 // A model, lines behind it, what is said, and the status.
 type Row = (&'static str, &'static str, &'static str, u8);
 
-const ROWS: [Row; 51] = [
+const ROWS: [Row; 60] = [
     (STANDING, "", "-- spec 1 INVARSPEC has nothing shown\n", 2),
     (UNASKED, "", "", 0),
     (
@@ -305,6 +312,55 @@ const ROWS: [Row; 51] = [
         TWO,
         "--% cert 1 spec 1 counter none\n--% clause -1 0\n--% part first 1\n--% step 0\n--% part kept 1\n--% step 0\n--% part safe 0\n--% step 0\n--% end\n",
         "-- spec 1 INVARSPEC is rejected: part safe 0\n-- spec 2 INVARSPEC has nothing shown\n",
+        1,
+    ),
+    (RANGED, "", "-- spec 1 INVARSPEC has nothing shown\n", 2),
+    (
+        RANGED,
+        "--% cert 1 spec 1 counter none\n--% part safe 0\n--% step 0\n--% end\n",
+        "-- spec 1 INVARSPEC is rejected: part item 0\n",
+        1,
+    ),
+    (
+        RANGED,
+        "--% sound\n--% part item 0\n--% step 1 2 0\n--% step 1 -2 0\n--% step 1 0\n--% step -1 2 0\n--% step 0\n--% end\n--% cert 1 spec 1 counter none\n--% part safe 0\n--% step 0\n--% end\n",
+        "-- spec 1 INVARSPEC is shown true\n",
+        0,
+    ),
+    (
+        RANGED,
+        "--% sound\n--% part item 0\n--% step 1 2 0\n--% step 1 -2 0\n--% step 1 0\n--% step -1 2 0\n--% end\n--% cert 1 spec 1 counter none\n--% part safe 0\n--% step 0\n--% end\n",
+        "-- spec 1 INVARSPEC is rejected: part item 0\n",
+        1,
+    ),
+    (
+        RANGED,
+        "--% sound\n--% part item 1\n--% step 0\n--% end\n--% cert 1 spec 1 counter 2\n--% part safe 0\n--% step 0\n--% end\n",
+        "-- spec 1 INVARSPEC is rejected: part item 0\n",
+        1,
+    ),
+    (
+        RANGED,
+        "--% sound\n--% part item 0\n--% step 1 2 0\n--% step 1 -2 0\n--% step 1 0\n--% step -1 2 0\n--% step 0\n--% end\n--% cert 1 spec 1 counter 2\n--% part safe 0\n--% step 0\n--% end\n",
+        "-- spec 1 INVARSPEC is rejected: part safe 0\n",
+        1,
+    ),
+    (
+        RANGED,
+        "--% cert 1 spec 1 counter none\n--% part safe 0\n--% step 0\n--% end\n--@ spec 1\n--@ state 0: n = 2\n",
+        "-- spec 1 INVARSPEC is rejected: trace spec 0\n",
+        1,
+    ),
+    (
+        FAULTY,
+        "--% sound\n--% part item 0\n--% step 1 2 0\n--% step 1 -2 0\n--% step 1 0\n--% step -1 2 0\n--% step 0\n--% end\n--% cert 1 spec 1 counter none\n--% part safe 0\n--% step 0\n--% end\n",
+        "-- spec 1 INVARSPEC is rejected: part item 0\n",
+        1,
+    ),
+    (
+        FAULTY,
+        "--@ spec 1\n--@ state 0: n = 2\n--@ state 1: n = 0\n",
+        "-- spec 1 INVARSPEC is rejected: trace step 0\n",
         1,
     ),
 ];

@@ -28,7 +28,7 @@ const SHOWN: &str = "-- spec 1 LTLSPEC is shown true\n";
 
 const VIOLATED: &str = "-- spec 1 LTLSPEC is shown false\n";
 
-const CASES: [Case; 30] = [
+const CASES: [Case; 28] = [
     ("check", INFINITELY_OFTEN, TRUE, 0),
     (
         "check --counter 1",
@@ -153,12 +153,6 @@ const CASES: [Case; 30] = [
     ),
     (
         "check",
-        "MODULE main\nVAR x : boolean;\nLTLSPEC G (x = 3)\n",
-        "-- refused 203 Unsupported at 3:16: 3\n",
-        3,
-    ),
-    (
-        "check",
         "MODULE main\nVAR x : boolean;\nLTLSPEC F [3] x\n",
         "-- refused 201 Unexpected at 3:13: ]\n",
         3,
@@ -171,14 +165,8 @@ const CASES: [Case; 30] = [
     ),
     (
         "check",
-        "MODULE main\nVAR x : 0..3;\n",
-        "-- refused 203 Unsupported at 2:9: 0\n",
-        3,
-    ),
-    (
-        "check",
-        "MODULE main\nVAR x : boolean;\nINVARSPEC x[3]\n",
-        "-- refused 203 Unsupported at 3:12: [\n",
+        "MODULE main\nVAR x : boolean;\nINVARSPEC x[3:0]\n",
+        "-- refused 401 TypeMismatch at 3:12\n",
         3,
     ),
     (

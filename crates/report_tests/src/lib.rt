@@ -6,3 +6,7 @@
 mod formulas;
 #[cfg(test)]
 mod reports;
+#[cfg(test)]
+mod rings;
+#[cfg(test)]
+mod values;

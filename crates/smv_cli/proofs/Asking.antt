@@ -15,9 +15,10 @@ use Rattle.frame_core.specs.Law.{system_at}
 use Rattle.frame_history.specs.declared.entries.Entry.{Entry}
 use Rattle.frame_history.specs.History.{IsLawful}
 use Rattle.bit_system.specs.Building.{BitProgram, IsBuilt, system_of}
+use Rattle.bit_conditions.specs.Asked.{is_invariant}
 use Rattle.bit_system.specs.Standing.{StandsFor}
 use Rattle.bit_system.proofs.Agreeing.{agreeing}
-use Rattle.bit_system.proofs.Codes.{coding}
+use Rattle.bit_states.proofs.Codes.{coding}
 use Rattle.bit_system.specs.Claims.{NeverBadWithin}
 use Rattle.bit_system.proofs.Reaching.{unbroken_within}
 use Rattle.prove_run.specs.declared.answers.Answer.{Answer}
@@ -25,7 +26,7 @@ use Rattle.prove_run.specs.declared.answers.Answer.TheVariants.{True, False, Unk
 use Rattle.prove_run.specs.declared.answers.Cause.{Cause}
 use Rattle.prove_run.specs.declared.answers.Cause.TheVariants.{Conflicts, Frames}
 use Rattle.prove_run.specs.Answers.{IsCause, IsDone, IsRight, first_of, limits_of}
-use Rattle.smv_cli.specs.Records.{IsCertified, IsShownBy, SaysOfRuns, StandForAll, asked_with, invariants_of, is_invariant, prover_effort}
+use Rattle.smv_cli.specs.Records.{IsCertified, IsShownBy, SaysOfRuns, StandForAll, asked_with, invariants_of, prover_effort}
 use Rattle.smv_cli.specs.Written.{AreAnswersOf, IsAnswered, IsPool, pooled}
 use Rattle.smv_cli.proofs.Pooling.{all_told, as_many_systems, each_stands, first_told, from_here, none_told, some_told, systems_from_here}
 
@@ -33,7 +34,7 @@ module _ (p : Program) (spec : ResolvedItem) (sys : TransitionSystem) (stands : 
   -- where no bad state is reached in so many steps, no run of so many steps breaks it
   cause_says : (effort : Effort) (systems : List TransitionSystem) (history : List Entry) (j : ℕ) → system_at systems j ≡ sys → (cause : Cause) → IsCause systems (prover_effort effort) history j cause → SaysOfRuns p spec cause
   cause_says effort systems history j same (Conflicts drawn budget) c = tt
-  cause_says effort systems history j same (Frames n) c = unbroken_within p spec sys (agreeing p spec sys stands) (coding p stands.booleans) n (subst (λ (s : TransitionSystem). NeverBadWithin s n) same c.3)
+  cause_says effort systems history j same (Frames n) c = unbroken_within p spec sys (agreeing p spec sys stands) (coding p stands.types) n (subst (λ (s : TransitionSystem). NeverBadWithin s n) same c.3)
 
 module _ (p : Program) (effort : Effort) (spec : ResolvedItem) (systems : List TransitionSystem) (history : List Entry) (j : ℕ) (stand : StandForAll p systems (asked_with effort p spec))
     (asked : slice_get (asked_with effort p spec) j ≡ Some spec) (lawful : IsLawful (limits_of (prover_effort effort)) (first_of systems (prover_effort effort)) history) where

@@ -1,8 +1,10 @@
 pub mod Asking
+pub mod Claims
 pub mod Complete
 pub mod Known
 pub mod Listings
 pub mod OfFormulas
+pub mod OfPreparing
 pub mod Pooling
 pub mod Ranges
 pub mod Recording

@@ -60,6 +60,11 @@ module _ (nodes : List Node) (items : List Item) (i : ℕ) (d : Item) where
   pub none_shown : i < length items → is_claim (get_or items i d).kind ≡ true → shown_items nodes (i + 1) items ≡ shown_items nodes i items
   none_shown h e = more h ∙ ap (λ (b : Bool). shown_items nodes i items ++ cond (not b) (item_by nodes (get_or items i d) ∷ []) []) e ∙ append-nil _
 
+  -- and it counts
+  pub one_more_shown : (n : ℕ) → i < length items → is_claim (get_or items i d).kind ≡ false → n ≡ length (shown_items nodes i items) → n + 1 ≡ length (shown_items nodes (i + 1) items)
+  one_more_shown n h e counted =
+      omega (arith, counted, ap length (one_shown h e), length-append (shown_items nodes i items) (item_by nodes (get_or items i d) ∷ []))
+
 -- a text with the lines of the items so far, and then the line of one more
 pub items_told : (p : Program) (nodes : List Node) (items : List Item) (i : ℕ) (d : Item) (n : ℕ) (old before now : List ℕ) → i < length items
     → is_claim (get_or items i d).kind ≡ false → n ≡ length (shown_items nodes i items)

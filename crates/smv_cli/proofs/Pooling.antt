@@ -9,7 +9,7 @@ use Rattle.smv_tree.specs.declared.tree.Program.{Program}
 use Rattle.smv_resolve.specs.Items.{ResolvedItem}
 use Rattle.bit_system.specs.Standing.{StandsFor}
 use Rattle.prove_run.specs.declared.answers.Answer.{Answer}
-use Rattle.smv_cli.specs.Records.{is_invariant}
+use Rattle.bit_conditions.specs.Asked.{is_invariant}
 use Rattle.smv_cli.specs.Written.{AreAnswersOf, IsAnswered, either, pooled}
 
 -- the INVARSPECs among specifications
@@ -39,13 +39,17 @@ module _ (p : Program) where
   each_more y s ys ss here later zero x e = let same : y ≡ x = cc in subst (λ (z : ResolvedItem). StandsFor p z s) same here
   each_more y s ys ss here later (suc j) x e = later j x e
 
-  pub each_stands : (specs : List ResolvedItem) (systems : List TransitionSystem) → length systems ≡ length specs → Each specs systems → Each (invariants_in specs) (pooled specs systems)
+  -- and so has each INVARSPEC among them
+  abbrev EachInvariant : List ResolvedItem → List TransitionSystem → Type 0
+  EachInvariant specs systems = (j : ℕ) (x : ResolvedItem) → slice_get specs j ≡ Some x → is_invariant x.kind ≡ true → StandsFor p x (system_at systems j)
+
+  pub each_stands : (specs : List ResolvedItem) (systems : List TransitionSystem) → length systems ≡ length specs → EachInvariant specs systems → Each (invariants_in specs) (pooled specs systems)
   each_stands [] systems as_many each = λ j x e. cc
   each_stands (y ∷ ys) [] as_many each = absurd (no_length (length ys) as_many)
   each_stands (y ∷ ys) (s ∷ ss) as_many each =
       let later = each_stands ys ss (same_length (length ss) (length ys) as_many) (λ j. each (suc j)) in
-      elim (is_invariant y.kind) as (λ b. Each (cond b (y ∷ invariants_in ys) (invariants_in ys)) (cond b (s ∷ pooled ys ss) (pooled ys ss)))
-      [ true ↦ each_more y s (invariants_in ys) (pooled ys ss) (each 0 y refl) later | false ↦ later ]
+      elim (is_invariant y.kind) as (λ b. is_invariant y.kind ≡ b → Each (cond b (y ∷ invariants_in ys) (invariants_in ys)) (cond b (s ∷ pooled ys ss) (pooled ys ss)))
+      [ true ↦ λ inv. each_more y s (invariants_in ys) (pooled ys ss) (each 0 y refl inv) later | false ↦ λ _. later ] refl
 
 -- each system is like this one
 abbrev AllLike : TransitionSystem → List TransitionSystem → Type 0

@@ -8,8 +8,6 @@ use Rattle.std.specs.List.{flat_map}
 use Rattle.std.proofs.Math.Seq.{take-append-add}
 use Rattle.std.proofs.KnownBytes.{Appends-nil, Appends-trans}
 use Rattle.std.specs.Io.KnownBytes.{Appends}
-use Rattle.command_words.specs.declared.command.Effort.{Effort}
-use Rattle.smv_tree.specs.declared.tree.Program.{Program}
 use Rattle.smv_tree.specs.declared.tree.SpecificationKind.{SpecificationKind}
 use Rattle.smv_resolve.specs.declared.item.ItemKind.{ItemKind}
 use Rattle.smv_resolve.specs.declared.item.ItemKind.TheVariants as item
@@ -19,13 +17,13 @@ use Rattle.smv_cli.specs.declared.record.Verdict.{Verdict}
 use Rattle.smv_cli.specs.declared.record.Verdict.TheVariants.{True, False, Unknown}
 use Rattle.smv_cli.specs.declared.record.Record.{Record}
 use Rattle.smv_cli.specs.Streams.{AppendsFront}
-use Rattle.smv_cli.specs.Records.{IsRight, RightFrom, is_false, is_unknown, status_of}
+use Rattle.smv_cli.specs.Records.{RecordsFrom, is_false, is_unknown, status_of}
 use Rattle.smv_cli.specs.Texts.{record_text}
-use Rattle.smv_cli.specs.Written.{Recorded, RecordedPart, status_with}
+use Rattle.smv_cli.specs.Written.{RecordedBy, RecordedPartBy, status_with}
 
--- a right record of the specification of this number
-abbrev pub IsRecordOf : Program → Effort → ℕ → ResolvedItem → Record → Type 0
-IsRecordOf p effort number spec r = (r.number ≡ number) × (spec.kind ≡ item.Specification r.kind) × IsRight r.kind p effort spec r.verdict
+-- a record of the specification of this number, of which this is so
+abbrev pub IsRecordOf : (SpecificationKind → ResolvedItem → Verdict → Type 0) → ℕ → ResolvedItem → Record → Type 0
+IsRecordOf IsSo number spec r = (r.number ≡ number) × (spec.kind ≡ item.Specification r.kind) × IsSo r.kind spec r.verdict
 
 -- what is a claim is a specification
 pub claimed : (kind : ItemKind) → is_claim kind ≡ true → (k : SpecificationKind) × (kind ≡ item.Specification k)
@@ -41,19 +39,19 @@ AppendsFront-after old mid new first second p (n, q) =
 pub AppendsFront-whole : (old new : Option (List ℕ)) (piece : List ℕ) → Appends old new piece → AppendsFront old new piece
 AppendsFront-whole old new piece took = (length piece, subst (Appends old new) (sym (take_all (length piece) piece (omega arith))) took)
 
-module _ (p : Program) (effort : Effort) where
-  RightFrom-more : (i : ℕ) (xs ys : List ResolvedItem) (rs : List Record) → RightFrom p effort i xs rs → RightFrom p effort i (xs ++ ys) rs
-  RightFrom-more i xs ys [] h = tt
-  RightFrom-more i [] ys (r ∷ rs) h = absurd h
-  RightFrom-more i (x ∷ xs) ys (r ∷ rs) (n, o, h, k) = (n, o, h, RightFrom-more (i + 1) xs ys rs k)
+module _ (IsSo : SpecificationKind → ResolvedItem → Verdict → Type 0) where
+  RecordsFrom-more : (i : ℕ) (xs ys : List ResolvedItem) (rs : List Record) → RecordsFrom IsSo i xs rs → RecordsFrom IsSo i (xs ++ ys) rs
+  RecordsFrom-more i xs ys [] h = tt
+  RecordsFrom-more i [] ys (r ∷ rs) h = absurd h
+  RecordsFrom-more i (x ∷ xs) ys (r ∷ rs) (n, o, h, k) = (n, o, h, RecordsFrom-more (i + 1) xs ys rs k)
 
-  RightFrom-push : (i : ℕ) (xs : List ResolvedItem) (x : ResolvedItem) (rs : List Record) (r : Record) → RightFrom p effort i xs rs → length rs ≡ length xs
-      → IsRecordOf p effort (i + length xs) x r → RightFrom p effort i (xs ++ x ∷ []) (rs ++ r ∷ [])
-  RightFrom-push i [] x [] r h e (n, o, k) = (n ∙ (let same : i + 0 ≡ i = omega arith in same), o, k, tt)
-  RightFrom-push i [] x (q ∷ rs) r h e k = absurd h
-  RightFrom-push i (y ∷ xs) x [] r h e k = absurd (omega (arith, e))
-  RightFrom-push i (y ∷ xs) x (q ∷ rs) r (n, o, h, k) e m =
-      (n, o, h, RightFrom-push (i + 1) xs x rs r k (omega (arith, e)) (subst (λ (n : ℕ). IsRecordOf p effort n x r) (omega arith) m))
+  RecordsFrom-push : (i : ℕ) (xs : List ResolvedItem) (x : ResolvedItem) (rs : List Record) (r : Record) → RecordsFrom IsSo i xs rs → length rs ≡ length xs
+      → IsRecordOf IsSo (i + length xs) x r → RecordsFrom IsSo i (xs ++ x ∷ []) (rs ++ r ∷ [])
+  RecordsFrom-push i [] x [] r h e (n, o, k) = (n ∙ (let same : i + 0 ≡ i = omega arith in same), o, k, tt)
+  RecordsFrom-push i [] x (q ∷ rs) r h e k = absurd h
+  RecordsFrom-push i (y ∷ xs) x [] r h e k = absurd (omega (arith, e))
+  RecordsFrom-push i (y ∷ xs) x (q ∷ rs) r (n, o, h, k) e m =
+      (n, o, h, RecordsFrom-push (i + 1) xs x rs r k (omega (arith, e)) (subst (λ (n : ℕ). IsRecordOf IsSo n x r) (omega arith) m))
 
 flat_map-push : (rs : List Record) (r : Record) → flat_map record_text (rs ++ r ∷ []) ≡ flat_map record_text rs ++ record_text r
 flat_map-push [] r = append-nil (record_text r)
@@ -80,22 +78,22 @@ status-push rs r =
     ap₂ status_by (list_any-append (λ (q : Record). is_false q.verdict) rs (r ∷ [])) (list_any-append (λ (q : Record). is_unknown q.verdict) rs (r ∷ []))
     ∙ status_by-next _ _ r.verdict
 
-module _ (p : Program) (effort : Effort) (specs : List ResolvedItem) (i : ℕ) where
-  right-whole : (rs : List Record) → RightFrom p effort 1 (take i specs) rs → RightFrom p effort 1 specs rs
-  right-whole rs right = subst (λ (xs : List ResolvedItem). RightFrom p effort 1 xs rs) (take-append-drop i specs) (RightFrom-more p effort 1 (take i specs) (drop i specs) rs right)
+module _ (IsSo : SpecificationKind → ResolvedItem → Verdict → Type 0) (specs : List ResolvedItem) (i : ℕ) where
+  right-whole : (rs : List Record) → RecordsFrom IsSo 1 (take i specs) rs → RecordsFrom IsSo 1 specs rs
+  right-whole rs right = subst (λ (xs : List ResolvedItem). RecordsFrom IsSo 1 xs rs) (take-append-drop i specs) (RecordsFrom-more IsSo 1 (take i specs) (drop i specs) rs right)
 
   -- right records of the first i specifications and one more
-  right-push : (rs : List Record) (spec : ResolvedItem) (r : Record) → i < length specs → IsRecordOf p effort (i + 1) (get_or specs i spec) r
-      → RightFrom p effort 1 (take i specs) rs → length rs ≡ length (take i specs) → RightFrom p effort 1 (take (i + 1) specs) (rs ++ r ∷ [])
+  right-push : (rs : List Record) (spec : ResolvedItem) (r : Record) → i < length specs → IsRecordOf IsSo (i + 1) (get_or specs i spec) r
+      → RecordsFrom IsSo 1 (take i specs) rs → length rs ≡ length (take i specs) → RecordsFrom IsSo 1 (take (i + 1) specs) (rs ++ r ∷ [])
   right-push rs spec r h k right each =
       let front : take (i + 1) specs ≡ take i specs ++ get_or specs i spec ∷ [] = take_more specs i spec h in
       let n : i + 1 ≡ 1 + length (take i specs) = omega (arith, length-take i specs) in
-      subst (λ (xs : List ResolvedItem). RightFrom p effort 1 xs (rs ++ r ∷ [])) (sym front)
-      (RightFrom-push p effort 1 (take i specs) (get_or specs i spec) rs r right each (subst (λ (m : ℕ). IsRecordOf p effort m (get_or specs i spec) r) n k))
+      subst (λ (xs : List ResolvedItem). RecordsFrom IsSo 1 xs (rs ++ r ∷ [])) (sym front)
+      (RecordsFrom-push IsSo 1 (take i specs) (get_or specs i spec) rs r right each (subst (λ (m : ℕ). IsRecordOf IsSo m (get_or specs i spec) r) n k))
 
   pub Recorded-push : (spec : ResolvedItem) (r : Record) (old mid new : Option (List ℕ)) (status next : ℕ) → i < length specs
-      → IsRecordOf p effort (i + 1) (get_or specs i spec) r → Recorded p effort (take i specs) old mid status → Appends mid new (record_text r)
-      → next ≡ status_with status r.verdict → Recorded p effort (take (i + 1) specs) old new next
+      → IsRecordOf IsSo (i + 1) (get_or specs i spec) r → RecordedBy IsSo (take i specs) old mid status → Appends mid new (record_text r)
+      → next ≡ status_with status r.verdict → RecordedBy IsSo (take (i + 1) specs) old new next
   Recorded-push spec r old mid new status next h k so_far took e = record {
     records = so_far.records ++ r ∷ [];
     right = right-push so_far.records spec r h k so_far.right so_far.each;
@@ -104,7 +102,7 @@ module _ (p : Program) (effort : Effort) (specs : List ResolvedItem) (i : ℕ) w
     worst = e ∙ ap (λ (a : ℕ). status_with a r.verdict) so_far.worst ∙ sym (status-push so_far.records r);
   }
 
-  pub RecordedPart-whole : (old new : Option (List ℕ)) (status : ℕ) → Recorded p effort (take i specs) old new status → RecordedPart p effort specs old new
+  pub RecordedPart-whole : (old new : Option (List ℕ)) (status : ℕ) → RecordedBy IsSo (take i specs) old new status → RecordedPartBy IsSo specs old new
   RecordedPart-whole old new status so_far = record {
     records = so_far.records;
     right = right-whole so_far.records so_far.right;
@@ -112,14 +110,14 @@ module _ (p : Program) (effort : Effort) (specs : List ResolvedItem) (i : ℕ) w
   }
 
 -- nothing is written
-pub RecordedPart-none : (p : Program) (effort : Effort) (specs : List ResolvedItem) (old : Option (List ℕ)) → RecordedPart p effort specs old old
-RecordedPart-none p effort specs old = record { records = []; right = tt; took = (0, Appends-nil old) }
+pub RecordedPart-none : (IsSo : SpecificationKind → ResolvedItem → Verdict → Type 0) (specs : List ResolvedItem) (old : Option (List ℕ)) → RecordedPartBy IsSo specs old old
+RecordedPart-none IsSo specs old = record { records = []; right = tt; took = (0, Appends-nil old) }
 
-pub RecordedPart-push : (p : Program) (effort : Effort) (specs : List ResolvedItem) (i : ℕ) (spec : ResolvedItem) (r : Record) (old mid new : Option (List ℕ)) (status : ℕ) → i < length specs
-    → IsRecordOf p effort (i + 1) (get_or specs i spec) r → Recorded p effort (take i specs) old mid status → AppendsFront mid new (record_text r)
-    → RecordedPart p effort specs old new
-RecordedPart-push p effort specs i spec r old mid new status h k so_far took = record {
+pub RecordedPart-push : (IsSo : SpecificationKind → ResolvedItem → Verdict → Type 0) (specs : List ResolvedItem) (i : ℕ) (spec : ResolvedItem) (r : Record) (old mid new : Option (List ℕ)) (status : ℕ) → i < length specs
+    → IsRecordOf IsSo (i + 1) (get_or specs i spec) r → RecordedBy IsSo (take i specs) old mid status → AppendsFront mid new (record_text r)
+    → RecordedPartBy IsSo specs old new
+RecordedPart-push IsSo specs i spec r old mid new status h k so_far took = record {
   records = so_far.records ++ r ∷ [];
-  right = right-whole p effort specs (i + 1) (so_far.records ++ r ∷ []) (right-push p effort specs i so_far.records spec r h k so_far.right so_far.each);
+  right = right-whole IsSo specs (i + 1) (so_far.records ++ r ∷ []) (right-push IsSo specs i so_far.records spec r h k so_far.right so_far.each);
   took = subst (AppendsFront old new) (sym (flat_map-push so_far.records r)) (AppendsFront-after old mid new (flat_map record_text so_far.records) (record_text r) so_far.took took);
 }

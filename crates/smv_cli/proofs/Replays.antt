@@ -1,6 +1,6 @@
 -- The trace of a run that breaks a specification, or of a lasso that violates it, is accepted.
-use Rattle.std.proofs.Common.{◌≡◌, ◌↔◌, ◌≤◌, ◌-◌, ℕ, List, length, Some, IfSome, subst, arith}
-use Rattle.std.proofs.lemmas.Option.{slice_get_within}
+use Rattle.std.proofs.Common.{◌≡◌, Contains, ◌↔◌, ◌≤◌, ◌-◌, ℕ, List, length, Some, IfSome, subst, arith}
+use Rattle.std.proofs.lemmas.Option.{get_or_from_slice_get, slice_get_within}
 use Rattle.std.specs.declared.option.Option.{Option}
 use Rattle.smv_tree.specs.declared.tree.Program.{Program}
 use Rattle.smv_tree.specs.declared.tree.SpecificationKind.TheVariants as claim
@@ -20,6 +20,12 @@ use Rattle.trace_replay.specs.Tests.{ShowsBroken, specification_at}
 
 pub is_numbered : (p : Program) (number : ℕ) (spec : ResolvedItem) → specification_at p number ≡ Some spec → number ≤ length (specifications_of p)
 is_numbered p number spec h = let within = slice_get_within (specifications_of p) (number - 1) spec h in omega (arith, within)
+
+-- a specification that has a number is one of the program
+pub is_among : (p : Program) (number : ℕ) (spec : ResolvedItem) → specification_at p number ≡ Some spec → Contains (specifications_of p) spec
+is_among p number spec h =
+    let specs = specifications_of p in
+    (number - 1, slice_get_within specs (number - 1) spec h, get_or_from_slice_get specs (number - 1) spec spec h)
 
 pub shown : (p : Program) (spec : ResolvedItem) (states inputs : List (List Value)) (t : Trace) → t ≡ run_trace p states inputs → Breaks p spec states inputs → ShowsBroken p spec t
 shown p spec states inputs t told broken = record { states = states; inputs = inputs; told = told; broken = broken }

@@ -1,13 +1,13 @@
 -- From what the calls below say to a report.
-use Rattle.std.proofs.Common.{◌≡◌, ℕ, ◌≤◌, ◌<◌, Bool, List, [], ◌++◌, length, take, sym, ap, subst, ◌∙◌, arith, refl, length-take, take_all, Some, None, Result, Ok, Err, IfOk, inl, inr}
+use Rattle.std.proofs.Common.{◌≡◌, ℕ, ◌≤◌, ◌<◌, Bool, List, [], ◌++◌, length, take, sym, ap, subst, ◌∙◌, arith, refl, append_assoc, length-take, take_all, Some, None, Result, Ok, Err, IfOk, inl, inr}
 use Rattle.command_words.specs.declared.command.Command.{Command}
-use Rattle.command_words.specs.declared.command.Command.TheVariants.{Check, Recheck, Flat}
+use Rattle.command_words.specs.declared.command.Command.TheVariants.{Check, Recheck, Flat, Ring}
 use Rattle.command_words.specs.declared.command.Effort.{Effort}
 use Rattle.command_words.specs.Grammar.{IsCommandLine, Says}
 use Rattle.outside.specs.declared.Stop.{Stop}
 use Rattle.std.specs.declared.option.Option.{Option}
 use Rattle.std.specs.List.{flat_map}
-use Rattle.std.proofs.KnownBytes.{Appends-nil}
+use Rattle.std.proofs.KnownBytes.{Appends-nil, Appends-trans}
 use Rattle.std.specs.Io.KnownBytes.{Appends}
 use Rattle.smv_tree.specs.declared.place.Place.{Place}
 use Rattle.smv_tree.specs.declared.refusal.Rule.{Rule}
@@ -16,7 +16,6 @@ use Rattle.smv_tree.specs.declared.tree.Program.{Program}
 use Rattle.smv_tree.specs.Texts.{refusal_text}
 use Rattle.smv_text.specs.Texts.{IsBrokenAt, IsBrokenFirst}
 use Rattle.smv_front.specs.Sources.{IsModel, IsRefusedBy, in_text, in_grammar, in_types, in_assignments, in_bits}
-use Rattle.smv_meaning.specs.Runs.{specifications_of}
 use Rattle.smv_recheck.specs.declared.checking.Checked.{Checked}
 use Rattle.smv_recheck.specs.Checking.{status_of as status_again}
 use Rattle.smv_recheck.specs.Printed.{report_text}
@@ -25,8 +24,19 @@ use Rattle.smv_cli.specs.declared.record.Record.{Record}
 use Rattle.smv_cli.specs.Streams.{AppendsFront, ReadsFirst}
 use Rattle.smv_cli.specs.Listing.{listing_text}
 use Rattle.smv_cli.specs.Texts.{record_text, usage_text}
-use Rattle.smv_cli.specs.Report.{IsJudged, IsJudgedAgain, IsRefusedIn, CommandStage, nothing, refused, judging, judged, rechecked, listed, Stage, begun, said, usage, Held, Answered, Begun}
-use Rattle.smv_cli.specs.Written.{CommandDone, CommandPart, Recorded, RecordedPart}
+use Rattle.smv_cli.specs.Report.{IsJudged, IsJudgedAgain, IsRefusedIn, effort_of, heading, input_of, CommandReport, CommandStage, nothing, refused, judging, judged, rechecked, listed, Stage, begun, said, usage, Held, Answered, Begun}
+use Rattle.smv_cli.specs.declared.preparing.Preparation.{Preparation}
+use Rattle.smv_cli.specs.Prepared.{IsPreparedWith, IsRefusedAsFaulty, IsRefusedOrFaulty, block_text}
+use Rattle.smv_cli.specs.Written.{CommandDone, CommandPart, IsInput, Reported, ReportedPart}
+use Rattle.smv_cli.proofs.Recording.{AppendsFront-after}
+use Rattle.smv_cli.proofs.OfPreparing.{AppendsFront-more, none_right}
+
+-- a command that decides specifications refuses what is no model, and a model of which an item faults
+pub refused_on_check : (command : Command) (effort : Effort) (bytes : List ℕ) (r : Refusal) → effort_of command ≡ Some effort → IsRefusedOrFaulty bytes r → IsRefusedIn command bytes r
+refused_on_check (Check e) effort bytes r is h = h
+refused_on_check (Recheck upgrade) effort bytes r is h = cc
+refused_on_check Flat effort bytes r is h = cc
+refused_on_check (Ring ring) effort bytes r is h = h
 
 module _ (command : Command) where
   pub refused-done : (bytes : List ℕ) (r : Refusal) (old new : Option (List ℕ)) → IsRefusedIn command bytes r → Appends old new (refusal_text r) → CommandDone command bytes old new 3
@@ -35,22 +45,43 @@ module _ (command : Command) where
   pub refused-part : (bytes : List ℕ) (r : Refusal) (old new : Option (List ℕ)) → IsRefusedIn command bytes r → AppendsFront old new (refusal_text r) → CommandPart command bytes old new
   refused-part bytes r old new h took = record { text = refusal_text r; status = Some 3; took = took; stage = refused r h refl refl }
 
-  pub judged-done : (effort : Effort) → command ≡ Check effort → (bytes : List ℕ) (p : Program) (old new : Option (List ℕ)) (status : ℕ) → IsModel bytes p
-      → Recorded p effort (specifications_of p) old new status → CommandDone command bytes old new status
-  judged-done effort is bytes p old new status model made = record {
-    text = flat_map record_text made.records;
-    took = made.took;
-    stage = judged effort p made.records is (record { model = model; right = made.right }) made.each refl (ap Some made.worst);
-  }
+  pub judged-done : (effort : Effort) → effort_of command ≡ Some effort → (bytes : List ℕ) (p : Program) (how : Preparation) (old mid new : Option (List ℕ)) (status : ℕ) → IsModel bytes p
+      → IsPreparedWith p effort how → Appends old mid (heading command p) → Reported p effort how mid new status → CommandDone command bytes old new status
+  judged-done effort is bytes p how old mid new status model prepared above made =
+      let front = heading command p in
+      let block = block_text effort p how in
+      let said = flat_map record_text made.records in
+      record {
+        text = front ++ block ++ said;
+        took = subst (Appends old new) (sym (append_assoc front block said)) (Appends-trans old mid new front (block ++ said) above made.took);
+        stage = judged effort p how made.records is (record { model = model; prepared = prepared; right = made.right }) made.each refl (ap Some made.worst);
+      }
 
-  pub judged-part : (effort : Effort) → command ≡ Check effort → (bytes : List ℕ) (p : Program) (old new : Option (List ℕ)) → IsModel bytes p
-      → RecordedPart p effort (specifications_of p) old new → CommandPart command bytes old new
-  judged-part effort is bytes p old new model made = record {
-    text = flat_map record_text made.records;
-    status = None;
-    took = made.took;
-    stage = judging effort p made.records is (record { model = model; right = made.right }) refl refl;
-  }
+  pub judged-part : (effort : Effort) → effort_of command ≡ Some effort → (bytes : List ℕ) (p : Program) (how : Preparation) (old mid new : Option (List ℕ)) → IsModel bytes p
+      → IsPreparedWith p effort how → Appends old mid (heading command p) → ReportedPart p effort how mid new → CommandPart command bytes old new
+  judged-part effort is bytes p how old mid new model prepared above made =
+      let front = heading command p in
+      let block = block_text effort p how in
+      let said = flat_map record_text made.records in
+      record {
+        text = front ++ block ++ said;
+        status = None;
+        took = subst (AppendsFront old new) (sym (append_assoc front block said)) (AppendsFront-after old mid new front (block ++ said) above made.took);
+        stage = judging effort p how made.records is (record { model = model; prepared = prepared; right = made.right }) refl refl;
+      }
+
+  -- no record is written yet, nor perhaps the whole heading
+  pub heading-part : (effort : Effort) → effort_of command ≡ Some effort → (bytes : List ℕ) (p : Program) (how : Preparation) (old new : Option (List ℕ)) → IsModel bytes p
+      → IsPreparedWith p effort how → AppendsFront old new (heading command p) → CommandPart command bytes old new
+  heading-part effort is bytes p how old new model prepared took =
+      let front = heading command p in
+      let block = block_text effort p how in
+      record {
+        text = front ++ block ++ [];
+        status = None;
+        took = AppendsFront-more old new (front ++ block) [] (AppendsFront-more old new front block took);
+        stage = judging effort p how [] is (record { model = model; prepared = prepared; right = none_right p effort how }) refl refl;
+      }
 
   pub listed-part : command ≡ Flat → (bytes : List ℕ) (p : Program) (old new : Option (List ℕ)) → IsModel bytes p → AppendsFront old new (listing_text p) → CommandPart command bytes old new
   listed-part is bytes p old new model took = record { text = listing_text p; status = Some 0; took = took; stage = listed p is model refl refl }
@@ -63,10 +94,10 @@ module _ (command : Command) where
   pub nothing-part : (bytes : List ℕ) (old : Option (List ℕ)) → CommandPart command bytes old old
   nothing-part bytes old = record { text = []; status = None; took = (0, Appends-nil old); stage = nothing refl refl }
 
-  pub judged-result : (effort : Effort) → command ≡ Check effort → (bytes : List ℕ) (p : Program) (old new : Option (List ℕ)) (result : Result ℕ Stop) → IsModel bytes p
-      → IfOk result (λ status. Recorded p effort (specifications_of p) old new status) → IfOk result (λ status. CommandDone command bytes old new status)
-  judged-result effort is bytes p old new (Ok status) model made = judged-done effort is bytes p old new status model made
-  judged-result effort is bytes p old new (Err e) model made = tt
+  pub judged-result : (effort : Effort) → effort_of command ≡ Some effort → (bytes : List ℕ) (p : Program) (how : Preparation) (old mid new : Option (List ℕ)) (result : Result ℕ Stop) → IsModel bytes p
+      → IsPreparedWith p effort how → Appends old mid (heading command p) → IfOk result (λ status. Reported p effort how mid new status) → IfOk result (λ status. CommandDone command bytes old new status)
+  judged-result effort is bytes p how old mid new (Ok status) model prepared above made = judged-done effort is bytes p how old mid new status model prepared above made
+  judged-result effort is bytes p how old mid new (Err e) model prepared above made = tt
 
   pub listed-result : command ≡ Flat → (bytes : List ℕ) (p : Program) (old new : Option (List ℕ)) (result : Result ℕ Stop) → IsModel bytes p
       → IfOk result (λ status. (status ≡ 0) × Appends old new (listing_text p)) → IfOk result (λ status. CommandDone command bytes old new status)
@@ -106,11 +137,16 @@ refused-whole text all r e (in_types tokens p s h) = same_bytes (λ b. IsRefused
 refused-whole text all r e (in_assignments tokens p s n h) = same_bytes (λ b. IsRefusedBy b r) text all e s.text.0 (in_assignments tokens p s n h)
 refused-whole text all r e (in_bits tokens p s n a w h) = same_bytes (λ b. IsRefusedBy b r) text all e s.text.0 (in_bits tokens p s n a w h)
 
+faulty-whole : (text all : List ℕ) (r : Refusal) → text ≡ take 16777217 all → IsRefusedOrFaulty text r → IsRefusedOrFaulty all r
+faulty-whole text all r e (inl h) = inl (refused-whole text all r e h)
+faulty-whole text all r e (inr h) = inr (same_bytes (λ b. IsRefusedAsFaulty b r) text all e h.model.spelled.text.0 h)
+
 refused-in-whole : (command : Command) (text all : List ℕ) (r : Refusal) → text ≡ take 16777217 all → IsRefusedIn command text r → IsRefusedIn command all r
-refused-in-whole (Check effort) text all r e h = refused-whole text all r e h
+refused-in-whole (Check effort) text all r e h = faulty-whole text all r e h
 refused-in-whole (Recheck upgrade) text all r e (as_model h) = as_model (refused-whole text all r e h)
 refused-in-whole (Recheck upgrade) text all r e (beside p model h) = same_bytes (λ b. IsRefused b r) text all e model.spelled.text.0 (beside p model h)
 refused-in-whole Flat text all r e h = refused-whole text all r e h
+refused-in-whole (Ring ring) text all r e h = faulty-whole text all r e h
 
 -- what the source held, as far as it tells, else what was read
 unfoldable held : Option (List ℕ) → List ℕ → List ℕ
@@ -123,14 +159,14 @@ is_held None text = tt
 is_held (Some all) text = refl
 
 module _ (command : Command) where
-  judged-whole : (effort : Effort) (text all : List ℕ) (p : Program) (records : List Record) → text ≡ take 16777217 all → IsJudged text p effort records → IsJudged all p effort records
-  judged-whole effort text all p records e j = same_bytes (λ t. IsJudged t p effort records) text all e j.model.spelled.text.0 j
+  judged-whole : (effort : Effort) (text all : List ℕ) (p : Program) (how : Preparation) (records : List Record) → text ≡ take 16777217 all → IsJudged text p effort how records → IsJudged all p effort how records
+  judged-whole effort text all p how records e j = same_bytes (λ t. IsJudged t p effort how records) text all e j.model.spelled.text.0 j
 
   stage-whole : (text all t : List ℕ) (s : Option ℕ) → text ≡ take 16777217 all → CommandStage command text t s → CommandStage command all t s
   stage-whole text all t s e (nothing a b) = nothing a b
   stage-whole text all t s e (refused r h a b) = refused r (refused-in-whole command text all r e h) a b
-  stage-whole text all t s e (judging effort p records is j a b) = judging effort p records is (judged-whole effort text all p records e j) a b
-  stage-whole text all t s e (judged effort p records is j n a b) = judged effort p records is (judged-whole effort text all p records e j) n a b
+  stage-whole text all t s e (judging effort p how records is j a b) = judging effort p how records is (judged-whole effort text all p how records e j) a b
+  stage-whole text all t s e (judged effort p how records is j n a b) = judged effort p how records is (judged-whole effort text all p how records e j) n a b
   stage-whole text all t s e (rechecked upgrade c is again a b) =
       rechecked upgrade c is (same_bytes (λ x. IsJudgedAgain x upgrade c) text all e again.checked.model.spelled.text.0 again) a b
   stage-whole text all t s e (listed p is model a b) = listed p is (same_bytes (λ x. IsModel x p) text all e model.spelled.text.0 model) a b
@@ -140,27 +176,35 @@ module _ (command : Command) where
   stage-held None text t s r h = h
   stage-held (Some all) text t s r h = stage-whole text all t s r h
 
-  pub done-answered : (left old new : Option (List ℕ)) (text : List ℕ) (status : ℕ) → ReadsFirst 16777217 left text → CommandDone command text old new status
-      → Answered (CommandStage command) left old new status
+-- what was read or made is what the command works on
+input-held : (command : Command) (left : Option (List ℕ)) (text t : List ℕ) (s : Option ℕ) → IsInput command left text → CommandStage command text t s → CommandReport command (held left text) t s
+input-held (Check effort) left text t s r h = stage-held (Check effort) left text t s r h
+input-held (Recheck upgrade) left text t s r h = stage-held (Recheck upgrade) left text t s r h
+input-held Flat left text t s r h = stage-held Flat left text t s r h
+input-held (Ring ring) left text t s made h = subst (λ (bytes : List ℕ). CommandStage (Ring ring) bytes t s) made h
+
+module _ (command : Command) where
+  pub done-answered : (left old new : Option (List ℕ)) (text : List ℕ) (status : ℕ) → IsInput command left text → CommandDone command text old new status
+      → Answered (CommandReport command) left old new status
   done-answered left old new text status r done = record {
     bytes = held left text;
     held = is_held left text;
     text = done.text;
     took = done.took;
-    whole = stage-held left text done.text (Some status) r done.stage;
+    whole = input-held command left text done.text (Some status) r done.stage;
   }
 
-  pub part-begun : (left old new : Option (List ℕ)) (text : List ℕ) → ReadsFirst 16777217 left text → CommandPart command text old new → Begun (CommandStage command) left old new
+  pub part-begun : (left old new : Option (List ℕ)) (text : List ℕ) → IsInput command left text → CommandPart command text old new → Begun (CommandReport command) left old new
   part-begun left old new text r done = record {
     bytes = held left text;
     held = is_held left text;
     text = done.text;
     status = done.status;
     took = done.took;
-    part = stage-held left text done.text done.status r done.stage;
+    part = input-held command left text done.text done.status r done.stage;
   }
 
-  pub nothing-begun : (left old : Option (List ℕ)) → Begun (CommandStage command) left old old
+  pub nothing-begun : (left old : Option (List ℕ)) → Begun (CommandReport command) left old old
   nothing-begun left old = record {
     bytes = held left [];
     held = is_held left [];
@@ -172,10 +216,10 @@ module _ (command : Command) where
 
 module _ (words : List (List ℕ)) (left old : Option (List ℕ)) where
   -- a report of the command that the words say
-  pub said-answered : (command : Command) (new : Option (List ℕ)) (status : ℕ) → Says words command → Answered (CommandStage command) left old new status → Answered (Stage words) left old new status
+  pub said-answered : (command : Command) (new : Option (List ℕ)) (status : ℕ) → Says words command → Answered (CommandReport command) left old new status → Answered (Stage words) left old new status
   said-answered command new status says done = record { bytes = done.bytes; held = done.held; text = done.text; took = done.took; whole = said command says done.whole }
 
-  pub said-begun : (command : Command) (new : Option (List ℕ)) → Says words command → Begun (CommandStage command) left old new → Begun (Stage words) left old new
+  pub said-begun : (command : Command) (new : Option (List ℕ)) → Says words command → Begun (CommandReport command) left old new → Begun (Stage words) left old new
   said-begun command new says done = record { bytes = done.bytes; held = done.held; text = done.text; status = done.status; took = done.took; part = said command says done.part }
 
   pub unread-begun : Begun (Stage words) left old old

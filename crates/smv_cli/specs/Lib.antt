@@ -1,4 +1,5 @@
 pub mod Listing
+pub mod Prepared
 pub mod Records
 pub mod Report
 pub mod Streams

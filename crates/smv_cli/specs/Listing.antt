@@ -1,5 +1,6 @@
--- The lines of the command `flat`: the slots and the items of a model. An own choice of this project.
-use Rattle.std.specs.Prelude.{ℕ, ◌+◌, List, [], ◌∷◌, ◌++◌, filter, codes, not, Option, None, Some, slice_get}
+-- The lines of the command `flat`, the slots and the items of a model; and the line of `self` with how many these are. An own choice
+-- of this project.
+use Rattle.std.specs.Prelude.{ℕ, ◌+◌, List, [], ◌∷◌, ◌++◌, filter, length, codes, not, Option, None, Some, slice_get}
 use Rattle.std.specs.Fmt.{decimal}
 use Rattle.smv_tree.specs.declared.tree.Program.{Program}
 use Rattle.smv_tree.specs.declared.tree.AssignmentKind.TheVariants as side
@@ -55,6 +56,14 @@ abbrev pub items_text : Program → ℕ → List ResolvedItem → List ℕ
 items_text p i [] = []
 items_text p i (x ∷ xs) = item_line p i x ++ items_text p (i + 1) xs
 
+-- the items but for specifications
+abbrev pub listed_items : Program → List ResolvedItem
+listed_items p = filter (λ (x : ResolvedItem). not (is_claim x.kind)) (items_of p)
+
 -- the slots, and the items but for specifications
 abbrev pub listing_text : Program → List ℕ
-listing_text p = slots_text p 0 (slots_of p) ++ items_text p 0 (filter (λ (x : ResolvedItem). not (is_claim x.kind)) (items_of p))
+listing_text p = slots_text p 0 (slots_of p) ++ items_text p 0 (listed_items p)
+
+-- how many slots there are, and how many items but for specifications
+abbrev pub summary_text : Program → List ℕ
+summary_text p = codes "-- model slots " ++ decimal (length (slots_of p)) ++ codes " items " ++ decimal (length (listed_items p)) ++ line_end

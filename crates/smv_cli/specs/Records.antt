@@ -15,6 +15,7 @@ use Rattle.smv_meaning.specs.Runs.{specifications_of}
 use Rattle.frame_core.specs.Law.{system_at}
 use Rattle.frame_history.specs.declared.entries.Entry.{Entry}
 use Rattle.frame_history.specs.History.{IsLawful}
+use Rattle.bit_conditions.specs.Asked.{is_invariant}
 use Rattle.bit_system.specs.Standing.{StandsFor}
 use Rattle.bit_system.specs.Claims.{IsUnbroken, IsUnbrokenWithin}
 use Rattle.bit_formula.specs.Standing.{FormulaSystem, StandsForFormula}
@@ -44,11 +45,6 @@ prover_effort effort = record { conflicts = effort.conflicts; frames = effort.fr
 -- the same for a formula
 abbrev pub ltl_effort : Effort → LtlEffort
 ltl_effort effort = record { conflicts = effort.conflicts; frames = effort.frames; counter = effort.counter; bound = effort.bound }
-
--- the item is an INVARSPEC
-abbrev pub is_invariant : ItemKind → Bool
-is_invariant (item.Specification claim.Invariant) = true
-is_invariant other = false
 
 -- the INVARSPECs of a program, in the order of its items
 abbrev pub invariants_of : Program → List ResolvedItem
@@ -133,6 +129,7 @@ IsRightInvariant p effort spec (True shown) = IsUnbroken p spec × IsShownBy eff
 IsRightInvariant p effort spec (False trace) = ShowsBroken p spec trace
 IsRightInvariant p effort spec (Unknown (reason.Invariant cause)) = IsLeftOpen p effort spec cause
 IsRightInvariant p effort spec (Unknown (reason.Formula cause)) = ⊥
+IsRightInvariant p effort spec (Unknown (reason.Preparing drawn budget)) = ⊥
 
 -- The same of an LTLSPEC. True: no fair lasso violates it. False: the trace is that of a fair lasso that violates it.
 abbrev pub IsRightFormula : Program → Effort → ResolvedItem → Verdict → Type 0
@@ -140,18 +137,27 @@ IsRightFormula p effort spec (True shown) = IsUnviolated p spec × IsFormulaShow
 IsRightFormula p effort spec (False trace) = ShowsViolated p spec trace
 IsRightFormula p effort spec (Unknown (reason.Invariant cause)) = ⊥
 IsRightFormula p effort spec (Unknown (reason.Formula cause)) = IsFormulaOpen p effort spec cause
+IsRightFormula p effort spec (Unknown (reason.Preparing drawn budget)) = ⊥
 
 -- The same of a specification of either kind.
 abbrev pub IsRight : SpecificationKind → Program → Effort → ResolvedItem → Verdict → Type 0
 IsRight claim.Invariant = IsRightInvariant
 IsRight claim.Temporal = IsRightFormula
 
--- right records of the first specifications, in their order, numbered from i on
-abbrev pub RightFrom : Program → Effort → ℕ → List ResolvedItem → List Record → Type 0
-RightFrom p effort i specs [] = Unit {0}
-RightFrom p effort i [] (r ∷ rs) = ⊥
-RightFrom p effort i (spec ∷ specs) (r ∷ rs) =
-    (r.number ≡ i) × (spec.kind ≡ item.Specification r.kind) × IsRight r.kind p effort spec r.verdict × RightFrom p effort (i + 1) specs rs
+-- Records of the first specifications, in their order, numbered from i on: of each this is so, by its kind and by what is said of it.
+abbrev pub RecordsFrom : (SpecificationKind → ResolvedItem → Verdict → Type 0) → ℕ → List ResolvedItem → List Record → Type 0
+RecordsFrom IsSo i specs [] = Unit {0}
+RecordsFrom IsSo i [] (r ∷ rs) = ⊥
+RecordsFrom IsSo i (spec ∷ specs) (r ∷ rs) =
+    (r.number ≡ i) × (spec.kind ≡ item.Specification r.kind) × IsSo r.kind spec r.verdict × RecordsFrom IsSo (i + 1) specs rs
+
+-- what is said of a specification is right
+abbrev pub RightOf : Program → Effort → SpecificationKind → ResolvedItem → Verdict → Type 0
+RightOf p effort kind = IsRight kind p effort
+
+-- what is said of a specification is that preparing spent the effort
+abbrev pub OpenOf : ℕ → ℕ → SpecificationKind → ResolvedItem → Verdict → Type 0
+OpenOf drawn budget kind spec verdict = verdict ≡ Unknown (reason.Preparing drawn budget)
 
 abbrev pub is_false : Verdict → Bool
 is_false (True shown) = false

@@ -29,6 +29,7 @@ ltl_cause_text (ltl.Frames bound frames counter) = codes "bound " ++ decimal bou
 abbrev pub reason_text : Reason → List ℕ
 reason_text (reason.Invariant cause) = cause_text cause
 reason_text (reason.Formula cause) = ltl_cause_text cause
+reason_text (reason.Preparing drawn budget) = codes "conflicts " ++ decimal drawn ++ codes " of " ++ decimal budget ++ codes " while preparing"
 
 -- the certificate of what is true, where there is one
 abbrev pub shown_text : ℕ → Option Block → List ℕ

@@ -1,18 +1,21 @@
 -- What the calls below the top call have written.
-use Rattle.std.specs.Prelude.{◌≡◌, ⊤, ℕ, ◌+◌, ◌≤◌, ◌==◌, Bool, true, false, if◌then◌else◌, List, [], ◌∷◌, length, Option, None, Some, drop, reverse}
+use Rattle.std.specs.Prelude.{◌≡◌, ⊤, ℕ, ◌+◌, ◌≤◌, ◌==◌, ◌++◌, Bool, true, false, if◌then◌else◌, List, [], ◌∷◌, length, Option, None, Some, drop, reverse}
 use Rattle.std.specs.List.{flat_map}
 use Rattle.std.specs.Io.KnownBytes.{Appends}
 use Rattle.command_words.specs.declared.command.Command.{Command}
 use Rattle.clause_core.specs.Systems.{TransitionSystem}
-use Rattle.command_words.specs.declared.command.Command.TheVariants.{Check, Recheck, Flat}
+use Rattle.command_words.specs.declared.command.Command.TheVariants.{Check, Recheck, Flat, Ring}
 use Rattle.command_words.specs.declared.command.Effort.{Effort}
-use Rattle.command_words.specs.Grammar.{counter_option, frames_option}
+use Rattle.command_words.specs.Grammar.{cells_place, counter_option, frames_option}
 use Rattle.smv_tree.specs.declared.tree.Program.{Program}
+use Rattle.smv_tree.specs.declared.tree.SpecificationKind.{SpecificationKind}
 use Rattle.smv_resolve.specs.declared.item.Item.{Item}
 use Rattle.smv_resolve.specs.Items.{ResolvedItem, item_by}
 use Rattle.smv_meaning.specs.Runs.{specifications_of}
 use Rattle.frame_core.specs.Runs.{IsBadRun}
-use Rattle.bit_system.specs.Building.{IsBuilt, bit_limit, bits_of}
+use Rattle.bit_conditions.specs.Asked.{is_invariant}
+use Rattle.bit_states.specs.Layouts.{bit_limit, bits_of}
+use Rattle.bit_system.specs.Building.{IsBuilt}
 use Rattle.bit_formula.specs.Standing.{FormulaSystem}
 use Rattle.ltl_meaning.specs.Unfolded.{unfolded}
 use Rattle.cert_core.specs.Certificates.{Certifies}
@@ -24,9 +27,11 @@ use Rattle.smv_cli.specs.declared.checking.Checking.{Checking}
 use Rattle.smv_cli.specs.declared.record.Verdict.{Verdict}
 use Rattle.smv_cli.specs.declared.record.Verdict.TheVariants.{True, False, Unknown}
 use Rattle.smv_cli.specs.declared.record.Record.{Record}
-use Rattle.smv_cli.specs.Records.{IsLeftOpen, RightFrom, is_invariant, ltl_effort, status_of}
-use Rattle.smv_cli.specs.Report.{CommandStage}
-use Rattle.smv_cli.specs.Streams.{AppendsFront}
+use Rattle.smv_cli.specs.declared.preparing.Preparation.{Preparation}
+use Rattle.smv_cli.specs.Prepared.{AreRight, block_text, status_by}
+use Rattle.smv_cli.specs.Records.{IsLeftOpen, OpenOf, RecordsFrom, RightOf, ltl_effort, status_of}
+use Rattle.smv_cli.specs.Report.{CommandStage, ring_model}
+use Rattle.smv_cli.specs.Streams.{AppendsFront, ReadsFirst}
 use Rattle.smv_cli.specs.Texts.{record_text}
 
 -- what was answered of a specification, whose system this is, is right
@@ -69,11 +74,19 @@ IsPool p systems effort i answers =
 abbrev pub IsInRange : Effort → Type 0
 IsInRange effort = (effort.frames ≤ frames_option.greatest) × (effort.counter ≤ counter_option.greatest)
 
--- and so for the effort of a command
+-- and so for the effort of a command; a ring has as many cells as the words can say at least
 abbrev pub IsCommandInRange : Command → Type 0
 IsCommandInRange (Check effort) = IsInRange effort
 IsCommandInRange (Recheck upgrade) = ⊤
 IsCommandInRange Flat = ⊤
+IsCommandInRange (Ring ring) = cells_place.least ≤ ring.cells
+
+-- what a command works on was read, up to one byte past the limit of a source; or it was made
+abbrev pub IsInput : Command → Option (List ℕ) → List ℕ → Type 0
+IsInput (Check effort) left text = ReadsFirst 16777217 left text
+IsInput (Recheck upgrade) left text = ReadsFirst 16777217 left text
+IsInput Flat left text = ReadsFirst 16777217 left text
+IsInput (Ring ring) left text = text ≡ ring_model ring
 
 -- the program of a model that is checked
 abbrev pub program_in : Checking → Program
@@ -95,19 +108,47 @@ status_with status (True shown) = status
 status_with status (False trace) = 1
 status_with status (Unknown cause) = if status == 1 then 1 else 2
 
--- the sink took a right record of each specification, and the status is theirs
-pub record Recorded (p : Program) (effort : Effort) (specs : List ResolvedItem) (before now : Option (List ℕ)) (status : ℕ) : Type 0 where
+-- the sink took a record of each specification, of each of which this is so; the status is theirs
+pub record RecordedBy (IsSo : SpecificationKind → ResolvedItem → Verdict → Type 0) (specs : List ResolvedItem) (before now : Option (List ℕ)) (status : ℕ) : Type 0 where
   pub records : List Record
-  pub right : RightFrom p effort 1 specs records
+  pub right : RecordsFrom IsSo 1 specs records
   pub each : length records ≡ length specs
   pub took : Appends before now (flat_map record_text records)
   pub worst : status ≡ status_of records
 
--- the sink took a prefix of right records of the first specifications
-pub record RecordedPart (p : Program) (effort : Effort) (specs : List ResolvedItem) (before now : Option (List ℕ)) : Type 0 where
+-- the sink took a prefix of such records of the first specifications
+pub record RecordedPartBy (IsSo : SpecificationKind → ResolvedItem → Verdict → Type 0) (specs : List ResolvedItem) (before now : Option (List ℕ)) : Type 0 where
   pub records : List Record
-  pub right : RightFrom p effort 1 specs records
+  pub right : RecordsFrom IsSo 1 specs records
   pub took : AppendsFront before now (flat_map record_text records)
+
+-- right records
+abbrev pub Recorded : Program → Effort → List ResolvedItem → Option (List ℕ) → Option (List ℕ) → ℕ → Type 0
+Recorded p effort = RecordedBy (RightOf p effort)
+
+abbrev pub RecordedPart : Program → Effort → List ResolvedItem → Option (List ℕ) → Option (List ℕ) → Type 0
+RecordedPart p effort = RecordedPartBy (RightOf p effort)
+
+-- records that say that preparing spent the effort
+abbrev pub OpenRecorded : ℕ → ℕ → List ResolvedItem → Option (List ℕ) → Option (List ℕ) → Type 0
+OpenRecorded drawn budget specs before now = (status : ℕ) × RecordedBy (OpenOf drawn budget) specs before now status
+
+abbrev pub OpenRecordedPart : ℕ → ℕ → List ResolvedItem → Option (List ℕ) → Option (List ℕ) → Type 0
+OpenRecordedPart drawn budget = RecordedPartBy (OpenOf drawn budget)
+
+-- the sink took what stands in front of the records, and a right record of each specification; the status is theirs
+pub record Reported (p : Program) (effort : Effort) (how : Preparation) (before now : Option (List ℕ)) (status : ℕ) : Type 0 where
+  pub records : List Record
+  pub right : AreRight p effort how records
+  pub each : length records ≡ length (specifications_of p)
+  pub took : Appends before now (block_text effort p how ++ flat_map record_text records)
+  pub worst : status ≡ status_by how records
+
+-- the sink took a prefix of these, with records of the first specifications
+pub record ReportedPart (p : Program) (effort : Effort) (how : Preparation) (before now : Option (List ℕ)) : Type 0 where
+  pub records : List Record
+  pub right : AreRight p effort how records
+  pub took : AppendsFront before now (block_text effort p how ++ flat_map record_text records)
 
 -- the sink took a report of this command on these bytes
 pub record CommandDone (command : Command) (bytes : List ℕ) (before now : Option (List ℕ)) (status : ℕ) : Type 0 where

@@ -7,7 +7,8 @@ ghost use Rattle.smv_resolve.specs.declared.item.ItemKind.TheVariants as item;
 ghost use Rattle.smv_meaning.specs.Runs.{Breaks, specifications_of};
 ghost use Rattle.trace_replay.specs.Tests.{ShowsBroken, specification_at};
 ghost use Rattle.bit_system.specs.Building.{system_of};
-ghost use Rattle.smv_cli.specs.Records.{IsRight, IsRightInvariant, is_invariant, prover_effort};
+ghost use Rattle.bit_conditions.specs.Asked.{is_invariant};
+ghost use Rattle.smv_cli.specs.Records.{IsRight, IsRightInvariant, prover_effort};
 ghost use Rattle.smv_cli.specs.Written.{IsAnswered, IsPool, IsReady, item_in, pooled, program_in};
 
 use crate::checking::Checking;
@@ -208,6 +209,7 @@ fn ask_alone(
     requires ready { IsReady model.now }
     requires alone { model.now.effort.together ≡ false }
     requires first { 0 < number }
+    requires invariant { is_invariant spec.now.kind ≡ true }
     requires numbered { specification_at (program_in model.now) number ≡ Some (item_in model.now spec.now) }
     ensures { IfOk result (IsAnswered (program_in model.now) model.now.effort (system_of model.now.built (number - 1)) (item_in model.now spec.now)) }
 {
@@ -234,6 +236,7 @@ fn verdict_of(
 ) -> Result<Verdict, AllocError>
     requires ready { IsReady model.now }
     requires first { 0 < number }
+    requires invariant { is_invariant spec.now.kind ≡ true }
     requires numbered { specification_at (program_in model.now) number ≡ Some (item_in model.now spec.now) }
     requires answered { IsAnswered (program_in model.now) model.now.effort (system_of model.now.built (number - 1)) (item_in model.now spec.now) answer }
     ensures { IfOk result (IsRightInvariant (program_in model.now) model.now.effort (item_in model.now spec.now)) }

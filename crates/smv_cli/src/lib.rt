@@ -3,12 +3,16 @@
 
 mod checking;
 mod formulas;
+mod input;
 mod judging;
 mod listing;
+mod preparing;
 mod print;
 mod record;
 mod streams;
 mod top;
 
+pub use input::SOURCE_LIMIT;
+pub use preparing::Preparation;
 pub use record::{Reason, Record, Verdict};
-pub use top::{SOURCE_LIMIT, run, run_over_bytes};
+pub use top::{run, run_over_bytes};

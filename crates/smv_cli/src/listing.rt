@@ -1,15 +1,16 @@
-//! The listing of the slots and items of a model.
+//! The listing of the slots and items of a model, and how many these are.
 
-ghost use Rattle.std.specs.Prelude.{◌≡◌, ◌++◌, filter, length, map, not, IfOk, IfSome, OnOk, Some, codes};
+ghost use Rattle.std.specs.Prelude.{◌≡◌, ◌++◌, filter, length, map, not, IfOk, List, IfSome, OnOk, Some, codes};
 ghost use Rattle.std.specs.Fmt.{decimal};
 ghost use Rattle.std.specs.Option.{option_copied};
 ghost use Rattle.smv_resolve.specs.declared.item.ItemKind.TheVariants as item;
+ghost use Rattle.smv_resolve.specs.declared.node.Node.{Node};
 ghost use Rattle.smv_resolve.specs.Items.{ResolvedItem, item_by, items_of};
 ghost use Rattle.smv_scope.specs.Paths.{path_of, shown_path, slot_name};
 ghost use Rattle.smv_scope.specs.Slots.{slots_of};
 ghost use Rattle.smv_tree.specs.Texts.{line_end, place_text};
 ghost use Rattle.smv_meaning.specs.Runs.{is_claim};
-ghost use Rattle.smv_cli.specs.Listing.{declared_text, item_kind_text, item_line, items_text, listing_text, slot_line, slots_text, sort_text};
+ghost use Rattle.smv_cli.specs.Listing.{declared_text, item_kind_text, item_line, items_text, listing_text, slot_line, slots_text, sort_text, summary_text};
 
 use plain_text::Text;
 use smv_meaning::{Typed, is_claim};
@@ -126,6 +127,45 @@ fn shown(path: &Text) -> &str
     } else {
         path.as_str()
     }
+}
+
+/// The line with how many slots a model has, and how many items but for specifications.
+#[derive(Drop)]
+pub(crate) struct Summary {
+    slots: usize,
+    items: usize,
+}
+
+impl fmt::Display for Summary {
+    ghost output = { λ s. Some (codes "-- model slots " ++ decimal s.slots ++ codes " items " ++ decimal s.items ++ line_end) };
+
+    fn fmt<W: fmt::Write>(&self, f: &mut fmt::Formatter<W>) -> fmt::Result {
+        let (slots, items) = (self.slots, self.items);
+        writeln!(f, "-- model slots {slots} items {items}")
+    }
+}
+
+/// How many slots a model has, and how many items but for specifications.
+pub(crate) fn sum_up(typed: &Typed) -> Summary
+    ensures { codes "-- model slots " ++ decimal result.slots ++ codes " items " ++ decimal result.items ++ line_end ≡ summary_text typed.now.scope.program }
+{
+    Summary {
+        slots: typed.scope.slots.len(),
+        items: count_listed(typed.items.as_slice()),
+    }
+}
+
+// How many of these items are no specifications.
+fn count_listed(items: &[Item]) -> usize
+    ensures { (nodes : List Node) → result ≡ length (filter (λ (x : ResolvedItem). not (is_claim x.kind)) (map (item_by nodes) items.now)) }
+{
+    let mut number = 0;
+    for item in items {
+        if !is_claim(item.kind) {
+            number += 1;
+        }
+    }
+    number
 }
 
 /// The lines of the slots of a model and then of its items, but for specifications.

@@ -1,15 +1,17 @@
 //! Parts of a report, each written when it is made.
-ghost use Rattle.std.specs.Prelude.{◌≡◌, ◌≤◌, true, map, All, IfSome, IfOk, OnOk, IsErrOf};
+ghost use Rattle.std.specs.Prelude.{◌≡◌, ◌≤◌, true, map, All, IfSome, IfOk, List, OnOk, IsErrOf};
 ghost use Rattle.std.specs.Io.KnownBytes.{Appends};
 ghost use Rattle.outside.specs.Causes.{Rose};
+ghost use Rattle.smv_resolve.specs.declared.node.Node.{Node};
+ghost use Rattle.smv_resolve.specs.Items.{item_by};
 ghost use Rattle.smv_meaning.specs.Runs.{is_claim, specifications_of};
 ghost use Rattle.smv_cli.specs.Streams.{AppendsFront};
 ghost use Rattle.smv_cli.specs.Texts.{record_text};
-ghost use Rattle.smv_cli.specs.Written.{IsPool, IsReady, Recorded, RecordedPart, item_in, program_in, status_with};
+ghost use Rattle.smv_cli.specs.Written.{OpenRecorded, OpenRecordedPart, IsPool, IsReady, Recorded, RecordedPart, item_in, program_in, status_with};
 
 use crate::checking::Checking;
 use crate::judging::judge;
-use crate::record::{Record, Verdict, print};
+use crate::record::{Reason, Record, Verdict, print};
 use crate::streams::write_all;
 use outside::{Sink, Stop};
 use prove_run::Answer;
@@ -91,4 +93,34 @@ pub fn put_records<K: Sink>(
         status = status_with(status, &made.verdict);
     }
     Ok(status)
+}
+
+/// Writes for each specification of a program that it is unknown, since preparing spent the effort. The answer is 2.
+pub fn put_open<K: Sink>(
+    alloc: Global,
+    sink: &mut K,
+    specs: &[Item],
+    drawn: u64,
+    budget: u64,
+) -> Result<u8, Stop>
+    requires claims { All (λ spec. is_claim spec.kind ≡ true) specs.now }
+    ensures ok { (nodes : List Node) → IfOk result (λ status. (status ≡ 2) × OpenRecorded drawn budget (map (item_by nodes) specs.now) (K.taken sink.old) (K.taken sink.new)) }
+    ensures part { (nodes : List Node) → OpenRecordedPart drawn budget (map (item_by nodes) specs.now) (K.taken sink.old) (K.taken sink.new) }
+    ensures small { IfOk result (λ status. status ≤ 2) }
+    ensures kept { OnOk result (K.faults sink.new ≡ K.faults sink.old) }
+    ensures failed { IsErrOf result Stop.Failed → Rose (K.faults sink.old) (K.faults sink.new) }
+    ensures no_memory { IsErrOf result Stop.NoMemory → K.faults sink.new ≡ K.faults sink.old }
+{
+    'open_specs: for (i, spec) in specs.iter().enumerate() {
+        let ItemKind::Specification(kind) = spec.kind else {
+            unreachable!()
+        };
+        let made = Record {
+            number: i + 1,
+            kind,
+            verdict: Verdict::Unknown(Reason::Preparing { drawn, budget }),
+        };
+        put_record(alloc, sink, &made)?;
+    }
+    Ok(2)
 }

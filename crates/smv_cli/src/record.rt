@@ -30,6 +30,8 @@ pub enum Reason {
     Invariant(Cause),
     /// Of an `LTLSPEC`.
     Formula(LtlCause),
+    /// So many tickets of the effort were drawn before it was known whether an item of the model faults.
+    Preparing { drawn: u64, budget: u64 },
 }
 
 /// What is said of the specification of this number, counted from 1.
@@ -90,6 +92,9 @@ fn write_reason(out: &mut String, reason: Reason) -> Result<(), AllocError>
     match reason {
         Reason::Invariant(cause) => write_cause(out, cause),
         Reason::Formula(cause) => write_ltl_cause(out, cause),
+        Reason::Preparing { drawn, budget } => {
+            write!(out, "conflicts {drawn} of {budget} while preparing")
+        }
     }
 }
 

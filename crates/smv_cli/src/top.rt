@@ -1,36 +1,38 @@
 //! The top call: from the words and the bytes of a source to the bytes of a report and a status.
-ghost use Rattle.std.specs.Prelude.{◌≡◌, ◌<◌, ◌≤◌, map, IfOk, IsErrOf, IfSome, OnOk, ◌⊎◌, ◌≢◌, Some};
+ghost use Rattle.std.specs.Prelude.{◌≡◌, ◌<◌, ◌≤◌, true, map, All, IfOk, IsErrOf, IfSome, OnOk, ◌⊎◌, ◌≢◌, None, Some};
 ghost use Rattle.std.specs.Io.KnownBytes.{Appends};
 ghost use Rattle.command_words.specs.declared.command.Command.{Command as CommandOf};
+ghost use Rattle.command_words.specs.declared.command.Ring.{Ring as RingOf};
 ghost use Rattle.command_words.specs.Grammar.{IsCommandLine, Says};
 ghost use Rattle.outside.specs.Causes.{Rose};
 ghost use Rattle.smv_tree.specs.Texts.{refusal_text};
-ghost use Rattle.smv_meaning.specs.Runs.{specifications_of};
+ghost use Rattle.smv_meaning.specs.Runs.{is_claim, specifications_of};
 ghost use Rattle.smv_cli.specs.Listing.{listing_text};
 ghost use Rattle.smv_recheck.specs.Checking.{status_of as status_again};
 ghost use Rattle.smv_recheck.specs.Printed.{report_text};
-ghost use Rattle.smv_cli.specs.Report.{Answered, Begun, CommandStage, IsTaken, Stage};
+ghost use Rattle.smv_cli.specs.Report.{Answered, Begun, CommandReport, IsTaken, Stage, effort_of, heading, input_of};
 ghost use Rattle.smv_cli.specs.Streams.{AppendsFront};
 ghost use Rattle.smv_cli.specs.Texts.{usage_text};
-ghost use Rattle.smv_cli.specs.Written.{CommandDone, CommandPart, IsCommandInRange, IsInRange, IsReady, Recorded, RecordedPart, program_in};
+ghost use Rattle.smv_cli.specs.Written.{CommandDone, CommandPart, IsCommandInRange, IsInRange, IsReady, Reported, ReportedPart, item_in, program_in};
 
 use crate::checking::{Checking, begin};
+use crate::input::input;
 use crate::judging::ask_together;
-use crate::listing::listing;
-use crate::print::{put, put_records};
-use crate::streams::{SourceStop, read_all, write_all};
-use command_words::{Command, Effort, WordsStop, read_words};
+use crate::listing::{listing, sum_up};
+use crate::preparing::{Preparation, put_block};
+use crate::print::{put, put_open, put_records};
+use crate::streams::{SourceStop, write_all};
+use cert_core::Sound;
+use command_words::{Command, Effort, WordsStop, default_effort, read_words};
 use outside::{Gate, OpenGate, Sink, Source, Stop, SureSink, SureSource};
 use smv_front::read_model;
 use smv_meaning::{Typed, specifications};
 use smv_recheck::{Checked, print, status, what_is_shown_holds};
+use smv_resolve::Item;
 use smv_tree::{Refusal, TextStop};
 use std::alloc::Global;
 use std::sync::Wait;
 use std::thread::Threads;
-
-/// A source is at most this long.
-pub const SOURCE_LIMIT: usize = 16_777_216;
 
 const USAGE: &str = "-- usage: smvcheck check | recheck | flat | self N SEED\n";
 
@@ -46,12 +48,37 @@ fn refuse<K: Sink>(alloc: Global, sink: &mut K, refusal: &Refusal) -> Result<u8,
     Ok(3)
 }
 
-// Writes the records of a model.
+// Writes the records of a model of which no item faults, and in front of them the steps that show that, where these are to be printed.
+fn report_sound<K: Sink>(
+    alloc: Global,
+    sink: &mut K,
+    model: &Checking,
+    specs: &[Item],
+    sound: &Sound,
+) -> Result<u8, Stop>
+    requires ready { IsReady model.now }
+    requires claims { All (λ spec. is_claim spec.kind ≡ true) specs.now }
+    requires listed { map (item_in model.now) specs.now ≡ specifications_of (program_in model.now) }
+    ensures ok { IfOk result (λ status. Reported (program_in model.now) model.now.effort (Preparation.Sound sound.now) (K.taken sink.old) (K.taken sink.new) status) }
+    ensures small { IfOk result (λ status. status ≤ 2) }
+    ensures part { ReportedPart (program_in model.now) model.now.effort (Preparation.Sound sound.now) (K.taken sink.old) (K.taken sink.new) }
+    ensures kept { OnOk result (K.faults sink.new ≡ K.faults sink.old) }
+    ensures failed { IsErrOf result Stop.Failed → Rose (K.faults sink.old) (K.faults sink.new) }
+    ensures no_memory { IsErrOf result Stop.NoMemory → K.faults sink.new ≡ K.faults sink.old }
+{
+    put_block(alloc, sink, &model.effort, specs.len(), sound)?;
+    let Ok(pool) = ask_together(alloc, model, specs) else {
+        return Err(Stop::NoMemory);
+    };
+    put_records(alloc, sink, model, specs, pool)
+}
+
+// Writes the records of a model, and what stands in front of them.
 fn report_model<K: Sink>(alloc: Global, sink: &mut K, model: &Checking) -> Result<u8, Stop>
     requires ready { IsReady model.now }
-    ensures ok { IfOk result (λ status. Recorded (program_in model.now) model.now.effort (specifications_of (program_in model.now)) (K.taken sink.old) (K.taken sink.new) status) }
+    ensures ok { IfOk result (λ status. Reported (program_in model.now) model.now.effort model.now.preparation (K.taken sink.old) (K.taken sink.new) status) }
     ensures small { IfOk result (λ status. status ≤ 2) }
-    ensures part { RecordedPart (program_in model.now) model.now.effort (specifications_of (program_in model.now)) (K.taken sink.old) (K.taken sink.new) }
+    ensures part { ReportedPart (program_in model.now) model.now.effort model.now.preparation (K.taken sink.old) (K.taken sink.new) }
     ensures kept { OnOk result (K.faults sink.new ≡ K.faults sink.old) }
     ensures failed { IsErrOf result Stop.Failed → Rose (K.faults sink.old) (K.faults sink.new) }
     ensures no_memory { IsErrOf result Stop.NoMemory → K.faults sink.new ≡ K.faults sink.old }
@@ -59,10 +86,31 @@ fn report_model<K: Sink>(alloc: Global, sink: &mut K, model: &Checking) -> Resul
     let Ok(specs) = specifications(alloc, &model.flat.typed) else {
         return Err(Stop::NoMemory);
     };
-    let Ok(pool) = ask_together(alloc, model, specs.as_slice()) else {
-        return Err(Stop::NoMemory);
-    };
-    put_records(alloc, sink, model, specs.as_slice(), pool)
+    match &model.preparation {
+        Preparation::Sound(sound) => report_sound(alloc, sink, model, specs.as_slice(), sound),
+        Preparation::Spent { drawn, budget } => {
+            put_open(alloc, sink, specs.as_slice(), *drawn, *budget)
+        }
+    }
+}
+
+// Writes what stands before the records: of a ring, how many slots and items it has.
+fn put_heading<K: Sink>(
+    alloc: Global,
+    sink: &mut K,
+    command: &Command,
+    typed: &Typed,
+) -> Result<(), Stop>
+    ensures ok { OnOk result (Appends (K.taken sink.old) (K.taken sink.new) (heading command.now typed.now.scope.program)) }
+    ensures front { AppendsFront (K.taken sink.old) (K.taken sink.new) (heading command.now typed.now.scope.program) }
+    ensures kept { OnOk result (K.faults sink.new ≡ K.faults sink.old) }
+    ensures failed { IsErrOf result Stop.Failed → Rose (K.faults sink.old) (K.faults sink.new) }
+    ensures no_memory { IsErrOf result Stop.NoMemory → K.faults sink.new ≡ K.faults sink.old }
+{
+    match command {
+        Command::Ring(_) => put(alloc, sink, &sum_up(typed)),
+        Command::Check(_) | Command::Recheck { .. } | Command::Flat => Ok(()),
+    }
 }
 
 // Writes the slots and items of a model, with status 0.
@@ -96,18 +144,28 @@ fn report_checked<K: Sink>(alloc: Global, sink: &mut K, checked: &Checked) -> Re
     Ok(status(checked.records.as_slice()))
 }
 
-// Decides the specifications of the model that a text is.
-fn check<K: Sink>(alloc: Global, sink: &mut K, text: &[u8], effort: &Effort) -> Result<u8, Stop>
+// Decides the specifications of the model that a text is, for a command that does so with this effort.
+fn check<K: Sink>(
+    alloc: Global,
+    sink: &mut K,
+    text: &[u8],
+    command: &Command,
+    effort: &Effort,
+) -> Result<u8, Stop>
+    requires asked { effort_of command.now ≡ Some effort.now }
     requires range { IsInRange effort.now }
-    ensures ok { IfOk result (λ status. CommandDone (Command.Check effort.now) text.now (K.taken sink.old) (K.taken sink.new) status) }
+    ensures ok { IfOk result (λ status. CommandDone command.now text.now (K.taken sink.old) (K.taken sink.new) status) }
     ensures small { IfOk result (λ status. status ≤ 3) }
-    ensures part { CommandPart (Command.Check effort.now) text.now (K.taken sink.old) (K.taken sink.new) }
+    ensures part { CommandPart command.now text.now (K.taken sink.old) (K.taken sink.new) }
     ensures kept { OnOk result (K.faults sink.new ≡ K.faults sink.old) }
     ensures failed { IsErrOf result Stop.Failed → Rose (K.faults sink.old) (K.faults sink.new) }
     ensures no_memory { IsErrOf result Stop.NoMemory → K.faults sink.new ≡ K.faults sink.old }
 {
     match begin(alloc, text, effort) {
-        Ok(model) => report_model(alloc, sink, &model),
+        Ok(model) => {
+            put_heading(alloc, sink, command, &model.flat.typed)?;
+            report_model(alloc, sink, &model)
+        }
         Err(TextStop::Refused(refusal)) => refuse(alloc, sink, &refusal),
         Err(TextStop::NoMemory) => Err(Stop::NoMemory),
     }
@@ -157,25 +215,27 @@ fn report<K: Sink>(alloc: Global, sink: &mut K, text: &[u8], command: &Command) 
     ensures no_memory { IsErrOf result Stop.NoMemory → K.faults sink.new ≡ K.faults sink.old }
 {
     match command {
-        Command::Check(effort) => check(alloc, sink, text, effort),
+        Command::Check(effort) => check(alloc, sink, text, command, effort),
         Command::Recheck { upgrade } => recheck(alloc, sink, text, *upgrade),
         Command::Flat => list(alloc, sink, text),
+        Command::Ring(_) => check(alloc, sink, text, command, &default_effort()),
     }
 }
 
-// Reads a model, and reports what the command asks for.
+// Reads a model, or makes one, and reports what the command asks for.
 fn answer<S: Source, K: Sink>(alloc: Global, source: &mut S, sink: &mut K, command: &Command) -> u8
     requires range { IsCommandInRange command.now }
-    ensures answered { result ≤ 4 → Answered (CommandStage command.now) (S.left source.old) (K.taken sink.old) (K.taken sink.new) result }
-    ensures begun { 4 < result → Begun (CommandStage command.now) (S.left source.old) (K.taken sink.old) (K.taken sink.new) }
+    ensures answered { result ≤ 4 → Answered (CommandReport command.now) (S.left source.old) (K.taken sink.old) (K.taken sink.new) result }
+    ensures begun { 4 < result → Begun (CommandReport command.now) (S.left source.old) (K.taken sink.old) (K.taken sink.new) }
     ensures named { (result ≢ 4) × (result ≤ 7) }
+    ensures unread { (ring : RingOf) → command.now ≡ Command.Ring ring → source.new ≡ source.old }
     ensures read_fault { result ≡ 5 → Rose (S.faults source.old) (S.faults source.new) }
     ensures no_read_fault { result ≢ 5 → S.faults source.new ≡ S.faults source.old }
     ensures untouched { result ≡ 5 → sink.new ≡ sink.old }
     ensures write_fault { result ≡ 6 → Rose (K.faults sink.old) (K.faults sink.new) }
     ensures no_write_fault { result ≢ 6 → K.faults sink.new ≡ K.faults sink.old }
 {
-    let text = match read_all(alloc, source, SOURCE_LIMIT + 1) {
+    let text = match input(alloc, source, command) {
         Ok(text) => text,
         Err(SourceStop::Failed) => return 5,
         Err(SourceStop::NoMemory) => return 7,
@@ -217,6 +277,7 @@ fn perform<'a, S: Source, K: Sink>(
     ensures usage { result ≡ 4 → IsCommandLine (map (λ w. w.now) words.now) → ⊥ }
     ensures outside { (IsCommandLine (map (λ w. w.now) words.now) → ⊥) → (result ≡ 4) ⊎ (5 < result) }
     ensures unread { (IsCommandLine (map (λ w. w.now) words.now) → ⊥) → source.new ≡ source.old }
+    ensures made { (ring : RingOf) → Says (map (λ w. w.now) words.now) (Command.Ring ring) → source.new ≡ source.old }
     ensures read_fault { result ≡ 5 → Rose (S.faults source.old) (S.faults source.new) }
     ensures no_read_fault { result ≢ 5 → S.faults source.new ≡ S.faults source.old }
     ensures untouched { result ≡ 5 → sink.new ≡ sink.old }
@@ -240,6 +301,9 @@ fn perform<'a, S: Source, K: Sink>(
 /// `recheck` judges a report that stands beside its model, by its traces and certificates alone, and asks no solver
 /// (`smv_recheck::recheck`); with `--upgrade` it prints each certificate anew in the form that is judged by hints. What it shows holds.
 ///
+/// `self` makes the model of a ring (`model_gen::ring`), writes how many slots and items it has, and decides its specifications as
+/// `check` without options does. It reads no source.
+///
 /// No worker runs yet, so the gate is entered by none: a gate that holds its workers holds no run.
 pub fn run<'a, R: Threads + Wait + Sync, S: Source, K: Sink, G: Gate + Sync>(
     _rt: &R,
@@ -256,10 +320,11 @@ pub fn run<'a, R: Threads + Wait + Sync, S: Source, K: Sink, G: Gate + Sync>(
     ensures begun { 4 < result → Begun (Stage (map (λ w. w.now) words.now)) (S.left source.old)
         (K.taken sink.old) (K.taken sink.new) }
     ensures named { result ≤ 7 }
-    // The words are judged first: 4 comes just where they are outside the grammar, and then nothing is read.
+    // The words are judged first: 4 comes just where they are outside the grammar, and then nothing is read; nor where they ask for a ring.
     ensures usage { result ≡ 4 → IsCommandLine (map (λ w. w.now) words.now) → ⊥ }
     ensures outside { (IsCommandLine (map (λ w. w.now) words.now) → ⊥) → (result ≡ 4) ⊎ (5 < result) }
     ensures unread { (IsCommandLine (map (λ w. w.now) words.now) → ⊥) → source.new ≡ source.old }
+    ensures made { (ring : RingOf) → Says (map (λ w. w.now) words.now) (Command.Ring ring) → source.new ≡ source.old }
     // 5 comes just where a read failed, and then nothing is written; 6 comes just where a write failed.
     ensures read_fault { result ≡ 5 → Rose (S.faults source.old) (S.faults source.new) }
     ensures no_read_fault { result ≢ 5 → S.faults source.new ≡ S.faults source.old }
@@ -269,7 +334,7 @@ pub fn run<'a, R: Threads + Wait + Sync, S: Source, K: Sink, G: Gate + Sync>(
     // Bytes that the command takes get their report, where nothing fails.
     ensures complete { (command : CommandOf) → Says (map (λ w. w.now) words.now) command
         → (Rose (S.faults source.old) (S.faults source.new) → ⊥) → (Rose (K.faults sink.old) (K.faults sink.new) → ⊥)
-        → IfSome (S.left source.old) (λ bytes. IsTaken command bytes → (result ≤ 2) ⊎ (result ≡ 7)) }
+        → IfSome (S.left source.old) (λ bytes. IsTaken command (input_of command bytes) → (result ≤ 2) ⊎ (result ≡ 7)) }
 {
     perform(alloc, words, source, sink)
 }
@@ -283,7 +348,7 @@ pub fn run_over_bytes<'a, R: Threads + Wait + Sync>(
 ) -> (u8, Vec<u8>)
     ensures no_fault { (result.0 ≢ 5) × (result.0 ≢ 6) }
     ensures report { result.0 ≤ 4 → Stage (map (λ w. w.now) words.now) text.items result.1.items (Some result.0) }
-    ensures complete { (command : CommandOf) → Says (map (λ w. w.now) words.now) command → IsTaken command text.items → (result.0 ≤ 2) ⊎ (result.0 ≡ 7) }
+    ensures complete { (command : CommandOf) → Says (map (λ w. w.now) words.now) command → IsTaken command (input_of command text.items) → (result.0 ≤ 2) ⊎ (result.0 ≡ 7) }
 {
     let mut source = SureSource::new(text);
     let mut sink = SureSink::new(alloc);

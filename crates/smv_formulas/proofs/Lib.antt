@@ -4,4 +4,6 @@ pub mod Parts
 pub mod Telling
 pub mod Chains
 pub mod OnWords
+pub mod Knowing
+pub mod Forming
 pub mod OfPieces

@@ -2,6 +2,7 @@
 //! which it is true or false (NuSMV 2.6 User Manual, 2.4.3, LTL Specifications). The definitions are in `specs/`.
 #![tactic(auto)]
 
+mod formed;
 mod forms;
 mod marks;
 mod numbering;

@@ -20,8 +20,8 @@ pub fn marks_of(alloc: Global, nodes: &[Node]) -> Result<Vec<bool>, AllocError>
     Ok(marks)
 }
 
-// The mark of a node, by those of the nodes before it.
-fn mark_by(marks: &[bool], node: &Node) -> bool
+/// The mark of a node, by those of the nodes before it.
+pub fn mark_by(marks: &[bool], node: &Node) -> bool
     ensures { result ≡ mark_by marks.now node.now }
 {
     match *node {

@@ -3,6 +3,7 @@
 ghost use Rattle.std.specs.Prelude.{◌≡◌, ◌+◌, ◌<◌, ◌≤◌, ◌^◌, List, length, slice_get, take, true};
 ghost use Rattle.smv_resolve.specs.Resolved.{Resolved, resolved_by};
 ghost use Rattle.smv_meaning.specs.Formulas.{has_temporal};
+ghost use Rattle.smv_formulas.specs.Known.{IsSoundBelow, IsSoundPiece};
 ghost use Rattle.smv_formulas.specs.Marks.{marks_of};
 ghost use Rattle.smv_formulas.specs.Pieces.{IsPiece, IsPieceBelow};
 
@@ -26,7 +27,8 @@ pub enum Piece {
 pub fn piece_at(nodes: &[Node], marks: &[bool], limit: usize, k: usize) -> Piece
     requires inside { limit ≤ length nodes.now }
     requires marked { marks.now ≡ marks_of nodes.now }
-    ensures { IsPieceBelow nodes.now limit k result }
+    ensures piece { IsPieceBelow nodes.now limit k result }
+    ensures sound { IsSoundBelow nodes.now limit k result }
 {
     let Some(node) = node_below(nodes, limit, k) else {
         return Piece::Never
@@ -48,7 +50,8 @@ fn node_below(nodes: &[Node], limit: usize, k: usize) -> Option<Node>
 // What a node is, before which there are k others, if a temporal operator stands in its part.
 fn marked_piece(k: usize, node: Node) -> Piece
     requires { k + 1 < 2 ^ 64 }
-    ensures { (parts : List Resolved) → length parts ≡ k → has_temporal (resolved_by parts node) ≡ true → IsPiece parts (resolved_by parts node) result }
+    ensures piece { (parts : List Resolved) → length parts ≡ k → has_temporal (resolved_by parts node) ≡ true → IsPiece parts (resolved_by parts node) result }
+    ensures sound { (parts : List Resolved) → length parts ≡ k → has_temporal (resolved_by parts node) ≡ true → IsSoundPiece parts (resolved_by parts node) result }
 {
     match node {
         Node::Constant(..) => Piece::Atom,

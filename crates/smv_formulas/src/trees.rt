@@ -1,9 +1,11 @@
 //! Expressions as trees of formulas.
 
-ghost use Rattle.std.specs.Prelude.{◌≡◌, ◌≤◌, IfOk, length};
+ghost use Rattle.std.specs.Prelude.{◌≡◌, ◌≤◌, ℕ, Bool, IfOk, length, true};
+ghost use Rattle.std.specs.List.{list_all};
 ghost use Rattle.smv_meaning.specs.Lassos.{Holds};
 ghost use Rattle.ltl_meaning.specs.Temporal.{formula_of};
 ghost use Rattle.ltl_meaning.specs.Truth.{binary_truth};
+ghost use Rattle.smv_formulas.specs.Known.{AreSound, IsSound, IsSoundJoint, KeepsKnown};
 ghost use Rattle.smv_formulas.specs.Marks.{marks_of};
 ghost use Rattle.smv_formulas.specs.Trees.{Grows, IsAtom, IsMaybeJoint, IsWithin, SaysOn, TellsOn, joint_holds, part_below};
 
@@ -41,6 +43,7 @@ pub fn tree(
     requires marked { marks.now ≡ marks_of nodes.now }
     ensures grows { IfOk result (λ tree. Grows atoms.old.items atoms.new.items) }
     ensures says { IfOk result (λ tree. SaysOn nodes.now atoms.new.items (formula_of tree) (part_below nodes.now limit k)) }
+    ensures known { IfOk result (λ tree. KeepsKnown nodes.now atoms.old.items atoms.new.items (λ slots s u. IsSound slots s u (part_below nodes.now limit k))) }
 {
     match piece_at(nodes, marks, limit, k) {
         Piece::Never => Ok(Tree::Constant(false)),
@@ -68,6 +71,7 @@ fn joined(
     requires marked { marks.now ≡ marks_of nodes.now }
     ensures grows { IfOk result (λ tree. Grows atoms.old.items atoms.new.items) }
     ensures tells { IfOk result (λ tree. TellsOn nodes.now atoms.new.items (formula_of tree) (joint_holds nodes.now limit form left right)) }
+    ensures known { IfOk result (λ tree. KeepsKnown nodes.now atoms.old.items atoms.new.items (λ slots s u. AreSound form slots s u (part_below nodes.now limit left) (part_below nodes.now limit right))) }
 {
     match form {
         Form::One(operator) => {
@@ -106,6 +110,7 @@ fn chain(
     requires marked { marks.now ≡ marks_of nodes.now }
     ensures grows { IfOk result (λ tree. Grows atoms.old.items atoms.new.items) }
     ensures tells { IfOk result (λ tree. TellsOn nodes.now atoms.new.items (formula_of tree) (λ p w. binary_truth joint.operator (Holds p w (part_below nodes.now limit joint.left)) (Holds p w (part_below nodes.now limit joint.right)))) }
+    ensures known { IfOk result (λ tree. KeepsKnown nodes.now atoms.old.items atoms.new.items (λ slots s u. IsSound slots s u (part_below nodes.now limit joint.left) × IsSound slots s u (part_below nodes.now limit joint.right))) }
 {
     let mut links = Vec::new(alloc);
     let mut before = limit;
@@ -134,7 +139,8 @@ fn chain(
 fn joint_at(nodes: &[Node], marks: &[bool], limit: usize, k: usize) -> Option<Joint>
     requires inside { limit ≤ length nodes.now }
     requires marked { marks.now ≡ marks_of nodes.now }
-    ensures { IsMaybeJoint nodes.now limit k result }
+    ensures joint { IsMaybeJoint nodes.now limit k result }
+    ensures sound { IsSoundJoint nodes.now limit k result }
 {
     match piece_at(nodes, marks, limit, k) {
         Piece::Joined(Form::Two(operator), left, right) => Some(Joint {
@@ -150,6 +156,7 @@ fn joint_at(nodes: &[Node], marks: &[bool], limit: usize, k: usize) -> Option<Jo
 fn atom(node: usize, atoms: &mut Vec<usize>) -> Result<Tree, AllocError>
     ensures grows { IfOk result (λ tree. Grows atoms.old.items atoms.new.items) }
     ensures atom { IfOk result (λ tree. IsAtom atoms.new.items node (formula_of tree)) }
+    ensures passes { IfOk result (λ tree. (test : ℕ → Bool) → list_all test atoms.old.items ≡ true → test node ≡ true → list_all test atoms.new.items ≡ true) }
 {
     let a = number_of(atoms, node)?;
     Ok(Tree::Atom(a))

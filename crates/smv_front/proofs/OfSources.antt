@@ -17,7 +17,7 @@ use Rattle.smv_types.proofs.Once.{judged_once}
 use Rattle.smv_flat.specs.declared.time.Time.{Time}
 use Rattle.smv_flat.specs.declared.time.Time.TheVariants as when
 use Rattle.smv_flat.specs.Assignments.{TellsCycle, dependencies, AreAssignable, IsRefusedByAssignments, twice_assigned, first_cycle, next_cycle, IsAssignmentStop}
-use Rattle.bit_system.specs.Building.{bit_limit, bits_of}
+use Rattle.bit_states.specs.Layouts.{bit_limit, bits_of}
 use Rattle.smv_front.specs.Sources.{AreAlike, Spells, IsModel, IsRefusedBy, in_text, in_grammar, in_types, in_assignments, in_bits, IsSourceStop, IsWidthStop}
 
 -- the stops of each part are stops of the whole

@@ -10,7 +10,7 @@ use Rattle.smv_text.specs.Texts.{IsText, IsRefusedText}
 use Rattle.smv_parse.specs.Spelling.{IsSpelling, IsRefusedTokens}
 use Rattle.smv_types.specs.Rules.{types_verdict}
 use Rattle.smv_flat.specs.Assignments.{AreAssignable, IsRefusedByAssignments}
-use Rattle.bit_system.specs.Building.{bit_limit, bits_of}
+use Rattle.bit_states.specs.Layouts.{bit_limit, bits_of}
 
 -- The bytes spell the program: they have these tokens, and the tokens spell it.
 pub record Spells (bytes : List ℕ) (tokens : Tokens) (p : Program) : Type 0 where

@@ -1,10 +1,10 @@
 //! Reads a source.
 
 ghost use Rattle.std.specs.Prelude.{◌≡◌, ◌≤◌, IfOk, IfErr};
-ghost use Rattle.bit_system.specs.Building.{bit_limit, bits_of};
+ghost use Rattle.bit_states.specs.Layouts.{bit_limit, bits_of};
 ghost use Rattle.smv_front.specs.Sources.{IsModel, IsSourceStop, IsWidthStop};
 
-use bit_system::is_narrow;
+use bit_states::is_narrow;
 use smv_flat::{Flat, flatten};
 use smv_parse::parse;
 use smv_text::tokens;
@@ -28,11 +28,19 @@ fn narrow(alloc: Global, flat: Flat) -> Result<Flat, TextStop>
     }))
 }
 
-/// The model that the bytes of a source are (NuSMV 2.6 User Manual, chapter 2, as far as the language goes today).
+/// The model that the bytes of a source are (NuSMV 2.6 User Manual, chapter 2, without arrays, real time and CTL; what is refused, by
+/// which rule, and in which order, is an own choice of this project).
 ///
-/// Bytes that are none are refused by the first rule that they break, at that rule's first place: by the rules of tokens
-/// (105, 101 to 104), of the grammar (203, then 201 and 202), of names and kinds (303, 301, 302, 305, 306, 308, 307, 311, 304, 309, 310, 401 of declarations, 312; then 411, 407, 406 and 401 of expressions, item by item) and of
-/// assignments (501, 502), and then by the limit of bits (511), in this order. Memory may be refused at any time.
+/// Bytes that are none are refused by the first rule that they break, at that rule's first place, in this order:
+/// - the rules of tokens: 105, then 101 to 104;
+/// - the rules of the grammar: 203, then 201 and 202;
+/// - the rules of names: 303, 301, 302, 305, 306, 308, 307, 311, 304 and 309, and then 310, of depth;
+/// - the rules of declarations: 401, 404, 403, 402, 410 and 409, declaration by declaration, and then 312, of how many variables there are;
+/// - the rules of expressions: 406, 407, 408, 405, 401, 402, 404, 412, 413, 411 and 409, item by item;
+/// - the rules of assignments: 501, then 502;
+/// - 511, of how many bits there are.
+///
+/// Memory may be refused at any time.
 #[tactic(auto, using(crate::proofs::OfSources::text_stop, crate::proofs::OfSources::grammar_stop, crate::proofs::OfSources::types_stop, crate::proofs::OfSources::assignments_stop, crate::proofs::OfSources::bits_stop, crate::proofs::OfSources::model_read))]
 pub fn read_model(alloc: Global, text: &[u8]) -> Result<Flat, TextStop>
     ensures model { IfOk result (λ flat. IsModel text.now flat.typed.scope.program) }

@@ -19,7 +19,6 @@ use Rattle.smv_resolve.specs.Resolved.{Resolved}
 use Rattle.smv_scope.specs.Slots.{slots_of, is_input}
 use Rattle.smv_declared.specs.Types.{types_of}
 use Rattle.value_types.specs.declared.value_type.ValueType.{ValueType}
-use Rattle.value_types.specs.declared.value_type.ValueType.TheVariants as type
 use Rattle.value_types.specs.Types.{is_of_type}
 use Rattle.smv_meaning.specs.declared.outcome.Outcome.{Outcome}
 use Rattle.smv_meaning.specs.declared.outcome.Outcome.TheVariants.{Fault, Nothing, Values}
@@ -31,14 +30,6 @@ use Rattle.smv_meaning.specs.Values.{outcome, outcome_in}
 abbrev pub in_type : Option ValueType → Value → Bool
 in_type (Some t) v = is_of_type v t
 in_type None v = false
-
--- the slots are booleans
-abbrev pub is_boolean_type : Option ValueType → Bool
-is_boolean_type (Some type.Boolean) = true
-is_boolean_type other = false
-
-abbrev pub are_boolean : List ValueType → List Slot → Bool
-are_boolean types slots = list_all (λ (slot : Slot). is_boolean_type (slice_get types slot.declared)) slots
 
 -- the slots of a state, and the input slots
 abbrev pub state_slots : List Slot → List Slot
@@ -129,10 +120,6 @@ keeps slot v w = not (is_frozen slot.kind) || same v w
 -- each frozen slot keeps its value
 abbrev pub keeps_frozen : List Slot → List Value → List Value → Bool
 keeps_frozen slots s t = list_all (λ (x : (Slot × Value) × Value). keeps x.0.0 x.0.1 x.1) (zip (zip (state_slots slots) s) t)
-
--- the program has booleans alone
-abbrev pub has_booleans_alone : Program → Bool
-has_booleans_alone p = are_boolean (types_of p) (slots_of p)
 
 -- values of their types for the slots of a state
 abbrev pub is_state : Program → List Value → Bool

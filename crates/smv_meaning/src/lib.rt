@@ -20,6 +20,6 @@ pub use law::lassos;
 pub use meets::{meets_init, meets_inv, meets_step};
 pub use operators::applied;
 pub use outcome::Outcome;
-pub use readers::{are_boolean, input_slots, is_claim, slots, specifications, state_slots};
+pub use readers::{input_slots, is_claim, slots, specifications, state_slots};
 pub use states::{Inputs, Path, State};
 pub use typed::Typed;

@@ -1,18 +1,17 @@
 //! Parts of a program that callers look for.
 
-ghost use Rattle.std.specs.Prelude.{◌≡◌, true, map, slice_get, All, IfOk};
+ghost use Rattle.std.specs.Prelude.{◌≡◌, true, map, All, IfOk};
 ghost use Rattle.smv_tree.specs.declared.tree.VariableKind.{VariableKind};
 ghost use Rattle.smv_resolve.specs.Items.{item_by};
 ghost use Rattle.smv_scope.specs.Slots.{is_input, slots_of};
-ghost use Rattle.smv_meaning.specs.Runs.{are_boolean, input_slots, is_boolean_type, is_claim, specifications_of, state_slots};
+ghost use Rattle.smv_meaning.specs.Runs.{input_slots, is_claim, specifications_of, state_slots};
 
 use crate::Typed;
 use smv_resolve::{Item, ItemKind};
 use smv_scope::{Scope, Slot};
 use smv_tree::VariableKind;
-use sqlite_items::{Items, at};
+use sqlite_items::Items;
 use std::alloc::{AllocError, Global};
-use value_types::ValueType;
 
 /// The slots of a program, in their order.
 pub fn slots(typed: &Typed) -> &[Slot]
@@ -77,24 +76,5 @@ pub fn is_claim(kind: ItemKind) -> bool
     match kind {
         ItemKind::Specification(_) => true,
         ItemKind::Assignment(_) | ItemKind::Constraint(_) => false,
-    }
-}
-
-/// Whether the slots are booleans, where these are the types of all slots.
-pub fn are_boolean(types: &[ValueType], slots: &[Slot]) -> bool
-    ensures { result ≡ are_boolean types.now slots.now }
-{
-    slots
-        .iter()
-        .all(|slot| is_boolean_type(types, slot.declared))
-}
-
-// Whether the type of this number is that of booleans.
-fn is_boolean_type(types: &[ValueType], number: usize) -> bool
-    ensures { result ≡ is_boolean_type (slice_get types.now number) }
-{
-    match at(types, number) {
-        Some(ValueType::Boolean) => true,
-        _ => false,
     }
 }

@@ -7,7 +7,7 @@ ghost use Rattle.value_types.specs.Types.{is_type};
 ghost use Rattle.smv_declared.specs.Types.{types_of};
 ghost use Rattle.smv_resolve.specs.Items.{item_by, items_of};
 ghost use Rattle.smv_resolve.proofs.Sets.{Resolved-set};
-ghost use Rattle.smv_meaning.specs.Runs.{AllKnown, has_booleans_alone};
+ghost use Rattle.smv_meaning.specs.Runs.{AllKnown};
 
 use smv_resolve::{Item, Node};
 use smv_scope::Scope;
@@ -16,7 +16,7 @@ use value_types::ValueType;
 
 /// A program with its instances, its slots and their types, and its items in the order of the source, whose expressions are nodes
 /// of one list. What its items assign has values or faults in each state and step of the declared types; what they ask for and
-/// claim is TRUE or FALSE or faults there. Until other types have bits, its variables are booleans.
+/// claim is TRUE or FALSE or faults there.
 #[derive(Debug, Drop)]
 pub struct Typed {
     pub scope: Scope,
@@ -24,7 +24,6 @@ pub struct Typed {
     pub nodes: Items<Node>,
     pub items: Items<Item>,
     pub ghost known: { AllKnown scope.program } by { Prim.hlevel (props) },
-    pub ghost booleans: { has_booleans_alone scope.program ≡ true } by { Prim.hlevel (props) },
     pub ghost right_types: { list_all is_type (types_of scope.program) ≡ true } by { Prim.hlevel (props) },
     pub ghost declared: { types ≡ types_of scope.program } by { Prim.hlevel (props) },
     pub ghost resolved: { map (item_by nodes) items ≡ items_of scope.program } by { Prim.hlevel (props, Resolved-set) },

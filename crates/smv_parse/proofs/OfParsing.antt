@@ -11,7 +11,7 @@ use Rattle.smv_parse.specs.Programs.{program}
 use Rattle.smv_parse.specs.Spelling.{first_unsupported, IsSpelling, fault_refusal, IsRefusedTokens}
 use Rattle.smv_parse.proofs.OfPrograms.{program_lawful, program_alike}
 
--- what is read where nothing goes beyond the language is spelled
+-- what is read where each token has a place in the language is spelled
 pub read_spelled : (tokens : List Token) (p : Program) → first_unsupported tokens ≡ None → read_all (program 0) tokens ≡ Ok p → IsSpelling tokens p
 read_spelled tokens p supported e = record { supported = supported; spelled = found program program_lawful program_alike tokens p e }
 
@@ -21,7 +21,7 @@ told tokens fault rest refusal supported e is =
     let refused = refused_within program program_lawful program_alike tokens.items fault rest e in
     rw supported (record { fault = fault; before = refused.before; rest = rest; split = refused.split; refused = refused.why; told = is })
 
--- a fault is told where nothing goes beyond the language
+-- a fault is told where each token has a place in the language
 pub told_fault : (tokens : Tokens) (items : List Token) (fault : Fault) (rest : List Token) (refusal : Refusal) → items ≡ tokens.items → first_unsupported items ≡ None
     → read_all (program 0) items ≡ Err (fault, rest) → refusal ≡ fault_refusal fault rest tokens.end → IsRefusedTokens tokens refusal
 told_fault tokens items fault rest refusal same supported e is =

@@ -1,8 +1,7 @@
 -- What tokens are a program, and why tokens are refused.
-use Rattle.std.specs.Prelude.{◌≡◌, ℕ, Bool, true, false, ◌==◌, ◌&&◌, ◌||◌, not, if◌then◌else◌, List, [], ◌∷◌, ◌++◌, Option, None, Some, codes}
+use Rattle.std.specs.Prelude.{◌≡◌, ℕ, Bool, true, false, not, find, List, [], ◌∷◌, ◌++◌, Option, None, Some, codes}
 use Rattle.phrase_forms.specs.declared.fault.Fault.{Fault}
 use Rattle.phrase_forms.specs.declared.fault.Fault.TheVariants as fault
-use Rattle.phrase_forms.specs.Forms.{head}
 use Rattle.phrase_forms.specs.Levels.{SpellsWithin, IsRefusedWithin}
 use Rattle.smv_tree.specs.declared.place.Place.{Place}
 use Rattle.smv_tree.specs.declared.token.Token.{Token}
@@ -14,11 +13,9 @@ use Rattle.smv_tree.specs.declared.refusal.Rule.TheVariants as rule
 use Rattle.smv_tree.specs.declared.refusal.TextStop.{TextStop}
 use Rattle.smv_tree.specs.declared.refusal.TextStop.TheVariants.{Refused, NoMemory}
 use Rattle.smv_tree.specs.declared.tree.Program.{Program}
-use Rattle.smv_tree.specs.Kinds.{number_of, is_kind}
-use Rattle.smv_expressions.specs.Operators.{names_function}
 use Rattle.smv_parse.specs.Programs.{program}
 
--- the kinds of tokens that have a place in the language: all but the words of NuSMV that it does without, and those of arrays
+-- the kinds of tokens that have a place in the language: all but the words of NuSMV that it does without, and those of arrays, which are not built yet
 abbrev pub is_in_use : TokenKind → Bool
 is_in_use kind.Module = true
 is_in_use kind.Var = true
@@ -109,80 +106,11 @@ is_in_use kind.ShiftLeft = true
 is_in_use kind.ShiftRight = true
 is_in_use other = false
 
--- The gate: what has its place in the grammar, and no answer of the checker yet.
-
--- the kinds of tokens of integers, enumerations, words and sets
-abbrev pub is_held_kind : TokenKind → Bool
-is_held_kind kind.Constants = true
-is_held_kind kind.Word = true
-is_held_kind kind.Unsigned = true
-is_held_kind kind.Signed = true
-is_held_kind kind.Case = true
-is_held_kind kind.Esac = true
-is_held_kind kind.Mod = true
-is_held_kind kind.Union = true
-is_held_kind kind.In = true
-is_held_kind kind.Word1 = true
-is_held_kind kind.Bool = true
-is_held_kind kind.Extend = true
-is_held_kind kind.Resize = true
-is_held_kind kind.Sizeof = true
-is_held_kind kind.Uwconst = true
-is_held_kind kind.Swconst = true
-is_held_kind kind.WordConstant = true
-is_held_kind kind.LeftBrace = true
-is_held_kind kind.RightBrace = true
-is_held_kind kind.DotDot = true
-is_held_kind kind.Concat = true
-is_held_kind kind.Less = true
-is_held_kind kind.Greater = true
-is_held_kind kind.LessEqual = true
-is_held_kind kind.GreaterEqual = true
-is_held_kind kind.Plus = true
-is_held_kind kind.Minus = true
-is_held_kind kind.Times = true
-is_held_kind kind.Divide = true
-is_held_kind kind.ShiftLeft = true
-is_held_kind kind.ShiftRight = true
-is_held_kind other = false
-
--- there is a token, and it is of this kind
-abbrev pub was : TokenKind → Option TokenKind → Bool
-was k None = false
-was k (Some before) = number_of k == number_of before
-
--- the token is a temporal operator with one operand: "[" behind it is none that selects
-abbrev pub is_temporal : Option TokenKind → Bool
-is_temporal near =
-    was kind.Finally near || was kind.Globally near || was kind.Once near || was kind.Historically near || was kind.NextTime near || was kind.PreviousTime near
-    || was kind.WeakPreviousTime near
-
--- an integer behind these two tokens is a bound: the nearer one is "[", or "," behind an integer
-abbrev pub may_be_bound : Option TokenKind → Option TokenKind → Bool
-may_be_bound near far = was kind.LeftBracket near || (was kind.Comma near && was kind.Integer far)
-
--- The token is held back, where these are the two tokens before it and those behind it: it is of such a kind, names a function,
--- is "[" behind no temporal operator, or an integer that is no bound of one.
-abbrev pub is_held_back : Option TokenKind → Option TokenKind → Token → List Token → Bool
-is_held_back near far t rest =
-    is_held_kind t.kind || (names_function t && head (is_kind kind.LeftParen) rest) || (is_kind kind.LeftBracket t && not (is_temporal near))
-    || (is_kind kind.Integer t && not (may_be_bound near far))
-
--- The token goes beyond the language: it has no place in it, or is held back. The two tokens before it are given, the nearer one
--- first, and those behind it.
-abbrev pub is_unsupported : Option TokenKind → Option TokenKind → Token → List Token → Bool
-is_unsupported near far t rest = not (is_in_use t.kind) || is_held_back near far t rest
-
--- the first token that goes beyond the language, where these two stand before
-unfoldable pub first_unsupported_behind : Option TokenKind → Option TokenKind → List Token → Option Token
-first_unsupported_behind near far [] = None
-first_unsupported_behind near far (t ∷ ts) = if is_unsupported near far t ts then Some t else first_unsupported_behind (Some t.kind) near ts
-
--- the first of all of the tokens that goes beyond the language
+-- the first of the tokens that has no place in the language
 abbrev pub first_unsupported : List Token → Option Token
-first_unsupported ts = first_unsupported_behind None None ts
+first_unsupported ts = find (λ (t : Token). not (is_in_use t.kind)) ts
 
--- the tokens spell the program, and none goes beyond the language
+-- the tokens spell the program, and each has a place in the language
 pub record IsSpelling (tokens : List Token) (p : Program) : Type 0 where
   pub supported : first_unsupported tokens ≡ None
   pub spelled : SpellsWithin program 0 tokens p
@@ -202,11 +130,11 @@ abbrev pub fault_refusal : Fault → List Token → Place → Refusal
 fault_refusal fault.Unexpected rest end = record { rule = rule.Unexpected; place = first_place rest end; detail = Some (first_text rest) }
 fault_refusal fault.TooDeep rest end = record { rule = rule.TooDeep; place = first_place rest end; detail = None }
 
--- a token goes beyond the language: the first that does is named
+-- a token has no place in the language: the first such one is named
 abbrev pub unsupported_refusal : Token → Refusal
 unsupported_refusal t = record { rule = rule.Unsupported; place = t.place; detail = Some t.text }
 
--- The tokens are refused so, where none goes beyond the language: at the first that has no place where it stands, or
+-- The tokens are refused so, where each has a place in the language: at the first that has none where it stands, or
 -- that opens a level too many.
 pub record IsFaulty (tokens : Tokens) (refusal : Refusal) : Type 0 where
   pub fault : Fault
@@ -216,7 +144,7 @@ pub record IsFaulty (tokens : Tokens) (refusal : Refusal) : Type 0 where
   pub refused : IsRefusedWithin program fault before rest
   pub told : refusal ≡ fault_refusal fault rest tokens.end
 
--- the tokens are refused so: for the first that goes beyond the language, or where there is none, for a fault
+-- the tokens are refused so: for the first that has no place in the language, or where there is none, for a fault
 abbrev pub IsRefusedFor : Option Token → Tokens → Refusal → Type 0
 IsRefusedFor (Some t) tokens refusal = refusal ≡ unsupported_refusal t
 IsRefusedFor None tokens refusal = IsFaulty tokens refusal

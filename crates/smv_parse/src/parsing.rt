@@ -70,7 +70,7 @@ fn fault_refusal(
     }
 }
 
-/// How tokens are refused for this one, which goes beyond the language.
+/// How tokens are refused for this one, which has no place in the language.
 fn unsupported_refusal(alloc: Global, token: &Token) -> Result<Refusal, AllocError>
     ensures { IfOk result (λ refusal. refusal ≡ unsupported_refusal token.now) }
 {
@@ -86,9 +86,8 @@ fn unsupported_refusal(alloc: Global, token: &Token) -> Result<Refusal, AllocErr
 /// most 256 levels that are open at one place are own choices of this project).
 ///
 /// Tokens that spell no program are refused at one place:
-/// - `Unsupported`: the first token that goes beyond the language, whatever stands before it. It has no place in the
-///   language, or it is held back: the words and symbols of integers, enumerations, words and sets are, until the checker
-///   answers them. Its text is the detail.
+/// - `Unsupported`: the first token that has no place in the language, whatever stands before it: a word of NuSMV that
+///   the language does without, or one of arrays. Its text is the detail.
 /// - `Unexpected`, where none does: the first token with which the tokens no longer begin a program of any depth; its
 ///   text is the detail. Where they begin one and end too early, the end, with the detail `end`.
 /// - `TooDeep`, where none does: the first token that opens a 257th level, if the tokens up to it begin a program of

@@ -1,11 +1,9 @@
-//! Tokens that go beyond the language.
+//! Tokens that have no place in the language.
 
 ghost use Rattle.std.specs.Prelude.{◌≡◌};
 ghost use Rattle.std.specs.Option.{option_copied};
-ghost use Rattle.smv_parse.specs.Spelling.{is_in_use, is_held_kind, was, is_temporal, may_be_bound, is_held_back, is_unsupported, first_unsupported};
+ghost use Rattle.smv_parse.specs.Spelling.{is_in_use, first_unsupported};
 
-use smv_expressions::names_function;
-use smv_phrases::{begins, is_kind};
 use smv_tree::{Token, TokenKind};
 
 /// Whether tokens of this kind have a place in the language.
@@ -110,115 +108,9 @@ fn is_in_use(kind: TokenKind) -> bool
     }
 }
 
-/// Whether tokens of this kind have a place in the language, and no answer yet.
-fn is_held_kind(kind: TokenKind) -> bool
-    ensures { result ≡ is_held_kind kind }
-{
-    match kind {
-        // Words of sections and types.
-        TokenKind::Constants | TokenKind::Word | TokenKind::Unsigned | TokenKind::Signed => true,
-        // Words of expressions.
-        TokenKind::Case | TokenKind::Esac | TokenKind::Mod | TokenKind::Union | TokenKind::In =>
-            true,
-        TokenKind::Word1
-        | TokenKind::Bool
-        | TokenKind::Extend
-        | TokenKind::Resize
-        | TokenKind::Sizeof
-        | TokenKind::Uwconst
-        | TokenKind::Swconst => true,
-        // Constants and brackets.
-        TokenKind::WordConstant
-        | TokenKind::LeftBrace
-        | TokenKind::RightBrace
-        | TokenKind::DotDot => true,
-        // Operators.
-        TokenKind::Less | TokenKind::Greater | TokenKind::LessEqual | TokenKind::GreaterEqual =>
-            true,
-        TokenKind::Concat
-        | TokenKind::Plus
-        | TokenKind::Minus
-        | TokenKind::Times
-        | TokenKind::Divide
-        | TokenKind::ShiftLeft
-        | TokenKind::ShiftRight => true,
-        _ => false,
-    }
-}
-
-/// Whether there was a token before, of this kind.
-#[tactic(auto, using(smv_phrases::proofs::KindNumbers::same_kinds))]
-fn was(kind: TokenKind, before: Option<TokenKind>) -> bool
-    ensures { result ≡ was kind before }
-{
-    match before {
-        Some(before) => kind == before,
-        None => false,
-    }
-}
-
-/// Whether the token is a temporal operator with one operand.
-fn is_temporal(near: Option<TokenKind>) -> bool
-    ensures { result ≡ is_temporal near }
-{
-    was(TokenKind::Finally, near)
-        || was(TokenKind::Globally, near)
-        || was(TokenKind::Once, near)
-        || was(TokenKind::Historically, near)
-        || was(TokenKind::NextTime, near)
-        || was(TokenKind::PreviousTime, near)
-        || was(TokenKind::WeakPreviousTime, near)
-}
-
-/// Whether an integer behind these two tokens is a bound of a temporal operator.
-fn may_be_bound(near: Option<TokenKind>, far: Option<TokenKind>) -> bool
-    ensures { result ≡ may_be_bound near far }
-{
-    was(TokenKind::LeftBracket, near) || was(TokenKind::Comma, near) && was(TokenKind::Integer, far)
-}
-
-/// Whether the token has its place in the language and no answer yet, behind two tokens and before these.
-fn is_held_back(
-    near: Option<TokenKind>,
-    far: Option<TokenKind>,
-    token: &Token,
-    rest: &[Token],
-) -> bool
-    ensures { result ≡ is_held_back near far token.now rest.now }
-{
-    is_held_kind(token.kind)
-        || names_function(token) && begins(TokenKind::LeftParen, rest)
-        || is_kind(TokenKind::LeftBracket, token) && !is_temporal(near)
-        || is_kind(TokenKind::Integer, token) && !may_be_bound(near, far)
-}
-
-/// Whether the token goes beyond the language, behind two tokens and before these.
-fn is_unsupported(
-    near: Option<TokenKind>,
-    far: Option<TokenKind>,
-    token: &Token,
-    rest: &[Token],
-) -> bool
-    ensures { result ≡ is_unsupported near far token.now rest.now }
-{
-    !is_in_use(token.kind) || is_held_back(near, far, token, rest)
-}
-
-/// The first token that goes beyond the language.
-#[tactic(auto, unfolding(crate::specs::Spelling::first_unsupported_behind))]
+/// The first token that has no place in the language.
 pub fn first_unsupported(tokens: &[Token]) -> Option<&Token>
     ensures { option_copied result ≡ first_unsupported tokens.now }
 {
-    let mut near = None;
-    let mut far = None;
-    let mut rest = tokens;
-    'tokens: while let [token, after @ ..] = rest {
-        if is_unsupported(near, far, token, after) {
-            return Some(token);
-        }
-        far = near;
-        near = Some(token.kind);
-        rest = after;
-    }
-    None
+    tokens.iter().find(|token| !is_in_use(token.kind))
 }

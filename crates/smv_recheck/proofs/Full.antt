@@ -1,10 +1,11 @@
 -- Full parts are rejected for a reason of the program alone.
-use Rattle.std.proofs.Common.{◌≡◌, ◌⊎◌, ℕ, zero, suc, ◌<◌, ◌≤◌, Bool, true, false, List, [], ◌∷◌, ◌++◌, length, take, Option, sym, subst, arith, inl, inr}
+use Rattle.std.proofs.Common.{◌≡◌, ◌⊎◌, ℕ, zero, suc, ◌<◌, ◌≤◌, Bool, true, false, List, [], ◌∷◌, ◌++◌, length, take, slice_get, Option, None, Some, sym, subst, arith, inl, inr}
 use borrow.Author.Count.{below_more}
 use Rattle.std.specs.List.{All, Any}
 use Rattle.std.specs.Prelude.{slice_index_or}
 use Rattle.std.proofs.lemmas.Bool.{cases_Bool}
-use Rattle.std.proofs.lemmas.List.Elements.{All-append, All-cons, All-head, All-tail, All-weaker}
+use Rattle.std.proofs.lemmas.Option.{slice_get-get_or}
+use Rattle.std.proofs.lemmas.List.Elements.{All-append, All-cons, All-head, All-nil, All-tail, All-weaker}
 use Rattle.clause_core.specs.declared.literal.Lit.{Lit}
 use Rattle.clause_core.specs.Literals.{Within, negate}
 use Rattle.clause_core.specs.Propagation.{AllFalse, Closed, Follows, HasConflict, UnitIn}
@@ -24,9 +25,15 @@ use Rattle.smv_tree.specs.declared.tree.Program.{Program}
 use Rattle.smv_resolve.specs.Items.{ResolvedItem}
 use Rattle.smv_meaning.specs.Runs.{is_first_state, is_step}
 use Rattle.bit_clauses.specs.Deciding.{Decides, Sets}
-use Rattle.bit_system.specs.Coding.{inputs_of, named_width, next_of, state_of, state_width}
-use Rattle.bit_system.specs.Standing.{StandsFor, is_broken_in}
-use Rattle.smv_recheck.specs.Full.{HasReason, IsFull, IsFullPart}
+use Rattle.bit_clauses.specs.declared.deciding.Decided.{Decided}
+use Rattle.bit_states.specs.Layouts.{named_width, state_width}
+use Rattle.bit_states.specs.Coding.{inputs_of, next_of, state_of}
+use Rattle.bit_conditions.specs.Asked.{is_broken_in}
+use Rattle.bit_faults.specs.Questions.{AreFaultQuestions, IsFaultQuestion, faults_at, judged_items}
+use Rattle.bit_system.specs.Standing.{StandsFor}
+use Rattle.sound_check.specs.Judgements.{PartShows, FailsFirst as FailsFirstItem}
+use Rattle.smv_recheck.proofs.Recording.{element_at}
+use Rattle.smv_recheck.specs.Full.{HasFault, HasReason, IsFull, IsFullItem, IsFullPart}
 
 -- A conflict stays one behind other clauses.
 
@@ -157,3 +164,29 @@ module _ (p : Program) (spec : ResolvedItem) (sys : TransitionSystem) (cert : Bl
   has_reason (First k) log full h = first_reason k log full h
   has_reason (Kept k) log full h = kept_reason k log full h
   has_reason Safe log full h = safe_reason log full h
+
+-- Rejected items.
+
+own_covers : (cs : List (List Lit)) → Covers cs cs []
+own_covers cs = record {
+  decided_in = λ t h. h;
+  given_in = λ t h. All-nil (λ (c : List Lit). (l : Lit) → UnitIn t c l → t l ≡ true);
+  conflict = λ t h. h;
+}
+
+item_fails : (p : Program) (x : ResolvedItem) (q : Option Decided) (parts : List (Option HintedLog)) (item : ℕ) (log : HintedLog) (full : IsFullItem p parts item log) →
+    slice_get (judged_items p) item ≡ Some x → IsFaultQuestion p x q → (PartShows q (slice_index_or parts item None) → ⊥) → HasFault p parts item log full
+item_fails p x None parts item log full at is fails = absurd (fails tt)
+item_fails p x (Some d) parts item log full at is fails =
+    let never : Derives d.vars d.clauses log.steps → ⊥ = λ shown. fails (subst (λ (o : Option HintedLog). Shows Plain d.vars d.clauses o) (sym full.there) shown) in
+    let found = reason (named_width p) d.vars d.clauses d.clauses [] log.steps (faults_at p x) is.room is.decides (own_covers d.clauses) full.full never in
+    record { judged = x; is_it = at; step = found.0; within = found.1; faults = found.2 }
+
+pub has_fault : (p : Program) (questions : List (Option Decided)) (parts : List (Option HintedLog)) (item : ℕ) (log : HintedLog) (full : IsFullItem p parts item log) →
+    AreFaultQuestions p questions → FailsFirstItem questions parts item → HasFault p parts item log full
+has_fault p questions parts item log full asked fails =
+    let q = slice_index_or questions item None in
+    let at : slice_get questions item ≡ Some q = slice_get-get_or questions item None fails.within in
+    let within : item < length (judged_items p) = omega (arith, fails.within, asked.long) in
+    let here = element_at (judged_items p) item within in
+    item_fails p here.0 q parts item log full here.1 (asked.each item here.0 q here.1 at) fails.fails

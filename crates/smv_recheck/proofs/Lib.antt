@@ -1,4 +1,5 @@
 pub mod Ascii
+mod Asking
 pub mod CutLines
 pub mod Full
 pub mod Gives

@@ -8,24 +8,39 @@ use Rattle.smv_resolve.specs.Items.{ResolvedItem}
 use Rattle.smv_meaning.specs.Runs.{specifications_of}
 use Rattle.smv_front.specs.Sources.{IsModel}
 use Rattle.bit_system.specs.Building.{BitProgram, IsBuilt, system_of}
+use Rattle.bit_clauses.specs.declared.deciding.Decided.{Decided}
+use Rattle.bit_faults.specs.Questions.{AreFaultQuestions}
+use Rattle.sound_check.specs.declared.judging.Verdict.{Verdict}
+use Rattle.sound_check.specs.declared.judging.Verdict.TheVariants.{Sound, Rejected}
+use Rattle.sound_check.specs.Judgements.{VerdictSays, parts_of}
 use Rattle.trace_replay.specs.declared.trace.Trace.{Trace}
 use Rattle.smv_recheck.specs.declared.judgement.Judgement.{Judgement}
-use Rattle.smv_recheck.specs.declared.judgement.Judgement.TheVariants.{ShownTrue, ShownFalse, PartRejected, TestRejected, NothingShown}
+use Rattle.smv_recheck.specs.declared.judgement.Judgement.TheVariants.{ShownTrue, ShownFalse, ItemRejected, PartRejected, TestRejected, NothingShown}
 use Rattle.smv_recheck.specs.declared.judgement.Record.{Record}
 use Rattle.smv_recheck.specs.declared.checking.Checked.{Checked}
 use Rattle.smv_recheck.specs.Judging.{IsRecord}
 use Rattle.smv_recheck.specs.Refusing.{Holdings, spec_count}
 
 -- the records are those of the specifications, in their order, numbered from 1
-pub record AreRecords (p : Program) (b : BitProgram) (upgrade : Bool) (traces : List (Option Trace)) (certificates : List (Option Block)) (records : List Record) : Type 0 where
+pub record AreRecords (p : Program) (b : BitProgram) (soundness : Verdict) (upgrade : Bool) (traces : List (Option Trace)) (certificates : List (Option Block)) (records : List Record) : Type 0 where
   pub each_one : length records ≡ spec_count p
   pub each : (j : ℕ) (spec : ResolvedItem) (r : Record) → slice_get (specifications_of p) j ≡ Some spec → slice_get records j ≡ Some r
-      → IsRecord p (system_of b j) upgrade (slice_index_or traces j None) (slice_index_or certificates j None) (j + 1) spec r
+      → IsRecord p soundness (system_of b j) upgrade (slice_index_or traces j None) (slice_index_or certificates j None) (j + 1) spec r
 
--- The sound block that is printed again: the one that was read, before the first record. No item of the language can fault, so nothing
--- has to be shown of an item, and each block is right.
-abbrev pub sound_again : Program → Bool → Option (List (Option HintedLog)) → Option (List (Option HintedLog))
-sound_again p upgrade sound = if upgrade && nat_lt 0 (spec_count p) then sound else None
+-- the check accepts a sound block
+abbrev pub is_sound : Verdict → Bool
+is_sound Sound = true
+is_sound (Rejected item) = false
+
+-- what the check says of a sound block, by what is asked about the items of the program
+pub record IsSoundness (p : Program) (sound : Option (List (Option HintedLog))) (soundness : Verdict) : Type 0 where
+  pub questions : List (Option Decided)
+  pub asked : AreFaultQuestions p questions
+  pub says : VerdictSays questions (parts_of sound) soundness
+
+-- the sound block that is printed again, before the first record: the one that was read, where it was accepted
+abbrev pub sound_again : Program → Verdict → Bool → Option (List (Option HintedLog)) → Option (List (Option HintedLog))
+sound_again p soundness upgrade sound = if upgrade && is_sound soundness && nat_lt 0 (spec_count p) then sound else None
 
 -- What is said of a text that is a model of this program, by the systems of the program and the lines beside the model.
 pub record IsChecked (p : Program) (text : List ℕ) (upgrade : Bool) (c : Checked) : Type 0 where
@@ -35,8 +50,10 @@ pub record IsChecked (p : Program) (text : List ℕ) (upgrade : Bool) (c : Check
   pub sound : Option (List (Option HintedLog))
   pub certificates : List (Option Block)
   pub held : Holdings p text traces sound certificates
-  pub again : c.sound ≡ sound_again p upgrade sound
-  pub records : AreRecords p c.built upgrade traces certificates c.records
+  pub soundness : Verdict
+  pub judged : IsSoundness p sound soundness
+  pub again : c.sound ≡ sound_again p soundness upgrade sound
+  pub records : AreRecords p c.built soundness upgrade traces certificates c.records
 
 -- the same of some program
 abbrev pub IsCheckedText : List ℕ → Bool → Checked → Type 0
@@ -51,6 +68,7 @@ is_shown_false ShownFalse = true
 is_shown_false other = false
 
 abbrev pub is_rejected : Judgement → Bool
+is_rejected (ItemRejected item) = true
 is_rejected (PartRejected part) = true
 is_rejected (TestRejected rule number) = true
 is_rejected other = false

@@ -1,6 +1,6 @@
 -- Full parts: steps that are accepted whatever numbers a version of the program gives to the bits that clauses need. The bits of states
 -- and inputs have the same numbers in each version.
-use Rattle.std.specs.Prelude.{◌≡◌, ℕ, ◌<◌, Bool, List, [], ◌++◌, length, take, All, Some, IsTrue, slice_index_or}
+use Rattle.std.specs.Prelude.{◌≡◌, ℕ, ◌<◌, Bool, true, List, [], ◌++◌, length, take, All, Option, None, Some, IsTrue, slice_get, slice_index_or}
 use Rattle.clause_core.specs.declared.literal.Lit.{Lit}
 use Rattle.clause_core.specs.Literals.{Within}
 use Rattle.clause_core.specs.Propagation.{AllFalse, Closed}
@@ -15,8 +15,10 @@ use Rattle.cert_core.specs.Certificates.{negated, negated_next, unit_clauses}
 use Rattle.smv_tree.specs.declared.tree.Program.{Program}
 use Rattle.smv_resolve.specs.Items.{ResolvedItem}
 use Rattle.smv_meaning.specs.Runs.{IsFirstState, IsStep}
-use Rattle.bit_system.specs.Coding.{inputs_of, named_width, next_of, state_of, state_width}
-use Rattle.bit_system.specs.Standing.{is_broken_in}
+use Rattle.bit_states.specs.Layouts.{named_width, state_width}
+use Rattle.bit_states.specs.Coding.{inputs_of, next_of, state_of}
+use Rattle.bit_conditions.specs.Asked.{is_broken_in}
+use Rattle.bit_faults.specs.Questions.{faults_at, judged_items}
 
 -- the literals of the clause set false, unit propagation from these clauses sets each of the first n bits as x says
 abbrev pub SetsAll : List (List Lit) → List Lit → ℕ → (ℕ → Bool) → Type 0
@@ -60,3 +62,16 @@ pub record HasReason (p : Program) (spec : ResolvedItem) (cert : Block) (part : 
   pub step : ℕ
   pub within : step < length log.steps
   pub reason : IsReason p spec part (full.full.values step)
+
+-- The part of an item in the sound block is full: its steps are over the bits of a step.
+pub record IsFullItem (p : Program) (parts : List (Option HintedLog)) (item : ℕ) (log : HintedLog) : Type 0 where
+  pub there : slice_index_or parts item None ≡ Some log
+  pub full : IsFull (named_width p) [] log.steps
+
+-- some step of a full part sets the bits to values at which the item faults
+pub record HasFault (p : Program) (parts : List (Option HintedLog)) (item : ℕ) (log : HintedLog) (full : IsFullItem p parts item log) : Type 0 where
+  pub judged : ResolvedItem
+  pub is_it : slice_get (judged_items p) item ≡ Some judged
+  pub step : ℕ
+  pub within : step < length log.steps
+  pub faults : faults_at p judged (full.full.values step) ≡ true

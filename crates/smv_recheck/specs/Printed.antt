@@ -11,7 +11,7 @@ use Rattle.smv_tree.specs.Texts.{kind_text, line_end}
 use Rattle.trace_replay.specs.declared.rule.ReplayRule.{ReplayRule}
 use Rattle.trace_replay.specs.Tests.{rule_text}
 use Rattle.smv_recheck.specs.declared.judgement.Judgement.{Judgement}
-use Rattle.smv_recheck.specs.declared.judgement.Judgement.TheVariants.{ShownTrue, ShownFalse, PartRejected, TestRejected, NothingShown}
+use Rattle.smv_recheck.specs.declared.judgement.Judgement.TheVariants.{ShownTrue, ShownFalse, ItemRejected, PartRejected, TestRejected, NothingShown}
 use Rattle.smv_recheck.specs.declared.judgement.Record.{Record}
 use Rattle.smv_recheck.specs.declared.checking.Checked.{Checked}
 
@@ -40,6 +40,10 @@ false_text = codes "is shown false" ++ line_end
 abbrev pub part_rejected_text : Part → List ℕ
 part_rejected_text part = codes "is rejected: part " ++ part_name part ++ line_end
 
+-- items are counted from 0
+abbrev pub item_rejected_text : ℕ → List ℕ
+item_rejected_text item = codes "is rejected: part item " ++ decimal item ++ line_end
+
 abbrev pub test_rejected_text : ReplayRule → ℕ → List ℕ
 test_rejected_text rule at = codes "is rejected: trace " ++ rule_text rule ++ codes " " ++ decimal at ++ line_end
 
@@ -50,6 +54,7 @@ nothing_text = codes "has nothing shown" ++ line_end
 abbrev pub judgement_text : ℕ → Judgement → List ℕ
 judgement_text number (ShownTrue again) = true_text number again
 judgement_text number ShownFalse = false_text
+judgement_text number (ItemRejected item) = item_rejected_text item
 judgement_text number (PartRejected part) = part_rejected_text part
 judgement_text number (TestRejected rule at) = test_rejected_text rule at
 judgement_text number NothingShown = nothing_text

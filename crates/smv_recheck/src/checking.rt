@@ -4,22 +4,26 @@ ghost use Rattle.std.specs.Prelude.{◌≡◌, ◌+◌, ◌<◌, ◌≤◌, ◌^
 ghost use Rattle.std.specs.List.{list_any};
 ghost use Rattle.smv_resolve.specs.Items.{item_by};
 ghost use Rattle.smv_meaning.specs.Runs.{is_claim, specifications_of};
-ghost use Rattle.bit_system.specs.Building.{IsBuilt, bit_limit, bits_of, system_of};
+ghost use Rattle.bit_states.specs.Layouts.{bit_limit, bits_of};
+ghost use Rattle.bit_system.specs.Building.{IsBuilt, system_of};
 ghost use Rattle.smv_recheck.specs.declared.judgement.Record.{Record};
-ghost use Rattle.smv_recheck.specs.Checking.{AreRecords, IsCheckedText, is_nothing, is_rejected, status_of};
+ghost use Rattle.smv_recheck.specs.Checking.{AreRecords, IsCheckedText, IsSoundness, is_nothing, is_rejected, is_sound, status_of};
 ghost use Rattle.smv_recheck.specs.Judging.{IsRecord};
 ghost use Rattle.smv_recheck.specs.Refusing.{IsStop};
 
 use crate::beside::{Beside, read_beside};
 use crate::judgement::{Judgement, Record};
 use crate::judging::{Exhibit, judge};
-use bit_system::{BuildStop, Built, build};
+use bit_faults::fault_questions;
+use bit_states::BuildStop;
+use bit_system::{Built, build};
 use cert_core::{Certificate, Sound};
 use smv_flat::Flat;
 use smv_front::read_model;
 use smv_meaning::specifications;
 use smv_resolve::{Item, ItemKind};
 use smv_tree::TextStop;
+use sound_check::Verdict as Soundness;
 use sqlite_items::Items;
 use std::alloc::{AllocError, Global};
 use trace_replay::Trace;
@@ -69,12 +73,28 @@ fn certificate_at(certificates: &[Option<Certificate>], j: usize) -> Option<&Cer
     }
 }
 
+// What the check says of a sound block, by what is asked about the items of the model.
+fn soundness_of(
+    alloc: Global,
+    flat: &Flat,
+    built: &Built,
+    sound: Option<&Sound>,
+) -> Result<Soundness, AllocError>
+    requires narrow { bits_of flat.now.typed.scope.program ≤ bit_limit }
+    requires built { IsBuilt flat.now.typed.scope.program built.now }
+    ensures { IfOk result (IsSoundness flat.now.typed.scope.program (option_copied sound.entry)) }
+{
+    let questions = fault_questions(alloc, &flat.typed, built.layout())?;
+    sound_check::judge(alloc, &questions, sound)
+}
+
 // The record of a specification, counted from 0.
 fn record_of(
     alloc: Global,
     flat: &Flat,
     built: &Built,
     beside: &Beside,
+    soundness: Soundness,
     j: usize,
     spec: &Item,
     again: bool,
@@ -84,13 +104,14 @@ fn record_of(
     requires claim { is_claim spec.now.kind ≡ true }
     requires here { slice_get (specifications_of flat.now.typed.scope.program) j ≡ Some (item_by flat.now.typed.nodes spec.now) }
     requires built { IsBuilt flat.now.typed.scope.program built.now }
-    ensures { IfOk result (IsRecord flat.now.typed.scope.program (system_of built.now j) again (slice_index_or beside.now.traces j None) (slice_index_or beside.now.certificates.items j None) (j + 1) (item_by flat.now.typed.nodes spec.now)) }
+    ensures { IfOk result (IsRecord flat.now.typed.scope.program soundness (system_of built.now j) again (slice_index_or beside.now.traces j None) (slice_index_or beside.now.certificates.items j None) (j + 1) (item_by flat.now.typed.nodes spec.now)) }
 {
     let ItemKind::Specification(kind) = spec.kind else {
         unreachable!()
     };
     let number = j + 1;
     let exhibit = Exhibit {
+        soundness,
         trace: trace_at(beside.traces.as_slice(), j),
         certificate: certificate_at(&beside.certificates, j),
     };
@@ -109,6 +130,7 @@ fn records_of(
     flat: &Flat,
     built: &Built,
     beside: &Beside,
+    soundness: Soundness,
     specs: &[Item],
     again: bool,
 ) -> Result<Items<Record>, AllocError>
@@ -116,33 +138,49 @@ fn records_of(
     requires claims { All (λ spec. is_claim spec.kind ≡ true) specs.now }
     requires listed { map (item_by flat.now.typed.nodes) specs.now ≡ specifications_of flat.now.typed.scope.program }
     requires built { IsBuilt flat.now.typed.scope.program built.now }
-    ensures { IfOk result (AreRecords flat.now.typed.scope.program built.now again beside.now.traces beside.now.certificates.items) }
+    ensures { IfOk result (AreRecords flat.now.typed.scope.program built.now soundness again beside.now.traces beside.now.certificates.items) }
 {
     let mut records = Vec::new(alloc);
     for (j, spec) in specs.iter().enumerate() {
-        let record = record_of(alloc, flat, built, beside, j, spec, again)?;
+        let record = record_of(alloc, flat, built, beside, soundness, j, spec, again)?;
         records.push(record)?;
     }
     Ok(Items::from_vec(records))
 }
 
-// The sound block, where it is to be printed again: in front of the first of so many records.
-fn sound_again(sound: Option<Sound>, specs: usize, upgrade: bool) -> Option<Sound>
-    ensures { result ≡ (if upgrade && nat_lt 0 specs then sound else None) }
+fn is_sound(soundness: Soundness) -> bool
+    ensures { result ≡ is_sound soundness }
 {
-    if upgrade && specs > 0 { sound } else { None }
+    matches!(soundness, Soundness::Sound)
+}
+
+// The sound block, where it is to be printed again: in front of the first of so many records, where it was accepted.
+fn sound_again(
+    sound: Option<Sound>,
+    soundness: Soundness,
+    specs: usize,
+    upgrade: bool,
+) -> Option<Sound>
+    ensures { result ≡ (if upgrade && is_sound soundness && nat_lt 0 specs then sound else None) }
+{
+    if upgrade && is_sound(soundness) && specs > 0 {
+        sound
+    } else {
+        None
+    }
 }
 
 /// Judges the printed report of a model again. The text is the model with the lines of a report behind it, or anywhere between its
 /// lines: to the language they are comments.
 ///
-/// Of each specification it says: shown true, where its certificate certifies; shown false, where its trace is that of a run that breaks
-/// it, or of a lasso that violates it; rejected, with the first part of its certificate or the first test of its trace that fails; or
-/// that nothing is shown. A trace is judged before a certificate. What is shown holds, by the law `what_is_shown_holds`. With `upgrade`
-/// each certificate that certifies is made anew in the form that is judged by hints, and the sound block is kept.
+/// Of each specification it says: shown true, where the sound block shows that no item faults and its certificate certifies; shown false,
+/// where its trace is that of a run that breaks it, or of a lasso that violates it; rejected, with the first part of the sound block or of
+/// its certificate, or the first test of its trace that fails; or that nothing is shown. A trace is judged before a certificate. What is
+/// shown holds, by the law `what_is_shown_holds`. With `upgrade` each certificate that certifies is made anew in the form that is judged
+/// by hints, and a sound block that is accepted is kept.
 ///
-/// No solver is asked. The time is that of reading the text, of building the systems of the model, of the tests of each trace, and of
-/// `cert_check::check` or `cert_check::upgrade` for each certificate. For each certificate of a temporal formula the system of the
+/// No solver is asked. The time is that of reading the text, of building the systems of the model and what is asked about its items, of
+/// the tests of each trace, of `sound_check::judge`, and of `cert_check::check` or `cert_check::upgrade` for each certificate. For each certificate of a temporal formula the system of the
 /// formula with monitor and counter is built.
 ///
 /// # Errors
@@ -161,8 +199,17 @@ pub fn recheck(alloc: Global, text: &[u8], upgrade: bool) -> Result<Checked, Tex
     let specs = specifications(alloc, typed)?;
     let count = specs.len();
     let beside = read_beside(alloc, text, typed, count)?;
-    let records = records_of(alloc, &flat, &built, &beside, specs.as_slice(), upgrade)?;
-    let sound = sound_again(beside.sound, count, upgrade);
+    let soundness = soundness_of(alloc, &flat, &built, beside.sound.as_ref())?;
+    let records = records_of(
+        alloc,
+        &flat,
+        &built,
+        &beside,
+        soundness,
+        specs.as_slice(),
+        upgrade,
+    )?;
+    let sound = sound_again(beside.sound, soundness, count, upgrade);
     Ok(Checked {
         built,
         sound,
@@ -174,6 +221,7 @@ fn is_rejected(judgement: &Judgement) -> bool
     ensures { result ≡ is_rejected judgement.now }
 {
     match judgement {
+        Judgement::ItemRejected(_) => true,
         Judgement::PartRejected(_) => true,
         Judgement::TestRejected { .. } => true,
         _ => false,

@@ -1,9 +1,12 @@
 //! The system by which the certificate of a temporal formula is judged: it counts how often all fairness sets were seen (Claessen and
 //! Sörensson 2012).
 
-ghost use Rattle.std.specs.Prelude.{◌≤◌, IfOk};
+ghost use Rattle.std.specs.Prelude.{◌≡◌, ◌≤◌, Contains, IfOk};
+ghost use Rattle.smv_tree.specs.declared.tree.SpecificationKind.TheVariants as claim;
+ghost use Rattle.smv_resolve.specs.declared.item.ItemKind.TheVariants as item;
 ghost use Rattle.smv_resolve.specs.Items.{item_by};
-ghost use Rattle.bit_system.specs.Building.{bit_limit, bits_of};
+ghost use Rattle.smv_meaning.specs.Runs.{specifications_of};
+ghost use Rattle.bit_states.specs.Layouts.{bit_limit, bits_of};
 ghost use Rattle.smv_recheck.specs.Counted.{IsCountedSystem};
 
 use bit_formula::build_formula;
@@ -23,6 +26,8 @@ pub fn counted_system(
     bound: usize,
 ) -> Result<System, AllocError>
     requires narrow { bits_of flat.now.typed.scope.program ≤ bit_limit }
+    requires among { Contains (specifications_of flat.now.typed.scope.program) (item_by flat.now.typed.nodes spec.now) }
+    requires temporal { spec.now.kind ≡ item.Specification claim.Temporal }
     ensures { IfOk result (IsCountedSystem flat.now.typed.scope.program (item_by flat.now.typed.nodes spec.now) bound) }
 {
     let built = build_formula(alloc, flat, spec)?;

@@ -1,11 +1,13 @@
 //! What is said of one specification.
 
-ghost use Rattle.std.specs.Prelude.{◌≡◌, ◌<◌, ◌≤◌, IfOk, Some, false, true, option_copied};
+ghost use Rattle.std.specs.Prelude.{◌≡◌, ◌<◌, ◌≤◌, Contains, IfOk, Some, false, true, option_copied};
+ghost use Rattle.smv_tree.specs.declared.tree.SpecificationKind.TheVariants as claim;
 ghost use Rattle.smv_resolve.specs.declared.item.ItemKind.TheVariants as item;
 ghost use Rattle.smv_resolve.specs.Items.{item_by};
+ghost use Rattle.smv_meaning.specs.Runs.{specifications_of};
 ghost use Rattle.trace_replay.specs.Tests.{specification_at};
-ghost use Rattle.bit_system.specs.Building.{bit_limit, bits_of};
-ghost use Rattle.smv_recheck.specs.Judging.{IsByCertificate, IsByTrace, IsCertified, IsJudged, IsOfFormula, IsOfInvariant};
+ghost use Rattle.bit_states.specs.Layouts.{bit_limit, bits_of};
+ghost use Rattle.smv_recheck.specs.Judging.{IsByBlocks, IsByCertificate, IsByTrace, IsCertified, IsJudged, IsOfFormula, IsOfInvariant};
 
 use crate::counting::counted_system;
 use crate::judgement::Judgement;
@@ -16,12 +18,14 @@ use smv_flat::Flat;
 use smv_meaning::Typed;
 use smv_resolve::Item;
 use smv_tree::SpecificationKind;
+use sound_check::Verdict as Soundness;
 use std::alloc::{AllocError, Global};
 use trace_replay::{Replayed, Trace, replay};
 
-/// What a text shows of a specification: its trace and its certificate, if they are there.
+/// What a text shows of a specification: its trace and its certificate, if they are there, and what the check says of the sound block.
 #[derive(Clone, Copy)]
 pub struct Exhibit<'a> {
+    pub soundness: Soundness,
     pub trace: Option<&'a Trace>,
     pub certificate: Option<&'a Certificate>,
 }
@@ -114,6 +118,8 @@ fn of_formula(
     again: bool,
 ) -> Result<Judgement, AllocError>
     requires narrow { bits_of flat.now.typed.scope.program ≤ bit_limit }
+    requires among { Contains (specifications_of flat.now.typed.scope.program) (item_by flat.now.typed.nodes spec.now) }
+    requires temporal { spec.now.kind ≡ item.Specification claim.Temporal }
     ensures { IfOk result (IsOfFormula certificate.now.counter flat.now.typed.scope.program (item_by flat.now.typed.nodes spec.now) certificate.now again) }
 {
     let Some(bound) = certificate.counter() else {
@@ -134,6 +140,8 @@ fn by_certificate(
     again: bool,
 ) -> Result<Judgement, AllocError>
     requires narrow { bits_of flat.now.typed.scope.program ≤ bit_limit }
+    requires among { Contains (specifications_of flat.now.typed.scope.program) (item_by flat.now.typed.nodes spec.now) }
+    requires kind { spec.now.kind ≡ item.Specification kind }
     ensures { IfOk result (IsByCertificate kind flat.now.typed.scope.program system.now (item_by flat.now.typed.nodes spec.now) certificate.now again) }
 {
     match kind {
@@ -142,8 +150,30 @@ fn by_certificate(
     }
 }
 
+// By the sound block and then by a certificate.
+fn by_blocks(
+    alloc: Global,
+    flat: &Flat,
+    system: &System,
+    kind: SpecificationKind,
+    spec: &Item,
+    soundness: Soundness,
+    certificate: &Certificate,
+    again: bool,
+) -> Result<Judgement, AllocError>
+    requires narrow { bits_of flat.now.typed.scope.program ≤ bit_limit }
+    requires among { Contains (specifications_of flat.now.typed.scope.program) (item_by flat.now.typed.nodes spec.now) }
+    requires kind { spec.now.kind ≡ item.Specification kind }
+    ensures { IfOk result (IsByBlocks soundness kind flat.now.typed.scope.program system.now (item_by flat.now.typed.nodes spec.now) certificate.now again) }
+{
+    match soundness {
+        Soundness::Rejected { item } => Ok(Judgement::ItemRejected(item)),
+        Soundness::Sound => by_certificate(alloc, flat, system, kind, spec, certificate, again),
+    }
+}
+
 /// What is said of a specification with this number and kind, by its trace and its certificate: by the trace where there is one, else
-/// by the certificate. That of an invariant is judged by the system of the invariant. That of a temporal formula is judged by the
+/// by the sound block and then by the certificate. That of an invariant is judged by the system of the invariant. That of a temporal formula is judged by the
 /// system of the formula with monitor and counter, which is built for it. `again` asks for a certificate that is judged by hints beside
 /// each that certifies.
 ///
@@ -160,19 +190,21 @@ pub fn judge(
 ) -> Result<Judgement, AllocError>
     requires narrow { bits_of flat.now.typed.scope.program ≤ bit_limit }
     requires first { 0 < number }
+    requires among { Contains (specifications_of flat.now.typed.scope.program) (item_by flat.now.typed.nodes spec.now) }
     requires numbered { specification_at flat.now.typed.scope.program number ≡ Some (item_by flat.now.typed.nodes spec.now) }
     requires kind { spec.now.kind ≡ item.Specification kind }
-    ensures { IfOk result (IsJudged kind flat.now.typed.scope.program system.now (item_by flat.now.typed.nodes spec.now) again (option_copied exhibit.entry.trace) (option_copied exhibit.entry.certificate)) }
+    ensures { IfOk result (IsJudged exhibit.entry.soundness kind flat.now.typed.scope.program system.now (item_by flat.now.typed.nodes spec.now) again (option_copied exhibit.entry.trace) (option_copied exhibit.entry.certificate)) }
 {
     match exhibit.trace {
         Some(trace) => by_trace(alloc, &flat.typed, number, kind, spec, trace),
         None => match exhibit.certificate {
-            Some(certificate) => by_certificate(
+            Some(certificate) => by_blocks(
                 alloc,
                 flat,
                 system,
                 kind,
                 spec,
+                exhibit.soundness,
                 certificate,
                 again,
             ),

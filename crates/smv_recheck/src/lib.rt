@@ -14,5 +14,7 @@ mod trace_lines;
 
 pub use checking::{Checked, recheck, status};
 pub use judgement::{Judgement, Record};
-pub use laws::{full_parts_are_rejected_for_a_reason, what_is_shown_holds};
+pub use laws::{
+    full_items_are_rejected_for_a_reason, full_parts_are_rejected_for_a_reason, what_is_shown_holds,
+};
 pub use printing::print;

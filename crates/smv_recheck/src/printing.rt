@@ -76,6 +76,12 @@ fn write_part_rejected(out: &mut String, part: Part) -> Result<(), AllocError>
     out.push_str("\n")
 }
 
+fn write_item_rejected(out: &mut String, item: usize) -> Result<(), AllocError>
+    ensures { OnOk result (string_bytes out.new ≡ string_bytes out.old ++ printed.item_rejected_text item) }
+{
+    write!(out, "is rejected: part item {item}\n")
+}
+
 fn write_test_rejected(out: &mut String, rule: ReplayRule, number: usize) -> Result<(), AllocError>
     ensures { OnOk result (string_bytes out.new ≡ string_bytes out.old ++ printed.test_rejected_text rule number) }
 {
@@ -100,6 +106,7 @@ fn write_judgement(
     match judgement {
         Judgement::ShownTrue(again) => write_true(alloc, out, number, again),
         Judgement::ShownFalse => write_false(out),
+        Judgement::ItemRejected(item) => write_item_rejected(out, *item),
         Judgement::PartRejected(part) => write_part_rejected(out, *part),
         Judgement::TestRejected { rule, number } => write_test_rejected(out, *rule, *number),
         Judgement::NothingShown => write_nothing(out),

@@ -11,7 +11,7 @@ use crate::items::misused;
 use crate::kinds::judge_nodes;
 use crate::limits::too_many_slots;
 use smv_declared::declared_types;
-use smv_meaning::{Typed, are_boolean};
+use smv_meaning::Typed;
 use smv_names::check_names;
 use smv_resolve::{Resolution, ResolveStop, resolve_items};
 use smv_scope::Scope;
@@ -70,9 +70,6 @@ fn with_kinds(alloc: Global, scope: Scope) -> Result<Typed, TextStop>
     let resolution = resolved(alloc, &scope)?;
     let types = declared_types(alloc, &scope)?;
     kinds(alloc, &scope, types.as_slice(), &resolution)?;
-    if !are_boolean(types.as_slice(), scope.slots.as_slice()) {
-        return Err(TextStop::NoMemory);
-    }
     Ok(Typed {
         scope,
         types,

@@ -3,9 +3,11 @@
 
 ghost use Rattle.std.specs.Prelude.{◌≡◌, ◌≢◌, ◌<◌, ◌≤◌, ◌⊎◌, map, string_bytes, IfOk, IfSome};
 ghost use Rattle.command_words.specs.declared.command.Command.{Command};
+ghost use Rattle.command_words.specs.declared.command.Command.TheVariants.{Ring};
+ghost use Rattle.command_words.specs.declared.command.Ring.{Ring as RingOf};
 ghost use Rattle.command_words.specs.Grammar.{IsCommandLine, Says};
 ghost use Rattle.outside.specs.Causes.{Rose};
-ghost use Rattle.smv_cli.specs.Report.{Answered, Begun, IsTaken, Stage};
+ghost use Rattle.smv_cli.specs.Report.{Answered, Begun, IsTaken, Stage, input_of};
 
 use outside::{OpenGate, Sink, Source, StdSink, StdSource};
 use smv_cli::run;
@@ -62,6 +64,7 @@ fn start<R: Threads + Wait + Sync, S: Source, K: Sink>(
     ensures usage { result ≡ 4 → IsCommandLine (map string_bytes words.now) → ⊥ }
     ensures outside { (IsCommandLine (map string_bytes words.now) → ⊥) → (result ≡ 4) ⊎ (5 < result) }
     ensures unread { (IsCommandLine (map string_bytes words.now) → ⊥) → source.new ≡ source.old }
+    ensures made { (ring : RingOf) → Says (map string_bytes words.now) (Ring ring) → source.new ≡ source.old }
     ensures read_fault { result ≡ 5 → Rose (S.faults source.old) (S.faults source.new) }
     ensures no_read_fault { result ≢ 5 → S.faults source.new ≡ S.faults source.old }
     ensures untouched { result ≡ 5 → sink.new ≡ sink.old }
@@ -69,7 +72,7 @@ fn start<R: Threads + Wait + Sync, S: Source, K: Sink>(
     ensures no_write_fault { result ≢ 6 → K.faults sink.new ≡ K.faults sink.old }
     ensures complete { (command : Command) → Says (map string_bytes words.now) command
         → (Rose (S.faults source.old) (S.faults source.new) → ⊥) → (Rose (K.faults sink.old) (K.faults sink.new) → ⊥)
-        → IfSome (S.left source.old) (λ bytes. IsTaken command bytes → (result ≤ 2) ⊎ (result ≡ 7)) }
+        → IfSome (S.left source.old) (λ bytes. IsTaken command (input_of command bytes) → (result ≤ 2) ⊎ (result ≡ 7)) }
 {
     let Ok(texts) = texts(alloc, words) else {
         return 7;

@@ -32,6 +32,11 @@ returns-clause-unread g c =
     let same = ap (map (λ (w : Bor (List ℕ)). w.now)) c.deref.ensures.value ∙ c.in-Ok.ensures in
     rw same at c.run.ensures.unread
 
+pub returns-clause-made : goal.returns-clause-made
+returns-clause-made g c =
+    let same = ap (map (λ (w : Bor (List ℕ)). w.now)) c.deref.ensures.value ∙ c.in-Ok.ensures in
+    rw same at c.run.ensures.made
+
 pub returns-clause-complete : goal.returns-clause-complete
 returns-clause-complete g c =
     let same = ap (map (λ (w : Bor (List ℕ)). w.now)) c.deref.ensures.value ∙ c.in-Ok.ensures in

@@ -3,4 +3,4 @@ use Rattle.bit_formula.proofs.Joint.{coded}
 use Rattle.bit_formula.proofs.laws.is_joint_coding.Goals as goal
 
 pub returns : goal.returns
-returns c = λ p parts booleans. coded p (reads_of p parts) booleans
+returns c = λ p parts has. coded p (reads_of p parts) has

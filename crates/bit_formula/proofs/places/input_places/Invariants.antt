@@ -1,12 +1,12 @@
--- The places so far, and how many of them are read.
-use Rattle.std.proofs.Common.{◌≡◌, map}
-use Rattle.std.specs.List.{range_with_len}
-use Rattle.bit_formula.specs.Coding.{is_in, place_by}
-use Rattle.bit_formula.proofs.Numbers.{rank}
+-- The places so far, and what is reached behind these inputs.
+use Rattle.std.proofs.Common.{◌≡◌, ◌+◌}
+use Rattle.std.specs.List.{flat_map, range_with_len}
+use Rattle.bit_formula.specs.Coding.{places_by}
+use Rattle.bit_formula.proofs.Placing.{HasReached}
 use Rattle.bit_formula.proofs.places.input_places.Given as goal
 
 abbrev pub invariant-loop-k : goal.invariant-loop-k
 invariant-loop-k l = record {
-  read : l.read ≡ rank (is_in l.reads) 0 l.k;
-  made : l.places.items ≡ map (place_by l.width l.given l.reads) (range_with_len 0 l.k);
+  reached : HasReached l.types l.reads l.slots (l.joint + l.joint) l.k l.reached.read l.reached.own l.reached.other;
+  made : l.places.items ≡ flat_map (places_by l.types l.slots l.reads) (range_with_len 0 l.k);
 }

@@ -8,7 +8,7 @@ use Rattle.bit_graph.specs.declared.edge.Edge.{Edge}
 use Rattle.bit_graph.specs.Values.{value_under}
 use Rattle.bit_clauses.specs.Gated.{DefinesEdges}
 use Rattle.bit_system.proofs.OfSides.{within_more}
-use Rattle.bit_formula.proofs.Joint.{defines_long}
+use Rattle.bit_formula.proofs.Defining.{defines_long}
 use Rattle.bit_formula.proofs.sides.joint_side.Goals as goal
 
 pub split-requires : goal.split-requires

@@ -3,10 +3,9 @@ use Rattle.std.proofs.Common.{List, subst, arith}
 use Rattle.bit_graph.specs.Meaning.{HasInputs}
 use Rattle.bit_clauses.specs.declared.either.Either.{Either}
 use Rattle.bit_clauses.specs.Gated.{DecidesGroup}
-use Rattle.smv_meaning.specs.Runs.{is_step}
 use Rattle.bit_system.proofs.OfSides.{decides_told}
-use Rattle.bit_formula.specs.Coding.{inputs_in, next_in, state_in}
-use Rattle.bit_formula.proofs.Joint.{step_same}
+use Rattle.bit_formula.specs.Standing.{is_step_at}
+use Rattle.bit_formula.proofs.Joint.{named_same}
 use Rattle.bit_formula.proofs.sides.step_side.Goals as goal
 
 pub returns : goal.returns
@@ -20,8 +19,8 @@ returns c =
     let step = c.in_ok-step.step in
     let decides = subst (λ (es : List Either). DecidesGroup n g es step.clauses) c.deref.ensures.value c.in_ok-step.ensures.decides in
     record {
-      step = decides_told _ g es step.clauses (λ x. is_step p (state_in p reads x) (inputs_in p reads x) (next_in p reads x))
-          (subst (λ k. HasInputs k g) c.requires.named c.in_ok-parts.ensures.inputs) c.one_way.ensures.law c.in_ok-parts.ensures.step.holds (step_same p reads)
+      step = decides_told _ g es step.clauses (is_step_at p reads)
+          (subst (λ k. HasInputs k g) c.requires.named c.in_ok-parts.ensures.inputs) c.one_way.ensures.law c.in_ok-parts.ensures.step.holds (named_same p reads)
           (subst (λ k. DecidesGroup k g es step.clauses) c.requires.named decides);
       room = omega (arith, c.requires.named, c.in_ok-step.ensures.vars);
       within = c.in_ok-step.ensures.within;

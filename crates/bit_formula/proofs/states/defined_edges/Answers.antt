@@ -5,10 +5,10 @@ use Rattle.std.proofs.lemmas.List.Elements.{All-append}
 use Rattle.bit_graph.specs.declared.edge.Edge.{Edge}
 use Rattle.bit_graph.specs.Meaning.{Stands, edge_value}
 use Rattle.bit_graph.specs.Values.{values}
-use Rattle.bit_expr.specs.Edges.{AllStand, state_under}
-use Rattle.bit_expr.proofs.MoreNodes.{all_stand_kept}
-use Rattle.bit_system.specs.Standing.{is_just_in, justices_of}
-use Rattle.bit_system.proofs.OfStates.{tells_state_kept}
+use Rattle.bit_arith.specs.Number.{AllStand}
+use Rattle.bit_conditions.specs.Asked.{is_just_in, justices_of}
+use Rattle.bit_conditions.specs.Told.{state_under}
+use Rattle.bit_conditions.proofs.Kept.{edges_kept, tells_state_kept}
 use Rattle.bit_formula.proofs.states.defined_edges.Goals as goal
 
 pub just_edges-requires : goal.just_edges-requires
@@ -21,14 +21,14 @@ returns-clause-stand c =
     let edges = c.in_ok-edges.edges.items in
     let more = c.in_ok-more.more.items in
     let made : c.extend_from_slice.new.self.items ≡ edges ++ more = c.in_ok-extend_from_slice.ensures.items ∙ ap (λ (l : List Edge). edges ++ l) c.deref.ensures.value in
-    subst (AllStand h) (sym made) (All-append (Stands h) edges more c.in_ok-edges.ensures.told.stand (all_stand_kept g h c.in_ok-edges.ensures.extends more c.in_ok-more.ensures.stand))
+    subst (AllStand h) (sym made) (All-append (Stands h) edges more c.in_ok-edges.ensures.told.stand (edges_kept g h c.in_ok-edges.ensures.extends more c.in_ok-more.ensures.stand))
 
 pub returns-clause-told : goal.returns-clause-told
 returns-clause-told c = λ v consistent.
     let p = c.args.typed.now.scope.program in
     let edges = c.in_ok-edges.edges.items in
     let more = c.in_ok-more.more.items in
-    let s = state_under v c.args.state.now.bits in
+    let s = state_under p v c.args.state.now.bits in
     let made : c.extend_from_slice.new.self.items ≡ edges ++ more = c.in_ok-extend_from_slice.ensures.items ∙ ap (λ (l : List Edge). edges ++ l) c.deref.ensures.value in
     ap (map (edge_value v)) made ∙ map-append (edge_value v) edges more
     ∙ ap (λ (l : List Bool). l ++ map (edge_value v) more) (c.in_ok-edges.ensures.told.told v consistent)
@@ -40,7 +40,7 @@ returns-clause-justices c =
     let h = c.just_edges.new.graph in
     let edges = c.in_ok-edges.edges.items in
     let v : ℕ → Bool = values (λ k. false) h in
-    let s = state_under v c.args.state.now.bits in
+    let s = state_under p v c.args.state.now.bits in
     ap length c.as_slice-justices.ensures.value ∙ sym (length-map edges (edge_value v))
     ∙ ap length (c.in_ok-edges.ensures.told.told v (c.one_way.ensures.law.some (λ k. false)).0) ∙ length-map (justices_of p) (is_just_in p s)
 

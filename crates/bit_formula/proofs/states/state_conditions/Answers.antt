@@ -1,82 +1,111 @@
 -- The bits of a state are the inputs.
-use Rattle.std.proofs.Common.{◌≡◌, ◌∙◌, ℕ, ◌+◌, ◌++◌, Bool, List, [], map, ap, sym, subst, length, arith}
-use Rattle.std.specs.List.{range_with_len}
+use Rattle.std.proofs.Common.{◌≡◌, ◌∙◌, ◌&&◌, ℕ, ◌++◌, Bool, List, [], map, ap, sym, subst, length, arith}
 use Rattle.std.proofs.lemmas.List.FromFn.{length-range_with_len}
+use Rattle.bit_arith.specs.Number.{AllStand}
 use Rattle.bit_graph.specs.Meaning.{Consistent, HasInputs}
 use Rattle.smv_value.specs.declared.value.Value.{Value}
 use Rattle.smv_scope.specs.Slots.{slots_of}
 use Rattle.smv_resolve.specs.Resolved.{Resolved}
 use Rattle.smv_formulas.specs.Says.{atom_parts}
-use Rattle.smv_meaning.specs.Runs.{is_first_state, is_true}
+use Rattle.smv_meaning.specs.Runs.{are_inputs, is_first_state, is_state, is_true}
 use Rattle.smv_meaning.specs.Values.{outcome}
-use Rattle.bit_expr.specs.Edges.{AllStand, state_under}
-use Rattle.bit_system.specs.declared.widths.Layout.{Layout}
-use Rattle.bit_system.specs.Coding.{decoded, input_width, state_width}
+use Rattle.bit_states.specs.Layouts.{BitLayout, input_types, state_types, state_width}
+use Rattle.bit_states.specs.Values.{decoded_all}
+use Rattle.bit_conditions.specs.Asked.{is_just_in, justices_of}
+use Rattle.bit_conditions.specs.Told.{TellsNowhere, inputs_under, state_under}
+use Rattle.bit_conditions.proofs.Kept.{edges_kept, tells_inputs_kept, tells_nowhere_kept, tells_state_kept}
 use Rattle.bit_system.specs.Conditions.{edges_of}
-use Rattle.bit_system.specs.Standing.{is_just_in, justices_of}
-use Rattle.bit_system.proofs.Frames.{edges_stand}
-use Rattle.bit_system.proofs.OfSides.{framed, tells_as}
-use Rattle.bit_formula.specs.Coding.{joint_layout, joint_width, read_bit, read_inputs, state_in}
-use Rattle.bit_formula.proofs.Joint.{states_fit}
+use Rattle.bit_system.proofs.Frames.{edges_stand, framed}
+use Rattle.bit_formula.specs.Coding.{joint_layout, joint_width, kept_below, read_inputs, state_in}
+use Rattle.bit_formula.proofs.Joint.{long_places, plain}
 use Rattle.bit_formula.proofs.OfStates.{defined_told}
 use Rattle.bit_formula.proofs.states.state_conditions.Goals as goal
 
-abbrev state_bits : Layout → List ℕ
-state_bits layout = layout.state
+pub framed_state-requires-clause-types : goal.framed_state-requires-clause-types
+framed_state-requires-clause-types c = c.state_types-types.ensures.types ∙ ap (λ (l : BitLayout). l.state_types) c.requires.layout
 
-pub overflow_add-width : goal.overflow_add-width
-overflow_add-width c =
-    let w = state_width c.args.typed.now.scope.program in
-    let long : c.len-width.result ≡ w = c.len-width.ensures ∙ ap length (ap state_bits c.requires.layout) ∙ length-range_with_len 0 w in
-    omega (arith, long, c.requires.few, c.requires.short)
-
-pub input_edges-requires-clause-few : goal.input_edges-requires-clause-few
-input_edges-requires-clause-few c =
-    let w = state_width c.args.typed.now.scope.program in
-    let long : c.len-width.result ≡ w = c.len-width.ensures ∙ ap length (ap state_bits c.requires.layout) ∙ length-range_with_len 0 w in
-    omega (arith, long, c.requires.few)
+pub framed_state-requires-clause-nowhere : goal.framed_state-requires-clause-nowhere
+framed_state-requires-clause-nowhere c = subst (TellsNowhere c.nowhere.new.graph c.args.typed.now) (sym c.as_slice.ensures) c.in_ok-none.ensures.told
 
 pub framed_state-requires-clause-width : goal.framed_state-requires-clause-width
-framed_state-requires-clause-width c = ap length (c.as_slice.ensures ∙ ap state_bits c.requires.layout) ∙ length-range_with_len 0 (state_width c.args.typed.now.scope.program)
+framed_state-requires-clause-width c =
+    ap length (c.state-bits.ensures ∙ ap (λ (l : BitLayout). l.state) c.requires.layout) ∙ length-range_with_len 0 (state_width c.args.typed.now.scope.program)
 
 pub framed_state-requires-clause-stand : goal.framed_state-requires-clause-stand
 framed_state-requires-clause-stand c =
     let w = state_width c.args.typed.now.scope.program in
-    let g = c.in_ok-graph.graph in
-    let long : c.len-width.result ≡ w = c.len-width.ensures ∙ ap length (ap state_bits c.requires.layout) ∙ length-range_with_len 0 w in
-    subst (λ (ns : List ℕ). AllStand g (edges_of ns)) (sym (c.as_slice.ensures ∙ ap state_bits c.requires.layout)) (edges_stand g 0 w (omega (arith, long, c.in_ok-graph.ensures.length)))
+    let g = c.nowhere.new.graph in
+    subst (λ (ns : List ℕ). AllStand g (edges_of ns)) (sym (c.state-bits.ensures ∙ ap (λ (l : BitLayout). l.state) c.requires.layout))
+    (edges_stand g 0 w (omega (arith, c.requires.joint, c.in_ok-graph.ensures.length, c.in_ok-none.ensures.extends.longer)))
+
+pub read_inputs-requires-clause-types : goal.read_inputs-requires-clause-types
+read_inputs-requires-clause-types c = c.input_types.ensures.types ∙ ap (λ (l : BitLayout). l.input_types) c.requires.layout
+
+pub read_inputs-requires-clause-width : goal.read_inputs-requires-clause-width
+read_inputs-requires-clause-width c =
+    let p = c.args.typed.now.scope.program in
+    ap length (c.inputs.ensures ∙ ap (λ (l : BitLayout). l.inputs) c.requires.layout) ∙ long_places (input_types p) (state_width p) c.args.reads.now
+
+pub read_inputs-requires-clause-room : goal.read_inputs-requires-clause-room
+read_inputs-requires-clause-room c = omega (arith, c.in_ok-graph.ensures.length, c.in_ok-none.ensures.extends.longer, c.in_ok-state.ensures.extends.longer)
+
+pub defined_edges-requires-clause-nowhere : goal.defined_edges-requires-clause-nowhere
+defined_edges-requires-clause-nowhere c =
+    let g = c.nowhere.new.graph in
+    let h = c.framed_state.new.graph in
+    let k = c.read_inputs.new.graph in
+    let typed = c.args.typed.now in
+    let told = c.in_ok-none.none in
+    subst (TellsNowhere k typed) (sym c.as_slice-2.ensures)
+    (tells_nowhere_kept h k c.in_ok-inputs.ensures.extends typed told (tells_nowhere_kept g h c.in_ok-state.ensures.extends typed told c.in_ok-none.ensures.told))
+
+pub defined_edges-requires-clause-state : goal.defined_edges-requires-clause-state
+defined_edges-requires-clause-state c =
+    tells_state_kept c.framed_state.new.graph c.read_inputs.new.graph c.in_ok-inputs.ensures.extends c.args.typed.now c.in_ok-state.state c.in_ok-state.ensures.told
+
+pub first_with_inputs-requires-clause-state : goal.first_with_inputs-requires-clause-state
+first_with_inputs-requires-clause-state c =
+    let g = c.framed_state.new.graph in
+    let h = c.read_inputs.new.graph in
+    let typed = c.args.typed.now in
+    tells_state_kept h c.defined_edges.new.graph c.in_ok-defined.ensures.extends typed c.in_ok-state.state
+    (tells_state_kept g h c.in_ok-inputs.ensures.extends typed c.in_ok-state.state c.in_ok-state.ensures.told)
+
+pub first_with_inputs-requires-clause-inputs : goal.first_with_inputs-requires-clause-inputs
+first_with_inputs-requires-clause-inputs c =
+    tells_inputs_kept c.read_inputs.new.graph c.defined_edges.new.graph c.in_ok-defined.ensures.extends c.args.typed.now c.in_ok-inputs.inputs c.in_ok-inputs.ensures.told
 
 pub returns : goal.returns
 returns c =
     let p = c.args.typed.now.scope.program in
     let reads = c.args.reads.now in
     let parts = atom_parts c.args.typed.now.nodes c.args.atoms.now in
-    let w = state_width p in
     let joint = joint_width p reads in
-    let g = c.in_ok-graph.graph in
-    let h = c.defined_edges.new.graph in
+    let h = c.first_with_inputs.new.graph in
     let state = c.in_ok-state.state in
-    let inputs = c.as_slice-2.result.now in
-    let bits_are = c.as_slice.ensures ∙ ap state_bits c.requires.layout in
-    let long : c.len-width.result ≡ w = c.len-width.ensures ∙ ap length (ap state_bits c.requires.layout) ∙ length-range_with_len 0 w in
-    let state_is : (v : ℕ → Bool) → state_under v state.bits ≡ state_in p reads v =
-    λ v. framed v state.bits c.as_slice.result.now (joint_layout p reads).state c.in_ok-state.ensures.bits bits_are in
-    let inputs_are : (v : ℕ → Bool) → Consistent v h → state_under v inputs ≡ read_inputs p reads v =
-    λ v consistent.
-    ap (state_under v) c.as_slice-2.ensures
-    ∙ c.in_ok-inputs.ensures.told v (c.in_ok-state.ensures.extends.kept v (c.in_ok-defined.ensures.extends.kept v consistent))
-    ∙ ap (λ k. decoded (range_with_len 0 k) (read_bit c.len-width.result reads v)) c.requires.given
-    ∙ ap (λ k. decoded (range_with_len 0 (input_width p)) (read_bit k reads v)) long in
+    let inputs = c.in_ok-inputs.inputs in
+    let bits_are = c.state-bits.ensures ∙ ap (λ (l : BitLayout). l.state) c.requires.layout in
+    let places_are = c.inputs.ensures ∙ ap (λ (l : BitLayout). l.inputs) c.requires.layout in
+    let state_is : (v : ℕ → Bool) → state_under p v state.bits ≡ state_in p reads v =
+    λ v. framed (state_types p) v state.bits c.state-bits.result.now (joint_layout p reads).state c.in_ok-state.ensures.bits bits_are in
+    let read_is : (v : ℕ → Bool) → Consistent v h → inputs_under p v inputs.bits ≡ read_inputs p reads v =
+    λ v holds.
+    ap (decoded_all (input_types p))
+    (c.in_ok-inputs.ensures.value.read v (c.in_ok-defined.ensures.extends.kept v (c.in_ok-first.ensures.extends.kept v holds))
+    ∙ (λ i. map (kept_below (c.requires.joint i) (λ (k : ℕ). v (plain k i))) (places_are i))) in
+    let same : List Value → List Value → List Bool =
+    λ s u. map (is_just_in p s) (justices_of p) ++ map (λ (e : Resolved). (is_state p s && are_inputs p u) && is_true (outcome (slots_of p) s u [] e)) parts in
     record {
-      inputs = c.in_ok-defined.ensures.extends.inputs joint
-          (c.in_ok-state.ensures.extends.inputs joint (subst (λ n. HasInputs n g) (ap (λ k. k + length reads) long) c.in_ok-graph.ensures.inputs));
-      first = tells_as h c.in_ok-first.first.items (λ v. is_first_state p (state_under v state.bits)) (λ v. is_first_state p (state_in p reads v)) (λ v. ap (is_first_state p) (state_is v))
-          c.in_ok-first.ensures;
-      stand = c.in_ok-defined.ensures.stand;
-      told = λ v consistent.
-          c.in_ok-defined.ensures.told v consistent
-          ∙ ap (λ (s : List Value). map (is_just_in p s) (justices_of p) ++ map (λ (e : Resolved). is_true (outcome (slots_of p) s (state_under v inputs) [] e)) parts) (state_is v)
-          ∙ ap (λ (u : List Value). map (is_just_in p (state_in p reads v)) (justices_of p) ++ map (λ (e : Resolved). is_true (outcome (slots_of p) (state_in p reads v) u [] e)) parts) (inputs_are v consistent)
-          ∙ defined_told p reads parts v (states_fit p reads c.args.typed.now.booleans v);
+      inputs = c.in_ok-first.ensures.extends.inputs joint
+          (c.in_ok-defined.ensures.extends.inputs joint
+          (c.in_ok-inputs.ensures.extends.inputs joint
+          (c.in_ok-state.ensures.extends.inputs joint (c.in_ok-none.ensures.extends.inputs joint (subst (λ n. HasInputs n c.in_ok-graph.graph) c.requires.joint c.in_ok-graph.ensures.inputs)))));
+      first = record {
+        stand = c.in_ok-first.ensures.told.stand;
+        holds = λ v holds. c.in_ok-first.ensures.told.holds v holds ∙ (λ i. is_first_state p (state_is v i) && are_inputs p (read_is v holds i));
+      };
+      stand = edges_kept c.defined_edges.new.graph h c.in_ok-first.ensures.extends c.in_ok-defined.defined.edges.items c.in_ok-defined.ensures.stand;
+      told = λ v holds.
+          c.in_ok-defined.ensures.told v (c.in_ok-first.ensures.extends.kept v holds) ∙ (λ i. same (state_is v i) (read_is v holds i)) ∙ defined_told p reads parts v;
       justices = c.in_ok-defined.ensures.justices;
     }

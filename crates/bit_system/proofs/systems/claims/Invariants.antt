@@ -1,8 +1,8 @@
--- The clauses of the specifications so far.
-use Rattle.std.proofs.Common.{map, take}
-use Rattle.smv_resolve.specs.Items.{item_by}
-use Rattle.bit_system.specs.Sharing.{Each, IsClaim}
+-- The clauses of the edges so far.
+use Rattle.std.proofs.Common.{take}
+use Rattle.bit_system.specs.Conditions.{Each}
+use Rattle.bit_system.specs.Sharing.{DecidesEdge}
 use Rattle.bit_system.proofs.systems.claims.Given as goal
 
-abbrev pub invariant-loop-spec : goal.invariant-loop-spec
-invariant-loop-spec l = Each (IsClaim l.typed.scope.program) (map (item_by l.typed.nodes) (take l.spec-index l.specs)) l.claims.items
+abbrev pub invariant-loop-edge : goal.invariant-loop-edge
+invariant-loop-edge l = Each (DecidesEdge l.width l.graph) (take l.edge-index l.edges) l.claims.items

@@ -31,4 +31,4 @@ returns c =
     subst (λ (e : ProverEffort). IsDone (c.system_of-system.result.now ∷ []) e history answers) c.prover_effort.ensures c.in_ok-done.ensures in
     let done : IsDone (sys ∷ []) (prover_effort model.effort) history answers =
     subst (λ (s : TransitionSystem). IsDone (s ∷ []) (prover_effort model.effort) history answers) c.system_of-system.ensures by_effort in
-    answered_alone p model.effort spec sys history answers c.last_of.result c.requires.alone (c.requires.ready.built.stands (c.args.number - 1) spec c.requires.numbered) done c.last_of.new.answers.items c.last_of.ensures
+    answered_alone p model.effort spec sys history answers c.last_of.result c.requires.alone (c.requires.ready.built.stands (c.args.number - 1) spec c.requires.numbered c.requires.invariant) done c.last_of.new.answers.items c.last_of.ensures

@@ -1,7 +1,7 @@
 -- What is said of a specification of either kind.
 use Rattle.std.proofs.Common.{◌≡◌, ◌∙◌, ◌-◌, ◌+◌, ap, arith, subst, Result, Ok, Err, OnOk}
 use Rattle.smv_resolve.specs.declared.item.ItemKind.TheVariants as item
-use Rattle.smv_cli.specs.Records.{is_invariant}
+use Rattle.bit_conditions.specs.Asked.{is_invariant}
 use Rattle.smv_cli.specs.Written.{IsPool, item_in, program_in}
 use Rattle.smv_cli.proofs.Asking.{kept_pool}
 use Rattle.smv_cli.proofs.judging.judge_by_kind.Goals as goal

@@ -8,7 +8,7 @@ use Rattle.smv_resolve.specs.declared.item.Item.{Item}
 use Rattle.smv_resolve.specs.declared.node.Node.{Node}
 use Rattle.smv_resolve.specs.Items.{ResolvedItem, item_by}
 use Rattle.frame_core.specs.Law.{system_at}
-use Rattle.smv_cli.specs.Records.{is_invariant}
+use Rattle.bit_conditions.specs.Asked.{is_invariant}
 use Rattle.smv_cli.specs.Written.{pooled}
 use Rattle.smv_cli.proofs.Pooling.{systems_more}
 use Rattle.smv_cli.proofs.judging.pooled.Goals as goal

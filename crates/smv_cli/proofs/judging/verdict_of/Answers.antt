@@ -15,7 +15,7 @@ replayed-requires-clause-broken c =
     let spec = item_in model c.args.spec.now in
     let run = c.in_ok-run-in-False.run' in
     let bad = subst (IsAnswered p model.effort (system_of model.built (c.args.number - 1)) spec) c.in-False.is c.requires.answered in
-    let broken = c.in_ok-run-in-False.ensures.breaks p (c.args.number - 1) spec c.requires.ready.built c.requires.numbered bad in
+    let broken = c.in_ok-run-in-False.ensures.breaks p (c.args.number - 1) spec c.requires.ready.built c.requires.numbered c.requires.invariant bad in
     subst (λ (s : List (List Value)). Breaks p spec s c.as_slice-inputs.result.now) (sym c.as_slice-states.ensures)
     (subst (λ (u : List (List Value)). Breaks p spec run.states u) (sym c.as_slice-inputs.ensures) broken)
 
@@ -26,7 +26,7 @@ returns-in-True c =
     let spec = item_in model c.args.spec.now in
     let sys = system_of model.built (c.args.number - 1) in
     let shown = subst (IsAnswered p model.effort sys spec) c.in-True.is c.requires.answered in
-    let stands = c.requires.ready.built.stands (c.args.number - 1) spec c.requires.numbered in
+    let stands = c.requires.ready.built.stands (c.args.number - 1) spec c.requires.numbered c.requires.invariant in
     let certified : IsCertified p spec c.in-True.certificate = record { system = sys; stands = stands; certifies = shown.0; no_counter = shown.1 } in (
       c.what_is_never_bad_is_unbroken.ensures.all p spec sys stands (λ n x reached bad. c.no_run_reaches_bad.ensures sys c.in-True.certificate shown.0 n x reached bad),
       subst (IsShownBy model.effort.cert p spec) (sym c.if_wanted.ensures) (shown_if p spec model.effort.cert c.in-True.certificate certified),

@@ -1,37 +1,19 @@
 -- One more record is written, or a part of it.
-use Rattle.std.proofs.Common.{◌≡◌, ◌∙◌, ◌+◌, ◌-◌, ◌<◌, ℕ, List, All, Some, map, length, get_or, slice_get, sym, subst, ap, true, arith}
-use Rattle.std.proofs.lemmas.List.Elements.{All-get_or}
+use Rattle.std.proofs.Common.{◌≡◌, ◌∙◌, ◌+◌, ◌-◌, ◌<◌, ℕ, List, Some, length, get_or, slice_get, sym, ap, arith}
 use Rattle.std.proofs.lemmas.List.{length-map}
 use Rattle.std.proofs.lemmas.Option.{slice_get-get_or}
 use Rattle.std.proofs.Math.ListN.{get_or-map}
-use Rattle.command_words.specs.declared.command.Effort.{Effort}
 use Rattle.smv_resolve.specs.declared.item.Item.{Item}
-use Rattle.smv_resolve.specs.declared.item.ItemKind.TheVariants as item
 use Rattle.smv_resolve.specs.declared.node.Node.{Node}
 use Rattle.smv_resolve.specs.Items.{ResolvedItem, item_by}
 use Rattle.smv_tree.specs.declared.tree.Program.{Program}
-use Rattle.smv_tree.specs.declared.tree.SpecificationKind.{SpecificationKind}
-use Rattle.smv_meaning.specs.Runs.{is_claim, specifications_of}
+use Rattle.smv_meaning.specs.Runs.{specifications_of}
 use Rattle.trace_replay.specs.Tests.{specification_at}
-use Rattle.smv_cli.specs.declared.record.Record.{Record}
-use Rattle.smv_cli.specs.Records.{IsRight}
+use Rattle.smv_cli.specs.Records.{RightOf}
 use Rattle.smv_cli.specs.Written.{program_in}
-use Rattle.smv_cli.proofs.Recording.{IsRecordOf, claimed, Recorded-push, RecordedPart-push, RecordedPart-whole}
+use Rattle.smv_cli.proofs.Claims.{listed, listed_at, not_claimed}
+use Rattle.smv_cli.proofs.Recording.{Recorded-push, RecordedPart-push, RecordedPart-whole}
 use Rattle.smv_cli.proofs.print.put_records.Goals as goal
-
-abbrev listed : List Node → List Item → List ResolvedItem
-listed nodes specs = map (item_by nodes) specs
-
-listed_at : (p : Program) (effort : Effort) (nodes : List Node) (specs : List Item) (i : ℕ) (s : Item) (kind : SpecificationKind) (r : Record) → (get_or specs i s).kind ≡ item.Specification kind
-    → r.number ≡ i + 1 → r.kind ≡ kind → IsRight kind p effort (item_by nodes (get_or specs i s)) r.verdict → IsRecordOf p effort (i + 1) (get_or (listed nodes specs) i (item_by nodes s)) r
-listed_at p effort nodes specs i s kind r of_kind number same right =
-    let x = item_by nodes (get_or specs i s) in
-    let here : IsRight r.kind p effort x r.verdict = subst (λ (k : SpecificationKind). IsRight k p effort x r.verdict) (sym same) right in
-    subst (λ (y : ResolvedItem). IsRecordOf p effort (i + 1) y r) (sym (get_or-map (item_by nodes) specs i s)) (number, of_kind ∙ ap item.Specification (sym same), here)
-
-not_claimed : (specs : List Item) (i : ℕ) (d : Item) → i < length specs → All (λ (x : Item). is_claim x.kind ≡ true) specs
-    → ((k : SpecificationKind) → (get_or specs i d).kind ≡ item.Specification k → ⊥) → ⊥
-not_claimed specs i d h all never = let k = claimed (get_or specs i d).kind (All-get_or (λ (x : Item). is_claim x.kind ≡ true) specs i d h all) in never k.0 k.1
 
 pub unreachable-requires : goal.unreachable-requires
 unreachable-requires g c = not_claimed c.args.specs.now c.specs.i _ (omega (arith, c.specs-test.true)) c.requires.claims c.in_default.not-Specification
@@ -58,8 +40,8 @@ specs-preserved g c =
     let made = c.in-Ok.made in
     let within : i < length (listed nodes specs) = omega (arith, c.specs-test.true, length-map specs (item_by nodes)) in
     record {
-      so_far = Recorded-push p effort (listed nodes specs) i _ made (taken c.args.sink.now) (taken c.specs.sink) (taken c.put_record.new.sink) c.specs.status c.status_with-status.result within
-          (listed_at p effort nodes specs i _ c.in-Specification.kind made c.in-Specification.is c.in-Ok.ensures.number c.in-Ok.ensures.kind c.in-Ok.ensures.right)
+      so_far = Recorded-push (RightOf p effort) (listed nodes specs) i _ made (taken c.args.sink.now) (taken c.specs.sink) (taken c.put_record.new.sink) c.specs.status c.status_with-status.result within
+          (listed_at (RightOf p effort) nodes specs i _ c.in-Specification.kind made c.in-Specification.is c.in-Ok.ensures.number c.in-Ok.ensures.kind c.in-Ok.ensures.right)
           c.specs.invariant.so_far c.in_ok-put_record.ensures.ok c.status_with-status.ensures.value;
       small = omega arith;
       same = c.in_ok-put_record.ensures.kept ∙ c.specs.invariant.same;
@@ -76,16 +58,16 @@ returns-in_err-put_record-clause-part g c =
     let i = c.specs.i in
     let made = c.in-Ok.made in
     let within : i < length (listed nodes specs) = omega (arith, c.specs-test.true, length-map specs (item_by nodes)) in
-    RecordedPart-push p effort (listed nodes specs) i _ made (taken c.args.sink.now) (taken c.specs.sink) (taken c.put_record.new.sink) c.specs.status within
-    (listed_at p effort nodes specs i _ c.in-Specification.kind made c.in-Specification.is c.in-Ok.ensures.number c.in-Ok.ensures.kind c.in-Ok.ensures.right)
+    RecordedPart-push (RightOf p effort) (listed nodes specs) i _ made (taken c.args.sink.now) (taken c.specs.sink) (taken c.put_record.new.sink) c.specs.status within
+    (listed_at (RightOf p effort) nodes specs i _ c.in-Specification.kind made c.in-Specification.is c.in-Ok.ensures.number c.in-Ok.ensures.kind c.in-Ok.ensures.right)
     c.specs.invariant.so_far c.put_record.ensures.front
 
 pub returns-in_default-judge-clause-part : goal.returns-in_default-judge-clause-part
 returns-in_default-judge-clause-part g c =
     let taken = g.K.Sink.taken in
-    RecordedPart-whole (program_in c.args.model.now) c.args.model.now.effort (listed c.args.model.now.flat.typed.nodes c.args.specs.now) c.specs.i (taken c.args.sink.now) (taken c.specs.sink) c.specs.status c.specs.invariant.so_far
+    RecordedPart-whole (RightOf (program_in c.args.model.now) c.args.model.now.effort) (listed c.args.model.now.flat.typed.nodes c.args.specs.now) c.specs.i (taken c.args.sink.now) (taken c.specs.sink) c.specs.status c.specs.invariant.so_far
 
 pub returns-clause-part : goal.returns-clause-part
 returns-clause-part g c =
     let taken = g.K.Sink.taken in
-    RecordedPart-whole (program_in c.args.model.now) c.args.model.now.effort (listed c.args.model.now.flat.typed.nodes c.args.specs.now) c.specs.i (taken c.args.sink.now) (taken c.specs.sink) c.specs.status c.specs.invariant.so_far
+    RecordedPart-whole (RightOf (program_in c.args.model.now) c.args.model.now.effort) (listed c.args.model.now.flat.typed.nodes c.args.specs.now) c.specs.i (taken c.args.sink.now) (taken c.specs.sink) c.specs.status c.specs.invariant.so_far

@@ -1,6 +1,8 @@
 -- The report of what the words say.
 use Rattle.std.proofs.Common.{◌≡◌, ap, arith, map, Bor, List, ℕ, Err}
 use Rattle.command_words.specs.Grammar.{IsCommandLine}
+use Rattle.command_words.specs.declared.command.Command.TheVariants.{Ring}
+use Rattle.command_words.proofs.Unique.{said_once}
 use Rattle.smv_cli.proofs.Ranges.{in_range}
 use Rattle.smv_cli.proofs.Reports.{said-answered, said-begun, unread-begun, usage-answered, usage-begun}
 use Rattle.smv_cli.proofs.top.perform.Goals as goal
@@ -33,3 +35,8 @@ returns-in-Err-NoMemory-clause-begun g c = λ _. unread-begun (map (λ (w : Bor 
 
 pub answer-requires : goal.answer-requires
 answer-requires g c = record { range = in_range (map (λ (w : Bor (List ℕ)). w.now) c.args.words.now) c.in-Ok.command c.in-Ok.ensures.said }
+
+pub returns-in-Ok-clause-made : goal.returns-in-Ok-clause-made
+returns-in-Ok-clause-made g c = λ ring says.
+    let words = map (λ (w : Bor (List ℕ)). w.now) c.args.words.now in
+    c.answer.ensures.unread ring (said_once words c.in-Ok.command (Ring ring) c.in-Ok.ensures.said says)

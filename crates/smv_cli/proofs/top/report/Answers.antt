@@ -4,16 +4,6 @@ use Rattle.command_words.specs.declared.command.Command.{Command}
 use Rattle.smv_cli.specs.Written.{CommandDone, CommandPart}
 use Rattle.smv_cli.proofs.top.report.Goals as goal
 
-pub returns-in-Check-clause-ok : goal.returns-in-Check-clause-ok
-returns-in-Check-clause-ok g c =
-    let taken = g.K.Sink.taken in
-    subst (λ (command : Command). IfOk c.check.result (λ (status : ℕ). CommandDone command c.args.text.now (taken c.args.sink.now) (taken c.check.new.sink) status)) (sym c.in-Check.is) c.check.ensures.ok
-
-pub returns-in-Check-clause-part : goal.returns-in-Check-clause-part
-returns-in-Check-clause-part g c =
-    let taken = g.K.Sink.taken in
-    subst (λ (command : Command). CommandPart command c.args.text.now (taken c.args.sink.now) (taken c.check.new.sink)) (sym c.in-Check.is) c.check.ensures.part
-
 pub returns-in-Recheck-clause-ok : goal.returns-in-Recheck-clause-ok
 returns-in-Recheck-clause-ok g c =
     let taken = g.K.Sink.taken in

@@ -1,6 +1,6 @@
 -- The sink that was empty has the whole report.
-use Rattle.std.proofs.Common.{arith, subst, sym}
-use Rattle.smv_cli.specs.Report.{IsTaken}
+use Rattle.std.proofs.Common.{ℕ, List, arith, subst, sym}
+use Rattle.smv_cli.specs.Report.{IsTaken, input_of}
 use Rattle.smv_cli.proofs.Reports.{whole-report}
 use Rattle.smv_cli.proofs.top.run_over_bytes.Goals as goal
 
@@ -11,4 +11,4 @@ returns-clause-report g c = λ small.
 pub returns-clause-complete : goal.returns-clause-complete
 returns-clause-complete g c = λ command says taken.
     c.run-status.ensures.complete command says (λ rose. let no : ⊥ = omega (arith, rose) in no) (λ rose. let no : ⊥ = omega (arith, rose) in no)
-    (subst (IsTaken command) (sym c.new-source.ensures) taken)
+    (subst (λ (bytes : List ℕ). IsTaken command (input_of command bytes)) (sym c.new-source.ensures) taken)

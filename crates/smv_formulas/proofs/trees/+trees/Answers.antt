@@ -7,9 +7,10 @@ use Rattle.ltl_meaning.specs.declared.node.Node.{Node as Tree}
 use Rattle.ltl_meaning.specs.Temporal.{Temporal, chain_of, formula_of, links_of}
 use Rattle.ltl_meaning.specs.Truth.{binary_truth}
 use Rattle.smv_formulas.specs.declared.forms.Form.{Form}
+use Rattle.smv_formulas.specs.Known.{AreSound, KeepsKnown}
 use Rattle.smv_formulas.specs.Trees.{TellsOn, joint_holds, part_below}
 use Rattle.smv_formulas.proofs.Chains.{Continues, chain_begins, chain_continues, chain_ends}
-use Rattle.smv_formulas.proofs.OfPieces.{says_atom, says_joined, says_same}
+use Rattle.smv_formulas.proofs.OfPieces.{known_atom, says_atom, says_joined, says_same}
 use Rattle.smv_formulas.proofs.Telling.{grown_twice, tells_unary, tells_within}
 use Rattle.smv_formulas.proofs.trees.+trees.Goals as goal
 
@@ -30,6 +31,8 @@ chain-loop-next-init t c =
           (λ p w. binary_truth joint.operator (Holds p w (part_below nodes c.args.limit joint.left)) (Holds p w (part_below nodes c.args.limit joint.right))))
           (sym links)
           (chain_begins nodes c.tree.new.atoms.items l (part_below nodes c.args.limit joint.left) (part_below nodes c.args.limit joint.right) c.in_ok-operand.ensures.says);
+      known = λ slots s u before h. c.in_ok-operand.ensures.known slots s u before h.1;
+      sound = λ slots s u h. h.0;
     }
 
 pub chain-loop-next-preserved : goal.chain-loop-next-preserved
@@ -38,7 +41,8 @@ chain-loop-next-preserved t c =
     let joint = c.args.joint in
     let next = c.in-Some.next in
     let l : Link Tree = record { operator = next.operator; operand = c.in_ok-operand-2.operand } in
-    let is = c.in-Some.ensures in
+    let is = c.in-Some.ensures.joint in
+    let both = c.in-Some.ensures.sound in
     record {
       below = omega (arith, is.before, c.loop-next.invariant.below);
       grows = grown_twice _ _ _ c.loop-next.invariant.grows c.in_ok-operand-2.ensures.grows;
@@ -47,6 +51,9 @@ chain-loop-next-preserved t c =
           (sym c.in_ok-push-2.ensures.items)
           (chain_continues nodes c.loop-next.atoms.items c.tree-in-Some.new.atoms.items c.loop-next.links.items c.loop-next.before c.loop-next.left next l _
           c.loop-next.invariant.goes c.in_ok-operand-2.ensures.grows is refl c.in_ok-operand-2.ensures.says);
+      known = λ slots s u before h.
+          c.in_ok-operand-2.ensures.known slots s u (c.loop-next.invariant.known slots s u before h) (both slots s u (c.loop-next.invariant.sound slots s u h)).1;
+      sound = λ slots s u h. (both slots s u (c.loop-next.invariant.sound slots s u h)).0;
     }
 
 pub chain-returns-clause-tells : goal.chain-returns-clause-tells
@@ -85,14 +92,50 @@ joined-returns-in-Two-clause-tells t c =
 pub tree-returns-in-Atom-clause-says : goal.tree-returns-in-Atom-clause-says
 tree-returns-in-Atom-clause-says t c =
     on_ok c.atom.result _ _
-    (λ (x : Tree) a. says_atom c.args.nodes.now c.args.limit c.args.k c.requires.inside c.atom.new.atoms.items (formula_of x) c.in-Atom.ensures a) c.atom.ensures.atom
+    (λ (x : Tree) a. says_atom c.args.nodes.now c.args.limit c.args.k c.requires.inside c.atom.new.atoms.items (formula_of x) c.in-Atom.ensures.piece a) c.atom.ensures.atom
 
 pub tree-returns-in-Same-clause-says : goal.tree-returns-in-Same-clause-says
 tree-returns-in-Same-clause-says t c =
     on_ok c.tree.result _ _
-    (λ (x : Tree) a. says_same c.args.nodes.now c.args.limit c.args.k c.requires.inside c.tree.new.atoms.items (formula_of x) c.in-Same.a c.in-Same.ensures a) c.tree.ensures.says
+    (λ (x : Tree) a. says_same c.args.nodes.now c.args.limit c.args.k c.requires.inside c.tree.new.atoms.items (formula_of x) c.in-Same.a c.in-Same.ensures.piece a) c.tree.ensures.says
 
 pub tree-returns-in-Joined-clause-says : goal.tree-returns-in-Joined-clause-says
 tree-returns-in-Joined-clause-says t c =
     on_ok c.joined.result _ _
-    (λ (x : Tree) a. says_joined c.args.nodes.now c.args.limit c.args.k c.requires.inside c.joined.new.atoms.items (formula_of x) c.in-Joined.form c.in-Joined.left c.in-Joined.right c.in-Joined.ensures a) c.joined.ensures.tells
+    (λ (x : Tree) a. says_joined c.args.nodes.now c.args.limit c.args.k c.requires.inside c.joined.new.atoms.items (formula_of x) c.in-Joined.form c.in-Joined.left c.in-Joined.right c.in-Joined.ensures.piece a) c.joined.ensures.tells
+
+pub chain-returns-clause-known : goal.chain-returns-clause-known
+chain-returns-clause-known t c = λ slots s u before h.
+    c.in_ok-first.ensures.known slots s u (c.loop-next.invariant.known slots s u before h) (c.loop-next.invariant.sound slots s u h)
+
+pub joined-returns-in_ok-whole-in-One-clause-known : goal.joined-returns-in_ok-whole-in-One-clause-known
+joined-returns-in_ok-whole-in-One-clause-known t c = λ slots s u before h.
+    c.in_ok-operand-in-One.ensures.known slots s u before
+    (subst (λ (x : Form). AreSound x slots s u (part_below c.args.nodes.now c.args.limit c.args.left) (part_below c.args.nodes.now c.args.limit c.args.right)) c.in-One.is h)
+
+pub joined-returns-in_ok-whole-in-Within-clause-known : goal.joined-returns-in_ok-whole-in-Within-clause-known
+joined-returns-in_ok-whole-in-Within-clause-known t c = λ slots s u before h.
+    c.in_ok-operand-in-Within.ensures.known slots s u before
+    (subst (λ (x : Form). AreSound x slots s u (part_below c.args.nodes.now c.args.limit c.args.left) (part_below c.args.nodes.now c.args.limit c.args.right)) c.in-Within.is h)
+
+pub joined-returns-in-Two-clause-known : goal.joined-returns-in-Two-clause-known
+joined-returns-in-Two-clause-known t c =
+    let nodes = c.args.nodes.now in
+    subst (λ (x : Form). IfOk c.chain.result (λ tree. KeepsKnown nodes c.args.atoms.now.items c.chain.new.atoms.items
+    (λ slots s u. AreSound x slots s u (part_below nodes c.args.limit c.args.left) (part_below nodes c.args.limit c.args.right)))) (sym c.in-Two.is)
+    c.chain.ensures.known
+
+pub tree-returns-in-Atom-clause-known : goal.tree-returns-in-Atom-clause-known
+tree-returns-in-Atom-clause-known t c =
+    on_ok c.atom.result _ _
+    (λ (x : Tree) passes.
+    known_atom c.args.nodes.now c.args.limit c.args.k c.requires.inside c.args.atoms.now.items c.atom.new.atoms.items c.in-Atom.ensures.piece.0 c.in-Atom.ensures.sound passes)
+    c.atom.ensures.passes
+
+pub tree-returns-in-Same-clause-known : goal.tree-returns-in-Same-clause-known
+tree-returns-in-Same-clause-known t c =
+    on_ok c.tree.result _ _ (λ (x : Tree) known. λ slots s u before h. known slots s u before (c.in-Same.ensures.sound slots s u h)) c.tree.ensures.known
+
+pub tree-returns-in-Joined-clause-known : goal.tree-returns-in-Joined-clause-known
+tree-returns-in-Joined-clause-known t c =
+    on_ok c.joined.result _ _ (λ (x : Tree) known. λ slots s u before h. known slots s u before (c.in-Joined.ensures.sound slots s u h)) c.joined.ensures.known

@@ -1,8 +1,10 @@
 -- The text is a model, and its lines are judged by its systems.
-use Rattle.std.proofs.Common.{◌≡◌, ◌∙◌, ℕ, ◌&&◌, cond, None, ap, length, sym}
+use Rattle.std.proofs.Common.{◌≡◌, ◌∙◌, ℕ, ◌&&◌, cond, List, Option, None, ap, length, subst, sym}
+use Rattle.hinted_log.specs.Hints.{HintedLog}
 use lib.Dec.{ltb}
 use Rattle.std.proofs.lemmas.List.{length-map}
 use Rattle.smv_resolve.specs.Items.{item_by}
+use Rattle.smv_recheck.specs.Checking.{IsSoundness, is_sound}
 use Rattle.smv_recheck.specs.Refusing.{spec_count}
 use Rattle.smv_recheck.proofs.checking.recheck.Goals as goal
 
@@ -20,7 +22,9 @@ returns-clause-checked c =
         sound = beside.sound;
         certificates = beside.certificates.items;
         held = c.in_ok-beside.ensures.held;
-        again = c.sound_again-sound.ensures ∙ ap (λ (n : ℕ). cond (c.args.upgrade && ltb 0 n) beside.sound None) count;
+        soundness = c.in_ok-soundness.soundness;
+        judged = subst (λ (o : Option (List (Option HintedLog))). IsSoundness p o c.in_ok-soundness.soundness) c.as_ref.ensures.value c.in_ok-soundness.ensures;
+        again = c.sound_again-sound.ensures ∙ ap (λ (n : ℕ). cond (c.args.upgrade && is_sound c.in_ok-soundness.soundness && ltb 0 n) beside.sound None) count;
         records = c.in_ok-records.ensures;
       },
     )

@@ -1,0 +1,5 @@
+pub mod Demands
+pub mod Keeping
+pub mod Inhabited
+pub mod Asked
+pub mod Told

@@ -1,0 +1,12 @@
+-- The edges stand, one for each bit.
+use Rattle.std.proofs.Common.{◌∙◌, ap, sym, subst, length}
+use Rattle.std.proofs.lemmas.List.{length-map}
+use Rattle.bit_arith.specs.Number.{AllStand}
+use Rattle.bit_faults.specs.Valuations.{input}
+use Rattle.bit_faults.proofs.valuation.inputs_at.Goals as goal
+
+pub told_inputs-requires-clause-stand : goal.told_inputs-requires-clause-stand
+told_inputs-requires-clause-stand c = subst (AllStand c.args.graph.now) (sym c.in_ok-edges.ensures) c.requires.stand
+
+pub told_inputs-requires-clause-width : goal.told_inputs-requires-clause-width
+told_inputs-requires-clause-width c = ap length c.in_ok-edges.ensures ∙ length-map c.args.bits.now input ∙ c.requires.width

@@ -1,7 +1,0 @@
--- One number more.
-use Rattle.std.proofs.Common.{◌∙◌, refl}
-use Rattle.bit_system.proofs.Frames.{range_more}
-use Rattle.bit_system.proofs.widths.numbers.Goals as goal
-
-pub loop-n-preserved : goal.loop-n-preserved
-loop-n-preserved c = c.in_ok-push.ensures.items ∙ range_more c.args.start c.loop-n.n c.loop-n.numbers.items _ c.loop-n.invariant refl

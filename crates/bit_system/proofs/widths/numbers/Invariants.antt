@@ -1,7 +1,0 @@
--- The numbers so far.
-use Rattle.std.proofs.Common.{◌≡◌}
-use Rattle.std.specs.List.{range_with_len}
-use Rattle.bit_system.proofs.widths.numbers.Given as goal
-
-abbrev pub invariant-loop-n : goal.invariant-loop-n
-invariant-loop-n l = l.numbers.items ≡ range_with_len l.start l.n

@@ -1,0 +1,4 @@
+pub mod Answered
+mod Asked
+pub mod Paid
+mod Pairs

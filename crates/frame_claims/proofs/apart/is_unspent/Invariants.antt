@@ -1,0 +1,14 @@
+use Rattle.std.proofs.Common.{◌≡◌, false, take, ◌≤◌, length, List}
+use Rattle.clause_core.specs.Systems.{TransitionSystem}
+use Rattle.frame_core.specs.declared.parts.Lemma.{Lemma}
+use Rattle.frame_history.specs.declared.entries.Limits.{Limits}
+use Rattle.frame_history.specs.History.{start, replay, IsLawful}
+use Rattle.frame_claims.proofs.apart.is_unspent.Given as goal
+
+abbrev pub invariant-entries : goal.invariant-entries
+invariant-entries l =
+    record {
+      within : l.n ≤ length l.history;
+      unspent : (limits : Limits) (systems : List TransitionSystem) (carried : List Lemma) → IsLawful limits (start limits systems carried) l.history →
+          (replay (start limits systems carried) (take l.n l.history)).spent ≡ false;
+    }

@@ -1,0 +1,10 @@
+//! Judges sound blocks, which show of the items of a program that they never fault: by unit propagation alone, with
+//! no solver below (Goldberg, Novikov 2003).
+#![tactic(auto)]
+
+pub mod judging;
+pub mod laws;
+mod parts;
+
+pub use bit_clauses::Decided;
+pub use judging::{Verdict, judge};
