@@ -1,6 +1,7 @@
 use crate::dropping::generalise_in;
 use crate::finding::{bad_of, noted_of, relative_of};
 use crate::following::{follow_adds, follow_levels};
+use crate::hints::{Hint, note_bad, note_step};
 use crate::kept_proofs::KeptProof;
 use crate::outcomes::{Bads, Generalised, Noted, Relative};
 use crate::pushing::push_of;
@@ -27,6 +28,8 @@ pub struct FrameSolver<'a> {
     known: Known<'a>,
     // for each lemma, by its number, the proof that its last push found
     proofs: Vec<Option<KeptProof>>,
+    // of states that were found, which of their bits were needed; the last one stands at the end
+    hints: Vec<Hint>,
 }
 
 impl<'a> Model for FrameSolver<'a> {
@@ -68,6 +71,7 @@ impl<'a> FrameSolver<'a> {
             states,
             known,
             proofs: Vec::new(alloc),
+            hints: Vec::new(alloc),
         })
     }
 
@@ -109,7 +113,7 @@ impl<'a> FrameSolver<'a> {
         ensures ready { Q.ready purse.new }
         ensures budget { Q.budget purse.new ≡ Q.budget purse.old }
     {
-        relative_of(
+        let found = relative_of(
             alloc,
             self.systems,
             self.lemmas.as_slice(),
@@ -118,7 +122,10 @@ impl<'a> FrameSolver<'a> {
             clause,
             level,
             purse,
-        )
+        )?;
+        let system = system_of(self.systems, 0);
+        note_step(alloc, &mut self.hints, system, clause, &found);
+        Ok(found)
     }
 
     /// Whether the lemma's clause is inductive at one level more than it has; as `relative` of these. No query is asked
@@ -175,7 +182,7 @@ impl<'a> FrameSolver<'a> {
         ensures ready { Q.ready purse.new }
         ensures budget { Q.budget purse.new ≡ Q.budget purse.old }
     {
-        bad_of(
+        let found = bad_of(
             alloc,
             self.systems,
             self.lemmas.as_slice(),
@@ -184,7 +191,10 @@ impl<'a> FrameSolver<'a> {
             j,
             top,
             purse,
-        )
+        )?;
+        let system = system_of(self.systems, j);
+        note_bad(alloc, &mut self.hints, system, &found);
+        Ok(found)
     }
 
     /// The state that the step leads from, with whether it is a first one.
@@ -280,6 +290,7 @@ impl<'a> FrameSolver<'a> {
             &mut self.steps,
             &mut self.states,
             &mut self.known,
+            &self.hints,
             proved,
             purse,
         )
