@@ -83,7 +83,7 @@ pub record IsUnderWay (sys : TransitionSystem) (lemmas : List Lemma) (given : Pr
 -- a clause that was asked about will not be asked about again: it has all literals at hand, or lacks one that is needed, or has
 -- just the literals of the one that failed
 abbrev pub IsPast : List Lit → List Lit → Option (List Lit) → List Lit → Type 0
-IsPast best kept failed d = IsPart best d ⊎ ((l : Lit) × Contains kept l × (Contains d l → ⊥)) ⊎ IsSame failed d
+IsPast best kept failed d = IsPart best d ⊎ (((l : Lit) × Contains kept l × (Contains d l → ⊥)) ⊎ IsSame failed d)
 
 -- the queries of a generalisation so far, which may ask about so many clauses more
 pub record IsPaidSoFar (systems : List TransitionSystem) (lemmas : List Lemma) (old new : List (List Lit)) (before after : List ℕ) (level : ℕ) (given best kept : List Lit)
@@ -118,31 +118,31 @@ pub record Fits (walk : Walk) (l : Lit) : Type 0 where
   pub lacks : Contains walk.hint.items l → ⊥
   pub room : length walk.rest.items < walk.asks
 
--- what a trial that holds does to a walk, where these literals are left
-pub record DropsTo (old : Walk) (left part met : List Lit) (parents : List Parent) (new : Walk) : Type 0 where
-  pub kept : new.kept.items ≡ old.kept.items
+-- what a trial that holds does to a walk with these literals kept, where these are left
+pub record DropsTo (kept : List Lit) (failed : Option (List Lit)) (left part met : List Lit) (parents : List Parent) (new : Walk) : Type 0 where
+  pub kept_is : new.kept.items ≡ kept
   pub rest : IsNeeded left part met new.rest.items
-  pub clause : new.draft.clause.items ≡ old.kept.items ++ new.rest.items
-  pub part : new.draft.part.items ≡ part
-  pub parents : new.draft.parents.items ≡ parents
-  pub failed : new.failed ≡ old.failed
-  pub asks : new.asks ≡ old.asks
-  pub hint : new.hint ≡ old.hint
+  pub clause_is : new.draft.clause.items ≡ kept ++ new.rest.items
+  pub part_is : new.draft.part.items ≡ part
+  pub parents_are : new.draft.parents.items ≡ parents
+  pub failed_is : new.failed ≡ failed
 
 -- what a trial without l does to a walk, where these literals are left
 abbrev pub MovesBy : Walk → Lit → List Lit → Trial → Walk → Turn → Type 0
-MovesBy old l left (Holds parents part met) new t = (t ≡ turn.Went) × DropsTo old left part.items met parents.items new
+MovesBy old l left (Holds parents part met) new t =
+    (t ≡ turn.Went) × DropsTo old.kept.items old.failed left part.items met parents.items new × (new.asks ≡ old.asks - 1) × (new.hint.items ≡ old.hint.items)
 MovesBy old l left Fails new t =
     (t ≡ turn.Went) × (new.kept.items ≡ old.kept.items ++ l ∷ []) × (new.rest.items ≡ left) × (new.draft ≡ old.draft)
-    × (new.failed ≡ old.failed) × (new.asks ≡ old.asks) × (new.hint ≡ old.hint)
+    × (new.failed ≡ old.failed) × (new.asks ≡ old.asks - 1) × (new.hint.items ≡ old.hint.items)
 MovesBy old l left (Spent drawn b) new t = t ≡ turn.Spent drawn b
 
 -- what the trial of a hint, of which these literals are left, does to a walk
 abbrev pub HintMovesBy : Walk → List Lit → List Lit → Trial → Walk → Turn → Type 0
-HintMovesBy old left d (Holds parents part met) new t = (t ≡ turn.Went) × DropsTo old left part.items met parents.items new
+HintMovesBy old left d (Holds parents part met) new t =
+    (t ≡ turn.Went) × DropsTo old.kept.items old.failed left part.items met parents.items new × (new.asks ≡ old.asks - 1) × (new.hint.items ≡ [])
 HintMovesBy old left d Fails new t =
     (t ≡ turn.Went) × (new.kept.items ≡ old.kept.items) × (new.rest.items ≡ old.rest.items) × (new.draft ≡ old.draft)
-    × (new.failed ≡ Some d) × (new.asks ≡ old.asks) × (new.hint ≡ old.hint)
+    × (new.failed ≡ Some d) × (new.asks ≡ old.asks - 1) × (new.hint.items ≡ [])
 HintMovesBy old left d (Spent drawn b) new t = t ≡ turn.Spent drawn b
 
 -- the literal was dropped, and maybe others; or it is needed; or the clause failed, which was that of a hint

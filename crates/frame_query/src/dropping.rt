@@ -46,7 +46,8 @@ fn dropped(
     part: Vec<Lit>,
     met: Clause,
 ) -> Result<(), AllocError>
-    ensures { OnOk result (DropsTo walk.old left.now part.items met parents.items walk.new) }
+    ensures drops { OnOk result (DropsTo walk.old.kept.items walk.old.failed left.now part.items met parents.items walk.new) }
+    ensures same { (walk.new.asks ≡ walk.old.asks) × (walk.new.hint ≡ walk.old.hint) }
 {
     let rest = needed_of(alloc, left, &part, met.as_slice())?;
     let clause = both(alloc, &walk.kept, &rest)?;
@@ -69,6 +70,7 @@ fn moved(
 ) -> Result<Turn, AllocError>
     ensures moves { IfOk result (MovesBy walk.old l left.items trial walk.new) }
 {
+    walk.asks = walk.asks.saturating_sub(1);
     match trial {
         Trial::Holds { parents, part, met } => {
             dropped(alloc, walk, &left, parents, part, met)?;
@@ -93,6 +95,8 @@ fn hint_moved(
 ) -> Result<Turn, AllocError>
     ensures moves { IfOk result (HintMovesBy walk.old left.now candidate.items trial walk.new) }
 {
+    walk.asks = walk.asks.saturating_sub(1);
+    walk.hint.clear();
     match trial {
         Trial::Holds { parents, part, met } => {
             dropped(alloc, walk, left, parents, part, met)?;
@@ -151,7 +155,6 @@ fn turn<Q: Purse>(
         level,
         purse,
     )?;
-    walk.asks = walk.asks.saturating_sub(1);
     moved(alloc, walk, l, left, trial)
 }
 
@@ -200,8 +203,6 @@ fn hint_turn<Q: Purse>(
         level,
         purse,
     )?;
-    walk.asks = walk.asks.saturating_sub(1);
-    walk.hint.clear();
     hint_moved(alloc, walk, &left, candidate, trial)
 }
 
