@@ -19,7 +19,8 @@ use std::marker::Model;
 /// caller sees. What queries found is kept too: values that all first states give to bits, a first state, and
 /// 128 steps at most, those that were found or used last; and the last proof of each lemma that was pushed. A
 /// question that these answer is not asked. Of 1024 states at most it is kept which of their bits were needed: a
-/// hint for `generalise`, of which nothing is claimed. Contracts see the systems, the copy of the lemmas, and learned clauses that later queries may use.
+/// hint for `generalise`, of which nothing is claimed. Contracts see the systems, the copy of the lemmas, and
+/// learned clauses that later queries may use.
 #[derive(Drop)]
 pub struct FrameSolver<'a> {
     systems: &'a [System],
