@@ -1,5 +1,5 @@
 -- Proofs of lemmas that are kept, to be used again at higher levels.
-use Rattle.std.specs.Prelude.{◌≡◌, ℕ, ◌+◌, ◌<◌, ◌≤◌, List, All, Option, Some, None, length, map, slice_index_or}
+use Rattle.std.specs.Prelude.{◌≡◌, ℕ, ◌+◌, ◌<◌, List, All, Option, Some, None, length, map, slice_index_or}
 use Rattle.clause_core.specs.declared.literal.Lit.{Lit}
 use Rattle.clause_core.specs.Systems.{TransitionSystem}
 use Rattle.frame_core.specs.declared.parts.Lemma.{Lemma}

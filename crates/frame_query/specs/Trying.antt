@@ -1,5 +1,5 @@
 -- What the steps of a generalisation say.
-use Rattle.std.specs.Prelude.{◌≡◌, ◌⊎◌, ℕ, ◌+◌, ◌-◌, ◌≤◌, Bool, true, List, [], ◌∷◌, ◌++◌, length, All, Contains}
+use Rattle.std.specs.Prelude.{IfSome, ◌≡◌, ◌⊎◌, ℕ, ◌+◌, ◌-◌, ◌≤◌, Bool, true, List, [], ◌∷◌, ◌++◌, length, All, Contains, Option, Some, None, ◌<◌}
 use Rattle.clause_core.specs.declared.literal.Lit.{Lit}
 use Rattle.clause_core.specs.Systems.{TransitionSystem}
 use Rattle.frame_core.specs.declared.parts.Lemma.{Lemma}
@@ -36,6 +36,20 @@ abbrev pub PaysFor : List TransitionSystem → List Lemma → List (List Lit) �
 PaysFor systems lemmas old new before after level d =
     (log : List AskedQuery) × Pays systems lemmas old new before after log × All (AsksOf level d) log × AllDiffer log
 
+-- the clause has just the literals of the one that failed
+abbrev pub IsSame : Option (List Lit) → List Lit → Type 0
+IsSame None d = ⊥
+IsSame (Some failed) d = IsPart failed d × IsPart d failed
+
+-- the same, and none where the clause has just the literals of the one that failed
+abbrev pub PaysNew : List TransitionSystem → List Lemma → List (List Lit) → List (List Lit) → List ℕ → List ℕ → ℕ → Option (List Lit) → List Lit → Type 0
+PaysNew systems lemmas old new before after level failed d =
+    (log : List AskedQuery)
+    × Pays systems lemmas old new before after log
+    × All (AsksOf level d) log
+    × AllDiffer log
+    × (IsSame failed d → length log ≡ 0)
+
 -- the others have each literal of the list but l
 pub record IsOthers (xs : List Lit) (l : Lit) (ys : List Lit) : Type 0 where
   pub enough : (m : Lit) → Contains xs m → (m ≡ l → ⊥) → Contains ys m
@@ -66,46 +80,82 @@ pub record IsUnderWay (sys : TransitionSystem) (lemmas : List Lemma) (given : Pr
   pub needed : AllNeeded sys lemmas given.level given.clause draft.clause.items kept
   pub apart : (l : Lit) → Contains kept l → Contains rest l → ⊥
 
--- a clause that was asked about will not be asked about again: it has all literals at hand, or lacks one that is needed
-abbrev pub IsPast : List Lit → List Lit → List Lit → Type 0
-IsPast best kept d = IsPart best d ⊎ ((l : Lit) × Contains kept l × (Contains d l → ⊥))
+-- a clause that was asked about will not be asked about again: it has all literals at hand, or lacks one that is needed, or has
+-- just the literals of the one that failed
+abbrev pub IsPast : List Lit → List Lit → Option (List Lit) → List Lit → Type 0
+IsPast best kept failed d = IsPart best d ⊎ (((l : Lit) × Contains kept l × (Contains d l → ⊥)) ⊎ IsSame failed d)
 
--- the queries of a generalisation so far, of which `left` literals are still to be tried
+-- the queries of a generalisation so far, which may ask about so many clauses more
 pub record IsPaidSoFar (systems : List TransitionSystem) (lemmas : List Lemma) (old new : List (List Lit)) (before after : List ℕ) (level : ℕ) (given best kept : List Lit)
-    (left : ℕ) : Type 0 where
+    (failed : Option (List Lit)) (asks : ℕ) : Type 0 where
   pub log : List AskedQuery
   pub parts : List (List Lit)
   pub pays : Pays systems lemmas old new before after log
   pub differ : AllDiffer log
   pub proper : All (IsProperPart given) parts
-  pub past : All (IsPast best kept) parts
-  pub asks : All (AsksOfSome level parts) log
-  pub few : length parts + left ≤ length given
+  pub past : All (IsPast best kept failed) parts
+  pub asked : All (AsksOfSome level parts) log
+  pub few : length parts + asks ≤ length given
 
--- the clause that was tried: without l, with all that is needed
+-- the clause that is tried: without l, which is still to be tried, with all that is needed
 pub record IsCandidate (kept rest : List Lit) (l : Lit) (d : List Lit) : Type 0 where
+  pub at : Contains rest l
   pub lacks : Contains d l → ⊥
   pub kept_in : IsPart kept d
   pub inside : IsPart d (kept ++ rest)
 
--- what a trial does to a walk, where these literals are left
+-- a walk under way: what was tried for a hint is broken, there is one hint at most, and each literal that is left may be tried
+pub record IsGoing (sys : TransitionSystem) (lemmas : List Lemma) (given : ProvedClause) (walk : Walk) (rest : List Lit) : Type 0 where
+  pub way : IsUnderWay sys lemmas given walk.draft walk.kept.items rest
+  pub fell : IfSome walk.failed (IsBroken sys lemmas given.level)
+  pub once : 0 < length walk.hint.items → walk.failed ≡ None
+  pub room : length rest ≤ walk.asks
+
+-- the hint fits: it lacks the literal, which is still to be tried, and one clause more may be asked about
+pub record Fits (walk : Walk) (l : Lit) : Type 0 where
+  pub some : 0 < length walk.hint.items
+  pub at : Contains walk.rest.items l
+  pub lacks : Contains walk.hint.items l → ⊥
+  pub room : length walk.rest.items < walk.asks
+
+-- what a trial that holds does to a walk with these literals kept, where these are left
+pub record DropsTo (kept : List Lit) (failed : Option (List Lit)) (left part met : List Lit) (parents : List Parent) (new : Walk) : Type 0 where
+  pub kept_is : new.kept.items ≡ kept
+  pub rest : IsNeeded left part met new.rest.items
+  pub clause_is : new.draft.clause.items ≡ kept ++ new.rest.items
+  pub part_is : new.draft.part.items ≡ part
+  pub parents_are : new.draft.parents.items ≡ parents
+  pub failed_is : new.failed ≡ failed
+
+-- what a trial without l does to a walk, where these literals are left
 abbrev pub MovesBy : Walk → Lit → List Lit → Trial → Walk → Turn → Type 0
 MovesBy old l left (Holds parents part met) new t =
-    (t ≡ turn.Went) × (new.kept.items ≡ old.kept.items) × IsNeeded left part.items met new.rest.items
-    × (new.draft.clause.items ≡ old.kept.items ++ new.rest.items) × (new.draft.part.items ≡ part.items) × (new.draft.parents.items ≡ parents.items)
-MovesBy old l left Fails new t = (t ≡ turn.Went) × (new.kept.items ≡ old.kept.items ++ l ∷ []) × (new.rest.items ≡ left) × (new.draft ≡ old.draft)
+    (t ≡ turn.Went) × DropsTo old.kept.items old.failed left part.items met parents.items new × (new.asks ≡ old.asks - 1) × (new.hint.items ≡ old.hint.items)
+MovesBy old l left Fails new t =
+    (t ≡ turn.Went) × (new.kept.items ≡ old.kept.items ++ l ∷ []) × (new.rest.items ≡ left) × (new.draft ≡ old.draft)
+    × (new.failed ≡ old.failed) × (new.asks ≡ old.asks - 1) × (new.hint.items ≡ old.hint.items)
 MovesBy old l left (Spent drawn b) new t = t ≡ turn.Spent drawn b
 
--- the literal was dropped, and maybe others; or it is needed
-pub data Moves (old new : Walk) (l : Lit) (d : List Lit) : Type 0 where
-  Drops : IsPart new.draft.clause.items d → IsPart new.draft.clause.items old.draft.clause.items → new.kept.items ≡ old.kept.items → Moves old new l d
-  Keeps : new.draft ≡ old.draft → new.kept.items ≡ old.kept.items ++ l ∷ [] → Moves old new l d
+-- what the trial of a hint, of which these literals are left, does to a walk
+abbrev pub HintMovesBy : Walk → List Lit → List Lit → Trial → Walk → Turn → Type 0
+HintMovesBy old left d (Holds parents part met) new t =
+    (t ≡ turn.Went) × DropsTo old.kept.items old.failed left part.items met parents.items new × (new.asks ≡ old.asks - 1) × (new.hint.items ≡ [])
+HintMovesBy old left d Fails new t =
+    (t ≡ turn.Went) × (new.kept.items ≡ old.kept.items) × (new.rest.items ≡ old.rest.items) × (new.draft ≡ old.draft)
+    × (new.failed ≡ Some d) × (new.asks ≡ old.asks - 1) × (new.hint.items ≡ [])
+HintMovesBy old left d (Spent drawn b) new t = t ≡ turn.Spent drawn b
 
--- what a turn says
-abbrev pub TurnSays : TransitionSystem → List Lemma → ProvedClause → Walk → Walk → Lit → List Lit → ℕ → Bool → Turn → Type 0
-TurnSays sys lemmas given old new l d budget over turn.Went =
-    IsUnderWay sys lemmas given new.draft new.kept.items new.rest.items × Moves old new l d × (length new.rest.items ≤ length old.rest.items)
-TurnSays sys lemmas given old new l d budget over (turn.Spent drawn b) = (drawn ≡ budget) × (b ≡ budget) × (over ≡ true)
+-- the literal was dropped, and maybe others; or it is needed; or the clause failed, which was that of a hint
+pub data Moves (old new : Walk) (l : Lit) (d : List Lit) : Type 0 where
+  Drops : IsPart new.draft.clause.items d → IsPart new.draft.clause.items old.draft.clause.items → new.kept.items ≡ old.kept.items → new.failed ≡ old.failed → Moves old new l d
+  Keeps : new.draft ≡ old.draft → new.kept.items ≡ old.kept.items ++ l ∷ [] → new.failed ≡ old.failed → Moves old new l d
+  Falls : new.draft ≡ old.draft → new.kept.items ≡ old.kept.items → old.failed ≡ None → new.failed ≡ Some d → Moves old new l d
+
+-- what a turn says of a walk, of which so many literals and hints were left
+abbrev pub TurnSays : TransitionSystem → List Lemma → ProvedClause → Walk → Walk → Lit → List Lit → ℕ → ℕ → Bool → Turn → Type 0
+TurnSays sys lemmas given old new l d size budget over turn.Went =
+    IsGoing sys lemmas given new new.rest.items × Moves old new l d × (new.asks + 1 ≡ old.asks) × (length new.rest.items + length new.hint.items < size)
+TurnSays sys lemmas given old new l d size budget over (turn.Spent drawn b) = (drawn ≡ budget) × (b ≡ budget) × (over ≡ true)
 
 -- what a generalisation came to
 abbrev pub EndSays : TransitionSystem → List Lemma → ProvedClause → ℕ → Bool → Ending → Type 0

@@ -1,4 +1,4 @@
-ghost use Rattle.std.specs.Prelude.{◌≡◌, ◌⊎◌, MatchBool, ◌-◌, ◌<◌, ◌≤◌, ◌++◌, ℕ, Bool, List, IfOk, All, Contains, length, take};
+ghost use Rattle.std.specs.Prelude.{◌≡◌, ◌⊎◌, MatchBool, ◌-◌, ◌<◌, ◌≤◌, ◌++◌, ℕ, Bool, List, IfOk, All, Contains, length, take, IfSome};
 ghost use Rattle.frame_core.specs.declared.parts.Lemma.{Lemma as ALemma};
 ghost use Rattle.clause_core.specs.Literals.{Within};
 ghost use Rattle.frame_core.specs.Facts.{IsPart, IsProved};
@@ -7,7 +7,8 @@ ghost use Rattle.frame_solver.specs.Groups.{base as base_of, step_heads, state_h
 ghost use Rattle.frame_solver.specs.Engines.{IsLoaded, known_of};
 ghost use Rattle.frame_solver.specs.Firsts.{AllFirstsMeet};
 ghost use Rattle.frame_solver.specs.Paying.{Steps, PaysOne};
-ghost use Rattle.frame_query.specs.Trying.{proof_of, Tries, PaysFor, IsOthers, IsNeeded, IsSplit};
+ghost use Rattle.frame_query.specs.Dropping.{IsBroken};
+ghost use Rattle.frame_query.specs.Trying.{proof_of, Tries, PaysFor, PaysNew, IsOthers, IsNeeded, IsSplit, IsSame};
 
 use crate::trying::{Draft, Trial};
 use clause_core::{Clause, Lit, System};
@@ -70,6 +71,43 @@ pub(crate) fn needed_of(
         }
     }
     Ok(needed)
+}
+
+// The literals that the hint has too.
+pub(crate) fn hinted(alloc: Global, literals: &[Lit], hint: &[Lit]) -> Result<Vec<Lit>, AllocError>
+    ensures only { IfOk result (λ v. IsPart v.items literals.now) }
+    ensures inside { IfOk result (λ v. IsPart v.items hint.now) }
+    ensures fewer { IfOk result (λ v. length v.items ≤ length literals.now) }
+{
+    let mut both = Vec::new(alloc);
+    'literals: for l in literals {
+        if has(hint, *l) {
+            both.push(*l)?;
+        }
+    }
+    Ok(both)
+}
+
+// A literal that the hint lacks.
+pub(crate) fn lacked(literals: &[Lit], hint: &[Lit]) -> Option<Lit>
+    ensures { IfSome result (λ l. Contains literals.now l × (Contains hint.now l → ⊥)) }
+{
+    'literals: for l in literals {
+        if !has(hint, *l) {
+            return Some(*l);
+        }
+    }
+    None
+}
+
+// Whether the clause has just the literals of the one that failed.
+pub(crate) fn has_failed(failed: &Option<Clause>, clause: &[Lit]) -> bool
+    ensures { MatchBool result (IsSame failed.now clause.now) (IsSame failed.now clause.now → ⊥) }
+{
+    match failed {
+        Some(other) => is_part_of(other.as_slice(), clause) && is_part_of(clause, other.as_slice()),
+        None => false,
+    }
 }
 
 // The literals of the clause in an order in which those of the part come first.
@@ -183,4 +221,46 @@ pub(crate) fn attempt<Q: Purse>(
             alloc, systems, lemmas, steps, known, draft, clause, met, level, purse,
         ),
     }
+}
+
+// The same; no query is asked about a clause that has just the literals of one that failed.
+pub(crate) fn attempt_new<Q: Purse>(
+    alloc: Global,
+    systems: &[System],
+    lemmas: &[Lemma],
+    steps: &mut Engine,
+    states: &mut Engine,
+    known: &mut Known,
+    draft: &Draft,
+    failed: &Option<Clause>,
+    clause: &[Lit],
+    level: u32,
+    purse: &mut Q,
+) -> Result<Trial, AllocError>
+    requires some { 0 < length systems.now }
+    requires alike { AreAlike systems.now }
+    requires lemmas { All (λ (l : ALemma). Within (system_at systems.now 0).state_bits l.clause) lemmas.now }
+    requires steps { IsLoaded (base_of (system_at systems.now 0)) (step_heads (system_at systems.now 0)) (clauses_of lemmas.now) steps.old }
+    requires states { IsLoaded (base_of (system_at systems.now 0)) (state_heads systems.now) (clauses_of lemmas.now) states.old }
+    requires draft { IsProved (proof_of (system_at systems.now 0) level draft.now) }
+    requires failed { IfSome failed.now (IsBroken (system_at systems.now 0) lemmas.now level) }
+    requires part { IsPart clause.now draft.now.clause.items }
+    requires within { Within (system_at systems.now 0).state_bits clause.now }
+    requires known { known.old ≡ system_at systems.now 0 }
+    requires ready { Q.ready purse.old }
+    ensures tried { IfOk result (Tries (system_at systems.now 0) lemmas.now level draft.now.parents.items clause.now (Q.budget purse.old) (Q.spent purse.new)) }
+    ensures pays { PaysNew systems.now lemmas.now (known_of steps.old states.old) (known_of steps.new states.new) (Q.tickets purse.old) (Q.tickets purse.new) level failed.now clause.now }
+    ensures steps { IsLoaded (base_of (system_at systems.now 0)) (step_heads (system_at systems.now 0)) (clauses_of lemmas.now) steps.new }
+    ensures states { IsLoaded (base_of (system_at systems.now 0)) (state_heads systems.now) (clauses_of lemmas.now) states.new }
+    ensures known { known.new ≡ known.old }
+    ensures kept { Q.kept purse.old purse.new }
+    ensures ready { Q.ready purse.new }
+    ensures budget { Q.budget purse.new ≡ Q.budget purse.old }
+{
+    if has_failed(failed, clause) {
+        return Ok(Trial::Fails);
+    }
+    attempt(
+        alloc, systems, lemmas, steps, states, known, draft, clause, level, purse,
+    )
 }

@@ -1,4 +1,4 @@
-ghost use Rattle.std.specs.Prelude.{◌≡◌, ◌-◌, ◌<◌, ◌≤◌, ◌++◌, ◌∷◌, [], ℕ, Bool, List, IfOk, All, Contains, length, take};
+ghost use Rattle.std.specs.Prelude.{◌≡◌, ◌+◌, ◌-◌, ◌<◌, OnOk, IfSome, ◌≤◌, ◌++◌, ◌∷◌, [], ℕ, Bool, List, IfOk, All, Contains, length, take};
 ghost use Rattle.frame_core.specs.declared.parts.Lemma.{Lemma as ALemma};
 ghost use Rattle.clause_core.specs.declared.literal.Lit.{Lit as ALit};
 ghost use Rattle.clause_core.specs.Literals.{Within};
@@ -7,14 +7,17 @@ ghost use Rattle.frame_core.specs.Law.{AreAlike, system_at};
 ghost use Rattle.frame_solver.specs.Groups.{base as base_of, step_heads, state_heads, clauses_of};
 ghost use Rattle.frame_solver.specs.Engines.{IsLoaded, known_of};
 ghost use Rattle.frame_query.specs.Dropping.{PaysParts, Generalises};
-ghost use Rattle.frame_query.specs.Trying.{proof_of, Tries, PaysFor, IsUnderWay, IsCandidate, TurnSays, EndSays, MovesBy};
+ghost use Rattle.frame_query.specs.Trying.{proof_of, PaysNew, IsGoing, IsCandidate, Fits, DropsTo, TurnSays, EndSays, MovesBy, HintMovesBy};
 
-use crate::attempting::{attempt, both, copy_parents, needed_of, ordered, others};
+use crate::attempting::{
+    attempt, attempt_new, both, copy_parents, hinted, lacked, needed_of, ordered, others,
+};
+use crate::hints::{Hint, hint_for};
 use crate::outcomes::Generalised;
 use crate::trying::{Draft, Ending, Trial, Turn, Walk};
 use clause_core::{Clause, Lit, System};
 use effort_purse::Purse;
-use frame_core::{Lemma, Proved};
+use frame_core::{Lemma, Parent, Proved};
 use frame_solver::{Engine, Known, system_of};
 use std::alloc::{AllocError, Global};
 
@@ -34,6 +37,29 @@ fn drafted(alloc: Global, proved: &Proved) -> Result<Draft, AllocError>
     })
 }
 
+// What a trial that holds does to the walk; `left` are the literals still to be tried.
+fn dropped(
+    alloc: Global,
+    walk: &mut Walk,
+    left: &[Lit],
+    parents: Vec<Parent>,
+    part: Vec<Lit>,
+    met: Clause,
+) -> Result<(), AllocError>
+    ensures drops { OnOk result (DropsTo walk.old.kept.items walk.old.failed left.now part.items met parents.items walk.new) }
+    ensures same { (walk.new.asks ≡ walk.old.asks) × (walk.new.hint ≡ walk.old.hint) }
+{
+    let rest = needed_of(alloc, left, &part, met.as_slice())?;
+    let clause = both(alloc, &walk.kept, &rest)?;
+    walk.rest = rest;
+    walk.draft = Draft {
+        clause,
+        part,
+        parents,
+    };
+    Ok(())
+}
+
 // What the trial of the clause without a literal does to the walk; `left` are the literals still to be tried.
 fn moved(
     alloc: Global,
@@ -44,21 +70,40 @@ fn moved(
 ) -> Result<Turn, AllocError>
     ensures moves { IfOk result (MovesBy walk.old l left.items trial walk.new) }
 {
+    walk.asks = walk.asks.saturating_sub(1);
     match trial {
         Trial::Holds { parents, part, met } => {
-            let rest = needed_of(alloc, &left, &part, met.as_slice())?;
-            let clause = both(alloc, &walk.kept, &rest)?;
-            walk.rest = rest;
-            walk.draft = Draft {
-                clause,
-                part,
-                parents,
-            };
+            dropped(alloc, walk, &left, parents, part, met)?;
             Ok(Turn::Went)
         }
         Trial::Fails => {
             walk.kept.push(l)?;
             walk.rest = left;
+            Ok(Turn::Went)
+        }
+        Trial::Spent { drawn, budget } => Ok(Turn::Spent { drawn, budget }),
+    }
+}
+
+// What the trial of the hint's clause does to the walk; `left` are the literals still to be tried, if it holds.
+fn hint_moved(
+    alloc: Global,
+    walk: &mut Walk,
+    left: &[Lit],
+    candidate: Vec<Lit>,
+    trial: Trial,
+) -> Result<Turn, AllocError>
+    ensures moves { IfOk result (HintMovesBy walk.old left.now candidate.items trial walk.new) }
+{
+    walk.asks = walk.asks.saturating_sub(1);
+    walk.hint.clear();
+    match trial {
+        Trial::Holds { parents, part, met } => {
+            dropped(alloc, walk, left, parents, part, met)?;
+            Ok(Turn::Went)
+        }
+        Trial::Fails => {
+            walk.failed = Some(Clause::from_vec(candidate));
             Ok(Turn::Went)
         }
         Trial::Spent { drawn, budget } => Ok(Turn::Spent { drawn, budget }),
@@ -83,10 +128,10 @@ fn turn<Q: Purse>(
     requires lemmas { All (λ (l : ALemma). Within (system_at systems.now 0).state_bits l.clause) lemmas.now }
     requires steps { IsLoaded (base_of (system_at systems.now 0)) (step_heads (system_at systems.now 0)) (clauses_of lemmas.now) steps.old }
     requires states { IsLoaded (base_of (system_at systems.now 0)) (state_heads systems.now) (clauses_of lemmas.now) states.old }
-    requires way { IsUnderWay (system_at systems.now 0) lemmas.now given.now walk.old.draft walk.old.kept.items (walk.old.rest.items ++ l ∷ []) }
+    requires going { IsGoing (system_at systems.now 0) lemmas.now given.now walk.old (walk.old.rest.items ++ l ∷ []) }
     requires known { known.old ≡ system_at systems.now 0 }
     requires ready { Q.ready purse.old }
-    ensures pays { (d : List ALit) × IsCandidate walk.old.kept.items walk.old.rest.items l d × PaysFor systems.now lemmas.now (known_of steps.old states.old) (known_of steps.new states.new) (Q.tickets purse.old) (Q.tickets purse.new) given.now.level d × IfOk result (TurnSays (system_at systems.now 0) lemmas.now given.now walk.old walk.new l d (Q.budget purse.old) (Q.spent purse.new)) }
+    ensures pays { (d : List ALit) × IsCandidate walk.old.kept.items (walk.old.rest.items ++ l ∷ []) l d × PaysNew systems.now lemmas.now (known_of steps.old states.old) (known_of steps.new states.new) (Q.tickets purse.old) (Q.tickets purse.new) given.now.level walk.old.failed d × IfOk result (TurnSays (system_at systems.now 0) lemmas.now given.now walk.old walk.new l d (length walk.old.rest.items + 1 + length walk.old.hint.items) (Q.budget purse.old) (Q.spent purse.new)) }
     ensures steps { IsLoaded (base_of (system_at systems.now 0)) (step_heads (system_at systems.now 0)) (clauses_of lemmas.now) steps.new }
     ensures states { IsLoaded (base_of (system_at systems.now 0)) (state_heads systems.now) (clauses_of lemmas.now) states.new }
     ensures known { known.new ≡ known.old }
@@ -96,6 +141,55 @@ fn turn<Q: Purse>(
 {
     let level = given.level();
     let left = others(alloc, &walk.rest, l)?;
+    let candidate = both(alloc, &walk.kept, &left)?;
+    let trial = attempt_new(
+        alloc,
+        systems,
+        lemmas,
+        steps,
+        states,
+        known,
+        &walk.draft,
+        &walk.failed,
+        &candidate,
+        level,
+        purse,
+    )?;
+    moved(alloc, walk, l, left, trial)
+}
+
+// Tries the clause of what is needed and of the hint; the literal `l` is not among these.
+fn hint_turn<Q: Purse>(
+    alloc: Global,
+    systems: &[System],
+    lemmas: &[Lemma],
+    steps: &mut Engine,
+    states: &mut Engine,
+    known: &mut Known,
+    given: &Proved,
+    walk: &mut Walk,
+    l: Lit,
+    purse: &mut Q,
+) -> Result<Turn, AllocError>
+    requires some { 0 < length systems.now }
+    requires alike { AreAlike systems.now }
+    requires lemmas { All (λ (l : ALemma). Within (system_at systems.now 0).state_bits l.clause) lemmas.now }
+    requires steps { IsLoaded (base_of (system_at systems.now 0)) (step_heads (system_at systems.now 0)) (clauses_of lemmas.now) steps.old }
+    requires states { IsLoaded (base_of (system_at systems.now 0)) (state_heads systems.now) (clauses_of lemmas.now) states.old }
+    requires going { IsGoing (system_at systems.now 0) lemmas.now given.now walk.old walk.old.rest.items }
+    requires fits { Fits walk.old l }
+    requires known { known.old ≡ system_at systems.now 0 }
+    requires ready { Q.ready purse.old }
+    ensures pays { (d : List ALit) × IsCandidate walk.old.kept.items walk.old.rest.items l d × PaysNew systems.now lemmas.now (known_of steps.old states.old) (known_of steps.new states.new) (Q.tickets purse.old) (Q.tickets purse.new) given.now.level walk.old.failed d × IfOk result (TurnSays (system_at systems.now 0) lemmas.now given.now walk.old walk.new l d (length walk.old.rest.items + length walk.old.hint.items) (Q.budget purse.old) (Q.spent purse.new)) }
+    ensures steps { IsLoaded (base_of (system_at systems.now 0)) (step_heads (system_at systems.now 0)) (clauses_of lemmas.now) steps.new }
+    ensures states { IsLoaded (base_of (system_at systems.now 0)) (state_heads systems.now) (clauses_of lemmas.now) states.new }
+    ensures known { known.new ≡ known.old }
+    ensures kept { Q.kept purse.old purse.new }
+    ensures ready { Q.ready purse.new }
+    ensures budget { Q.budget purse.new ≡ Q.budget purse.old }
+{
+    let level = given.level();
+    let left = hinted(alloc, &walk.rest, &walk.hint)?;
     let candidate = both(alloc, &walk.kept, &left)?;
     let trial = attempt(
         alloc,
@@ -109,7 +203,59 @@ fn turn<Q: Purse>(
         level,
         purse,
     )?;
-    moved(alloc, walk, l, left, trial)
+    hint_moved(alloc, walk, &left, candidate, trial)
+}
+
+// A literal still to be tried that the hint lacks, where there is a hint and one clause more may be asked about.
+fn fits(walk: &Walk) -> Option<Lit>
+    ensures { IfSome result (Fits walk.now) }
+{
+    if walk.hint.is_empty() || walk.asks <= walk.rest.len() {
+        return None;
+    }
+    lacked(&walk.rest, &walk.hint)
+}
+
+// Tries the hint, where that fits, and else the clause without one of the literals still to be tried.
+fn next<Q: Purse>(
+    alloc: Global,
+    systems: &[System],
+    lemmas: &[Lemma],
+    steps: &mut Engine,
+    states: &mut Engine,
+    known: &mut Known,
+    given: &Proved,
+    walk: &mut Walk,
+    purse: &mut Q,
+) -> Result<Turn, AllocError>
+    requires some { 0 < length systems.now }
+    requires alike { AreAlike systems.now }
+    requires lemmas { All (λ (l : ALemma). Within (system_at systems.now 0).state_bits l.clause) lemmas.now }
+    requires steps { IsLoaded (base_of (system_at systems.now 0)) (step_heads (system_at systems.now 0)) (clauses_of lemmas.now) steps.old }
+    requires states { IsLoaded (base_of (system_at systems.now 0)) (state_heads systems.now) (clauses_of lemmas.now) states.old }
+    requires going { IsGoing (system_at systems.now 0) lemmas.now given.now walk.old walk.old.rest.items }
+    requires more { 0 < length walk.old.rest.items }
+    requires known { known.old ≡ system_at systems.now 0 }
+    requires ready { Q.ready purse.old }
+    ensures pays { (l : ALit) × (d : List ALit) × IsCandidate walk.old.kept.items walk.old.rest.items l d × PaysNew systems.now lemmas.now (known_of steps.old states.old) (known_of steps.new states.new) (Q.tickets purse.old) (Q.tickets purse.new) given.now.level walk.old.failed d × IfOk result (TurnSays (system_at systems.now 0) lemmas.now given.now walk.old walk.new l d (length walk.old.rest.items + length walk.old.hint.items) (Q.budget purse.old) (Q.spent purse.new)) }
+    ensures steps { IsLoaded (base_of (system_at systems.now 0)) (step_heads (system_at systems.now 0)) (clauses_of lemmas.now) steps.new }
+    ensures states { IsLoaded (base_of (system_at systems.now 0)) (state_heads systems.now) (clauses_of lemmas.now) states.new }
+    ensures known { known.new ≡ known.old }
+    ensures kept { Q.kept purse.old purse.new }
+    ensures ready { Q.ready purse.new }
+    ensures budget { Q.budget purse.new ≡ Q.budget purse.old }
+{
+    if let Some(l) = fits(walk) {
+        return hint_turn(
+            alloc, systems, lemmas, steps, states, known, given, walk, l, purse,
+        );
+    }
+    match walk.rest.pop() {
+        Some(l) => turn(
+            alloc, systems, lemmas, steps, states, known, given, walk, l, purse,
+        ),
+        None => Ok(Turn::Went),
+    }
 }
 
 // Drops literals from the clause, trying each at most once, as long as what is left is inductive at its level.
@@ -120,6 +266,7 @@ pub(crate) fn generalised<Q: Purse>(
     steps: &mut Engine,
     states: &mut Engine,
     known: &mut Known,
+    hints: &[Hint],
     given: &Proved,
     purse: &mut Q,
 ) -> Result<Ending, AllocError>
@@ -143,14 +290,18 @@ pub(crate) fn generalised<Q: Purse>(
     let _system = given.system();
     let rest = ordered(alloc, given.clause(), given.part())?;
     let draft = drafted(alloc, given)?;
+    let hint = hint_for(alloc, hints, given.clause())?;
     let mut walk = Walk {
         kept: Vec::new(alloc),
+        asks: rest.len(),
         rest,
         draft,
+        hint,
+        failed: None,
     };
-    'literals: while let Some(l) = walk.rest.pop() {
-        if let Turn::Spent { drawn, budget } = turn(
-            alloc, systems, lemmas, steps, states, known, given, &mut walk, l, purse,
+    'literals: while !walk.rest.is_empty() {
+        if let Turn::Spent { drawn, budget } = next(
+            alloc, systems, lemmas, steps, states, known, given, &mut walk, purse,
         )? {
             return Ok(Ending::Spent { drawn, budget });
         }
@@ -159,6 +310,9 @@ pub(crate) fn generalised<Q: Purse>(
         kept: _,
         rest: _,
         draft,
+        asks: _,
+        hint: _,
+        failed: _,
     } = walk;
     Ok(Ending::Done(draft))
 }
@@ -186,6 +340,7 @@ pub(crate) fn generalise_in<'a, Q: Purse>(
     steps: &mut Engine,
     states: &mut Engine,
     known: &mut Known,
+    hints: &[Hint],
     given: Proved<'a>,
     purse: &mut Q,
 ) -> Generalised<'a>
@@ -207,7 +362,9 @@ pub(crate) fn generalise_in<'a, Q: Purse>(
     ensures budget { Q.budget purse.new ≡ Q.budget purse.old }
 {
     let level = given.level();
-    match generalised(alloc, systems, lemmas, steps, states, known, &given, purse) {
+    match generalised(
+        alloc, systems, lemmas, steps, states, known, hints, &given, purse,
+    ) {
         Ok(ending) => match ending {
             Ending::Done(draft) => {
                 let system = system_of(systems, 0);

@@ -1,6 +1,7 @@
 use crate::dropping::generalise_in;
 use crate::finding::{bad_of, noted_of, relative_of};
 use crate::following::{follow_adds, follow_levels};
+use crate::hints::{Hint, note_bad, note_step};
 use crate::kept_proofs::KeptProof;
 use crate::outcomes::{Bads, Generalised, Noted, Relative};
 use crate::pushing::push_of;
@@ -17,7 +18,9 @@ use std::marker::Model;
 /// answers questions about single states. They are made anew where activation literals run out, which no
 /// caller sees. What queries found is kept too: values that all first states give to bits, a first state, and
 /// 128 steps at most, those that were found or used last; and the last proof of each lemma that was pushed. A
-/// question that these answer is not asked. Contracts see the systems, the copy of the lemmas, and learned clauses that later queries may use.
+/// question that these answer is not asked. Of 1024 states at most it is kept which of their bits were needed: a
+/// hint for `generalise`, of which nothing is claimed. Contracts see the systems, the copy of the lemmas, and
+/// learned clauses that later queries may use.
 #[derive(Drop)]
 pub struct FrameSolver<'a> {
     systems: &'a [System],
@@ -27,6 +30,8 @@ pub struct FrameSolver<'a> {
     known: Known<'a>,
     // for each lemma, by its number, the proof that its last push found
     proofs: Vec<Option<KeptProof>>,
+    // of states that were found, which of their bits were needed; the last one stands at the end
+    hints: Vec<Hint>,
 }
 
 impl<'a> Model for FrameSolver<'a> {
@@ -68,6 +73,7 @@ impl<'a> FrameSolver<'a> {
             states,
             known,
             proofs: Vec::new(alloc),
+            hints: Vec::new(alloc),
         })
     }
 
@@ -109,7 +115,7 @@ impl<'a> FrameSolver<'a> {
         ensures ready { Q.ready purse.new }
         ensures budget { Q.budget purse.new ≡ Q.budget purse.old }
     {
-        relative_of(
+        let found = relative_of(
             alloc,
             self.systems,
             self.lemmas.as_slice(),
@@ -118,7 +124,10 @@ impl<'a> FrameSolver<'a> {
             clause,
             level,
             purse,
-        )
+        )?;
+        let system = system_of(self.systems, 0);
+        note_step(alloc, &mut self.hints, system, clause, &found);
+        Ok(found)
     }
 
     /// Whether the lemma's clause is inductive at one level more than it has; as `relative` of these. No query is asked
@@ -175,7 +184,7 @@ impl<'a> FrameSolver<'a> {
         ensures ready { Q.ready purse.new }
         ensures budget { Q.budget purse.new ≡ Q.budget purse.old }
     {
-        bad_of(
+        let found = bad_of(
             alloc,
             self.systems,
             self.lemmas.as_slice(),
@@ -184,7 +193,10 @@ impl<'a> FrameSolver<'a> {
             j,
             top,
             purse,
-        )
+        )?;
+        let system = system_of(self.systems, j);
+        note_bad(alloc, &mut self.hints, system, &found);
+        Ok(found)
     }
 
     /// The state that the step leads from, with whether it is a first one.
@@ -280,6 +292,7 @@ impl<'a> FrameSolver<'a> {
             &mut self.steps,
             &mut self.states,
             &mut self.known,
+            &self.hints,
             proved,
             purse,
         )

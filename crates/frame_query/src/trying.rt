@@ -28,12 +28,21 @@ pub struct Draft {
     pub parents: Vec<Parent>,
 }
 
-// A generalisation under way: the literals that are needed, those still to be tried, and the proof at hand.
+// A generalisation under way.
 #[derive(Drop)]
 pub struct Walk {
+    // the literals that are needed
     pub kept: Vec<Lit>,
+    // those still to be tried
     pub rest: Vec<Lit>,
+    // the proof at hand
     pub draft: Draft,
+    // how many clauses more may be asked about
+    pub asks: usize,
+    // literals that may be all that is needed, until that is tried; none, where there is no such hint
+    pub hint: Vec<Lit>,
+    // the clause that was tried for the hint, where it is not inductive
+    pub failed: Option<Clause>,
 }
 
 // What became of a literal that was to be dropped.

@@ -1,15 +1,15 @@
-use Rattle.std.proofs.Common.{◌≡◌, length}
+use Rattle.std.proofs.Common.{◌≡◌, ◌+◌, length}
 use Rattle.frame_core.specs.Law.{system_at}
 use Rattle.frame_solver.specs.Groups.{base, step_heads, state_heads, clauses_of}
 use Rattle.frame_solver.specs.Engines.{IsLoaded, known_of}
-use Rattle.frame_query.specs.Trying.{IsUnderWay, IsPaidSoFar}
+use Rattle.frame_query.specs.Trying.{IsGoing, IsPaidSoFar}
 use Rattle.frame_query.proofs.dropping.generalised.Given as goal
 
 abbrev pub invariant-literals : goal.invariant-literals
 invariant-literals g l = record {
-  way : IsUnderWay (system_at l.systems 0) l.lemmas l.given l.walk.draft l.walk.kept.items l.walk.rest.items;
+  going : IsGoing (system_at l.systems 0) l.lemmas l.given l.walk l.walk.rest.items;
   pays : IsPaidSoFar l.systems l.lemmas (known_of l.initial.steps l.initial.states) (known_of l.steps l.states) (g.Q.Purse.tickets l.initial.purse) (g.Q.Purse.tickets l.purse)
-      l.given.level l.given.clause l.walk.draft.clause.items l.walk.kept.items (length l.walk.rest.items);
+      l.given.level l.given.clause l.walk.draft.clause.items l.walk.kept.items l.walk.failed l.walk.asks;
   steps : IsLoaded (base (system_at l.systems 0)) (step_heads (system_at l.systems 0)) (clauses_of l.lemmas) l.steps;
   states : IsLoaded (base (system_at l.systems 0)) (state_heads l.systems) (clauses_of l.lemmas) l.states;
   known : l.known ≡ system_at l.systems 0;
@@ -19,4 +19,4 @@ invariant-literals g l = record {
 }
 
 abbrev pub decreases-literals : goal.decreases-literals
-decreases-literals g l = length l.walk.rest.items
+decreases-literals g l = length l.walk.rest.items + length l.walk.hint.items

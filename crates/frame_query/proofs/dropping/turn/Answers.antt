@@ -1,15 +1,14 @@
-use Rattle.std.proofs.Common.{◌≡◌, ◌++◌, [], ◌∙◌, ℕ, List, refl, sym, ap, subst, arith}
+use Rattle.std.proofs.Common.{◌≡◌, ◌+◌, ◌++◌, ◌∙◌, ℕ, List, length, sym, ap, subst}
 use Rattle.std.proofs.lemmas.Result.{IfOk-from_err, IfOk-weaker}
-use Rattle.std.proofs.lemmas.List.Elements.{All-contains_itself, All-nil}
+use Rattle.std.specs.Option.{IfSome}
 use Rattle.clause_core.specs.declared.literal.Lit.{Lit}
 use Rattle.clause_core.specs.Literals.{Within}
 use Rattle.frame_core.specs.Facts.{IsPart, IsProved}
 use Rattle.frame_core.specs.Law.{system_at}
 use Rattle.frame_solver.specs.Engines.{known_of}
-use Rattle.frame_query.specs.Dropping.{AsksOf}
-use Rattle.frame_query.specs.Trying.{proof_of, IsOthers, PaysFor, Tries, MovesBy, TurnSays}
-use Rattle.frame_solver.proofs.Paid.{pays_none}
-use Rattle.frame_query.proofs.Walked.{kept_candidate, is_candidate, candidate_best, within_part, turn_says}
+use Rattle.frame_query.specs.Dropping.{IsBroken}
+use Rattle.frame_query.specs.Trying.{proof_of, IsOthers, PaysNew, Tries, MovesBy, TurnSays}
+use Rattle.frame_query.proofs.Walked.{kept_candidate, is_candidate, candidate_best, within_part, others_less, nothing_new, turn_says}
 use Rattle.frame_query.proofs.dropping.turn.Goals as goal
 
 pub returns-in_err-left-clause-pays : goal.returns-in_err-left-clause-pays
@@ -21,13 +20,8 @@ returns-in_err-left-clause-pays g c =
     let kept = old.kept.items in
     let l = c.args.l in (
       kept,
-      kept_candidate sys lemmas given old.draft kept old.rest.items l c.requires.way,
-      (
-        [],
-        pays_none c.args.systems.now lemmas _ _ _ _ (All-contains_itself (known_of c.args.steps.now c.args.states.now)) refl,
-        All-nil (AsksOf given.level kept),
-        (λ i j d lt in_j. absurd (omega arith)),
-      ),
+      kept_candidate sys lemmas given old.draft kept old.rest.items l c.requires.going.way,
+      nothing_new c.args.systems.now lemmas (known_of c.args.steps.now c.args.states.now) _ given.level old.failed kept,
       IfOk-from_err c.from_residual.result _ c.from_residual.ensures.0,
     )
 
@@ -40,23 +34,18 @@ returns-in_err-candidate-clause-pays g c =
     let kept = old.kept.items in
     let l = c.args.l in (
       kept,
-      kept_candidate sys lemmas given old.draft kept old.rest.items l c.requires.way,
-      (
-        [],
-        pays_none c.args.systems.now lemmas _ _ _ _ (All-contains_itself (known_of c.args.steps.now c.args.states.now)) refl,
-        All-nil (AsksOf given.level kept),
-        (λ i j d lt in_j. absurd (omega arith)),
-      ),
+      kept_candidate sys lemmas given old.draft kept old.rest.items l c.requires.going.way,
+      nothing_new c.args.systems.now lemmas (known_of c.args.steps.now c.args.states.now) _ given.level old.failed kept,
       IfOk-from_err c.from_residual-in_err-candidate.result _ c.from_residual-in_err-candidate.ensures.0,
     )
 
-pub attempt-requires-clause-draft : goal.attempt-requires-clause-draft
-attempt-requires-clause-draft g c =
+pub attempt_new-requires-clause-draft : goal.attempt_new-requires-clause-draft
+attempt_new-requires-clause-draft g c =
     let P : ℕ → Type 0 = λ k. IsProved (proof_of (system_at c.args.systems.now 0) k c.args.walk.now.draft) in
-    subst P (sym c.level-level.ensures) c.requires.way.proved
+    subst P (sym c.level-level.ensures) c.requires.going.way.proved
 
-pub attempt-requires-clause-part : goal.attempt-requires-clause-part
-attempt-requires-clause-part g c =
+pub attempt_new-requires-clause-part : goal.attempt_new-requires-clause-part
+attempt_new-requires-clause-part g c =
     let sys = system_at c.args.systems.now 0 in
     let lemmas = c.args.lemmas.now in
     let given = c.args.given.now in
@@ -68,10 +57,10 @@ attempt-requires-clause-part g c =
     let is : c.deref-4.result.now ≡ kept ++ c.in_ok-left.left.items =
     c.deref-4.ensures.value ∙ c.in_ok-candidate.ensures ∙ ap (λ xs. xs ++ c.deref-3.result.now) c.deref-2.ensures.value ∙ ap (λ xs. kept ++ xs) c.deref-3.ensures.value in
     let P : List Lit → Type 0 = λ xs. IsPart xs old.draft.clause.items in
-    subst P (sym is) (candidate_best sys lemmas given old.draft kept old.rest.items l c.requires.way c.in_ok-left.left.items o)
+    subst P (sym is) (candidate_best sys lemmas given old.draft kept old.rest.items l c.requires.going.way c.in_ok-left.left.items (others_less old.rest.items l c.in_ok-left.left.items o))
 
-pub attempt-requires-clause-within : goal.attempt-requires-clause-within
-attempt-requires-clause-within g c =
+pub attempt_new-requires-clause-within : goal.attempt_new-requires-clause-within
+attempt_new-requires-clause-within g c =
     let sys = system_at c.args.systems.now 0 in
     let lemmas = c.args.lemmas.now in
     let given = c.args.given.now in
@@ -84,7 +73,7 @@ attempt-requires-clause-within g c =
     c.deref-4.ensures.value ∙ c.in_ok-candidate.ensures ∙ ap (λ xs. xs ++ c.deref-3.result.now) c.deref-2.ensures.value ∙ ap (λ xs. kept ++ xs) c.deref-3.ensures.value in
     let P : List Lit → Type 0 = Within sys.state_bits in
     subst P (sym is) (within_part sys.state_bits (kept ++ c.in_ok-left.left.items) old.draft.clause.items
-    (candidate_best sys lemmas given old.draft kept old.rest.items l c.requires.way c.in_ok-left.left.items o) c.requires.way.proved.within)
+    (candidate_best sys lemmas given old.draft kept old.rest.items l c.requires.going.way c.in_ok-left.left.items (others_less old.rest.items l c.in_ok-left.left.items o)) c.requires.going.way.proved.within)
 
 pub returns-in_err-trial-clause-pays : goal.returns-in_err-trial-clause-pays
 returns-in_err-trial-clause-pays g c =
@@ -98,13 +87,13 @@ returns-in_err-trial-clause-pays g c =
     let o : IsOthers old.rest.items l c.in_ok-left.left.items = subst O c.deref.ensures.value c.in_ok-left.ensures in
     let is : c.deref-4.result.now ≡ kept ++ c.in_ok-left.left.items =
     c.deref-4.ensures.value ∙ c.in_ok-candidate.ensures ∙ ap (λ xs. xs ++ c.deref-3.result.now) c.deref-2.ensures.value ∙ ap (λ xs. kept ++ xs) c.deref-3.ensures.value in
-    let L : ℕ → Type 0 = λ k. PaysFor c.args.systems.now lemmas (known_of c.args.steps.now c.args.states.now) (known_of c.attempt.new.steps c.attempt.new.states)
-    (g.Q.Purse.tickets c.args.purse.now) (g.Q.Purse.tickets c.attempt.new.purse) k (kept ++ c.in_ok-left.left.items) in
-    let D : List Lit → Type 0 = λ xs. PaysFor c.args.systems.now lemmas (known_of c.args.steps.now c.args.states.now) (known_of c.attempt.new.steps c.attempt.new.states)
-    (g.Q.Purse.tickets c.args.purse.now) (g.Q.Purse.tickets c.attempt.new.purse) c.level-level.result xs in
-    let pays = subst L c.level-level.ensures (subst D is c.attempt.ensures.pays) in (
+    let L : ℕ → Type 0 = λ k. PaysNew c.args.systems.now lemmas (known_of c.args.steps.now c.args.states.now) (known_of c.attempt_new.new.steps c.attempt_new.new.states)
+    (g.Q.Purse.tickets c.args.purse.now) (g.Q.Purse.tickets c.attempt_new.new.purse) k old.failed (kept ++ c.in_ok-left.left.items) in
+    let D : List Lit → Type 0 = λ xs. PaysNew c.args.systems.now lemmas (known_of c.args.steps.now c.args.states.now) (known_of c.attempt_new.new.steps c.attempt_new.new.states)
+    (g.Q.Purse.tickets c.args.purse.now) (g.Q.Purse.tickets c.attempt_new.new.purse) c.level-level.result old.failed xs in
+    let pays = subst L c.level-level.ensures (subst D is c.attempt_new.ensures.pays) in (
       kept ++ c.in_ok-left.left.items,
-      is_candidate sys lemmas given old.draft kept old.rest.items l c.requires.way c.in_ok-left.left.items o,
+      is_candidate sys lemmas given old.draft kept old.rest.items l c.requires.going.way c.in_ok-left.left.items (others_less old.rest.items l c.in_ok-left.left.items o),
       pays,
       IfOk-from_err c.from_residual-in_err-trial.result _ c.from_residual-in_err-trial.ensures.0,
     )
@@ -121,21 +110,26 @@ returns-clause-pays g c =
     let o : IsOthers old.rest.items l c.in_ok-left.left.items = subst O c.deref.ensures.value c.in_ok-left.ensures in
     let is : c.deref-4.result.now ≡ kept ++ c.in_ok-left.left.items =
     c.deref-4.ensures.value ∙ c.in_ok-candidate.ensures ∙ ap (λ xs. xs ++ c.deref-3.result.now) c.deref-2.ensures.value ∙ ap (λ xs. kept ++ xs) c.deref-3.ensures.value in
-    let L : ℕ → Type 0 = λ k. PaysFor c.args.systems.now lemmas (known_of c.args.steps.now c.args.states.now) (known_of c.attempt.new.steps c.attempt.new.states)
-    (g.Q.Purse.tickets c.args.purse.now) (g.Q.Purse.tickets c.attempt.new.purse) k (kept ++ c.in_ok-left.left.items) in
-    let D : List Lit → Type 0 = λ xs. PaysFor c.args.systems.now lemmas (known_of c.args.steps.now c.args.states.now) (known_of c.attempt.new.steps c.attempt.new.states)
-    (g.Q.Purse.tickets c.args.purse.now) (g.Q.Purse.tickets c.attempt.new.purse) c.level-level.result xs in
-    let pays = subst L c.level-level.ensures (subst D is c.attempt.ensures.pays) in
+    let L : ℕ → Type 0 = λ k. PaysNew c.args.systems.now lemmas (known_of c.args.steps.now c.args.states.now) (known_of c.attempt_new.new.steps c.attempt_new.new.states)
+    (g.Q.Purse.tickets c.args.purse.now) (g.Q.Purse.tickets c.attempt_new.new.purse) k old.failed (kept ++ c.in_ok-left.left.items) in
+    let D : List Lit → Type 0 = λ xs. PaysNew c.args.systems.now lemmas (known_of c.args.steps.now c.args.states.now) (known_of c.attempt_new.new.steps c.attempt_new.new.states)
+    (g.Q.Purse.tickets c.args.purse.now) (g.Q.Purse.tickets c.attempt_new.new.purse) c.level-level.result old.failed xs in
+    let pays = subst L c.level-level.ensures (subst D is c.attempt_new.ensures.pays) in
     let left = c.in_ok-left.left.items in
     let budget = g.Q.Purse.budget c.args.purse.now in
-    let over = g.Q.Purse.spent c.attempt.new.purse in
+    let over = g.Q.Purse.spent c.attempt_new.new.purse in
     let N : ℕ → Type 0 = λ k. Tries sys lemmas k old.draft.parents.items (kept ++ left) budget over c.in_ok-trial.trial in
     let T : List Lit → Type 0 = λ xs. Tries sys lemmas c.level-level.result old.draft.parents.items xs budget over c.in_ok-trial.trial in (
       kept ++ left,
-      is_candidate sys lemmas given old.draft kept old.rest.items l c.requires.way left o,
+      is_candidate sys lemmas given old.draft kept old.rest.items l c.requires.going.way left (others_less old.rest.items l left o),
       pays,
-      IfOk-weaker c.moved.result (MovesBy old l left c.in_ok-trial.trial c.moved.new.walk) (TurnSays sys lemmas given old c.moved.new.walk l (kept ++ left) budget over)
-          (λ t moves. turn_says sys lemmas given old c.moved.new.walk l c.requires.way left o budget over c.in_ok-trial.trial t
+      IfOk-weaker c.moved.result (MovesBy old l left c.in_ok-trial.trial c.moved.new.walk) (TurnSays sys lemmas given old c.moved.new.walk l (kept ++ left) (length old.rest.items + 1 + length old.hint.items) budget over)
+          (λ t moves. turn_says sys lemmas given old c.moved.new.walk l c.requires.going left o budget over c.in_ok-trial.trial t
           (subst N c.level-level.ensures (subst T is c.in_ok-trial.ensures.tried)) moves)
           c.moved.ensures.moves,
     )
+
+pub attempt_new-requires-clause-failed : goal.attempt_new-requires-clause-failed
+attempt_new-requires-clause-failed g c =
+    let P : ℕ → Type 0 = λ k. IfSome c.args.walk.now.failed (IsBroken (system_at c.args.systems.now 0) c.args.lemmas.now k) in
+    subst P (sym c.level-level.ensures) c.requires.going.fell

@@ -1,6 +1,5 @@
-use Rattle.std.proofs.Common.{◌≡◌, ◌∙◌, Option, Some, None, get_or, arith, sym}
+use Rattle.std.proofs.Common.{◌≡◌, ◌∙◌, Some, None, get_or, arith, sym}
 use Rattle.std.proofs.lemmas.List.{get_or_default}
-use Rattle.frame_query.specs.declared.kept_proofs.KeptProof.{KeptProof}
 use Rattle.frame_query.proofs.kept_proofs.proof_again.Goals as goal
 
 pub standing-requires-clause-kept : goal.standing-requires-clause-kept

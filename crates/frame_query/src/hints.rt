@@ -1,0 +1,145 @@
+//! Hints for generalisation: of a state that leads to where is asked about, the clause of those bits that it needs for
+//! that. They choose which clause is tried, and nothing is claimed of them.
+
+use crate::lifting::{Marks, ask_for, clause_of, explain_before, explain_conditions, no_marks};
+use crate::outcomes::{Bads, Relative};
+use clause_core::{Bits, Lit, System};
+use std::alloc::{AllocError, Global};
+
+// How many hints are kept.
+const MOST: usize = 1024;
+
+// A state, and the clause of some of its bits.
+#[derive(Drop)]
+pub struct Hint {
+    state: Vec<bool>,
+    clause: Vec<Lit>,
+}
+
+// Whether each literal of the clause is false in the state.
+fn is_outside(state: &[bool], clause: &[Lit]) -> bool {
+    'literals: for l in clause {
+        match state.get(l.var) {
+            Some(value) => {
+                if *value == l.positive {
+                    return false;
+                }
+            }
+            None => return false,
+        }
+    }
+    true
+}
+
+// Whether the clause says that a state is another than that of the hint.
+fn is_of(hint: &Hint, clause: &[Lit]) -> bool {
+    clause.len() == hint.state.len() && is_outside(&hint.state, clause)
+}
+
+// The place of the last hint for the clause.
+fn place_of(hints: &[Hint], clause: &[Lit]) -> Option<usize> {
+    'hints: for k in (0..hints.len()).rev() {
+        if is_of(&hints[k], clause) {
+            return Some(k);
+        }
+    }
+    None
+}
+
+// The hint for the clause; no literal, where there is none.
+pub(crate) fn hint_for(
+    alloc: Global,
+    hints: &[Hint],
+    clause: &[Lit],
+) -> Result<Vec<Lit>, AllocError> {
+    match place_of(hints, clause) {
+        Some(k) => match hints.get(k) {
+            Some(hint) => Vec::from_slice(alloc, &hint.clause),
+            None => Ok(Vec::new(alloc)),
+        },
+        None => Ok(Vec::new(alloc)),
+    }
+}
+
+// Adds the hint; where there is no room for one more, the oldest goes.
+fn keep(hints: &mut Vec<Hint>, hint: Hint) -> Result<(), AllocError> {
+    if hints.len() >= MOST {
+        let _ = hints.remove(0);
+    }
+    hints.push(hint)?;
+    Ok(())
+}
+
+// The hint for the state of the first values, of the marked bits.
+fn hint_of(alloc: Global, values: &[bool], bits: usize, marks: &Marks) -> Result<Hint, AllocError> {
+    let clause = clause_of(alloc, values, bits, marks)?;
+    let mut state = Vec::from_slice(alloc, values)?;
+    state.truncate(bits);
+    Ok(Hint { state, clause })
+}
+
+// Asks for the next bits of the clause.
+fn ask_for_next(bits: usize, clause: &[Lit], marks: &mut Marks) {
+    'literals: for l in clause {
+        ask_for(marks, bits.saturating_add(l.var));
+    }
+}
+
+// Keeps which bits of a step's first state lead out of the clause, or out of the hint for it.
+fn keep_step(
+    alloc: Global,
+    hints: &mut Vec<Hint>,
+    system: &System,
+    clause: &[Lit],
+    values: &Bits,
+) -> Result<(), AllocError> {
+    let bits = system.state_bits();
+    let values = values.as_slice();
+    let hint = hint_for(alloc, hints, clause)?;
+    let mut marks = no_marks(alloc, values.len())?;
+    if hint.is_empty() {
+        ask_for_next(bits, clause, &mut marks);
+    } else {
+        ask_for_next(bits, &hint, &mut marks);
+    }
+    let clauses = system.step();
+    explain_before(values, bits, clauses, clauses.len(), &mut marks);
+    keep(hints, hint_of(alloc, values, bits, &marks)?)
+}
+
+// Keeps which bits of the state make it bad.
+fn keep_bad(
+    alloc: Global,
+    hints: &mut Vec<Hint>,
+    system: &System,
+    values: &Bits,
+) -> Result<(), AllocError> {
+    let bits = system.state_bits();
+    let values = values.as_slice();
+    let mut marks = no_marks(alloc, values.len())?;
+    explain_conditions(values, bits, system.bad(), &mut marks);
+    keep(hints, hint_of(alloc, values, bits, &marks)?)
+}
+
+// Where a step was found out of a clause that says that a state is another, keeps a hint for the state that it leaves.
+// For want of memory there may be none.
+pub(crate) fn note_step(
+    alloc: Global,
+    hints: &mut Vec<Hint>,
+    system: &System,
+    clause: &[Lit],
+    found: &Relative,
+) {
+    if let Relative::Step(step) = found {
+        if clause.len() == system.state_bits() {
+            let _kept = keep_step(alloc, hints, system, clause, step.values());
+        }
+    }
+}
+
+// Where a bad state was found, keeps a hint for it. For want of memory there may be none.
+pub(crate) fn note_bad(alloc: Global, hints: &mut Vec<Hint>, system: &System, found: &Bads) {
+    if let Bads::Found(state) = found {
+        let _kept = keep_bad(alloc, hints, system, state.values());
+    }
+}
