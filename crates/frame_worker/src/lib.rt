@@ -1,6 +1,17 @@
 //! Several workers explore frames (Bradley 2011): they share a book under a lock, and each asks for its claims with a solver of its own.
 #![tactic(auto)]
 
+mod begun;
+mod desk;
+mod explored;
+mod explorer;
 mod exploring;
+mod hand;
+mod meeting;
+mod playing;
 
-pub use exploring::{Explored, Met, explore_together};
+pub use explored::{Explored, Met};
+pub use exploring::explore_together;
+
+#[cfg(test)]
+mod tests;

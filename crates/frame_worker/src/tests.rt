@@ -1,0 +1,6 @@
+use std::alloc::AllocError;
+
+#[test]
+fn starts() -> Result<(), AllocError> {
+    Ok(())
+}
