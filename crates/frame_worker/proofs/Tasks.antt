@@ -1,0 +1,91 @@
+-- A task that was taken: what may be asked, what was paid for it, and what came of it.
+use Rattle.std.proofs.Common.{◌≡◌, ℕ, ◌<◌, Bool, List, [], ◌∷◌, ◌++◌, length, refl, sym, subst, ap, ◌∙◌}
+use Rattle.std.specs.Prelude.{Option, Some, None, IfSome, map}
+use Rattle.clause_core.specs.declared.literal.Lit.{Lit}
+use Rattle.clause_core.specs.Systems.{TransitionSystem}
+use Rattle.effort_purse.specs.declared.seat.Seat.{Seat}
+use Rattle.effort_purse.specs.declared.shared.SharedPurse.{SharedPurse}
+use Rattle.effort_purse.specs.Seats.{IsSeatOf, shares_of, tickets_of}
+use Rattle.frame_core.specs.declared.parts.Lemma.{Lemma}
+use Rattle.frame_core.specs.Law.{FrameState}
+use Rattle.frame_history.specs.declared.entries.Limits.{Limits}
+use Rattle.frame_history.specs.declared.entries.Entry.{Entry}
+use Rattle.frame_history.specs.declared.entries.Entry.TheVariants.{Claim}
+use Rattle.frame_history.specs.History.{BookState, after, replay}
+use Rattle.frame_query.specs.Findings.{SolverView, IsOlder}
+use Rattle.frame_book.specs.declared.claim.Outcome.{Outcome}
+use Rattle.frame_book.specs.Claims.{ClaimView}
+use Rattle.frame_book.specs.Outcomes.{IsOutcomeOf}
+use Rattle.frame_claims.specs.Asking.{AnswersClaim, MayBeAsked, PaysFor}
+use Rattle.frame_claims.specs.Lists.{ArePaidLists}
+use Rattle.frame_claims.specs.Outcomes.{IsUpToDate}
+use Rattle.frame_claims.specs.Paying.{ClaimQuery, MayAskFor}
+use Rattle.frame_claims.proofs.Histories.{replay-join}
+use Rattle.frame_claims.proofs.Listed.{lists_more}
+use Rattle.frame_claims.proofs.Outcomes.{asked_so}
+use Rattle.frame_claims.proofs.Paid.{by_claim}
+use Rattle.frame_claims.proofs.Taken.{may_be_asked, paid_so, there_by}
+use Rattle.frame_claims.proofs.Turned.{older_itself}
+use Rattle.frame_worker.specs.Working.{HandView, hand, known_of, Follows, HasParts, IsHeld, IsClaimed, IsTaken, HasAll}
+
+pub some_solver : (a b : SolverView) → Some a ≡ Some b → a ≡ b
+some_solver a b e = let h : Some a ≡ Some b = e in cc
+
+-- the solver of the task
+its_solver : (s : BookState) (solver : Option SolverView) (v : SolverView) → HasAll s solver → solver ≡ Some v → IsUpToDate s.frames v
+its_solver s solver v up is = subst (IsUpToDate s.frames) (some_solver up.0 v (sym up.1 ∙ is)) up.2
+
+-- the frames are as they were before the claim
+same_frames : (limits : Limits) (first : BookState) (worker : ℕ) (c : ClaimView) (earlier now : List Entry) → IsClaimed limits first worker c earlier now →
+    (replay first now).frames ≡ (replay first earlier).frames
+same_frames limits first worker c earlier now claimed =
+    ap (λ (z : List Entry). (replay first z).frames) claimed.entry
+    ∙ ap (λ (s : BookState). s.frames) (replay-join first earlier (Claim worker c.subject c.level ∷ []))
+
+module _ (systems : List TransitionSystem) (limits : Limits) (first : BookState) (purse : SharedPurse) (h : HandView) (c : ClaimView)
+    (t : IsTaken systems limits first purse h c) (v : SolverView) (is : h.solver ≡ Some v) where
+  up : IsUpToDate (replay first t.earlier).frames v
+  up = its_solver (replay first t.earlier) h.solver v t.up is
+
+  follows : Follows systems (replay first t.earlier) v
+  follows = let f : IfSome h.solver (Follows systems (replay first t.earlier)) = t.held.follows in
+      subst (λ (o : Option SolverView). IfSome o (Follows systems (replay first t.earlier))) is f
+
+  pub task_asked : MayBeAsked v c c.subject
+  task_asked = may_be_asked limits (replay first t.earlier) c v t.claimed.law up t.claimed.task t.claimed.target
+
+  pub task_outcome : (over : Bool) (o : Outcome) → AnswersClaim v c c.subject over o → IsOutcomeOf systems c c.subject o
+  task_outcome over o answer =
+      let s : BookState = replay first t.earlier in
+      let asked = asked_so s.frames c v over o t.claimed.law up (there_by limits s c.subject c.level t.claimed.task) t.claimed.target answer in
+      subst (λ (z : List TransitionSystem). IsOutcomeOf z c c.subject o) (sym up.systems ∙ follows.same) asked.of
+
+  pub task_paid : (w : SolverView) (seat : Seat) → IsSeatOf purse seat → shares_of seat ≡ shares_of h.seat → w.systems ≡ v.systems → w.lemmas ≡ v.lemmas →
+      PaysFor v w (tickets_of h.seat) (tickets_of seat) (MayAskFor c c.subject) →
+      IsHeld systems first purse (hand seat h.share h.front (Some w) h.first h.parts)
+  task_paid w seat own shares same_systems same_lemmas pays =
+      let s : BookState = replay first t.earlier in
+      let f : FrameState = s.frames in
+      let entry : Entry = Claim h.first c.subject c.level in
+      let has = t.held.has in
+      let paid = paid_so f c v w (tickets_of h.seat) (tickets_of seat) up t.claimed.target pays in
+      let log : List ClaimQuery = t.held.own ++ map (by_claim (length t.earlier)) paid.0 in
+      let known : known_of h.solver ≡ v.known = ap known_of is in
+      let before : ArePaidLists first t.earlier h.first h.parts v.known (length (tickets_of h.seat)) t.held.own t.held.others =
+      subst (λ (z : List (List Lit)). ArePaidLists first t.earlier h.first h.parts z (length (tickets_of h.seat)) t.held.own t.held.others) known t.held.lists in
+      let more : ArePaidLists first (t.earlier ++ entry ∷ []) h.first h.parts w.known (length (tickets_of seat)) log t.held.others =
+      lists_more first t.earlier h.first h.parts c.subject c.level v.known w.known (tickets_of h.seat) (tickets_of seat) t.held.own t.held.others paid.0
+      has.some before paid.1 paid.2 paid.3 in
+      let now : (replay first h.front).frames ≡ f = same_frames limits first h.first c t.earlier h.front t.claimed in
+      let lemmas : w.lemmas ≡ (replay first h.front).frames.lemmas =
+      same_lemmas ∙ up.lemmas ∙ ap (λ (z : FrameState). z.lemmas) (sym now) in
+      record {
+        has = record { own = own; shares = shares ∙ has.shares; share_is = has.share_is; some = has.some; fits = has.fits };
+        follows = record {
+          same = same_systems ∙ follows.same;
+          older = subst (λ (z : List Lemma). IsOlder w.lemmas z) lemmas (older_itself w.lemmas);
+        };
+        own = log;
+        others = t.held.others;
+        lists = subst (λ (z : List Entry). ArePaidLists first z h.first h.parts w.known (length (tickets_of seat)) log t.held.others) (sym t.claimed.entry) more;
+      }
