@@ -56,7 +56,7 @@ fresh_goes purse h seat share count front fresh some less own split parts =
 
 -- ---- Before the first task
 
-pub held_first : (systems : List TransitionSystem) (first : BookState) (purse : SharedPurse) (h : HandView) (solver : Option SolverView) → IsFresh purse h →
+held_first : (systems : List TransitionSystem) (first : BookState) (purse : SharedPurse) (h : HandView) (solver : Option SolverView) → IsFresh purse h →
     known_of solver ≡ [] → IfSome solver (Follows systems (replay first h.front)) →
     IsHeld systems first purse (hand h.seat h.share h.front solver h.first h.parts)
 held_first systems first purse h solver fresh none follows =
@@ -70,7 +70,7 @@ held_first systems first purse h solver fresh none follows =
     }
 
 -- a solver without lemmas follows
-pub follows_none : (systems : List TransitionSystem) (s : BookState) (v : SolverView) → v ≡ record { systems = systems; lemmas = []; known = [] } → Follows systems s v
+follows_none : (systems : List TransitionSystem) (s : BookState) (v : SolverView) → v ≡ record { systems = systems; lemmas = []; known = [] } → Follows systems s v
 follows_none systems s v is =
     let none : SolverView = record { systems = systems; lemmas = []; known = [] } in
     let one : Follows systems s none =
@@ -79,6 +79,28 @@ follows_none systems s v is =
       older = record { shorter = omega arith; clause = λ n lt. absurd (omega (arith, lt)); live = λ n lt on. absurd (omega (arith, lt)) };
     } in
     subst (Follows systems s) (sym is) one
+
+begins : (systems z : List TransitionSystem) (s : BookState) → z ≡ systems → (o : Option SolverView) →
+    IfSome o (λ (v : SolverView). v ≡ record { systems = z; lemmas = []; known = [] }) → (known_of o ≡ []) × IfSome o (Follows systems s)
+begins systems z s same None is = (refl, tt)
+begins systems z s same (Some v) is =
+    let now : v ≡ record { systems = systems; lemmas = []; known = [] } =
+    subst (λ (y : List TransitionSystem). v ≡ record { systems = y; lemmas = []; known = [] }) same is in
+    (ap (λ (w : SolverView). w.known) is, follows_none systems s v now)
+
+-- a solver without lemmas, or none
+pub held_begun : (systems z : List TransitionSystem) (first : BookState) (purse : SharedPurse) (h : HandView) (solver : Option SolverView) → IsFresh purse h →
+    z ≡ systems → IfSome solver (λ (v : SolverView). v ≡ record { systems = z; lemmas = []; known = [] }) →
+    IsHeld systems first purse (hand h.seat h.share h.front solver h.first h.parts)
+held_begun systems z first purse h solver fresh same is =
+    let both = begins systems z (replay first h.front) same solver is in
+    held_first systems first purse h solver fresh both.0 both.1
+
+-- the same share
+pub held_share : (systems : List TransitionSystem) (first : BookState) (purse : SharedPurse) (h : HandView) (share : ℕ) → IsHeld systems first purse h →
+    share ≡ h.share → IsHeld systems first purse (hand h.seat share h.front h.solver h.first h.parts)
+held_share systems first purse h share held same =
+    subst (λ (n : ℕ). IsHeld systems first purse (hand h.seat n h.front h.solver h.first h.parts)) (sym same) held
 
 -- ---- As more of the history is seen
 

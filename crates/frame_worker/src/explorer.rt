@@ -1,5 +1,5 @@
 // What each worker does: it takes a claim, asks for it by its own solver, and puts back what came of it.
-ghost use Rattle.std.specs.Prelude.{◌≡◌, ◌<◌, length};
+ghost use Rattle.std.specs.Prelude.{◌≡◌, ◌<◌, [], length, IfSome};
 ghost use Rattle.frame_core.specs.Law.{AreAlike};
 
 use crate::begun::Begun;
@@ -12,7 +12,7 @@ use frame_claims::ask;
 use frame_history::Entry;
 use frame_query::FrameSolver;
 use shared_history::{Line, Naming};
-use std::alloc::Global;
+use std::alloc::{AllocError, Global};
 use std::marker::PhantomData;
 use std::sync::ledger::Ledger;
 use work_crew::{Craft, Taking};
@@ -63,10 +63,7 @@ impl<'a, 'p, L: Ledger, J: Naming + Begun + Send> Craft for Explorer<'a, 'p, L, 
     }
 
     fn begin(&self, hand: &mut Hand<'a, L, J>) {
-        hand.solver = match FrameSolver::new(self.alloc, self.systems) {
-            Ok(solver) => Some(solver),
-            Err(_) => None,
-        };
+        hand.solver = solver_of(self.alloc, self.systems);
     }
 
     fn is_over(&self, hand: &mut Hand<'a, L, J>) -> bool {
@@ -89,23 +86,34 @@ impl<'a, 'p, L: Ledger, J: Naming + Begun + Send> Craft for Explorer<'a, 'p, L, 
             first,
             parts,
         } = hand;
+        let Some(mut solver) = solver else {
+            let hand = Hand {
+                seat,
+                share,
+                front,
+                solver: None,
+                first,
+                parts,
+            };
+            return (
+                hand,
+                Done {
+                    claim: task,
+                    outcome: None,
+                },
+            );
+        };
         let mut lent = Lent {
             purse: self.purse,
             seat,
         };
-        let (solver, outcome) = match solver {
-            Some(mut solver) => {
-                let outcome = ask(self.alloc, self.systems, &mut solver, &task, &mut lent);
-                (Some(solver), outcome.ok())
-            }
-            None => (None, None),
-        };
+        let outcome = ask(self.alloc, self.systems, &mut solver, &task, &mut lent);
         let Lent { purse: _, seat } = lent;
         let hand = Hand {
             seat,
             share,
             front,
-            solver,
+            solver: Some(solver),
             first,
             parts,
         };
@@ -113,7 +121,7 @@ impl<'a, 'p, L: Ledger, J: Naming + Begun + Send> Craft for Explorer<'a, 'p, L, 
             hand,
             Done {
                 claim: task,
-                outcome,
+                outcome: outcome.ok(),
             },
         )
     }
@@ -157,5 +165,17 @@ impl<'a, 'p, L: Ledger, J: Naming + Begun + Send> Craft for Explorer<'a, 'p, L, 
         hand.front.unite(&front);
         hand.solver = None;
         hand.parts += parts;
+    }
+}
+
+// A solver of the systems; none where there is no memory.
+fn solver_of<'a>(alloc: Global, systems: &'a [System]) -> Option<FrameSolver<'a>>
+    requires some { 0 < length systems.now }
+    requires alike { AreAlike systems.now }
+    ensures { IfSome result (λ v. v ≡ record { systems = systems.now; lemmas = []; known = [] }) }
+{
+    match FrameSolver::new(alloc, systems) {
+        Ok(solver) => Some(solver),
+        Err(AllocError) => None,
     }
 }

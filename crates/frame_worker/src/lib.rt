@@ -12,6 +12,3 @@ mod playing;
 
 pub use explored::{Explored, Met};
 pub use exploring::explore_together;
-
-#[cfg(test)]
-mod tests;
