@@ -1,10 +1,10 @@
 -- What a book keeps, said of what exploring began with.
 use Rattle.std.proofs.Common.{◌≡◌, ℕ, ◌<◌, false, true, List, [], ◌∷◌, ◌++◌, length, refl, sym, subst, ap, ◌∙◌}
-use Rattle.std.specs.Prelude.{Contains, All}
+use Rattle.std.specs.Prelude.{Option, Some, IfSome}
 use mathlib.Core.List.{IsPrefix}
 use Rattle.clause_core.specs.Systems.{TransitionSystem}
 use Rattle.frame_core.specs.declared.parts.Lemma.{Lemma}
-use Rattle.frame_core.specs.Law.{FramesHold}
+use Rattle.frame_core.specs.Law.{FrameState, FramesHold}
 use Rattle.frame_history.specs.declared.entries.Limits.{Limits}
 use Rattle.frame_history.specs.declared.entries.Entry.{Entry}
 use Rattle.frame_history.specs.declared.entries.Entry.TheVariants.{Claim}
@@ -15,6 +15,7 @@ use Rattle.frame_query.specs.Findings.{SolverView, IsOlder}
 use Rattle.frame_book.specs.declared.claim.Claiming.TheVariants.{Task}
 use Rattle.frame_book.specs.Claims.{ClaimView, IsOfSubject}
 use Rattle.frame_book.specs.Book.{BookView, IsBook, Claims}
+use Rattle.frame_claims.specs.Outcomes.{IsUpToDate}
 use Rattle.frame_claims.proofs.Histories.{lawful_split, older_in, replay-join}
 use Rattle.frame_claims.proofs.Turned.{older_then}
 use Rattle.frame_worker.specs.Working.{Follows, IsClaimed}
@@ -84,3 +85,34 @@ follows_on limits systems first h now v lawful pre f =
       same = f.same;
       older = subst (λ (z : BookState). IsOlder v.lemmas z.frames.lemmas) same (older_then v.lemmas s.frames.lemmas t.frames.lemmas f.older later);
     }
+
+-- it has the systems of the book's frames, and lemmas that are older than theirs
+pub follows_book : (systems : List TransitionSystem) (limits : Limits) (carried : List Lemma) (b : BookView) (h : List Entry) (v : SolverView) →
+    BeganWith systems limits carried b → IsBook b → IsPrefix h b.history → Follows systems (replay (start limits systems carried) h) v →
+    (v.systems ≡ b.state.frames.systems) × IsOlder v.lemmas b.state.frames.lemmas
+follows_book systems limits carried b h v w is pre f =
+    let first : BookState = start limits systems carried in
+    let now = follows_on limits systems first h b.history v (lawful_of systems limits carried b w is) pre f in
+    let state = state_of systems limits carried b w is in (
+      f.same ∙ sym w.systems_are ∙ sym (book_systems b is),
+      subst (λ (s : BookState). IsOlder v.lemmas s.frames.lemmas) (sym state) now.older,
+    )
+
+-- a solver that has the lemmas of the book has those that its history led to
+pub up_to_book : (systems : List TransitionSystem) (limits : Limits) (carried : List Lemma) (b : BookView) (front : List Entry) (v : SolverView) →
+    BeganWith systems limits carried b → IsBook b → front ≡ b.history → v.systems ≡ b.state.frames.systems → v.lemmas ≡ b.state.frames.lemmas →
+    IsUpToDate (replay (start limits systems carried) front).frames v
+up_to_book systems limits carried b front v w is here same lemmas =
+    let first : BookState = start limits systems carried in
+    let state : b.state ≡ replay first front = state_of systems limits carried b w is ∙ ap (λ (z : List Entry). replay first z) (sym here) in
+    subst (λ (s : BookState). IsUpToDate s.frames v) state record { systems = same; lemmas = lemmas }
+
+-- the same of a desk, whose book it is that a solver follows
+pub follows_desk : (systems : List TransitionSystem) (limits : Limits) (carried : List Lemma) (b : BookView) (f : FrameState) (h front : List Entry) (o : Option SolverView)
+    (v : SolverView) → BeganWith systems limits carried b → IsBook b → f ≡ b.state.frames → IsPrefix h front → front ≡ b.history → o ≡ Some v →
+    IfSome o (Follows systems (replay (start limits systems carried) h)) → (v.systems ≡ f.systems) × IsOlder v.lemmas f.lemmas
+follows_desk systems limits carried b f h front o v w is same pre here some follows =
+    let F : SolverView → Type 0 = Follows systems (replay (start limits systems carried) h) in
+    let pre' : IsPrefix h b.history = subst (λ (z : List Entry). IsPrefix h z) here pre in
+    let both = follows_book systems limits carried b h v w is pre' (subst (λ (z : Option SolverView). IfSome z F) some follows) in
+    subst (λ (z : FrameState). (v.systems ≡ z.systems) × IsOlder v.lemmas z.lemmas) (sym same) both

@@ -10,6 +10,7 @@ ghost use Rattle.frame_worker.specs.Working.{Follows, HasAll, IsClaimed, known_o
 
 use crate::begun::Begun;
 use frame_book::{Book, Claim, Claiming, Outcome, Returning, Settling, Unsettled};
+use frame_core::Frames;
 use frame_history::Entry;
 use frame_query::FrameSolver;
 use shared_history::{Front, Line, Naming};
@@ -112,28 +113,23 @@ impl<'a, L: Ledger, J: Naming + Begun> Desk<'a, L, J> {
         if !front.advance(&self.front) {
             return false;
         }
-        match solver.take() {
-            Some(mut mine) => {
-                let all = takes_all(&self.book, &mut mine);
-                *solver = Some(mine);
-                all
-            }
+        match solver {
+            Some(solver) => takes_all(self.book.frames(), solver),
             None => false,
         }
     }
 }
 
-// Lets the solver take the lemmas of the book that it lacks; false: there is no memory for them.
-fn takes_all<'a, L: Ledger>(book: &Book<'a, L>, solver: &mut FrameSolver<'a>) -> bool
-    requires systems { solver.old.systems ≡ book.now.systems }
-    requires older { IsOlder solver.old.lemmas book.now.state.frames.lemmas }
+// Lets the solver take the lemmas of the frames that it lacks; false: there is no memory for them.
+fn takes_all<'a>(frames: &Frames<'a>, solver: &mut FrameSolver<'a>) -> bool
+    requires systems { solver.old.systems ≡ frames.now.systems }
+    requires older { IsOlder solver.old.lemmas frames.now.lemmas }
     ensures systems { solver.new.systems ≡ solver.old.systems }
     ensures known { solver.new.known ≡ solver.old.known }
-    ensures older { IsOlder solver.new.lemmas book.now.state.frames.lemmas }
-    ensures all { result ≡ true → solver.new.lemmas ≡ book.now.state.frames.lemmas }
+    ensures older { IsOlder solver.new.lemmas frames.now.lemmas }
+    ensures all { result ≡ true → solver.new.lemmas ≡ frames.now.lemmas }
 {
-    book.holds();
-    match solver.follow(book.frames().all_lemmas()) {
+    match solver.follow(frames.all_lemmas()) {
         Ok(()) => true,
         Err(AllocError) => false,
     }

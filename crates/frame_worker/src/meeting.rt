@@ -24,7 +24,7 @@ pub(crate) fn explored_of<'a, L: Ledger, J: Naming + Begun>(
     mut seen: Front<Entry, J>,
     seat: &Seat,
 ) -> Result<Option<Explored<'a>>, AllocError>
-    ensures { IfOk result (λ o. IfSome o (λ e. (old : ℕ) → ArePlayed (start J.limits J.systems J.carried) seen.entry old (length (tickets_of seat.now)) → IsExplored J.systems J.limits J.carried e.history.items e.frames old (length (tickets_of seat.now)) (is_spent seat.now))) }
+    ensures { IfOk result (λ o. IfSome o (λ e. (old : ℕ) → ArePlayed (start J.limits J.systems J.carried) seen old (length (tickets_of seat.now)) → IsExplored J.systems J.limits J.carried e.history.items e.frames old (length (tickets_of seat.now)) (is_spent seat.now))) }
 {
     let Desk {
         mut book,
