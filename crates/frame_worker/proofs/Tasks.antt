@@ -1,6 +1,7 @@
 -- A task that was taken: what may be asked, what was paid for it, and what came of it.
 use Rattle.std.proofs.Common.{◌≡◌, ℕ, ◌<◌, Bool, List, [], ◌∷◌, ◌++◌, length, refl, sym, subst, ap, ◌∙◌}
-use Rattle.std.specs.Prelude.{Option, Some, None, IfSome, map}
+use Rattle.std.specs.Prelude.{Option, Some, None, IfSome, IfOk, Result, Ok, Err, map}
+use Rattle.std.specs.Result.{result_ok}
 use Rattle.clause_core.specs.declared.literal.Lit.{Lit}
 use Rattle.clause_core.specs.Systems.{TransitionSystem}
 use Rattle.effort_purse.specs.declared.seat.Seat.{Seat}
@@ -26,6 +27,9 @@ use Rattle.frame_claims.proofs.Outcomes.{asked_so}
 use Rattle.frame_claims.proofs.Paid.{by_claim}
 use Rattle.frame_claims.proofs.Taken.{may_be_asked, paid_so, there_by}
 use Rattle.frame_claims.proofs.Turned.{older_itself}
+use Rattle.work_crew.specs.declared.craft.Taking.{Taking}
+use Rattle.work_crew.specs.declared.craft.Taking.TheVariants.{Task, Idle, Ended}
+use Rattle.work_crew.specs.Takings.{IfTask, IfNoTask}
 use Rattle.frame_worker.specs.Working.{HandView, hand, known_of, Follows, HasParts, IsHeld, IsClaimed, IsTaken, HasAll}
 
 pub some_solver : (a b : SolverView) → Some a ≡ Some b → a ≡ b
@@ -42,6 +46,27 @@ same_frames limits first worker c earlier now claimed =
     ap (λ (z : List Entry). (replay first z).frames) claimed.entry
     ∙ ap (λ (s : BookState). s.frames) (replay-join first earlier (Claim worker c.subject c.level ∷ []))
 
+-- ---- A task is taken, or none
+
+pub took_so : (systems : List TransitionSystem) (limits : Limits) (first : BookState) (purse : SharedPurse) (h : HandView) (front now : List Entry)
+    (solver : Option SolverView) (r : Taking ClaimView) → IsHeld systems first purse (hand h.seat h.share front solver h.first h.parts) →
+    HasAll (replay first front) solver → IfTask r (λ (c : ClaimView). IsClaimed limits first h.first c front now) →
+    IfTask r (λ (c : ClaimView). IsTaken systems limits first purse (hand h.seat h.share now solver h.first h.parts) c)
+took_so systems limits first purse h front now solver (Task c) held up claimed = record { earlier = front; held = held; up = up; claimed = claimed }
+took_so systems limits first purse h front now solver Idle held up claimed = tt
+took_so systems limits first purse h front now solver Ended held up claimed = tt
+
+pub still_so : (systems : List TransitionSystem) (first : BookState) (purse : SharedPurse) (h : HandView) (front now : List Entry) (solver : Option SolverView)
+    (r : Taking ClaimView) → IsHeld systems first purse (hand h.seat h.share front solver h.first h.parts) → IfNoTask r (now ≡ front) →
+    IfNoTask r (IsHeld systems first purse (hand h.seat h.share now solver h.first h.parts))
+still_so systems first purse h front now solver (Task c) held same = tt
+still_so systems first purse h front now solver Idle held same =
+    subst (λ (z : List Entry). IsHeld systems first purse (hand h.seat h.share z solver h.first h.parts)) (sym same) held
+still_so systems first purse h front now solver Ended held same =
+    subst (λ (z : List Entry). IsHeld systems first purse (hand h.seat h.share z solver h.first h.parts)) (sym same) held
+
+-- ---- A task is done
+
 module _ (systems : List TransitionSystem) (limits : Limits) (first : BookState) (purse : SharedPurse) (h : HandView) (c : ClaimView)
     (t : IsTaken systems limits first purse h c) (v : SolverView) (is : h.solver ≡ Some v) where
   up : IsUpToDate (replay first t.earlier).frames v
@@ -54,11 +79,15 @@ module _ (systems : List TransitionSystem) (limits : Limits) (first : BookState)
   pub task_asked : MayBeAsked v c c.subject
   task_asked = may_be_asked limits (replay first t.earlier) c v t.claimed.law up t.claimed.task t.claimed.target
 
-  pub task_outcome : (over : Bool) (o : Outcome) → AnswersClaim v c c.subject over o → IsOutcomeOf systems c c.subject o
+  task_outcome : (over : Bool) (o : Outcome) → AnswersClaim v c c.subject over o → IsOutcomeOf systems c c.subject o
   task_outcome over o answer =
       let s : BookState = replay first t.earlier in
       let asked = asked_so s.frames c v over o t.claimed.law up (there_by limits s c.subject c.level t.claimed.task) t.claimed.target answer in
       subst (λ (z : List TransitionSystem). IsOutcomeOf z c c.subject o) (sym up.systems ∙ follows.same) asked.of
+
+  pub task_outcomes : {E : Type 0} (over : Bool) (r : Result Outcome E) → IfOk r (AnswersClaim v c c.subject over) → IfSome (result_ok r) (IsOutcomeOf systems c c.subject)
+  task_outcomes over (Ok o) answer = task_outcome over o answer
+  task_outcomes over (Err e) answer = tt
 
   pub task_paid : (w : SolverView) (seat : Seat) → IsSeatOf purse seat → shares_of seat ≡ shares_of h.seat → w.systems ≡ v.systems → w.lemmas ≡ v.lemmas →
       PaysFor v w (tickets_of h.seat) (tickets_of seat) (MayAskFor c c.subject) →

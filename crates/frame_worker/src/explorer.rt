@@ -71,7 +71,10 @@ impl<'a, 'p, L: Ledger, J: Naming + Begun + Send> Craft for Explorer<'a, 'p, L, 
     }
 
     fn take(&self, desk: &mut Desk<'a, L, J>, hand: &mut Hand<'a, L, J>) -> Taking<Claim> {
-        if desk.broken || !desk.show(&mut hand.front, &mut hand.solver) {
+        if desk.broken {
+            return Taking::Ended;
+        }
+        if !desk.show(&mut hand.front, &mut hand.solver) {
             return Taking::Ended;
         }
         desk.claim(&self.line, hand.first, &mut hand.front)
