@@ -16,7 +16,7 @@ use std::sync::ledger::{Ledger, Share};
 use std::thread::Threads;
 use work_crew::{Crew, fan_out, finish};
 
-/// What is left when all have played: the seat, with all its shares, and the history as far as one of them saw it.
+/// What is left of those that played: their seat, and the history as far as they saw it.
 #[derive(Drop)]
 pub(crate) struct Played<J: Naming> {
     pub(crate) seat: Seat,
@@ -52,7 +52,7 @@ pub(crate) fn play<'a, 'p, L: Ledger + Send + Sync, J: Naming + Begun + Send + S
         first: 1,
         parts: workers,
     };
-    let theirs = fan_out(rt, crew, theirs, gate);
+    let theirs = left_of(fan_out(rt, crew, theirs, gate));
     purse.join(&mut seat, theirs.seat);
     let own = Hand {
         seat: purse.split(&mut seat, 1),
@@ -62,9 +62,25 @@ pub(crate) fn play<'a, 'p, L: Ledger + Send + Sync, J: Naming + Begun + Send + S
         first: 0,
         parts: 1,
     };
-    let own = finish(rt, crew, own);
+    let own = left_of(finish(rt, crew, own));
     purse.join(&mut seat, own.seat);
-    let mut seen = own.front;
-    seen.unite(&theirs.front);
-    Played { seat, front: seen }
+    let mut front = own.front;
+    front.unite(&theirs.front);
+    Played { seat, front }
+}
+
+// What is left of a hand.
+fn left_of<'a, L: Ledger, J: Naming>(hand: Hand<'a, L, J>) -> Played<J>
+    ensures seat { result.seat ≡ hand.entry.seat }
+    ensures front { result.front ≡ hand.entry.front }
+{
+    let Hand {
+        seat,
+        share: _,
+        front,
+        solver: _,
+        first: _,
+        parts: _,
+    } = hand;
+    Played { seat, front }
 }
