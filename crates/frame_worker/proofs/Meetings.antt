@@ -1,6 +1,6 @@
 -- When all workers have met.
 use Rattle.std.proofs.Common.{◌≡◌, ℕ, ◌+◌, ◌<◌, Bool, true, false, List, [], ◌∷◌, ◌++◌, length, refl, sym, subst, ap, ◌∙◌, inl, inr, arith, length-append}
-use Rattle.std.specs.Prelude.{slice_index_or}
+use Rattle.std.specs.Prelude.{Option, Some, None, IfSome, slice_index_or}
 use mathlib.Core.List.{IsPrefix}
 use Rattle.clause_core.specs.Systems.{TransitionSystem}
 use Rattle.effort_purse.specs.declared.seat.Seat.{Seat}
@@ -16,6 +16,7 @@ use Rattle.frame_book.specs.Book.{BookView, IsBook}
 use Rattle.frame_claims.specs.Lists.{ArePaidLists}
 use Rattle.frame_claims.specs.Paying.{ClaimQuery}
 use Rattle.frame_claims.proofs.Listed.{lists_join, lists_paid}
+use Rattle.frame_worker.specs.declared.explored.Explored.{Explored}
 use Rattle.frame_worker.specs.Exploring.{IsExplored}
 use Rattle.frame_worker.specs.Meeting.{ArePlayed, IsUsable}
 use Rattle.frame_worker.specs.Working.{HandView, known_of, IsHeld}
@@ -96,3 +97,10 @@ explored systems limits carried b history f front seat old w is use' pre same at
     (subst (λ (z : Limits). E b.systems z carried) w.limits_are (subst (λ (z : List Lemma). E b.systems b.limits z) w.carried_are one)) in
     subst (λ (z : List Entry). IsExplored systems limits carried z f old now over) (sym same)
     (subst (λ (z : FrameState). IsExplored systems limits carried b.history z old now over) (sym at) (two p))
+
+-- where it says something, it says it of what was drawn
+pub told : (systems : List TransitionSystem) (limits : Limits) (carried : List Lemma) (o : Option Explored) (front : List Entry) (old now : ℕ) (over : Bool) →
+    IfSome o (λ (e : Explored). (n : ℕ) → ArePlayed (start limits systems carried) front n now → IsExplored systems limits carried e.history.items e.frames n now over) →
+    ArePlayed (start limits systems carried) front old now → IfSome o (λ (e : Explored). IsExplored systems limits carried e.history.items e.frames old now over)
+told systems limits carried None front old now over said p = tt
+told systems limits carried (Some e) front old now over said p = said old p
