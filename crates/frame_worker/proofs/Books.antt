@@ -1,5 +1,5 @@
 -- What a book keeps, said of what exploring began with.
-use Rattle.std.proofs.Common.{◌≡◌, ℕ, ◌<◌, false, true, List, [], ◌∷◌, ◌++◌, length, refl, sym, subst, ap, ◌∙◌}
+use Rattle.std.proofs.Common.{◌≡◌, ℕ, List, [], ◌∷◌, ◌++◌, sym, subst, ap, ◌∙◌}
 use Rattle.std.specs.Prelude.{Option, Some, IfSome}
 use mathlib.Core.List.{IsPrefix}
 use Rattle.clause_core.specs.Systems.{TransitionSystem}

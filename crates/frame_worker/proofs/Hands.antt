@@ -1,5 +1,5 @@
 -- What workers own: before the first task, as they part and meet, and as more of the history is seen.
-use Rattle.std.proofs.Common.{◌≡◌, ℕ, ◌+◌, ◌-◌, ◌<◌, ◌^◌, List, [], ◌∷◌, ◌++◌, length, refl, sym, subst, ap, ◌∙◌, arith, length-append}
+use Rattle.std.proofs.Common.{◌≡◌, ℕ, ◌+◌, ◌-◌, ◌<◌, List, [], ◌∷◌, ◌++◌, length, refl, sym, subst, ap, ◌∙◌, arith, length-append}
 use Rattle.std.specs.Prelude.{Option, Some, None, IfSome}
 use mathlib.Core.List.{IsPrefix}
 use Rattle.clause_core.specs.declared.literal.Lit.{Lit}
@@ -9,7 +9,7 @@ use Rattle.effort_purse.specs.declared.shared.SharedPurse.{SharedPurse}
 use Rattle.effort_purse.specs.Seats.{IsSeatOf, IsSplitFrom, Joins, KeepsTickets, shares_of, tickets_of}
 use Rattle.frame_history.specs.declared.entries.Entry.{Entry}
 use Rattle.frame_history.specs.History.{BookState, replay}
-use Rattle.frame_query.specs.Findings.{SolverView, IsOlder}
+use Rattle.frame_query.specs.Findings.{SolverView}
 use Rattle.frame_claims.specs.Lists.{ArePaidLists}
 use Rattle.frame_claims.specs.Paying.{ClaimQuery}
 use Rattle.frame_claims.proofs.Listed.{lists_join, lists_none, lists_on}

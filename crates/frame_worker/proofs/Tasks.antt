@@ -1,6 +1,6 @@
 -- A task that was taken: what may be asked, what was paid for it, and what came of it.
-use Rattle.std.proofs.Common.{◌≡◌, ℕ, ◌<◌, Bool, List, [], ◌∷◌, ◌++◌, length, refl, sym, subst, ap, ◌∙◌}
-use Rattle.std.specs.Prelude.{Option, Some, None, IfSome, IfOk, Result, Ok, Err, map}
+use Rattle.std.proofs.Common.{◌≡◌, ℕ, Bool, List, [], ◌∷◌, ◌++◌, length, sym, subst, ap, ◌∙◌}
+use Rattle.std.specs.Prelude.{Option, Some, IfSome, IfOk, Result, Ok, Err, map}
 use Rattle.std.specs.Result.{result_ok}
 use Rattle.clause_core.specs.declared.literal.Lit.{Lit}
 use Rattle.clause_core.specs.Systems.{TransitionSystem}
@@ -12,7 +12,7 @@ use Rattle.frame_core.specs.Law.{FrameState}
 use Rattle.frame_history.specs.declared.entries.Limits.{Limits}
 use Rattle.frame_history.specs.declared.entries.Entry.{Entry}
 use Rattle.frame_history.specs.declared.entries.Entry.TheVariants.{Claim}
-use Rattle.frame_history.specs.History.{BookState, after, replay}
+use Rattle.frame_history.specs.History.{BookState, replay}
 use Rattle.frame_query.specs.Findings.{SolverView, IsOlder}
 use Rattle.frame_book.specs.declared.claim.Outcome.{Outcome}
 use Rattle.frame_book.specs.Claims.{ClaimView}
@@ -30,7 +30,7 @@ use Rattle.frame_claims.proofs.Turned.{older_itself}
 use Rattle.work_crew.specs.declared.craft.Taking.{Taking}
 use Rattle.work_crew.specs.declared.craft.Taking.TheVariants.{Task, Idle, Ended}
 use Rattle.work_crew.specs.Takings.{IfTask, IfNoTask}
-use Rattle.frame_worker.specs.Working.{HandView, hand, known_of, Follows, HasParts, IsHeld, IsClaimed, IsTaken, HasAll}
+use Rattle.frame_worker.specs.Working.{HandView, hand, known_of, Follows, IsHeld, IsClaimed, IsTaken, HasAll}
 
 pub some_solver : (a b : SolverView) → Some a ≡ Some b → a ≡ b
 some_solver a b e = let h : Some a ≡ Some b = e in cc

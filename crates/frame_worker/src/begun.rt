@@ -1,7 +1,8 @@
-// What exploring begins with.
+//! What exploring begins with.
+
 use std::marker::Brand;
 
-/// What exploring begins with, which the types and proofs of workers may read: the systems, how far it goes, and the lemmas.
+/// What exploring begins with: the systems, how far it goes, and the lemmas. Types and proofs of workers may read it.
 pub trait Begun {
     ghost use Rattle.std.specs.Prelude.{List};
     ghost use Rattle.clause_core.specs.Systems.{TransitionSystem};

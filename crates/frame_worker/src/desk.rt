@@ -1,4 +1,5 @@
-// The value under the lock.
+//! The value under the lock: a book, and the history that workers share as far as the book is.
+
 ghost use Rattle.std.specs.Prelude.{◌≡◌, ◌<◌, true, false, [], IfSome};
 ghost use mathlib.Core.List.{IsPrefix};
 ghost use Rattle.work_crew.specs.Takings.{IfTask, IfNoTask};
@@ -18,8 +19,8 @@ use std::alloc::AllocError;
 use std::sync::ledger::{Ledger, Share};
 use work_crew::Taking;
 
-/// The book, and the history that workers share, as far as the book is. It is broken where an entry of the book could not be added to that history: then no
-/// more is claimed.
+/// The book, and the history that workers share. It is broken where an entry of the book could not be added to that
+/// history; then no more is claimed.
 #[derive(Drop)]
 pub(crate) struct Desk<'a, L: Ledger, J: Naming + Begun> {
     pub(crate) book: Book<'a, L>,
@@ -32,8 +33,8 @@ pub(crate) struct Desk<'a, L: Ledger, J: Naming + Begun> {
 }
 
 impl<'a, L: Ledger, J: Naming + Begun> Desk<'a, L, J> {
-    /// A task for this worker, who has seen all of the history; it has then seen the entry of its claim too. Where there is no memory
-    /// for a claim, there is no task any more for this worker.
+    /// A task for this worker, who has seen all of the history, and then sees the entry of its claim too. Where there is no
+    /// memory for a claim, this worker gets no task any more.
     pub(crate) fn claim(
         &mut self,
         line: &Line<Entry, J>,
@@ -97,7 +98,8 @@ impl<'a, L: Ledger, J: Naming + Begun> Desk<'a, L, J> {
         }
     }
 
-    /// Lets a worker see the history as it is, and its solver take the lemmas that it lacks. False: there is no memory for that, or no solver.
+    /// Lets a worker see the history as it is, and its solver take the lemmas that it lacks. False: there is no memory for
+    /// that, or no solver.
     pub(crate) fn show(
         &self,
         front: &mut Front<Entry, J>,

@@ -1,4 +1,5 @@
-// What comes of exploring.
+//! What comes of exploring.
+
 use effort_purse::Seat;
 use frame_core::Frames;
 use frame_history::Entry;

@@ -1,4 +1,5 @@
-// What each worker does: it takes a claim, asks for it by its own solver, and puts back what came of it.
+//! What each worker does: it takes a claim, asks for it by its own solver, and puts back what came of it.
+
 ghost use Rattle.std.specs.Prelude.{◌≡◌, ◌<◌, [], length, IfSome};
 ghost use Rattle.frame_core.specs.Law.{AreAlike};
 

@@ -23,13 +23,15 @@ use std::sync::{Condvar, Mutex, Wait};
 use std::thread::Threads;
 use work_crew::Crew;
 
-/// Explores these frames, which have no obligation and tops 0, by so many workers, numbered from 1 on; then the caller, number 0, finishes alone
-/// what is left. There are at most 4294967294 workers.
+/// Explores these frames, which have no obligation and tops 0, by so many workers, but by 4294967294 at most.
 ///
-/// The workers share a book under a lock. Each asks for its claims without the lock, by a solver of its own. Where the book cannot be used in
-/// the end nothing is said but how many tickets were drawn: where it is not closed, where a claim that came to nothing may have been made twice,
-/// or where it notes that the purse was spent and the seat knows nothing of that. A worker that is refused memory ends alone; want of memory of
-/// the caller is the only error.
+/// The workers have the numbers from 1 on. They share a book under a lock, and ask for their claims without it, each by a
+/// solver of its own. Then the caller, number 0, finishes alone what is left. What was drawn was paid for queries of the
+/// history's claims, and no two of these are equal.
+///
+/// The book is dropped where it is not closed, or a claim that came to nothing may have been made twice. So it is where it
+/// notes that the purse was spent, and the seat knows nothing of that. A worker that is refused memory ends alone; want
+/// of memory of the caller is the only error.
 pub fn explore_together<'a, R: Threads + Wait + Sync, G: Gate + Sync>(
     rt: &R,
     alloc: Global,
@@ -66,7 +68,13 @@ pub fn explore_together<'a, R: Threads + Wait + Sync, G: Gate + Sync>(
 }
 
 // The same with a ledger of settlements and a history of these names.
-fn explore_by<'a, L: Ledger + Send + Sync, J: Naming + Begun + Send + Sync, R: Threads + Wait + Sync, G: Gate + Sync>(
+fn explore_by<
+    'a,
+    L: Ledger + Send + Sync,
+    J: Naming + Begun + Send + Sync,
+    R: Threads + Wait + Sync,
+    G: Gate + Sync,
+>(
     rt: &R,
     alloc: Global,
     blank: Blank,

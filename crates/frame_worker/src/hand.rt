@@ -1,4 +1,5 @@
-// What workers own.
+//! What workers own.
+
 use effort_purse::Seat;
 use frame_book::{Claim, Outcome};
 use frame_history::Entry;

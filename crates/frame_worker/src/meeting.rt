@@ -1,4 +1,5 @@
-// Whether the book can be used when all have met, and what it says then.
+//! Whether the book can be used when all have met, and what it says then.
+
 ghost use Rattle.std.specs.Prelude.{◌≡◌, ℕ, true, length, IfOk, IfSome};
 ghost use Rattle.effort_purse.specs.Seats.{is_spent, tickets_of};
 ghost use Rattle.frame_history.specs.History.{start, IsClosed};
@@ -17,7 +18,8 @@ use shared_history::{Front, Naming};
 use std::alloc::{AllocError, Global};
 use std::sync::ledger::Ledger;
 
-/// What was explored, by workers that have seen so much of the history; none where the book has to be dropped. The only error is want of memory.
+/// What was explored, by workers that have seen so much of the history; none where the book has to be dropped. The only
+/// error is want of memory.
 pub(crate) fn explored_of<'a, L: Ledger, J: Naming + Begun>(
     alloc: Global,
     desk: Desk<'a, L, J>,

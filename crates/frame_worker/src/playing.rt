@@ -1,4 +1,5 @@
-// Workers play the book, and then the caller alone.
+//! Workers play the book, and then their caller alone.
+
 ghost use Rattle.std.specs.Prelude.{◌≡◌, ◌+◌, ◌<◌, ◌^◌, length};
 ghost use Rattle.effort_purse.specs.Seats.{IsSeatOf, shares_of, tickets_of};
 ghost use Rattle.frame_history.specs.History.{start};
@@ -24,7 +25,14 @@ pub(crate) struct Played<J: Naming> {
 }
 
 /// So many workers play the book, numbered from 1 on; then the caller, number 0, plays alone what is left.
-pub(crate) fn play<'a, 'p, L: Ledger + Send + Sync, J: Naming + Begun + Send + Sync, R: Threads + Wait + Sync, G: Gate + Sync>(
+pub(crate) fn play<
+    'a,
+    'p,
+    L: Ledger + Send + Sync,
+    J: Naming + Begun + Send + Sync,
+    R: Threads + Wait + Sync,
+    G: Gate + Sync,
+>(
     rt: &R,
     crew: &Crew<Explorer<'a, 'p, L, J>>,
     mut seat: Seat,

@@ -1,4 +1,4 @@
-use Rattle.std.proofs.Common.{sym, subst, ◌∙◌}
+use Rattle.std.proofs.Common.{subst, ◌∙◌}
 use Rattle.frame_book.specs.declared.claim.Claiming.{Claiming}
 use Rattle.frame_book.specs.declared.claim.Claiming.TheVariants.{Task}
 use Rattle.frame_book.specs.Book.{Claims}

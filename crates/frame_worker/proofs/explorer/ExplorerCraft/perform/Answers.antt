@@ -1,4 +1,4 @@
-use Rattle.std.proofs.Common.{Option, sym, subst, ap, ◌∙◌}
+use Rattle.std.proofs.Common.{Option, sym, subst}
 use Rattle.std.specs.Prelude.{IfSome}
 use Rattle.effort_purse.specs.declared.shared.SharedPurse.{SharedPurse}
 use Rattle.effort_purse.specs.Seats.{IsSeatOf, is_spent}
