@@ -55,13 +55,14 @@ fn counter(alloc: Global) -> Result<System, AllocError> {
     }
 }
 
-// Whether so many workers explore the frames, within so many tickets.
+// Whether so many workers explore the frames with so many tickets, and these are spent, or not.
 fn is_explored<R: Threads + Wait + Sync>(
     rt: &R,
     alloc: Global,
     system: &System,
     budget: u32,
     workers: u32,
+    spent: bool,
 ) -> Result<bool, AllocError>
     requires { (0 < workers) × (workers < 100) }
 {
@@ -69,22 +70,15 @@ fn is_explored<R: Threads + Wait + Sync>(
     let (purse, seat) = SharedPurse::new(alloc, u64::from(budget), 0, 100)?;
     let limits = Limits { frames: 20 };
     let Met { explored, seat } = explore_together(
-        rt,
-        alloc,
-        frames,
-        limits,
-        &purse,
-        seat,
-        workers,
-        &OpenGate,
+        rt, alloc, frames, limits, &purse, seat, workers, &OpenGate,
     )?;
-    Ok(explored.is_some() && !SharedPurse::seen_spent(&seat))
+    Ok(explored.is_some() && SharedPurse::seen_spent(&seat) == spent)
 }
 
 #[test]
 fn two_workers_explore_a_counter(rt: HostRuntime) -> Result<(), Fail> {
     let system = counter(rt.alloc())?;
-    assert!(rt; is_explored(&rt, rt.alloc(), &system, 10000, 2)?);
-    assert!(rt; !is_explored(&rt, rt.alloc(), &system, 1, 2)?);
+    assert!(rt; is_explored(&rt, rt.alloc(), &system, 10000, 2, false)?);
+    assert!(rt; is_explored(&rt, rt.alloc(), &system, 1, 2, true)?);
     Ok(())
 }
