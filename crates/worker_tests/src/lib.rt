@@ -1,5 +1,0 @@
-//! Tests of frames that several workers explore.
-#![tactic(auto)]
-
-#[cfg(test)]
-mod exploring;
