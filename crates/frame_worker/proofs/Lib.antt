@@ -1,0 +1,4 @@
+pub mod Books
+pub mod Hands
+pub mod Meetings
+pub mod Tasks

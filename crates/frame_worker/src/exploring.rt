@@ -1,0 +1,134 @@
+//! Frames are explored by several workers, and what they leave by their caller.
+
+ghost use Rattle.std.specs.Prelude.{◌≡◌, ◌+◌, ◌^◌, ◌<◌, [], length, replicate, IfOk, IfSome};
+ghost use Rattle.effort_purse.specs.Seats.{IsSeatOf, is_spent, shares_of, tickets_of};
+ghost use Rattle.frame_worker.specs.Exploring.{IsExplored};
+
+use crate::begun::Begun;
+use crate::desk::Desk;
+use crate::explored::Met;
+use crate::explorer::Explorer;
+use crate::meeting::explored_of;
+use crate::playing::{Played, play};
+use effort_purse::{Seat, SharedPurse};
+use frame_book::Book;
+use frame_core::Frames;
+use frame_history::{Entry, Limits};
+use outside::Gate;
+use shared_history::{Naming, Opened};
+use std::alloc::{AllocError, Global};
+use std::marker::{Brand, PhantomData};
+use std::sync::ledger::{Blank, Ledger};
+use std::sync::{Condvar, Mutex, Wait};
+use std::thread::Threads;
+use work_crew::Crew;
+
+/// Explores these frames, which have no obligation and tops 0, by so many workers, but by 4294967294 at most.
+///
+/// The workers have the numbers from 1 on. They share a book under a lock, and ask for their claims without it, each by a
+/// solver of its own. Then the caller, number 0, finishes alone what is left. What was drawn was paid for queries of the
+/// history's claims, and no two of these are equal.
+///
+/// The book is dropped where it is not closed, or a claim that came to nothing may have been made twice. So it is where it
+/// notes that the purse was spent, and the seat knows nothing of that. A worker that is refused memory ends alone; want
+/// of memory of the caller is the only error.
+pub fn explore_together<'a, R: Threads + Wait + Sync, G: Gate + Sync>(
+    rt: &R,
+    alloc: Global,
+    frames: Frames<'a>,
+    limits: Limits,
+    purse: &SharedPurse,
+    seat: Seat,
+    workers: u32,
+    gate: &G,
+) -> Result<Met<'a>, AllocError>
+    requires obligations { frames.obligations ≡ [] }
+    requires tops { frames.tops ≡ replicate (length frames.systems) 0 }
+    requires limits { limits.frames + 1 < 2 ^ 32 }
+    requires own { IsSeatOf purse.now seat }
+    requires some { 0 < workers }
+    requires shares { workers < shares_of seat }
+    ensures own { IfOk result (λ m. IsSeatOf purse.now m.seat) }
+    ensures shares { IfOk result (λ m. shares_of m.seat ≡ shares_of seat) }
+    ensures explored { IfOk result (λ m. IfSome m.explored (λ e. IsExplored frames.entry.systems limits frames.entry.lemmas e.history.items e.frames (length (tickets_of seat)) (length (tickets_of m.seat)) (is_spent m.seat))) }
+{
+    let workers = workers.min(u32::MAX - 1);
+    explore_by::<Brand, Brand, R, G>(
+        rt,
+        alloc,
+        Blank::new(u64::from(workers) + 1),
+        Opened::new(),
+        frames,
+        limits,
+        purse,
+        seat,
+        workers,
+        gate,
+    )
+}
+
+// The same with a ledger of settlements and a history of these names.
+fn explore_by<
+    'a,
+    L: Ledger + Send + Sync,
+    J: Naming + Begun + Send + Sync,
+    R: Threads + Wait + Sync,
+    G: Gate + Sync,
+>(
+    rt: &R,
+    alloc: Global,
+    blank: Blank,
+    opened: Opened<Entry>,
+    frames: Frames<'a>,
+    limits: Limits,
+    purse: &SharedPurse,
+    seat: Seat,
+    workers: u32,
+    gate: &G,
+) -> Result<Met<'a>, AllocError>
+    requires name { blank.name ≡ L.name }
+    requires parts { blank.parts ≡ L.parts }
+    requires each_part { blank.parts ≡ workers + 1 }
+    requires line { opened.seen.book ≡ J.line }
+    requires systems { J.systems ≡ frames.systems }
+    requires at { J.limits ≡ limits }
+    requires carried { J.carried ≡ frames.lemmas }
+    requires obligations { frames.obligations ≡ [] }
+    requires tops { frames.tops ≡ replicate (length frames.systems) 0 }
+    requires limits { limits.frames + 1 < 2 ^ 32 }
+    requires own { IsSeatOf purse.now seat }
+    requires some { 0 < workers }
+    requires few { workers + 1 < 2 ^ 32 }
+    requires shares { workers < shares_of seat }
+    ensures own { IfOk result (λ m. IsSeatOf purse.now m.seat) }
+    ensures shares { IfOk result (λ m. shares_of m.seat ≡ shares_of seat) }
+    ensures explored { IfOk result (λ m. IfSome m.explored (λ e. IsExplored J.systems J.limits J.carried e.history.items e.frames (length (tickets_of seat)) (length (tickets_of m.seat)) (is_spent m.seat))) }
+{
+    let (ledger, share) = blank.open::<L>();
+    let (line, front) = opened.named::<J>();
+    let systems = frames.systems();
+    let book = Book::new(alloc, frames, limits, ledger)?;
+    let crew = Crew {
+        craft: Explorer {
+            alloc,
+            systems,
+            line,
+            purse,
+            of: PhantomData,
+        },
+        desk: Mutex::new(Desk {
+            book,
+            front: front.again(),
+            broken: false,
+        }),
+        moved: Condvar::new(),
+    };
+    let Played { seat, front } = play(rt, &crew, seat, share, front, workers, gate);
+    let Crew {
+        craft: _,
+        desk,
+        moved: _,
+    } = crew;
+    let explored = explored_of(alloc, desk.into_inner(), front, &seat)?;
+    Ok(Met { explored, seat })
+}
