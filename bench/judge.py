@@ -65,6 +65,13 @@ class Out:
                 self.col += 1
 
 
+def enclosed(o, n):
+    """Writes an expression in parentheses."""
+    o.put('(')
+    write(o, n)
+    o.put(')')
+
+
 def write(o, n):
     """Writes the expression with parentheses around each operator; sets the places of its nodes. Returns the place of the first token."""
     op = n.op
@@ -117,15 +124,11 @@ def write(o, n):
     if op in ('!', 'neg', 'X', 'F', 'G', 'Y', 'Z', 'O', 'H'):
         n.first = n.place = o.here()
         o.put({'neg': '-', '!': '!'}.get(op, op + ' '))
-        o.put('(')
-        write(o, n.args[0])
-        o.put(')')
+        enclosed(o, n.args[0])
         return n.first
     if op == 'select':
         n.first = o.here()
-        o.put('(')
-        write(o, n.args[0])
-        o.put(')')
+        enclosed(o, n.args[0])
         n.place = o.here()
         o.put('[%d:%d]' % n.extra)
         return n.first
