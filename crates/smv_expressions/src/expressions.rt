@@ -341,7 +341,10 @@ fn selection<'a>(
     Ok((selected, tokens))
 }
 
-/// A primary expression, and what is selected of it.
+// So many selections may stand in a row, as `w[7:4][1:0]` has two; of more the nodes would stand too deep one in another.
+const MOST_SELECTIONS: usize = 2000;
+
+/// A primary expression, and what is selected of it. More than 2000 selections in a row are answered as out of memory.
 #[cycle(expressions)]
 #[tactic(auto, unfolding(crate::specs::Expressions::selected))]
 fn selected<'a>(
@@ -354,7 +357,12 @@ fn selected<'a>(
     let (primary, tokens) = primary(alloc, room, tokens)?;
     let mut whole = primary;
     let mut rest = tokens;
+    let mut count = 0;
     'selections: while begins(TokenKind::LeftBracket, rest) {
+        if count >= MOST_SELECTIONS {
+            return Err(Stop::NoMemory);
+        }
+        count += 1;
         let (more, after) = selection(alloc, room, whole, rest)?;
         whole = more;
         rest = after;
