@@ -19,6 +19,7 @@ use Rattle.smv_meaning.specs.Faults.{IsFaultFree, item_fault}
 use Rattle.smv_meaning.specs.Runs.{are_inputs, is_state}
 use Rattle.bit_states.specs.Coding.{inputs_of, next_of, state_of}
 use Rattle.bit_states.specs.Layouts.{HasTypes}
+use Rattle.bit_faults.specs.Mending.{mended}
 use Rattle.bit_faults.specs.Questions.{AreFaultQuestions, AreQuestions, CanNeverBeMet, IsFaultQuestion, NeverFaults, faults_at, judged_items}
 use Rattle.bit_faults.proofs.Bits.{AreBits, bits_of}
 use Rattle.bit_faults.proofs.Judging.{all_judged}
@@ -81,7 +82,7 @@ module _ (p : Program) (has : HasTypes p) where
       let faults : faults_at p x at.bits ≡ true =
       three (is_state p (state_of p at.bits)) (are_inputs p (inputs_of p at.bits)) (is_state p (next_of p at.bits)) (is_some (fault_of x (state_of p at.bits) (inputs_of p at.bits) (next_of p at.bits)))
       (ap (is_state p) at.state ∙ from) (ap (are_inputs p) at.inputs ∙ given) (ap (is_state p) at.next ∙ to) (ap is_some same ∙ faulty) in
-      let met = (is.decides.meets at.bits).1 faults in
+      let met = (is.decides.meets at.bits).1 (is.met at.bits faults) in
       none c refl met.0 met.2)
 
   module _ (qs : List (Option Decided)) (are : AreFaultQuestions p qs) where
@@ -105,5 +106,5 @@ module _ (p : Program) (has : HasTypes p) where
         all_judged (λ (x : ResolvedItem). is_none (fault_of x s u t)) p (λ j x at. ap is_none (one_never j x at (λ c is. none j c is) s u t from given to))
 
 -- what is met
-pub one_met : (p : Program) (x : ResolvedItem) (c : Decided) (a : ℕ → Bool) → IsFaultQuestion p x (Some c) → All (ClauseTrue a) c.clauses → faults_at p x a ≡ true
-one_met p x c a is met = (is.decides.meets a).0 (a, (λ k lt. refl), met)
+pub one_met : (p : Program) (x : ResolvedItem) (c : Decided) (a : ℕ → Bool) → IsFaultQuestion p x (Some c) → All (ClauseTrue a) c.clauses → faults_at p x (mended p a) ≡ true
+one_met p x c a is met = is.faulty a ((is.decides.meets a).0 (a, (λ k lt. refl), met))

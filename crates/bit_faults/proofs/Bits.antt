@@ -1,15 +1,21 @@
 -- The bits of a valuation, and bits that are the same.
-use Rattle.std.proofs.Common.{◌≡◌, ◌∙◌, ℕ, ◌+◌, Bool, true, false, List, [], ◌∷◌, ◌++◌, length, map, get_or, refl, sym, ap, arith, append_assoc, length-append}
+use Rattle.std.proofs.Common.{◌≡◌, ◌∙◌, ℕ, ◌+◌, Bool, true, false, ◌&&◌, List, [], ◌∷◌, ◌++◌, length, map, get_or, refl, sym, ap, arith, append_assoc, length-append}
 use Rattle.std.specs.List.{range_with_len}
+use Rattle.std.specs.Option.{is_some}
 use Rattle.std.proofs.Math.Seq.{get_or-append_seam}
 use Rattle.std.proofs.lemmas.List.{append-nil}
 use Rattle.clause_core.specs.Assignments.{Agrees}
 use Rattle.smv_tree.specs.declared.tree.Program.{Program}
 use Rattle.smv_value.specs.declared.value.Value.{Value}
+use Rattle.smv_resolve.specs.Items.{ResolvedItem}
+use Rattle.smv_scope.specs.Slots.{slots_of}
+use Rattle.smv_declared.specs.Types.{types_of}
+use Rattle.smv_meaning.specs.Faults.{item_fault}
 use Rattle.smv_meaning.specs.Runs.{are_inputs, is_state}
 use Rattle.bit_states.specs.Coding.{inputs_of, next_of, state_of}
 use Rattle.bit_states.specs.Layouts.{HasTypes, input_types, input_width, named_width, state_types, state_width}
 use Rattle.bit_states.specs.Values.{decoded_all, encoded_all}
+use Rattle.bit_faults.specs.Questions.{faults_at}
 use Rattle.bit_states.proofs.Codes.{long_code, of_inputs, of_states, same_map, values_back}
 
 -- bits of a list, behind some and before others
@@ -82,3 +88,8 @@ module _ (p : Program) (a b : ℕ → Bool) (agrees : Agrees (named_width p) a b
   -- what is asked of a valuation is the same
   pub valuation_same : (test : List Value → List Value → List Value → Bool) → test (state_of p a) (inputs_of p a) (next_of p a) ≡ test (state_of p b) (inputs_of p b) (next_of p b)
   valuation_same test = λ i. test (state_same i) (inputs_same i) (next_same i)
+
+-- and so is whether an item faults there
+pub faults_same : (p : Program) (x : ResolvedItem) (a b : ℕ → Bool) → Agrees (named_width p) a b → faults_at p x a ≡ faults_at p x b
+faults_same p x a b agrees =
+    valuation_same p a b agrees (λ (s u t : List Value). (is_state p s && are_inputs p u && is_state p t) && is_some (item_fault (types_of p) (slots_of p) s u t x))

@@ -6,6 +6,7 @@ use Rattle.std.proofs.lemmas.List.Elements.{All-map}
 use Rattle.std.proofs.lemmas.List.FromFn.{length-range_with_len}
 use Rattle.std.proofs.lemmas.Simd.{map-map}
 use Rattle.bit_arith.specs.Number.{AllStand, values_of}
+use Rattle.bit_arith.proofs.Numbers.{AllStand-extends}
 use Rattle.bit_graph.specs.declared.edge.Edge.{Edge}
 use Rattle.bit_graph.specs.declared.edge.Node.{Node as Gate}
 use Rattle.bit_graph.specs.Growth.{Extends}
@@ -28,7 +29,7 @@ use Rattle.bit_conditions.specs.Told.{TellsMoment, TellsStep, inputs_under, stat
 use Rattle.bit_conditions.proofs.Kept.{tells_inputs_kept, tells_state_kept, tells_step_kept}
 use Rattle.bit_faults.specs.declared.valuation.Sides.{Sides}
 use Rattle.bit_faults.specs.declared.valuation.Valuation.{Valuation}
-use Rattle.bit_faults.specs.Valuations.{SidesStand, TellsSides, TellsValuation, edges_of, input}
+use Rattle.bit_faults.specs.Valuations.{TellsDomains, TellsSides, TellsValuation, edges_of, input}
 use Rattle.bit_faults.proofs.OfFormulas.{all_kept}
 use Rattle.bit_faults.proofs.OfItems.{OfTypes, outcome_of_state, outcome_of_step}
 
@@ -45,7 +46,7 @@ edges_stand g bits start k is h = subst (λ (ns : List ℕ). AllStand g (edges_o
 pub long_range : (bits : List ℕ) (start k : ℕ) → bits ≡ range_with_len start k → length bits ≡ k
 long_range bits start k is = ap length is ∙ length-range_with_len start k
 
-edge_values : (v : ℕ → Bool) (bits : List ℕ) → values_of v (edges_of bits) ≡ map v bits
+pub edge_values : (v : ℕ → Bool) (bits : List ℕ) → values_of v (edges_of bits) ≡ map v bits
 edge_values v bits = map-map (edge_value v) input bits
 
 pub state_is : (p : Program) (v : ℕ → Bool) (edges : List Edge) (bits : List ℕ) → edges ≡ edges_of bits → state_under p v edges ≡ decoded_all (state_types p) (map v bits)
@@ -69,9 +70,6 @@ module _ (g : List Gate) (typed : Typed) (x : Sides) (tells : TellsSides g typed
   abbrev p : Program
   p = typed.scope.program
 
-  pub sides_stand : SidesStand g x
-  sides_stand = (tells.from.valid_stands, tells.inputs.valid_stands, tells.to.valid_stands)
-
   module _ (v : ℕ → Bool) where
     from_is : state_under p v x.from.bits ≡ state_of p v
     from_is = state_is p v x.from.bits (layout_of p).state tells.from_bits
@@ -81,16 +79,6 @@ module _ (g : List Gate) (typed : Typed) (x : Sides) (tells : TellsSides g typed
 
     given_is : inputs_under p v x.inputs.bits ≡ inputs_of p v
     given_is = inputs_are p v x.inputs.bits (layout_of p).inputs tells.input_bits
-
-    -- where the bits are those of states and inputs
-    pub from_valid : Consistent v g → edge_value v x.from.valid ≡ is_state p (state_of p v)
-    from_valid consistent = tells.from.valid v consistent ∙ ap (is_state p) from_is
-
-    pub to_valid : Consistent v g → edge_value v x.to.valid ≡ is_state p (next_of p v)
-    to_valid consistent = tells.to.valid v consistent ∙ ap (is_state p) to_is
-
-    pub given_valid : Consistent v g → edge_value v x.inputs.valid ≡ are_inputs p (inputs_of p v)
-    given_valid consistent = tells.inputs.valid v consistent ∙ ap (are_inputs p) given_is
 
     -- the outcomes of nodes there
 
@@ -129,6 +117,14 @@ module _ (g h : List Gate) (extends : Extends g h) (typed : Typed) where
     from = tells_state_kept g h extends typed x.from tells.from;
     inputs = tells_inputs_kept g h extends typed x.inputs tells.inputs;
     to = tells_state_kept g h extends typed x.to tells.to;
+  }
+
+  pub domains_kept : (domains : List Edge) → TellsDomains g typed.scope.program domains → TellsDomains h typed.scope.program domains
+  domains_kept domains tells = record {
+    stand = AllStand-extends g h domains extends tells.stand;
+    told = λ v consistent. tells.told v (extends.kept v consistent);
+    states = tells.states;
+    inputs = tells.inputs;
   }
 
   pub valuation_kept : (x : Valuation) → TellsValuation g typed x → TellsValuation h typed x

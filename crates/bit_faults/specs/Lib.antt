@@ -1,3 +1,5 @@
+pub mod Cones
+pub mod Mending
 pub mod Questions
 pub mod Formulas
 pub mod Valuations

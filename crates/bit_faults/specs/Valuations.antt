@@ -2,7 +2,8 @@
 use Rattle.std.specs.Prelude.{◌≡◌, ℕ, Bool, true, false, List, map}
 use Rattle.bit_graph.specs.declared.edge.Edge.{Edge}
 use Rattle.bit_graph.specs.declared.edge.Node.{Node}
-use Rattle.bit_graph.specs.Meaning.{Consistent, Stands, edge_value}
+use Rattle.bit_arith.specs.Number.{AllStand}
+use Rattle.bit_graph.specs.Meaning.{Consistent, edge_value}
 use Rattle.std.specs.Option.{is_some}
 use Rattle.smv_tree.specs.declared.tree.Program.{Program}
 use Rattle.smv_scope.specs.Slots.{slots_of}
@@ -11,11 +12,12 @@ use Rattle.smv_resolve.specs.Resolved.{parts_of}
 use Rattle.smv_meaning.specs.declared.typed.Typed.{Typed}
 use Rattle.smv_meaning.specs.Runs.{are_inputs, is_state}
 use Rattle.bit_states.specs.Coding.{inputs_of, state_of}
-use Rattle.bit_states.specs.Layouts.{layout_of}
+use Rattle.bit_states.specs.Layouts.{input_types, layout_of, state_types}
 use Rattle.bit_conditions.specs.Told.{TellsInputs, TellsState, TellsStep}
 use Rattle.bit_faults.specs.declared.valuation.Sides.{Sides}
 use Rattle.bit_faults.specs.declared.valuation.Valuation.{Valuation}
 use Rattle.bit_faults.specs.Formulas.{AllStandIfAny, TellsFormulas}
+use Rattle.bit_faults.specs.Mending.{all_have_codes, step_coded}
 use Rattle.bit_faults.specs.Questions.{are_of_types, fault_of_bits}
 
 -- the edge of this input of a graph
@@ -44,9 +46,12 @@ pub record TellsValuation (g : List Node) (typed : Typed) (x : Valuation) : Type
       are_inputs typed.scope.program (inputs_of typed.scope.program v) ≡ true →
       TellsFormulas v (slots_of typed.scope.program) (state_of typed.scope.program v) (inputs_of typed.scope.program v) x.formulas (parts_of typed.nodes)
 
--- the edges that tell where bits are those of states and inputs lead to nodes of the graph
-abbrev pub SidesStand : List Node → Sides → Type 0
-SidesStand g x = Stands g x.from.valid × Stands g x.inputs.valid × Stands g x.to.valid
+-- For each bit of a step the edge is true where the bits of its slot are a code, and each slot has values.
+pub record TellsDomains (g : List Node) (p : Program) (domains : List Edge) : Type 0 where
+  pub stand : AllStand g domains
+  pub told : (v : ℕ → Bool) → Consistent v g → map (edge_value v) domains ≡ step_coded p v
+  pub states : all_have_codes (state_types p) ≡ true
+  pub inputs : all_have_codes (input_types p) ≡ true
 
 -- where the bits are a valuation, the edge is true just where the item faults
 abbrev pub TellsItem : List Node → Program → ResolvedItem → Edge → Type 0

@@ -7,6 +7,7 @@ ghost use Rattle.smv_tree.specs.declared.tree.Program.{Program};
 ghost use Rattle.smv_resolve.specs.Items.{ResolvedItem};
 ghost use Rattle.smv_meaning.specs.Faults.{IsFaultFree};
 ghost use Rattle.bit_states.specs.Layouts.{HasTypes};
+ghost use Rattle.bit_faults.specs.Mending.{mended};
 ghost use Rattle.bit_faults.specs.Questions.{AreFaultQuestions, CanNeverBeMet, IsFaultQuestion, NeverFaults, faults_at, judged_items};
 
 /// Where no question can be met, no item faults at any valuation of the declared types. If none of the first so many can be met, none
@@ -19,7 +20,7 @@ pub fn what_is_never_met()
         (j : ℕ) (x : ResolvedItem) → j < n → slice_get (judged_items p) j ≡ Some x → NeverFaults p x }
 {}
 
-/// An assignment that meets a question is a valuation at which the item faults. It does nothing: its contract is the law.
+/// Where an assignment meets a question, the item faults at the mended bits. It does nothing: its contract is the law.
 pub fn what_is_met()
-    ensures { (p : Program) (x : ResolvedItem) (c : Decided) (a : ℕ → Bool) → IsFaultQuestion p x (Some c) → All (ClauseTrue a) c.clauses → faults_at p x a ≡ true }
+    ensures { (p : Program) (x : ResolvedItem) (c : Decided) (a : ℕ → Bool) → IsFaultQuestion p x (Some c) → All (ClauseTrue a) c.clauses → faults_at p x (mended p a) ≡ true }
 {}

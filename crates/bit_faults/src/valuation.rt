@@ -132,8 +132,8 @@ fn inputs_at(
     Ok(inputs)
 }
 
-// The edges of these inputs of a graph.
-fn edges_of(alloc: Global, bits: &[usize]) -> Result<Items<Edge>, AllocError>
+/// The edges of these inputs of a graph. The only error is want of memory.
+pub fn edges_of(alloc: Global, bits: &[usize]) -> Result<Items<Edge>, AllocError>
     ensures { IfOk result (λ edges. edges ≡ edges_of bits.now) }
 {
     let mut made = Items::new(alloc);

@@ -1,6 +1,7 @@
 pub mod Kept
 pub mod OfMembers
 pub mod OfChoices
+pub mod OfFronts
 pub mod OfOperands
 pub mod OfAsked
 pub mod OfNodes

@@ -1,13 +1,11 @@
 -- The branch that is taken: its fault, its value and its members.
-use Rattle.std.proofs.Common.{◌≡◌, ◌∙◌, ℕ, zero, suc, ◌+◌, ◌*◌, ◌<◌, ◌≤◌, Bool, true, false, ◌&&◌, ◌||◌, not, cond, List, [], ◌∷◌, length, get_or, drop, refl, sym, ap, subst, arith}
+use Rattle.std.proofs.Common.{◌≡◌, ◌∙◌, ℕ, zero, suc, ◌+◌, ◌*◌, ◌<◌, ◌≤◌, Bool, true, false, ◌||◌, cond, List, [], ◌∷◌, length, get_or, drop, refl, sym, ap, subst, arith}
 use Rattle.std.specs.Prelude.{Option, None, Some, All, IfSome}
 use Rattle.std.specs.List.{list_any}
 use Rattle.std.proofs.lemmas.List.{drop_more, get_or_default}
 use Rattle.bit_graph.specs.declared.edge.Edge.{Edge}
 use Rattle.bit_graph.specs.declared.edge.Node.{Node}
 use Rattle.bit_graph.specs.Meaning.{Consistent, edge_value}
-use Rattle.bit_arith.specs.Number.{flip}
-use Rattle.bit_operators.proofs.Bitwise.{flip_is}
 use Rattle.smv_tree.specs.declared.place.Place.{Place}
 use Rattle.smv_value.specs.declared.value.FaultRule.TheVariants as fault
 use Rattle.smv_value.specs.declared.value.Value.{Value}
@@ -69,7 +67,7 @@ module _ (v : ℕ → Bool) where
   one_along e f z x (Fault rule place) h k t = h ∙ t
   one_along e f z x (Values vs) h k t = (h ∙ t.0, record { value = t.1.value; only = t.1.only; denotes = k t.0 t.1.value t.1.denotes })
 
-  set_along : (e f : Edge) (ns ms : List Member) (o : Outcome) → edge_value v e ≡ edge_value v f → (edge_value v f ≡ false → All (IsThere v) ms → All (IsThere v) ns) →
+  pub set_along : (e f : Edge) (ns ms : List Member) (o : Outcome) → edge_value v e ≡ edge_value v f → (edge_value v f ≡ false → All (IsThere v) ms → All (IsThere v) ns) →
       (edge_value v f ≡ false → (w : Value) → list_any (is_member v w) ns ≡ list_any (is_member v w) ms) → TellsSet v f ms o → TellsSet v e ns o
   set_along e f ns ms Nothing h k l t = tt
   set_along e f ns ms (Fault rule place) h k l t = h ∙ t
@@ -100,49 +98,6 @@ module _ (v : ℕ → Bool) where
       one_taken (Fault rule place) a r s p q = h ∙ ap (λ (c : Bool). c || cond (edge_value v b) (edge_value v f) (edge_value v g)) s
       one_taken (Values vs) a r s p q =
           subst (λ (t : Option Bool). TellsOne v e z (taken t (Values vs) a r)) (sym (truth_is b vs s.1.value s.1.only s.1.denotes)) (one_by (edge_value v b) (Values vs) a r s.0 refl p q)
-
-    module _ (xs ys zs : List Member)
-        (there : cond (edge_value v b) (edge_value v f) (edge_value v g) ≡ false → (edge_value v b ≡ true → All (IsThere v) xs) → (edge_value v b ≡ false → All (IsThere v) ys) → All (IsThere v) zs)
-        (k : (w : Value) → cond (edge_value v b) (edge_value v f) (edge_value v g) ≡ false →
-        list_any (is_member v w) zs ≡ cond (edge_value v b) (list_any (is_member v w) xs) (list_any (is_member v w) ys)) where
-      no_fault : (t : Bool) → edge_value v b ≡ t → cond t (edge_value v f) (edge_value v g) ≡ false → cond (edge_value v b) (edge_value v f) (edge_value v g) ≡ false
-      no_fault t is c = ap (λ (t : Bool). cond t (edge_value v f) (edge_value v g)) is ∙ c
-
-      members_by : (t : Bool) → edge_value v b ≡ t → cond t (edge_value v f) (edge_value v g) ≡ false → (w : Value) →
-          list_any (is_member v w) zs ≡ cond t (list_any (is_member v w) xs) (list_any (is_member v w) ys)
-      members_by t is c w = k w (no_fault t is c) ∙ ap (λ (t : Bool). cond t (list_any (is_member v w) xs) (list_any (is_member v w) ys)) is
-
-      apart : (t : Bool) → t ≡ true → t ≡ false → ⊥
-      apart t p q = cc
-
-      set_by : (t : Bool) (c a r : Outcome) → edge_value v failed ≡ false → edge_value v b ≡ t → TellsSet v f xs a → TellsSet v g ys r → TellsSet v e zs (taken (Some t) c a r)
-      set_by true c a r n is p q =
-          set_along e f zs xs a (edge_by true n is) (λ c t. there (no_fault true is c) (λ i. t) (λ i. absurd (apart (edge_value v b) is i))) (members_by true is) p
-      set_by false c a r n is p q =
-          set_along e g zs ys r (edge_by false n is) (λ c t. there (no_fault false is c) (λ i. absurd (apart (edge_value v b) i is)) (λ i. t)) (members_by false is) q
-
-      pub set_taken : (c a r : Outcome) → TellsOne v failed (symbolic.Boolean b) c → TellsSet v f xs a → TellsSet v g ys r → TellsSet v e zs (taken (truth c) c a r)
-      set_taken Nothing a r s p q = tt
-      set_taken (Fault rule place) a r s p q = h ∙ ap (λ (c : Bool). c || cond (edge_value v b) (edge_value v f) (edge_value v g)) s
-      set_taken (Values vs) a r s p q =
-          subst (λ (t : Option Bool). TellsSet v e zs (taken t (Values vs) a r)) (sym (truth_is b vs s.1.value s.1.only s.1.denotes)) (set_by (edge_value v b) (Values vs) a r s.0 refl p q)
-
-  -- members of two sets, each guarded by its side
-
-  sides : (c a b : Bool) → ((false || (c && a)) || (not c && b)) ≡ cond c a b
-  sides true true b = refl
-  sides true false b = refl
-  sides false a b = refl
-
-  pub both_sides : (w : Value) (b n : Edge) (none one other first all : List Member) → none ≡ [] → n ≡ flip b →
-      list_any (is_member v w) first ≡ (list_any (is_member v w) none || (edge_value v b && list_any (is_member v w) one)) →
-      list_any (is_member v w) all ≡ (list_any (is_member v w) first || (edge_value v n && list_any (is_member v w) other)) →
-      list_any (is_member v w) all ≡ cond (edge_value v b) (list_any (is_member v w) one) (list_any (is_member v w) other)
-  both_sides w b n none one other first all is turned p q =
-      q ∙ ap (λ (x : Bool). x || (edge_value v n && list_any (is_member v w) other)) p
-      ∙ ap (λ (xs : List Member). (list_any (is_member v w) xs || (edge_value v b && list_any (is_member v w) one)) || (edge_value v n && list_any (is_member v w) other)) is
-      ∙ ap (λ (t : Bool). (false || (edge_value v b && list_any (is_member v w) one)) || (t && list_any (is_member v w) other)) (ap (edge_value v) turned ∙ flip_is b.negated (v b.node))
-      ∙ sides (edge_value v b) (list_any (is_member v w) one) (list_any (is_member v w) other)
 
 -- what is promised anyway is promised where there is no fault
 pub without_fault : (r : Option Symbolic) (g : List Node) (b f e : Edge) (x y : Symbolic) →

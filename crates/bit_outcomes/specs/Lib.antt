@@ -1,3 +1,4 @@
 pub mod Telling
 pub mod Gathering
 pub mod Asked
+pub mod Fronts

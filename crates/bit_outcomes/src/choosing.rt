@@ -1,7 +1,6 @@
 //! Conditions and branches.
 
-ghost use Rattle.std.specs.Prelude.{◌≡◌, ◌*◌, ◌/◌, ◌||◌, ℕ, Bool, List, All, IfOk, IfSome, IsTrue, Some, drop, false, if◌then◌else◌, length, true};
-ghost use Rattle.std.specs.List.{list_any};
+ghost use Rattle.std.specs.Prelude.{◌≡◌, ◌≤◌, ◌*◌, ◌/◌, ◌||◌, ℕ, Bool, List, IfOk, IfSome, IsTrue, Some, drop, false, if◌then◌else◌, length, true};
 ghost use Rattle.bit_graph.specs.Growth.{Extends};
 ghost use Rattle.bit_graph.specs.Meaning.{Consistent, Denotes, Stands, edge_value};
 ghost use Rattle.smv_tree.specs.declared.place.Place.{Place};
@@ -12,32 +11,103 @@ ghost use Rattle.smv_meaning.specs.declared.outcome.Outcome.TheVariants.{Fault};
 ghost use Rattle.smv_meaning.specs.Outcomes.{choice, taken, truth};
 ghost use Rattle.bit_operators.specs.declared.symbolic.Symbolic.TheVariants as symbolic;
 ghost use Rattle.bit_operators.specs.Denoting.{StandsIn, denoted};
-ghost use Rattle.bit_outcomes.specs.Telling.{AllTold, IsThere, MembersStand, Tells, TellsAll, TellsOne, TellsSet, ToldStands, is_member};
+ghost use Rattle.bit_outcomes.specs.Telling.{AllTold, Tells, TellsAll, TellsOne, ToldStands};
 
-use crate::members::{Row, as_row, with_members};
-use crate::told::{Member, Told, copied, copied_value};
+use crate::fronts::{Front, closed, with_branch};
+use crate::told::{Told, copied, copied_value};
 use bit_choices::choose;
 use bit_graph::{Edge, Graph};
 use bit_operators::Symbolic;
-use sqlite_items::Items;
 use std::alloc::{AllocError, Global};
 
 /// The branch of the first condition that is TRUE, or a last branch that has none. The only error is want of memory.
 ///
-/// It takes a gate for each condition without a branch behind it for the rest, and so many for a branch as its value has edges. From
-/// a branch that is a set on, each branch before it takes a gate for each of its members.
+/// It takes a gate for each condition without a branch behind it for the rest, and so many for a branch as its value has edges. Up to
+/// the last branch that is a set, a condition takes some gates, and each member of its branch one.
 pub fn choice(alloc: Global, graph: &mut Graph, operands: &[Told]) -> Result<Told, AllocError>
     requires { AllTold graph.old operands.now }
     ensures extends { Extends graph.old graph.new }
     ensures stands { IfOk result (λ t. ToldStands graph.new t) }
     ensures told { IfOk result (λ t. (place : Place) (v : ℕ → Bool) (os : List Outcome) → Consistent v graph.new → TellsAll v operands.now os → Tells v t (choice place os)) }
 {
+    let tail = values_behind(alloc, graph, operands)?;
+    if tail.from == 0 {
+        Ok(tail.told)
+    } else {
+        let told = with_front(alloc, graph, operands, &tail)?;
+        Ok(told)
+    }
+}
+
+// What is told from a condition on, of which this is the number.
+#[derive(Debug, Drop)]
+struct Tail {
+    from: usize,
+    told: Told,
+}
+
+// What is told behind the last branch that is a set.
+fn values_behind(alloc: Global, graph: &mut Graph, operands: &[Told]) -> Result<Tail, AllocError>
+    requires { AllTold graph.old operands.now }
+    ensures extends { Extends graph.old graph.new }
+    ensures stands { IfOk result (λ x. ToldStands graph.new x.told) }
+    ensures from { IfOk result (λ x. 2 * x.from ≤ length operands.now) }
+    ensures told { IfOk result (λ x. (place : Place) (v : ℕ → Bool) (os : List Outcome) → Consistent v graph.new → TellsAll v operands.now os →
+        Tells v x.told (choice place (drop (2 * x.from) os))) }
+{
     let mut rest = last_branch(alloc, graph, operands)?;
     'pairs: for i in (0..operands.len() / 2).rev() {
-        let next = either(alloc, graph, &operands[2 * i], &operands[2 * i + 1], &rest)?;
+        let condition = &operands[2 * i];
+        let branch = &operands[2 * i + 1];
+        if !are_values(branch, &rest) {
+            return Ok(Tail {
+                from: i + 1,
+                told: rest,
+            });
+        }
+        let next = either(alloc, graph, condition, branch, &rest)?;
         rest = next;
     }
-    Ok(rest)
+    Ok(Tail {
+        from: 0,
+        told: rest,
+    })
+}
+
+// Whether one value is told of both.
+fn are_values(one: &Told, other: &Told) -> bool {
+    match (one, other) {
+        (Told::One(..), Told::One(..)) => true,
+        _ => false,
+    }
+}
+
+// The conditions and branches before the tail, and then this.
+fn with_front(
+    alloc: Global,
+    graph: &mut Graph,
+    operands: &[Told],
+    tail: &Tail,
+) -> Result<Told, AllocError>
+    requires operands { AllTold graph.old operands.now }
+    requires tail { ToldStands graph.old tail.now.told }
+    requires from { 2 * tail.now.from ≤ length operands.now }
+    ensures extends { Extends graph.old graph.new }
+    ensures stands { IfOk result (λ t. ToldStands graph.new t) }
+    ensures told { IfOk result (λ t. (place : Place) (v : ℕ → Bool) (os : List Outcome) → Consistent v graph.new → TellsAll v operands.now os →
+        Tells v tail.now.told (choice place (drop (2 * tail.now.from) os)) → Tells v t (choice place os)) }
+{
+    let mut front = Front::new(alloc, graph);
+    'pairs: for i in 0..tail.from {
+        let condition = &operands[2 * i];
+        let branch = &operands[2 * i + 1];
+        match with_branch(alloc, graph, front, condition, branch)? {
+            Some(next) => front = next,
+            None => return Ok(Told::Untold),
+        }
+    }
+    let told = closed(alloc, graph, front, &tail.told)?;
+    Ok(told)
 }
 
 // The last branch, if it has no condition; else a fault.
@@ -120,10 +190,7 @@ fn decided(
             let told = one_of_values(alloc, graph, failed, b, *f, x, *g, y)?;
             Ok(told)
         }
-        _ => {
-            let told = one_of_sets(alloc, graph, failed, b, branch, rest)?;
-            Ok(told)
-        }
+        _ => Ok(Told::Untold),
     }
 }
 
@@ -204,90 +271,13 @@ fn chosen(
     }
 }
 
-// Whether the edge is the constant TRUE.
-fn is_always(graph: &Graph, e: Edge) -> bool
+/// Whether the edge is the constant TRUE.
+pub fn is_always(graph: &Graph, e: Edge) -> bool
     requires { Stands graph.now e }
     ensures { IsTrue result → Denotes graph.now e (λ v. true) }
 {
     match graph.as_constant(e) {
         Some(b) => b,
         None => false,
-    }
-}
-
-fn one_of_sets(
-    alloc: Global,
-    graph: &mut Graph,
-    failed: Edge,
-    b: Edge,
-    branch: &Told,
-    rest: &Told,
-) -> Result<Told, AllocError>
-    requires failed_stands { Stands graph.old failed }
-    requires b_stands { Stands graph.old b }
-    requires branch_stands { ToldStands graph.old branch.now }
-    requires rest_stands { ToldStands graph.old rest.now }
-    ensures extends { Extends graph.old graph.new }
-    ensures stands { IfOk result (λ t. ToldStands graph.new t) }
-    ensures told { IfOk result (λ t. (v : ℕ → Bool) (c a r : Outcome) → Consistent v graph.new → TellsOne v failed (symbolic.Boolean b) c → Tells v branch.now a → Tells v rest.now r →
-        Tells v t (taken (truth c) c a r)) }
-{
-    match (as_row(alloc, graph, branch)?, as_row(alloc, graph, rest)?) {
-        (Some(one), Some(other)) => {
-            let row = one_of_rows(alloc, graph, failed, b, one, other)?;
-            Ok(Told::Set(row.fault, row.members))
-        }
-        _ => Ok(Told::Untold),
-    }
-}
-
-fn one_of_rows(
-    alloc: Global,
-    graph: &mut Graph,
-    failed: Edge,
-    b: Edge,
-    one: Row,
-    other: Row,
-) -> Result<Row, AllocError>
-    requires failed_stands { Stands graph.old failed }
-    requires b_stands { Stands graph.old b }
-    requires one_stands { Stands graph.old one.fault × MembersStand graph.old one.members }
-    requires other_stands { Stands graph.old other.fault × MembersStand graph.old other.members }
-    ensures extends { Extends graph.old graph.new }
-    ensures stands { IfOk result (λ row. Stands graph.new row.fault × MembersStand graph.new row.members) }
-    ensures told { IfOk result (λ row. (v : ℕ → Bool) (c a r : Outcome) → Consistent v graph.new → TellsOne v failed (symbolic.Boolean b) c → TellsSet v one.fault one.members a →
-        TellsSet v other.fault other.members r → TellsSet v row.fault row.members (taken (truth c) c a r)) }
-{
-    let fault = fault_of(graph, failed, b, one.fault, other.fault)?;
-    let members = chosen_members(alloc, graph, b, one, other)?;
-    Ok(Row { fault, members })
-}
-
-// The members of the one or of the other set, where it is taken without a fault.
-fn chosen_members(
-    alloc: Global,
-    graph: &mut Graph,
-    b: Edge,
-    one: Row,
-    other: Row,
-) -> Result<Items<Member>, AllocError>
-    requires b_stands { Stands graph.old b }
-    requires one_stands { Stands graph.old one.fault × MembersStand graph.old one.members }
-    requires other_stands { Stands graph.old other.fault × MembersStand graph.old other.members }
-    ensures extends { Extends graph.old graph.new }
-    ensures stands { IfOk result (λ ms. MembersStand graph.new ms) }
-    ensures there { IfOk result (λ ms. (v : ℕ → Bool) → Consistent v graph.new → (if edge_value v b then edge_value v one.fault else edge_value v other.fault) ≡ false →
-        (edge_value v b ≡ true → All (IsThere v) one.members) → (edge_value v b ≡ false → All (IsThere v) other.members) → All (IsThere v) ms) }
-    ensures value { IfOk result (λ ms. (v : ℕ → Bool) (w : Value) → Consistent v graph.new → (if edge_value v b then edge_value v one.fault else edge_value v other.fault) ≡ false →
-        list_any (is_member v w) ms ≡ (if edge_value v b then list_any (is_member v w) one.members else list_any (is_member v w) other.members)) }
-{
-    if is_always(graph, other.fault) {
-        Ok(one.members)
-    } else if is_always(graph, one.fault) {
-        Ok(other.members)
-    } else {
-        let first = with_members(alloc, graph, Items::new(alloc), b, one.members.as_slice())?;
-        let both = with_members(alloc, graph, first, b.negation(), other.members.as_slice())?;
-        Ok(both)
     }
 }

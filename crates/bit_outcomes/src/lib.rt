@@ -5,6 +5,7 @@
 #![tactic(auto)]
 
 mod choosing;
+mod fronts;
 mod items;
 mod members;
 mod nodes;

@@ -16,6 +16,7 @@ use Rattle.smv_meaning.specs.Faults.{item_fault}
 use Rattle.smv_meaning.specs.Runs.{are_inputs, is_state}
 use Rattle.bit_states.specs.Coding.{inputs_of, next_of, state_of}
 use Rattle.bit_states.specs.Layouts.{layout_of}
+use Rattle.bit_faults.specs.Mending.{mended}
 use Rattle.bit_faults.specs.Questions.{AreFaultQuestions, IsFaultQuestion, NeverFaults, are_of_types, faults_at, judged_items}
 use Rattle.fault_search.specs.Answering.{IsFaulty}
 use Rattle.sound_check.specs.Questions.{IsQuestion}
@@ -43,17 +44,14 @@ questions_asked p questions asked i d less =
     let x = some_at (judged_items p) i (omega (arith, less, long)) in
     subst IsQuestion (sym (q.2 d)) (question_asked p x.0 q.0 (asked.each i x.0 q.0 x.1 q.1))
 
--- what the model is, where it meets the question
-module _ (p : Program) (x : ResolvedItem) (model : List Bool) (v : Valuation) (is : IsValuation (layout_of p) (assignment_of model) v) (met : faults_at p x (assignment_of model) ≡ true) where
-  parts : (are_of_types p (assignment_of model) ≡ true)
-      × (is_some (item_fault (types_of p) (slots_of p) (state_of p (assignment_of model)) (inputs_of p (assignment_of model)) (next_of p (assignment_of model)) x) ≡ true)
-  parts = and_parts (are_of_types p (assignment_of model))
-      (is_some (item_fault (types_of p) (slots_of p) (state_of p (assignment_of model)) (inputs_of p (assignment_of model)) (next_of p (assignment_of model)) x)) met
+-- the valuation that bits are at which the item faults
+module _ (p : Program) (x : ResolvedItem) (b : ℕ → Bool) (v : Valuation) (is : IsValuation (layout_of p) b v) (met : faults_at p x b ≡ true) where
+  parts : (are_of_types p b ≡ true) × (is_some (item_fault (types_of p) (slots_of p) (state_of p b) (inputs_of p b) (next_of p b) x) ≡ true)
+  parts = and_parts (are_of_types p b) (is_some (item_fault (types_of p) (slots_of p) (state_of p b) (inputs_of p b) (next_of p b) x)) met
 
   -- the refusal that is found tells a fault of the item
   pub told_there : (r : Refusal) → refusal_at p v.state v.inputs v.next x ≡ Some r → TellsFault p x r
   told_there r told =
-      let b = assignment_of model in
       let typed = and_parts (is_state p (state_of p b) && are_inputs p (inputs_of p b)) (is_state p (next_of p b)) parts.0 in
       let both = and_parts (is_state p (state_of p b)) (are_inputs p (inputs_of p b)) typed.0 in
       record {
@@ -69,7 +67,6 @@ module _ (p : Program) (x : ResolvedItem) (model : List Bool) (v : Valuation) (i
   -- and one is found
   pub refused_there : refusal_at p v.state v.inputs v.next x ≡ None → ⊥
   refused_there none =
-      let b = assignment_of model in
       let same : item_fault (types_of p) (slots_of p) v.state v.inputs v.next x ≡ item_fault (types_of p) (slots_of p) (state_of p b) (inputs_of p b) (next_of p b) x =
       ap (λ s. item_fault (types_of p) (slots_of p) s v.inputs v.next x) is.state
       ∙ ap (λ u. item_fault (types_of p) (slots_of p) (state_of p b) u v.next x) is.inputs
@@ -92,17 +89,17 @@ item_there p nodes items questions number model judged asked faulty =
 
 -- what the laws of questions say of those of a program
 pub record AreJudges (p : Program) (questions : List (Option Decided)) (model : List Bool) (number : ℕ) : Type 0 where
-  pub met : (x : ResolvedItem) (c : Decided) → IsFaultQuestion p x (Some c) → All (ClauseTrue (assignment_of model)) c.clauses → faults_at p x (assignment_of model) ≡ true
+  pub met : (x : ResolvedItem) (c : Decided) → IsFaultQuestion p x (Some c) → All (ClauseTrue (assignment_of model)) c.clauses → faults_at p x (mended p (assignment_of model)) ≡ true
   pub before : (j : ℕ) (x : ResolvedItem) → j < number → slice_get (judged_items p) j ≡ Some x → NeverFaults p x
 
--- The item of this number is judged, and its question is met: it faults at the valuation that the model is.
+-- The item of this number is judged, and its question is met: it faults at the valuation that the mended bits are.
 module _ (p : Program) (nodes : List Node) (items : List Item) (questions : List (Option Decided)) (number : ℕ) (item : Item) (model : List Bool) (v : Valuation)
     (judged : map (item_by nodes) items ≡ judged_items p) (here : slice_get items number ≡ Some item) (asked : AreFaultQuestions p questions)
-    (faulty : IsFaulty questions number model) (is : IsValuation (layout_of p) (assignment_of model) v) (judges : AreJudges p questions model number) where
+    (faulty : IsFaulty questions number model) (is : IsValuation (layout_of p) (mended p (assignment_of model)) v) (judges : AreJudges p questions model number) where
   at_number : slice_get (judged_items p) number ≡ Some (item_by nodes item)
   at_number = ap (λ (xs : List ResolvedItem). slice_get xs number) (sym judged) ∙ slice_get-map (item_by nodes) items number ∙ ap (option_map (item_by nodes)) here
 
-  faults : faults_at p (item_by nodes item) (assignment_of model) ≡ true
+  faults : faults_at p (item_by nodes item) (mended p (assignment_of model)) ≡ true
   faults = judges.met (item_by nodes item) faulty.question (asked.each number (item_by nodes item) (Some faulty.question) at_number faulty.asked) faulty.met
 
   -- the refusal that is found is that of the program
@@ -112,9 +109,9 @@ module _ (p : Program) (nodes : List Node) (items : List Item) (questions : List
     item = item_by nodes item;
     judged = at_number;
     before = judges.before;
-    told = told_there p (item_by nodes item) model v is faults r told;
+    told = told_there p (item_by nodes item) (mended p (assignment_of model)) v is faults r told;
   }
 
   -- and one is found
   pub refusal_found : refusal_at p v.state v.inputs v.next (item_by nodes item) ≡ None → ⊥
-  refusal_found none = refused_there p (item_by nodes item) model v is faults none
+  refusal_found none = refused_there p (item_by nodes item) (mended p (assignment_of model)) v is faults none

@@ -9,7 +9,7 @@ ghost use Rattle.smv_prepare.specs.Decoding.{IsValuation};
 ghost use Rattle.smv_prepare.specs.Preparing.{IsRefusedByFaults};
 
 use bit_clauses::Decided;
-use bit_faults::{judged_items, what_is_met, what_is_never_met};
+use bit_faults::{judged_items, mended, what_is_met, what_is_never_met};
 use bit_states::{Layout, decoded};
 use clause_core::Bits;
 use fault_texts::fault_refusal;
@@ -25,7 +25,8 @@ pub struct Valuation {
     pub next: State,
 }
 
-/// The refusal of the item of this number, whose question the model meets, where none before it is ever met.
+/// The refusal of the item of this number, whose question the model meets, where none before it is ever met. In slots of which the
+/// question does not speak the model's bits may be those of no value: there it tells the first value of the type.
 pub fn refusal_of(
     alloc: Global,
     typed: &Typed,
@@ -41,7 +42,8 @@ pub fn refusal_of(
 {
     what_is_met();
     what_is_never_met();
-    let at = meant_by(alloc, layout, model)?;
+    let bits = mended(alloc, typed, layout, model.as_slice())?;
+    let at = meant_by(alloc, layout, &bits)?;
     let items = judged_items(alloc, typed)?;
     let item = items.as_slice()[number];
     match fault_refusal(alloc, typed, &item, &at.state, &at.inputs, &at.next)? {
@@ -51,10 +53,9 @@ pub fn refusal_of(
 }
 
 // What the bits mean.
-fn meant_by(alloc: Global, layout: &Layout, bits: &Bits) -> Result<Valuation, AllocError>
-    ensures { IfOk result (IsValuation layout.now (assignment_of bits.now)) }
+fn meant_by(alloc: Global, layout: &Layout, values: &[bool]) -> Result<Valuation, AllocError>
+    ensures { IfOk result (IsValuation layout.now (assignment_of values.now)) }
 {
-    let values = bits.as_slice();
     let state = layout.decode(alloc, values)?;
     let inputs = layout.decode_inputs(alloc, values)?;
     let next = decoded(alloc, layout.state_types(), layout.next(), values)?;

@@ -4,7 +4,7 @@ use Rattle.smv_resolve.specs.Items.{ResolvedItem, item_by}
 use Rattle.bit_states.specs.Layouts.{input_width, state_width}
 use Rattle.bit_faults.specs.Questions.{AreQuestions}
 use Rattle.bit_faults.proofs.Judging.{all_known}
-use Rattle.bit_faults.proofs.OfSides.{input_bits, long_range, next_bits, state_bits}
+use Rattle.bit_faults.proofs.OfSides.{input_bits, long_range, next_bits, state_bits, valuation_kept}
 use Rattle.bit_faults.proofs.questions.fault_questions.Goals as goal
 
 pub valuation_of-requires-clause-room : goal.valuation_of-requires-clause-room
@@ -16,6 +16,10 @@ valuation_of-requires-clause-room c =
     let second = long_range c.next.result.now w w (c.next.ensures ∙ ap next_bits c.requires.layout) in
     let third = long_range c.inputs.result.now (w + w) n (c.inputs.ensures ∙ ap input_bits c.requires.layout) in
     omega (arith, first, second, third, c.in_ok-graph.ensures.length)
+
+pub questions_of-requires-clause-valuation : goal.questions_of-requires-clause-valuation
+questions_of-requires-clause-valuation c =
+    valuation_kept c.valuation_of.new.graph c.known_domains.new.graph c.in_ok-domains.ensures.extends c.args.typed.now c.in_ok-valuation.valuation c.in_ok-valuation.ensures.told
 
 pub questions_of-requires-clause-known : goal.questions_of-requires-clause-known
 questions_of-requires-clause-known c =

@@ -2,13 +2,14 @@
 use Rattle.std.proofs.Common.{[], subst, sym}
 use Rattle.bit_faults.specs.Questions.{AreQuestions}
 use Rattle.bit_faults.proofs.Asking.{questions_next, questions_none}
-use Rattle.bit_faults.proofs.OfSides.{valuation_kept}
+use Rattle.bit_faults.proofs.OfSides.{domains_kept, valuation_kept}
 use Rattle.bit_faults.proofs.questions.questions_of.Goals as goal
 
 pub loop-item-init : goal.loop-item-init
 loop-item-init c = record {
   inputs = c.requires.inputs;
   valuation = c.requires.valuation;
+  domains = c.requires.domains;
   made = subst (AreQuestions c.args.typed.now.scope.program []) (sym c.new-made.ensures.items) (questions_none c.args.typed.now.scope.program);
 }
 
@@ -23,6 +24,7 @@ loop-item-preserved c =
     record {
       inputs = asked.ensures.extends.inputs c.args.named before.inputs;
       valuation = valuation_kept c.loop-item.graph c.question_of.new.graph asked.ensures.extends typed c.args.valuation.now before.valuation;
+      domains = domains_kept c.loop-item.graph c.question_of.new.graph asked.ensures.extends typed c.args.domains.now before.domains;
       made = subst (AreQuestions typed.scope.program _) (sym c.in_ok-push.ensures.items)
           (questions_next typed.scope.program typed.nodes c.args.items.now c.loop-item.item-index _ c.loop-item.made.items asked.question c.loop-item-test.true before.made asked.ensures.question);
     }
