@@ -17,7 +17,7 @@ use std::marker::Model;
 /// 2003), so that a query asks for just those that it wants. One has the steps; the other, a small one,
 /// answers questions about single states. They are made anew where activation literals run out, which no
 /// caller sees. What queries found is kept too: values that all first states give to bits, a first state, and
-/// 128 steps at most, those that were found or used last; and the last proof of each lemma that was pushed. A
+/// 1024 steps at most, those that were found or used last; and the last proof of each lemma that was pushed. A
 /// question that these answer is not asked. Of 1024 states at most it is kept which of their bits were needed: a
 /// hint for `generalise`, of which nothing is claimed. Contracts see the systems, the copy of the lemmas, and
 /// learned clauses that later queries may use.

@@ -1,7 +1,7 @@
 -- The assumptions of a query, and what the solver's answer says of them.
 use Rattle.std.proofs.Common.{◌≡◌, inl, inr, ℕ, ◌+◌, ◌<◌, ◌≤◌, Bool, true, false, List, [], ◌∷◌, ◌++◌, refl, sym, ◌∙◌, ap, subst, arith}
 use Rattle.std.specs.Prelude.{All, Contains}
-use Rattle.std.proofs.lemmas.List.Elements.{All-nil, All-append, All-contains, All-map, All-weaker, All-push, All-contains_itself, Contains-append_left, Contains-push}
+use Rattle.std.proofs.lemmas.List.Elements.{All-nil, All-append, All-contains, All-map, All-weaker, All-push, All-contains_itself, Contains-append_left, Contains-append_right, Contains-push}
 use Rattle.std.proofs.lemmas.Bool.{cases_lt, both_ways}
 use Rattle.clause_core.specs.declared.literal.Lit.{Lit}
 use Rattle.clause_core.specs.Literals.{Within}
@@ -68,6 +68,20 @@ module _ (b h : ℕ) (lemmas : List Lemma) (i also : ℕ) (extra : List Lit) whe
               absurd (both_ways (is_asked h lemmas i also n) is (ap (is_asked h lemmas i also) (sym e) ∙ one.1))
         ];
     only = All-weaker (IsAskedLiteral b h lemmas i also n extra) (IsAskedLiteral b h lemmas i also (n + 1) extra) (weaker_at n) ls asks.only;
+  }
+
+  of_group : (n : ℕ) (l : Lit) → IsAskedLiteral b h lemmas i also n [] l → IsAskedLiteral b h lemmas i also n extra l
+  of_group n l (inl here) = let lt : here.0 < 0 = here.1 in absurd (omega (arith, lt))
+  of_group n l (inr group) = inr group
+
+  -- the groups, and then the query's own literals
+  pub asked_after : (n : ℕ) (ls : List Lit) → AreAsked b h lemmas i also n [] ls → AreAsked b h lemmas i also n extra (ls ++ extra)
+  asked_after n ls asks = record {
+    own = All-weaker (Contains extra) (Contains (ls ++ extra)) (λ l. Contains-append_right ls extra l) extra (All-contains_itself extra);
+    each = λ k one. Contains-append_left ls extra (on (b + k)) (asks.each k one);
+    only = All-append (IsAskedLiteral b h lemmas i also n extra) ls extra
+        (All-weaker (IsAskedLiteral b h lemmas i also n []) (IsAskedLiteral b h lemmas i also n extra) (of_group n) ls asks.only)
+        (All-weaker (Contains extra) (IsAskedLiteral b h lemmas i also n extra) (λ l here. inl here) extra (All-contains_itself extra));
   }
 
   pub answered : (s : State) (learned : List (List Lit)) (n : ℕ) (ls : List Lit) → AreAsked b h lemmas i also n extra ls → (budget : ℕ) (over : Bool) (answer : Answer) →

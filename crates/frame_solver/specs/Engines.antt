@@ -1,13 +1,9 @@
 -- What a solver of groups holds.
-use Rattle.std.specs.Prelude.{◌≡◌, ℕ, ◌+◌, ◌<◌, ◌≤◌, List, [], ◌++◌, length, take, All}
+use Rattle.std.specs.Prelude.{◌≡◌, ℕ, ◌+◌, ◌<◌, ◌≤◌, List, [], ◌++◌, length, take}
 use Rattle.clause_core.specs.declared.literal.Lit.{Lit}
 use Rattle.frame_solver.specs.declared.loading.Engine.{Engine}
 use Rattle.frame_solver.specs.Guards.{HoldsGroups}
-use Rattle.frame_solver.specs.Groups.{groups, base, step_heads, state_heads, clauses_of}
-use Rattle.clause_core.specs.Literals.{Within}
-use Rattle.clause_core.specs.Systems.{TransitionSystem}
-use Rattle.frame_core.specs.declared.parts.Lemma.{Lemma}
-use Rattle.frame_core.specs.Law.{AreAlike, system_at}
+use Rattle.frame_solver.specs.Groups.{groups}
 
 -- these groups and some of the lemmas' clauses stand in the solver
 pub record IsLoaded (b : ℕ) (heads : List (List (List Lit))) (clauses : List (List Lit)) (e : Engine) : Type 0 where

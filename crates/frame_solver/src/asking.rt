@@ -29,7 +29,12 @@ fn is_asked(heads: usize, lemmas: &[Lemma], i: u32, also: usize, k: usize) -> bo
     k == also || is_of_frame(heads, lemmas, i, k)
 }
 
-// The query's own literals, and the activation literals of the groups that are asked for.
+// From how many literals of its own on a query assumes the groups first. Assumed after them, a few of these literals are
+// false by the others, so that the core has few of them. Where a query has few to begin with, its own literals first cost
+// fewer conflicts.
+const LONG: usize = 129;
+
+// The query's own literals, and then the activation literals of the groups that are asked for.
 fn assumptions(
     alloc: Global,
     base: usize,
@@ -52,6 +57,43 @@ fn assumptions(
         }
     }
     Ok(literals)
+}
+
+// The activation literals of the groups that are asked for, and then the query's own literals.
+fn groups_first(
+    alloc: Global,
+    base: usize,
+    heads: usize,
+    lemmas: &[Lemma],
+    i: u32,
+    also: usize,
+    extra: &[Lit],
+) -> Result<Vec<Lit>, AllocError>
+    requires { base + (heads + length lemmas.now) < 2 ^ 64 }
+    ensures { IfOk result (λ v. AreAsked base heads lemmas.now i also (heads + length lemmas.now) extra.now v.items) }
+{
+    let mut literals = assumptions(alloc, base, heads, lemmas, i, also, &[])?;
+    literals.extend_from_slice(extra)?;
+    Ok(literals)
+}
+
+// The query's own literals and the activation literals of the groups that are asked for, in the order that suits them.
+fn all_assumptions(
+    alloc: Global,
+    base: usize,
+    heads: usize,
+    lemmas: &[Lemma],
+    i: u32,
+    also: usize,
+    extra: &[Lit],
+) -> Result<Vec<Lit>, AllocError>
+    requires { base + (heads + length lemmas.now) < 2 ^ 64 }
+    ensures { IfOk result (λ v. AreAsked base heads lemmas.now i also (heads + length lemmas.now) extra.now v.items) }
+{
+    if extra.len() < LONG {
+        return assumptions(alloc, base, heads, lemmas, i, also, extra);
+    }
+    groups_first(alloc, base, heads, lemmas, i, also, extra)
 }
 
 // Whether the clauses of frame i and of group `also`, and these literals, can all be true.
@@ -77,6 +119,6 @@ pub(crate) fn ask<Q: Purse>(
     ensures budget { Q.budget purse.new ≡ Q.budget purse.old }
 {
     let _vars = engine.solver.vars();
-    let literals = assumptions(alloc, engine.base, engine.heads, lemmas, i, also, extra)?;
+    let literals = all_assumptions(alloc, engine.base, engine.heads, lemmas, i, also, extra)?;
     engine.solver.solve(alloc, &literals, purse)
 }

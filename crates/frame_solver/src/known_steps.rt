@@ -14,7 +14,7 @@ use frame_core::Lemma;
 use std::alloc::AllocError;
 
 // How many steps are kept.
-const MOST: usize = 128;
+const MOST: usize = 1024;
 
 // Values of a step that a query found, and whether it is known to lead from a first state.
 #[derive(Drop)]
