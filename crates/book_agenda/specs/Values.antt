@@ -1,9 +1,9 @@
 -- How far a state is blocked: the greatest level of a lemma that it does not meet.
-use Rattle.std.specs.Prelude.{◌≡◌, ◌⊎◌, ℕ, ◌<◌, ◌≤◌, Bool, List, length, slice_index_or}
+use Rattle.std.specs.Prelude.{◌≡◌, ◌⊎◌, ℕ, ◌<◌, ◌≤◌, ◌+◌, ◌*◌, Bool, List, length, slice_index_or}
 use Rattle.clause_core.specs.Assignments.{ClauseTrue, assignment_of}
 use Rattle.frame_core.specs.declared.parts.Lemma.{Lemma}
 use Rattle.frame_core.specs.declared.parts.Obligation.{Obligation}
-use Rattle.frame_core.specs.Law.{lemma_at, obligation_at}
+use Rattle.frame_core.specs.Law.{FrameState, lemma_at, obligation_at}
 
 -- x meets each of the first lemmas above this level, and does not meet one of this level, where that is not 0
 pub record IsBlockedBelow (lemmas : List Lemma) (bound : ℕ) (level : ℕ) (x : ℕ → Bool) : Type 0 where
@@ -28,3 +28,20 @@ abbrev pub IsLifted : Lemma → (ℕ → Bool) → ℕ → ℕ → Type 0
 IsLifted lemma x before now =
     ((now ≡ before) × (ClauseTrue x lemma.clause ⊎ (lemma.level ≤ before)))
     ⊎ ((now ≡ lemma.level) × (before < lemma.level) × (ClauseTrue x lemma.clause → ⊥))
+
+-- each obligation that is blocked below this level meets lemma n
+abbrev pub AreMetBelow : FrameState → ℕ → ℕ → List ℕ → Type 0
+AreMetBelow f n from blocked =
+    (o : ℕ) → o < length blocked → blocked_at blocked o < from →
+    ClauseTrue (assignment_of (obligation_at f.obligations o).values) (lemma_at f.lemmas n).clause
+
+-- obligations are kept in parts of 64, and none of a part is blocked below the part's floor
+pub record AreFloors (floors : List ℕ) (blocked : List ℕ) : Type 0 where
+  pub enough : length blocked ≤ length floors * 64
+  pub tight : length floors * 64 < length blocked + 64
+  pub low : (c o : ℕ) → c < length floors → c * 64 ≤ o → o < c * 64 + 64 → o < length blocked → slice_index_or floors c 0 ≤ blocked_at blocked o
+
+-- what is kept of the obligations: the level to which each is blocked, and floors
+pub record IsAgenda (lemmas : List Lemma) (obligations : List Obligation) (blocked floors : List ℕ) : Type 0 where
+  pub follow : AreBlocked lemmas obligations blocked
+  pub floors' : AreFloors floors blocked

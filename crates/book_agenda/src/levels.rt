@@ -2,7 +2,7 @@
 
 ghost use Rattle.std.specs.Prelude.{◌≡◌, ◌<◌, length};
 
-use crate::values::{blocked_to, lift};
+use crate::values::{blocked_to, lift, lower};
 use clause_core::Clause;
 use frame_core::{Clear, Found, Frames, Insertion, Noting, Opening, Proved, Raising};
 use std::alloc::{AllocError, Global};
@@ -15,21 +15,23 @@ pub struct Levels<'a> {
     frames: Frames<'a>,
     // for each obligation the greatest level of a lemma that its state does not meet
     blocked: Vec<u32>,
+    // for each 64 obligations a level below which none of them is blocked
+    floors: Vec<u32>,
 }
 
 impl<'a> Model for Levels<'a> {
     ghost use Rattle.frame_core.specs.Law.{FrameState};
-    ghost use Rattle.book_agenda.specs.Values.{AreBlocked};
+    ghost use Rattle.book_agenda.specs.Values.{IsAgenda};
 
     ghost Value = { FrameState };
 
     ghost view = { λ l. l.frames };
 
-    ghost invariant = { λ l. AreBlocked l.frames.lemmas l.frames.obligations l.blocked.items };
+    ghost invariant = { λ l. IsAgenda l.frames.lemmas l.frames.obligations l.blocked.items l.floors.items };
 }
 
 impl<'a> Levels<'a> {
-    ghost use Rattle.std.specs.Prelude.{◌≡◌, ◌<◌, ◌+◌, ◌^◌, [], ℕ, List, is_none, length, false, true, IfOk, OnErr};
+    ghost use Rattle.std.specs.Prelude.{◌≡◌, ◌<◌, ◌≤◌, ◌+◌, ◌*◌, ◌^◌, [], ℕ, List, is_none, length, false, true, IfOk, OnErr};
     ghost use Rattle.clause_core.specs.Assignments.{assignment_of};
     ghost use Rattle.frame_core.specs.Law.{FrameState, top_at, lemma_at, obligation_at};
     ghost use Rattle.frame_core.specs.Changes.{IsOfSystem, InsertsSame, RaisesSame, IsCovered, with_retired, OpensSame, MayHaveParent, NotesSame};
@@ -43,6 +45,7 @@ impl<'a> Levels<'a> {
         Levels {
             frames,
             blocked: Vec::new(alloc),
+            floors: Vec::new(alloc),
         }
     }
 
@@ -57,7 +60,11 @@ impl<'a> Levels<'a> {
     pub fn into_frames(self) -> Frames<'a>
         ensures { result ≡ self.entry }
     {
-        let Levels { frames, blocked: _ } = self;
+        let Levels {
+            frames,
+            blocked: _,
+            floors: _,
+        } = self;
         frames
     }
 
@@ -69,6 +76,26 @@ impl<'a> Levels<'a> {
         self.blocked[o]
     }
 
+    /// In how many parts of 64 the obligations are kept.
+    pub fn parts(&self) -> usize
+        ensures enough { length self.now.obligations ≤ result * 64 }
+        ensures tight { result * 64 < length self.now.obligations + 64 }
+    {
+        let _obligations = self.blocked.len();
+        self.floors.len()
+    }
+
+    /// A level below which none of the 64 obligations of part `c` is blocked.
+    pub fn floor(&self, c: usize) -> u32
+        ensures { (o : ℕ) → c * 64 ≤ o → o < c * 64 + 64 → o < length self.now.obligations → (b : ℕ) × IsBlockedTo self.now.lemmas b (assignment_of (obligation_at self.now.obligations o).values) × (result ≤ b) }
+    {
+        if c < self.floors.len() {
+            self.floors[c]
+        } else {
+            0
+        }
+    }
+
     /// Says what the type keeps.
     pub fn follow(&self)
         ensures { (blocked : List ℕ) × AreBlocked self.now.lemmas self.now.obligations blocked }
@@ -77,7 +104,7 @@ impl<'a> Levels<'a> {
     }
 
     /// As `insert_same` of the frames. Where a lemma is added it is tried at each obligation that is blocked
-    /// below its level.
+    /// below its level. No part of the obligations is looked at whose floor is not below it.
     pub fn insert(&mut self, proved: &Proved, clause: Clause) -> Result<Insertion, AllocError>
         requires same { IsOfSystem self.old 0 false proved.now.system }
         requires copy { clause ≡ proved.now.clause }
@@ -86,21 +113,23 @@ impl<'a> Levels<'a> {
     {
         let insertion = self.frames.insert_same(proved, clause)?;
         if let Insertion::Added(n) = insertion {
-            lift(&mut self.blocked, &self.frames, n);
+            lift(&mut self.blocked, &mut self.floors, &self.frames, n, 0);
         }
         Ok(insertion)
     }
 
-    /// As `raise_same` of the frames; the lemma is tried as for `insert`. Takes no memory.
+    /// As `raise_same` of the frames; the lemma is tried as for `insert`, but for obligations that are blocked
+    /// below its level before, which meet it. Takes no memory.
     pub fn raise(&mut self, n: usize, proved: &Proved) -> Raising
         requires in_range { n < length self.old.lemmas }
         requires clause { proved.now.clause ≡ (lemma_at self.old.lemmas n).clause }
         requires same { IsOfSystem self.old 0 false proved.now.system }
         ensures { RaisesSame self.old n proved.now result self.new }
     {
+        let from = self.frames.lemma(n).level;
         let raising = self.frames.raise_same(n, proved);
         if let Raising::Raised = raising {
-            lift(&mut self.blocked, &self.frames, n);
+            lift(&mut self.blocked, &mut self.floors, &self.frames, n, from);
         }
         raising
     }
@@ -131,8 +160,10 @@ impl<'a> Levels<'a> {
         ensures err { OnErr result (self.new ≡ self.old) }
     {
         self.blocked.reserve(1)?;
+        self.floors.reserve(1)?;
         let level = blocked_to(self.frames.all_lemmas(), found.values().as_slice());
         let noting = self.frames.add_obligation_same(j, found, parent)?;
+        lower(&mut self.floors, &self.blocked, level);
         self.blocked.push_reserved(level);
         Ok(noting)
     }

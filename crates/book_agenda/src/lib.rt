@@ -9,4 +9,4 @@ pub mod values;
 
 pub use levels::Levels;
 pub use register::Register;
-pub use values::blocked_to;
+pub use values::meets_from;

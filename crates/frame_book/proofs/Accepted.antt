@@ -11,7 +11,7 @@ use Rattle.frame_core.specs.declared.outcomes.Raising.TheVariants as raising
 use Rattle.frame_core.specs.declared.outcomes.Opening.TheVariants as opening
 use Rattle.frame_core.specs.Facts.{ProvedClause, IsProved, FoundState, IsFound, FoundStep, IsStep, ClearLevel, IsClear, MeetsParents}
 use Rattle.frame_core.specs.Differences.{IsSameSystem}
-use Rattle.frame_core.specs.Law.{FrameState, FramesHold, AreAlike, system_at, top_at, lemma_at, obligation_at, IsAsHigh, AllStand, InFrame}
+use Rattle.frame_core.specs.Law.{FrameState, FramesHold, AreAlike, system_at, top_at, lemma_at, obligation_at, IsAsHigh, AllStand, InFrame, MeetsFrom}
 use Rattle.frame_core.specs.Looking.{IsHeldBy, CoversAt, AreCoveredBy}
 use Rattle.book_agenda.proofs.Blocked.{lemma_old, lemma_last}
 use Rattle.frame_book.specs.declared.claim.Outcome.TheVariants as outcome
@@ -186,11 +186,11 @@ step_noted f c o j g h su lt of kind ends same found inside =
       },
     )
 
-pub left_is : (f : FrameState) (c : Made) (n r level : ℕ) (s : FoundStep) → c.subject ≡ Push n → c.level ≡ level + 1 → IsStep s →
+pub left_is : (f : FrameState) (c : Made) (n level : ℕ) (s : FoundStep) → c.subject ≡ Push n → c.level ≡ level + 1 → 0 < level → IsStep s →
     IsSameSystem false (system_at f.systems 0) s.system →
     ((y : ℕ → Bool) → NextIs s.system.state_bits (assignment_of s.values) y → ClauseTrue y (lemma_at f.lemmas n).clause → ⊥) →
-    IsBlockedTo f.lemmas r (assignment_of s.values) → r < level → Accepts f c (PushFailed n level)
-left_is f c n r level s su lv step same leaves blocked lt =
+    MeetsFrom f.lemmas level (assignment_of s.values) → Accepts f c (PushFailed n level)
+left_is f c n level s su lv above step same leaves meets =
     let x : ℕ → Bool = assignment_of s.values in
     let y : ℕ → Bool = λ b. x (s.system.state_bits + b) in
     let next : NextIs s.system.state_bits x y = λ b below. refl in
@@ -200,7 +200,7 @@ left_is f c n r level s su lv step same leaves blocked lt =
       (
         x,
         y,
-        inside_by (system_at f.systems 0) f.lemmas r level x blocked lt,
+        (λ e. absurd (omega (arith, above, e)), λ some. meets),
         step_same false s.system (system_at f.systems 0) (same_back false (system_at f.systems 0) s.system same) x y taken,
         leaves y next,
       ),

@@ -1,5 +1,5 @@
 -- What may be claimed, and what may not.
-use Rattle.std.proofs.Common.{◌≡◌, ◌⊎◌, inl, inr, ℕ, zero, suc, ◌+◌, ◌<◌, ◌≤◌, Bool, true, false, List, [], ◌∷◌, ◌++◌, length, refl, sym, ap, subst, ◌∙◌, arith}
+use Rattle.std.proofs.Common.{◌≡◌, ◌⊎◌, inl, inr, ℕ, zero, suc, ◌+◌, ◌<◌, ◌≤◌, Bool, true, false, List, [], ◌∷◌, ◌++◌, length, refl, ap, subst, ◌∙◌, arith}
 use Rattle.std.specs.Prelude.{Option, Some, None, MatchOption, slice_index_or}
 use Rattle.std.proofs.lemmas.Bool.{cases_eq, cases_lt}
 use Rattle.clause_core.specs.Assignments.{assignment_of}
@@ -70,21 +70,17 @@ no_block limits s o b h why level task new =
 
 -- ---- The best so far
 
-pub best_more : (limits : Limits) (s : BookState) (j o : ℕ) (best result : Option Task) →
-    MatchOption best ((k : ℕ) → k < o → (obligation_at s.frames.obligations k).system ≡ j → IsNotOffered limits s (Block k)) (λ t. IsOffered limits s t.subject t.level) →
+pub best_more : (limits : Limits) (s : BookState) (j low high : ℕ) (best result : Option Task) →
+    MatchOption best ((k : ℕ) → high ≤ k → k < length s.frames.obligations → (obligation_at s.frames.obligations k).system ≡ j → IsNotOffered limits s (Block k)) (λ t. IsOffered limits s t.subject t.level) →
     ((t : Task) → result ≡ Some t → (best ≡ Some t) ⊎ IsOffered limits s t.subject t.level) →
-    (result ≡ None → (best ≡ None) × ((obligation_at s.frames.obligations o).system ≡ j → IsNotOffered limits s (Block o))) →
-    MatchOption result ((k : ℕ) → k < o + 1 → (obligation_at s.frames.obligations k).system ≡ j → IsNotOffered limits s (Block k)) (λ t. IsOffered limits s t.subject t.level)
-best_more limits s j o None None before some none =
-    λ k lt of. elim (cases_eq k o) [
-      | inl e ↦
-          subst (λ (n : ℕ). (obligation_at s.frames.obligations n).system ≡ j → IsNotOffered limits s (Block n)) (sym e) (none refl).1 of
-      | inr ne ↦ before k (omega (arith, lt, ne)) of
-    ]
-best_more limits s j o (Some b) None before some none = let e : Some b ≡ None = (none refl).0 in absurd (cc)
-best_more limits s j o None (Some t) before some none =
+    (result ≡ None → (best ≡ None) × ((k : ℕ) → low ≤ k → k < high → k < length s.frames.obligations → (obligation_at s.frames.obligations k).system ≡ j → IsNotOffered limits s (Block k))) →
+    MatchOption result ((k : ℕ) → low ≤ k → k < length s.frames.obligations → (obligation_at s.frames.obligations k).system ≡ j → IsNotOffered limits s (Block k)) (λ t. IsOffered limits s t.subject t.level)
+best_more limits s j low high None None before some none =
+    λ k le lt of. elim (cases_lt k high) [ inl below ↦ (none refl).1 k le below lt of | inr above ↦ before k above lt of ]
+best_more limits s j low high (Some b) None before some none = let e : Some b ≡ None = (none refl).0 in absurd (cc)
+best_more limits s j low high None (Some t) before some none =
     elim (some t refl) [ inl e ↦ let f : None ≡ Some t = e in absurd (cc) | inr h ↦ h ]
-best_more limits s j o (Some b) (Some t) before some none =
+best_more limits s j low high (Some b) (Some t) before some none =
     elim (some t refl) [
       | inl e ↦ let f : b ≡ t = some_same b t e in subst (λ (z : Task). IsOffered limits s z.subject z.level) f before
       | inr h ↦ h
@@ -93,12 +89,12 @@ best_more limits s j o (Some b) (Some t) before some none =
     some_same : (x y : Task) → Some x ≡ Some y → x ≡ y
     some_same x y e = cc
 
-pub best_all : (limits : Limits) (s : BookState) (j o : ℕ) (best : Option Task) → length s.frames.obligations ≤ o →
-    MatchOption best ((k : ℕ) → k < o → (obligation_at s.frames.obligations k).system ≡ j → IsNotOffered limits s (Block k)) (λ t. IsOffered limits s t.subject t.level) →
+pub best_all : (limits : Limits) (s : BookState) (j low : ℕ) (best : Option Task) → low ≤ 0 →
+    MatchOption best ((k : ℕ) → low ≤ k → k < length s.frames.obligations → (obligation_at s.frames.obligations k).system ≡ j → IsNotOffered limits s (Block k)) (λ t. IsOffered limits s t.subject t.level) →
     MatchOption best ((k : ℕ) → k < length s.frames.obligations → (obligation_at s.frames.obligations k).system ≡ j → IsNotOffered limits s (Block k))
     (λ t. IsOffered limits s t.subject t.level)
-best_all limits s j o None le h = λ k lt of. h k (omega (arith, le, lt)) of
-best_all limits s j o (Some t) le h = h
+best_all limits s j low None le h = λ k lt of. h k (omega (arith, le)) lt of
+best_all limits s j low (Some t) le h = h
 
 none_at_all : (limits : Limits) (s : BookState) → FramesHold s.frames →
     ((k : ℕ) → k < length s.frames.systems → IsDecided s k ⊎ HasNoTask limits s k) →

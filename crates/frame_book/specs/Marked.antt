@@ -13,6 +13,10 @@ pub record Marking : Type 0 where
   pub limited : List Bool
   pub spent : Bool
 
+-- no mark from this level on is set
+abbrev pub AreClearFrom : ℕ → List Bool → Type 0
+AreClearFrom beyond failed = (i : ℕ) → beyond ≤ i → slice_index_or failed i false ≡ false
+
 abbrev pub marks_of : BookState → Marking
 marks_of s = record { failed = s.failed; limited = s.limited; spent = s.spent }
 

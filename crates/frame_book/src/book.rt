@@ -74,7 +74,8 @@ impl<'a, L: Ledger> Book<'a, L> {
     ///
     /// A lemma that was just added or raised is pushed first, and at a new top all lemmas are; then comes an
     /// obligation of the least level, the newest of them; then the frame of the top; then any lemma. It looks
-    /// at a word or two of each obligation, and of each lemma that was not looked at since.
+    /// at a word for each 64 obligations, and at those 64 alone of which one may be better than those before;
+    /// and at a word or two of each lemma that was not looked at since.
     pub fn claim(&mut self, worker: u32) -> Result<Claiming, AllocError>
         ensures done { IfOk result (λ a. Claims self.old worker a self.new) }
         ensures err { OnErr result (self.new ≡ self.old) }
@@ -88,8 +89,9 @@ impl<'a, L: Ledger> Book<'a, L> {
     /// no such claim is out here. It takes its memory first: where there is none, claim and outcome come
     /// back, and all is as before. For a lemma that was to be pushed it takes none.
     ///
-    /// It looks at each lemma once where a state was found or a clause is inserted, and at each obligation
-    /// where a lemma is added or raised.
+    /// It looks at each lemma once where a state was found or a clause is inserted. Where a lemma is added or
+    /// raised it looks at a word for each 64 obligations, and at those 64 alone of which one may be blocked
+    /// below the lemma's level.
     pub fn settle(
         &mut self,
         claim: Claim,

@@ -1,6 +1,7 @@
 //! From which levels a push failed, for which systems the limit was met, and whether the purse was spent.
 
 ghost use Rattle.std.specs.Prelude.{◌≡◌, ◌↔◌, ◌<◌, ◌≤◌, ◌+◌, ◌^◌, ℕ, true, length, slice_index_or, slice_set, replicate, false, IsTrue};
+ghost use Rattle.frame_book.specs.Marked.{AreClearFrom};
 ghost use Rattle.frame_book.specs.Steps.{lags, grows};
 
 use frame_core::Frames;
@@ -12,21 +13,25 @@ use std::marker::Model;
 pub(crate) struct Marks {
     // for each level up to the limit whether a push from it failed since a lemma was last added or raised
     failed: Vec<bool>,
+    // from this level on no push failed since
+    beyond: usize,
     // for each system whether its limit was met
     limited: Vec<bool>,
     spent: bool,
 }
 
 impl Model for Marks {
-    ghost use Rattle.frame_book.specs.Marked.{Marking};
+    ghost use Rattle.frame_book.specs.Marked.{Marking, AreClearFrom};
 
     ghost Value = { Marking };
 
     ghost view = { λ m. record { failed = m.failed.items; limited = m.limited.items; spent = m.spent } };
+
+    ghost invariant = { λ m. AreClearFrom m.beyond m.failed.items };
 }
 
 impl Marks {
-    ghost use Rattle.std.specs.Prelude.{◌≡◌, ◌↔◌, ◌<◌, ◌≤◌, ◌+◌, ◌^◌, ◌++◌, ℕ, Bool, List, true, false, length, replicate, slice_index_or, vec_len, vec_capacity, IfOk, IsTrue};
+    ghost use Rattle.std.specs.Prelude.{◌≡◌, ◌↔◌, ◌<◌, ◌≤◌, ◌+◌, ◌^◌, ◌++◌, ℕ, Bool, List, true, false, length, replicate, slice_index_or, vec_len, vec_capacity, slice_set, IfOk, IsTrue};
     ghost use Rattle.frame_history.specs.declared.entries.Change.{Change as AChange};
     ghost use Rattle.frame_book.specs.Marked.{Marking, marked, LimitIsLeft, NotesEach};
     ghost use Rattle.frame_book.specs.Steps.{lags, grows, head_of};
@@ -39,6 +44,7 @@ impl Marks {
         let limited = vec![in alloc; false; systems]?;
         Ok(Marks {
             failed,
+            beyond: 0,
             limited,
             spent: false,
         })
@@ -60,14 +66,32 @@ impl Marks {
         }
     }
 
+    // No push has failed since now. It takes a step for each level up to the highest from which one did.
+    fn forget(&mut self)
+        ensures { self.new ≡ record self.old { failed = replicate (length self.old.failed) false } }
+    {
+        clear(&mut self.failed, self.beyond);
+        self.beyond = 0;
+    }
+
+    // A push from this level failed.
+    fn mark(&mut self, level: usize)
+        ensures { self.new ≡ record self.old { failed = slice_set self.old.failed level true } }
+    {
+        set(&mut self.failed, level);
+        if self.beyond <= level {
+            self.beyond = level.saturating_add(1);
+        }
+    }
+
     // Brings the marks up to date with the change.
     fn note(&mut self, change: &Change)
         ensures { self.new ≡ marked self.old change.now }
     {
         match change {
-            Change::Add { .. } => self.failed.fill(false),
-            Change::Raise { .. } => self.failed.fill(false),
-            Change::PushFailed { lemma: _, level } => set(&mut self.failed, *level as usize),
+            Change::Add { .. } => self.forget(),
+            Change::Raise { .. } => self.forget(),
+            Change::PushFailed { lemma: _, level } => self.mark(*level as usize),
             Change::Limit(j) => set(&mut self.limited, *j),
             Change::Spent => self.spent = true,
             _ => {}
@@ -166,6 +190,25 @@ fn is_growth(change: &Change) -> bool
     ensures { result ≡ grows change.now }
 {
     matches!(change, Change::Add { .. } | Change::Raise { .. })
+}
+
+// Clears the marks below this level, where all others are clear.
+fn clear(marks: &mut Vec<bool>, beyond: usize)
+    requires { AreClearFrom beyond marks.old.items }
+    ensures { marks.new.items ≡ replicate (length marks.old.items) false }
+{
+    for i in 0..beyond {
+        reset(marks, i);
+    }
+}
+
+// Clears the mark, where there is one.
+fn reset(marks: &mut Vec<bool>, i: usize)
+    ensures { marks.new.items ≡ slice_set marks.old.items i false }
+{
+    if i < marks.len() {
+        marks[i] = false;
+    }
 }
 
 // Sets the mark, where there is one.

@@ -1,7 +1,7 @@
 //! What may be claimed: a policy on the order, and no lawful claim left out (Een, Mishchenko, Brayton 2011,
 //! section 5; Bradley 2011, section 4).
 
-ghost use Rattle.std.specs.Prelude.{◌≡◌, ◌⊎◌, ◌↔◌, ◌<◌, ◌≤◌, ℕ, length, slice_index_or, false, IsTrue, IsSome, MatchOption, Some, None};
+ghost use Rattle.std.specs.Prelude.{◌≡◌, ◌⊎◌, ◌↔◌, ◌<◌, ◌≤◌, ◌+◌, ◌*◌, ℕ, length, slice_index_or, false, IsTrue, IsSome, MatchOption, Some, None};
 ghost use Rattle.frame_core.specs.Changes.{VerdictSays};
 ghost use Rattle.frame_history.specs.declared.entries.Subject.{Subject as ASubject};
 ghost use Rattle.frame_book.specs.declared.picking.Task.{Task as ATask};
@@ -143,23 +143,14 @@ fn greatest_top(levels: &Levels) -> u32
     greatest
 }
 
-// The better of the two: the one of the lower level, else the newer one.
-fn better(best: Option<Task>, next: Task) -> Task
-    ensures { (best ≡ Some result) ⊎ (result ≡ next) }
-{
-    match best {
-        None => next,
-        Some(old) => { if old.level < next.level { old } else { next } }
-    }
-}
-
-// Whether an obligation that is blocked to this level is no better than the best task so far.
+// Whether an obligation that is blocked to at least this level is no better than the best task so far, which is
+// a newer one.
 fn is_worse(blocked: u32, best: Option<Task>) -> bool
     ensures { IsTrue result → IsSome best }
 {
     match best {
         None => false,
-        Some(task) => blocked >= task.level,
+        Some(task) => task.level <= blocked.saturating_add(1),
     }
 }
 
@@ -179,23 +170,93 @@ fn with_block(
     ensures some { (t : ATask) → result ≡ Some t → (best ≡ Some t) ⊎ IsOffered limits (state_of levels.now register.now marks.now) t.subject t.level }
     ensures none { result ≡ None → (best ≡ None) × ((obligation_at levels.now.obligations o).system ≡ j → IsNotOffered limits (state_of levels.now register.now marks.now) (asked.Block o)) }
 {
-    if levels.frames().obligation(o).system != j {
+    if is_worse(levels.blocked(o), best) {
         return best;
     }
-    if is_worse(levels.blocked(o), best) {
+    if levels.frames().obligation(o).system != j {
         return best;
     }
     match block_task(levels, register, marks, limits, o) {
         None => best,
         Some(level) => {
             let subject = Subject::Block(o);
-            Some(better(best, Task { subject, level }))
+            Some(Task { subject, level })
         }
     }
 }
 
+// The best task so far, with the obligations of system `j` from number `begin` on to the one before `end`, the
+// newest first.
+fn with_blocks(
+    levels: &Levels,
+    register: &Register,
+    marks: &Marks,
+    limits: Limits,
+    j: usize,
+    begin: usize,
+    end: usize,
+    best: Option<Task>,
+) -> Option<Task>
+    requires in_range { end ≤ length levels.now.obligations }
+    requires sane { AreSane levels.now register.now }
+    requires undecided { IsDecided (state_of levels.now register.now marks.now) j → ⊥ }
+    ensures some { (t : ATask) → result ≡ Some t → (best ≡ Some t) ⊎ IsOffered limits (state_of levels.now register.now marks.now) t.subject t.level }
+    ensures none { result ≡ None → (best ≡ None) × ((o : ℕ) → begin ≤ o → o < end → (obligation_at levels.now.obligations o).system ≡ j → IsNotOffered limits (state_of levels.now register.now marks.now) (asked.Block o)) }
+{
+    let mut best = best;
+    let mut o = end;
+    while o > begin {
+        o -= 1;
+        best = with_block(levels, register, marks, limits, j, o, best);
+    }
+    best
+}
+
+// Where the part ends that begins here, of so many obligations.
+fn end_of(begin: usize, count: usize) -> usize
+    requires { begin < count }
+    ensures count { result ≤ count }
+    ensures all { (o : ℕ) → o < begin + 64 → o < count → o < result }
+{
+    if count - begin < 64 {
+        count
+    } else {
+        begin + 64
+    }
+}
+
+// The same with part `c` of the obligations, if one of them may be better.
+fn with_part(
+    levels: &Levels,
+    register: &Register,
+    marks: &Marks,
+    limits: Limits,
+    j: usize,
+    c: usize,
+    best: Option<Task>,
+) -> Option<Task>
+    requires in_range { j < length levels.now.systems }
+    requires part { c * 64 < length levels.now.obligations }
+    requires sane { AreSane levels.now register.now }
+    requires undecided { IsDecided (state_of levels.now register.now marks.now) j → ⊥ }
+    ensures some { (t : ATask) → result ≡ Some t → (best ≡ Some t) ⊎ IsOffered limits (state_of levels.now register.now marks.now) t.subject t.level }
+    ensures none { result ≡ None → (best ≡ None) × ((o : ℕ) → c * 64 ≤ o → o < c * 64 + 64 → o < length levels.now.obligations → (obligation_at levels.now.obligations o).system ≡ j → IsNotOffered limits (state_of levels.now register.now marks.now) (asked.Block o)) }
+{
+    let floor = levels.floor(c);
+    if is_worse(floor, best) {
+        return best;
+    }
+    if levels.frames().top(j) <= floor {
+        return best;
+    }
+    let count = levels.frames().obligations();
+    let begin = c * 64;
+    let end = end_of(begin, count);
+    with_blocks(levels, register, marks, limits, j, begin, end, best)
+}
+
 // An obligation of system `j`, which is not decided, that may be blocked: one of the least level, of these
-// the newest.
+// the newest. It looks at those parts of the obligations alone in which one may be better than those before.
 fn block_of(
     levels: &Levels,
     register: &Register,
@@ -203,13 +264,16 @@ fn block_of(
     limits: Limits,
     j: usize,
 ) -> Option<Task>
+    requires in_range { j < length levels.now.systems }
     requires sane { AreSane levels.now register.now }
     requires undecided { IsDecided (state_of levels.now register.now marks.now) j → ⊥ }
     ensures { MatchOption result ((o : ℕ) → o < length levels.now.obligations → (obligation_at levels.now.obligations o).system ≡ j → IsNotOffered limits (state_of levels.now register.now marks.now) (asked.Block o)) (λ t. IsOffered limits (state_of levels.now register.now marks.now) t.subject t.level) }
 {
     let mut best = None;
-    for o in 0..levels.frames().obligations() {
-        best = with_block(levels, register, marks, limits, j, o, best);
+    let mut c = levels.parts();
+    while c > 0 {
+        c -= 1;
+        best = with_part(levels, register, marks, limits, j, c, best);
     }
     best
 }

@@ -17,7 +17,7 @@ ghost use Rattle.frame_book.specs.Pages.{FitsIn};
 ghost use Rattle.frame_book.specs.Steps.{adds, Comes, Retires, IsCoveredBy, AreSameLemmas, HasSettled};
 
 use crate::claim::{Claim, Outcome};
-use book_agenda::{Levels, blocked_to};
+use book_agenda::{Levels, meets_from};
 use clause_core::{Bits, Clause};
 use frame_core::{
     Clear, Found, Insertion, Lemmas, Opening, Parent, Proved, ProvedParts, Raising, Step,
@@ -116,7 +116,11 @@ pub(crate) fn leave<'a>(levels: &Levels<'a>, made: &Made, n: usize, step: Step<'
 {
     let level = made.level - 1;
     let _system = step.system();
-    if blocked_to(levels.frames().all_lemmas(), step.values().as_slice()) < level {
+    if meets_from(
+        levels.frames().all_lemmas(),
+        level,
+        step.values().as_slice(),
+    ) {
         Change::PushFailed { lemma: n, level }
     } else {
         Change::Behind(Lag::State(step.into_values()))
@@ -161,7 +165,7 @@ fn is_inside(lemmas: &Lemmas, level: u32, found: &Found) -> bool
     if level == 0 {
         found.is_first()
     } else {
-        blocked_to(lemmas, found.values().as_slice()) < level
+        meets_from(lemmas, level, found.values().as_slice())
     }
 }
 

@@ -6,5 +6,5 @@ use Rattle.book_agenda.proofs.levels.Levels.follow.Goals as goal
 pub returns : goal.returns
 returns c = (
   c.self.inside.blocked.items,
-  subst (λ (f : FrameState). AreBlocked f.lemmas f.obligations c.self.inside.blocked.items) c.self.view_is c.self.invariant,
+  subst (λ (f : FrameState). AreBlocked f.lemmas f.obligations c.self.inside.blocked.items) c.self.view_is c.self.invariant.follow,
 )

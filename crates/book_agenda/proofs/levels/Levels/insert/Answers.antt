@@ -24,8 +24,11 @@ invariant_of-self-in-Added c =
     let each : (o : ℕ) → o < length bs → IsLifted l (assignment_of (obligation_at f.obligations o).values) (blocked_at bs o) (blocked_at cs o) =
     λ o lt. subst (λ (z : FrameState). IsLifted l (assignment_of (obligation_at z.obligations o).values) (blocked_at bs o) (blocked_at cs o)) done.3
     (subst (λ (z : Lemma). IsLifted z (assignment_of (obligation_at now.obligations o).values) (blocked_at bs o) (blocked_at cs o)) here (c.lift.ensures.each o lt)) in
-    subst (λ (z : FrameState). AreBlocked z.lemmas z.obligations cs) (sym done.3)
-    (blocked_added f.lemmas f.obligations l bs cs c.self.invariant c.lift.ensures.length each)
+    record {
+      follow = subst (λ (z : FrameState). AreBlocked z.lemmas z.obligations cs) (sym done.3)
+          (blocked_added f.lemmas f.obligations l bs cs c.self.invariant.follow c.lift.ensures.length each);
+      floors' = c.lift.ensures.floors;
+    }
 
 pub returns-in-Added-clause-done : goal.returns-in-Added-clause-done
 returns-in-Added-clause-done c =

@@ -4,7 +4,7 @@ use Rattle.frame_core.specs.declared.parts.Lemma.{Lemma}
 use Rattle.frame_core.specs.declared.parts.Obligation.{Obligation}
 use Rattle.frame_core.specs.Law.{FrameState}
 use Rattle.frame_core.specs.Changes.{with_obligation}
-use Rattle.book_agenda.specs.Values.{AreBlocked, IsBlockedTo}
+use Rattle.book_agenda.specs.Values.{AreBlocked, AreFloors, IsBlockedTo}
 use Rattle.book_agenda.proofs.Blocked.{blocked_noted}
 use Rattle.book_agenda.proofs.Blocked.{noted_is}
 use Rattle.book_agenda.proofs.levels.Levels.note.Goals as goal
@@ -23,6 +23,12 @@ invariant_of-self-2 c =
     let to : IsBlockedTo f.lemmas c.blocked_to-level.result (assignment_of o.values) =
     subst (λ (v : List Bool). IsBlockedTo f.lemmas c.blocked_to-level.result (assignment_of v)) values
     (subst (λ (ls : List Lemma). IsBlockedTo ls c.blocked_to-level.result (assignment_of c.as_slice.result.now)) c.all_lemmas.ensures.value c.blocked_to-level.ensures) in
-    subst (λ (z : FrameState). AreBlocked z.lemmas z.obligations c.push_reserved.new.self.items) (sym is)
-    (subst (λ (z : List ℕ). AreBlocked f.lemmas (f.obligations ++ o ∷ []) z) (sym cs)
-    (blocked_noted f.lemmas f.obligations o bs c.blocked_to-level.result c.self.invariant to))
+    let floors : AreFloors c.lower.new.floors.items c.push_reserved.new.self.items =
+    subst (λ (z : List ℕ). AreFloors c.lower.new.floors.items z)
+    (ap (λ (z : List ℕ). z ++ c.blocked_to-level.result ∷ []) c.deref.ensures.value ∙ sym c.push_reserved.ensures.items) c.lower.ensures in
+    record {
+      follow = subst (λ (z : FrameState). AreBlocked z.lemmas z.obligations c.push_reserved.new.self.items) (sym is)
+          (subst (λ (z : List ℕ). AreBlocked f.lemmas (f.obligations ++ o ∷ []) z) (sym cs)
+          (blocked_noted f.lemmas f.obligations o bs c.blocked_to-level.result c.self.invariant.follow to));
+      floors' = floors;
+    }

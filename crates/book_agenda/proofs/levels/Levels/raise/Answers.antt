@@ -24,5 +24,8 @@ invariant_of-self c =
     let each : (o : ℕ) → o < length bs → IsLifted (lemma_at (raised_at f.lemmas n p.level) n) (assignment_of (obligation_at f.obligations o).values) (blocked_at bs o) (blocked_at cs o) =
     λ o in'. subst (λ (z : FrameState). IsLifted (lemma_at z.lemmas n) (assignment_of (obligation_at z.obligations o).values) (blocked_at bs o) (blocked_at cs o)) done.2
     (c.lift.ensures.each o in') in
-    subst (λ (z : FrameState). AreBlocked z.lemmas z.obligations cs) (sym done.2)
-    (blocked_raised f.lemmas f.obligations n p.level bs cs c.self.invariant lt lower c.lift.ensures.length each)
+    record {
+      follow = subst (λ (z : FrameState). AreBlocked z.lemmas z.obligations cs) (sym done.2)
+          (blocked_raised f.lemmas f.obligations n p.level bs cs c.self.invariant.follow lt lower c.lift.ensures.length each);
+      floors' = c.lift.ensures.floors;
+    }

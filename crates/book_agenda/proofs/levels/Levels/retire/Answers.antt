@@ -12,5 +12,8 @@ pub invariant_of-self : goal.invariant_of-self
 invariant_of-self c =
     let f : FrameState = c.self.inside.frames in
     let lt : c.args.n < length f.lemmas = subst (λ (z : FrameState). c.args.n < length z.lemmas) (sym c.self.view_is) c.requires.in_range in
-    subst (λ (z : FrameState). AreBlocked z.lemmas z.obligations c.self.inside.blocked.items) (sym c.retire.ensures)
-    (blocked_retired f.lemmas f.obligations c.args.n c.self.inside.blocked.items c.self.invariant lt)
+    record {
+      follow = subst (λ (z : FrameState). AreBlocked z.lemmas z.obligations c.self.inside.blocked.items) (sym c.retire.ensures)
+          (blocked_retired f.lemmas f.obligations c.args.n c.self.inside.blocked.items c.self.invariant.follow lt);
+      floors' = c.self.invariant.floors';
+    }
