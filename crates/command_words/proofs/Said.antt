@@ -27,7 +27,7 @@ use Rattle.clap.specs.declared.parser.matches.ValueSource.TheVariants.{DefaultVa
 use Rattle.clap.proofs.ValueTestLemmas.{accepts-Accepts}
 use Rattle.command_words.specs.declared.command.Command.{Command}
 use Rattle.command_words.specs.declared.command.Command.TheVariants.{Check, Recheck, Flat, Ring}
-use Rattle.command_words.specs.Grammar.{OptionRow, PlaceRow, cells_place, seed_place, place_rule, conflicts_option, bound_option, frames_option, counter_option, together_flag, cert_flag, upgrade_flag, option_rule, flag_rule, flag_text, program, HasEffort, HasFlag, HasNumber, HasRing, Tells, Says, IsCommandLine, check_row, default_effort}
+use Rattle.command_words.specs.Grammar.{OptionRow, PlaceRow, cells_place, seed_place, place_rule, workers_option, conflicts_option, bound_option, frames_option, counter_option, together_flag, cert_flag, upgrade_flag, option_rule, flag_rule, flag_text, program, HasEffort, HasFlag, HasNumber, HasRing, Tells, Says, IsCommandLine, check_row, default_effort}
 
 -- an option that takes a number, a flag, or a number in the place of this index
 data Entry : Type 0 where
@@ -67,6 +67,9 @@ ready (number row) = filled (option_rule row)
 ready (flag word) = filled (flag_rule word)
 ready (place i row) = record (filled (place_rule row)) { index = Some i }
 
+abbrev workers : Entry
+workers = number workers_option
+
 abbrev conflicts : Entry
 conflicts = number conflicts_option
 
@@ -96,13 +99,13 @@ seed = place 2 seed_place
 
 -- those of `check`, those of `recheck`, and those of `self`
 abbrev check_entries : List Entry
-check_entries = conflicts ∷ bound ∷ frames ∷ counter ∷ together ∷ cert ∷ []
+check_entries = workers ∷ conflicts ∷ bound ∷ frames ∷ counter ∷ together ∷ cert ∷ []
 
 abbrev recheck_entries : List Entry
 recheck_entries = upgrade ∷ []
 
 abbrev ring_entries : List Entry
-ring_entries = cells ∷ seed ∷ []
+ring_entries = cells ∷ seed ∷ workers ∷ []
 
 -- the program as a parse has it
 abbrev app : App
@@ -534,32 +537,38 @@ apart to from e same = let no : true ≡ false = sym same ∙ e in cc
 itself : (e : Entry) → Agrees e e
 itself e same v h = h
 
+agree_workers : Each (Agrees workers) check_entries
+agree_workers = (itself workers, (apart workers conflicts refl, (apart workers bound refl, (apart workers frames refl, (apart workers counter refl, (apart workers together refl, (apart workers cert refl, tt)))))))
+
 agree_conflicts : Each (Agrees conflicts) check_entries
-agree_conflicts = (itself conflicts, (apart conflicts bound refl, (apart conflicts frames refl, (apart conflicts counter refl, (apart conflicts together refl, (apart conflicts cert refl, tt))))))
+agree_conflicts = (apart conflicts workers refl, (itself conflicts, (apart conflicts bound refl, (apart conflicts frames refl, (apart conflicts counter refl, (apart conflicts together refl, (apart conflicts cert refl, tt)))))))
 
 agree_bound : Each (Agrees bound) check_entries
-agree_bound = (apart bound conflicts refl, (itself bound, (apart bound frames refl, (apart bound counter refl, (apart bound together refl, (apart bound cert refl, tt))))))
+agree_bound = (apart bound workers refl, (apart bound conflicts refl, (itself bound, (apart bound frames refl, (apart bound counter refl, (apart bound together refl, (apart bound cert refl, tt)))))))
 
 agree_frames : Each (Agrees frames) check_entries
-agree_frames = (apart frames conflicts refl, (apart frames bound refl, (itself frames, (apart frames counter refl, (apart frames together refl, (apart frames cert refl, tt))))))
+agree_frames = (apart frames workers refl, (apart frames conflicts refl, (apart frames bound refl, (itself frames, (apart frames counter refl, (apart frames together refl, (apart frames cert refl, tt)))))))
 
 agree_counter : Each (Agrees counter) check_entries
-agree_counter = (apart counter conflicts refl, (apart counter bound refl, (apart counter frames refl, (itself counter, (apart counter together refl, (apart counter cert refl, tt))))))
+agree_counter = (apart counter workers refl, (apart counter conflicts refl, (apart counter bound refl, (apart counter frames refl, (itself counter, (apart counter together refl, (apart counter cert refl, tt)))))))
 
 agree_together : Each (Agrees together) check_entries
-agree_together = (apart together conflicts refl, (apart together bound refl, (apart together frames refl, (apart together counter refl, (itself together, (apart together cert refl, tt))))))
+agree_together = (apart together workers refl, (apart together conflicts refl, (apart together bound refl, (apart together frames refl, (apart together counter refl, (itself together, (apart together cert refl, tt)))))))
 
 agree_cert : Each (Agrees cert) check_entries
-agree_cert = (apart cert conflicts refl, (apart cert bound refl, (apart cert frames refl, (apart cert counter refl, (apart cert together refl, (itself cert, tt))))))
+agree_cert = (apart cert workers refl, (apart cert conflicts refl, (apart cert bound refl, (apart cert frames refl, (apart cert counter refl, (apart cert together refl, (itself cert, tt)))))))
 
 agree_upgrade : Each (Agrees upgrade) recheck_entries
 agree_upgrade = (itself upgrade, tt)
 
 agree_cells : Each (Agrees cells) ring_entries
-agree_cells = (itself cells, (apart cells seed refl, tt))
+agree_cells = (itself cells, (apart cells seed refl, (apart cells workers refl, tt)))
 
 agree_seed : Each (Agrees seed) ring_entries
-agree_seed = (apart seed cells refl, (itself seed, tt))
+agree_seed = (apart seed cells refl, (itself seed, (apart seed workers refl, tt)))
+
+agree_crew : Each (Agrees workers) ring_entries
+agree_crew = (apart workers cells refl, (apart workers seed refl, (itself workers, tt)))
 
 -- each default is one that its entry takes
 abbrev DefaultsRead : List Entry → Type 0
@@ -603,10 +612,10 @@ module _ (name : Text) (es : List Entry) (reads : DefaultsRead es) where
       second defaulting checking (second settling (or_else defaulting checking) past_walk)
 
 check_reads : DefaultsRead check_entries
-check_reads = (refl, (refl, (refl, (refl, (refl, (refl, tt))))))
+check_reads = (refl, (refl, (refl, (refl, (refl, (refl, (refl, tt)))))))
 
 check_same : Each IsDefaulted check_entries
-check_same = ((refl, refl), ((refl, refl), ((refl, refl), ((refl, refl), ((refl, refl), ((refl, refl), tt))))))
+check_same = ((refl, refl), ((refl, refl), ((refl, refl), ((refl, refl), ((refl, refl), ((refl, refl), ((refl, refl), tt)))))))
 
 told : (words : List Text) → level_fault check_shape [] nothing_held words false [] ≡ [] → (command : Command) × Tells (Some (rows_at check_shape words)) command
 told words e =
@@ -614,15 +623,16 @@ told words e =
     let rows = rows_found name check_entries check_reads words in
     let has = has_rows name check_entries check_reads check_same words in
     let keeps : (to : Entry) → Each (Agrees to) check_entries → Keeps to rows = λ to agree. kept name check_entries check_reads to agree words e in
-    let budget = number_in conflicts_option rows (keeps conflicts agree_conflicts) has.0 in
-    let steps = number_in bound_option rows (keeps bound agree_bound) has.1.0 in
-    let level = number_in frames_option rows (keeps frames agree_frames) has.1.1.0 in
-    let signals = number_in counter_option rows (keeps counter agree_counter) has.1.1.1.0 in
-    let shared = flag_in together_flag rows (keeps together agree_together) has.1.1.1.1.0 in
-    let shown = flag_in cert_flag rows (keeps cert agree_cert) has.1.1.1.1.1.0 in
-    let has_effort : HasEffort rows (record { conflicts = budget.0; bound = steps.0; frames = level.0; counter = signals.0; together = shared.0; cert = shown.0 }) =
-    record { conflicts = budget.1; bound = steps.1; frames = level.1; counter = signals.1; together = shared.1; cert = shown.1 } in
-    (Check (record { conflicts = budget.0; bound = steps.0; frames = level.0; counter = signals.0; together = shared.0; cert = shown.0 }), (refl, has_effort))
+    let crew = number_in workers_option rows (keeps workers agree_workers) has.0 in
+    let budget = number_in conflicts_option rows (keeps conflicts agree_conflicts) has.1.0 in
+    let steps = number_in bound_option rows (keeps bound agree_bound) has.1.1.0 in
+    let level = number_in frames_option rows (keeps frames agree_frames) has.1.1.1.0 in
+    let signals = number_in counter_option rows (keeps counter agree_counter) has.1.1.1.1.0 in
+    let shared = flag_in together_flag rows (keeps together agree_together) has.1.1.1.1.1.0 in
+    let shown = flag_in cert_flag rows (keeps cert agree_cert) has.1.1.1.1.1.1.0 in
+    let has_effort : HasEffort rows (record { workers = crew.0; conflicts = budget.0; bound = steps.0; frames = level.0; counter = signals.0; together = shared.0; cert = shown.0 }) =
+    record { workers = crew.1; conflicts = budget.1; bound = steps.1; frames = level.1; counter = signals.1; together = shared.1; cert = shown.1 } in
+    (Check (record { workers = crew.0; conflicts = budget.0; bound = steps.0; frames = level.0; counter = signals.0; together = shared.0; cert = shown.0 }), (refl, has_effort))
 
 told_again : (words : List Text) → level_fault recheck_shape [] nothing_held words false [] ≡ [] → (command : Command) × Tells (Some (rows_at recheck_shape words)) command
 told_again words e =
@@ -641,18 +651,27 @@ wanted_second true true e = refl
 wanted_second true false e = cc
 wanted_second false y e = cc
 
+-- each default of `self` is taken
+ring_reads : DefaultsRead ring_entries
+ring_reads = (tt, (tt, (refl, tt)))
+
+-- its option has a row in the end
+has_crew : (rows : List Row) → has_row workers_option.word (fold with_default rows (map ready ring_entries)) ≡ true
+has_crew rows = has_default workers (with_default (with_default rows (ready cells)) (ready seed)) (refl, refl)
+
 told_ring : (words : List Text) → level_fault ring_shape [] nothing_held words false [] ≡ [] → (command : Command) × Tells (Some (rows_at ring_shape words)) command
 told_ring words e =
     let name = ring_shape.name in
-    let rows = rows_found name ring_entries (tt, (tt, tt)) words in
-    let checking = checked name ring_entries (tt, (tt, tt)) words e in
-    let keeps : (to : Entry) → Each (Agrees to) ring_entries → Keeps to rows = λ to agree. kept name ring_entries (tt, (tt, tt)) to agree words e in
+    let rows = rows_found name ring_entries ring_reads words in
+    let checking = checked name ring_entries ring_reads words e in
+    let keeps : (to : Entry) → Each (Agrees to) ring_entries → Keeps to rows = λ to agree. kept name ring_entries ring_reads to agree words e in
     let given = is_given cells_place.name rows in
     let given_too = is_given seed_place.name rows in
     let size = number_placed 1 cells_place rows (keeps cells agree_cells) (given_row cells_place.name rows (wanted_first given given_too checking)) in
     let pick = number_placed 2 seed_place rows (keeps seed agree_seed) (given_row seed_place.name rows (wanted_second given given_too checking)) in
-    let has_ring : HasRing rows (record { cells = size.0; seed = pick.0 }) = record { cells = size.1; seed = pick.1 } in
-    (Ring (record { cells = size.0; seed = pick.0 }), (refl, has_ring))
+    let crew = number_in workers_option rows (keeps workers agree_crew) (has_crew (settled (map ready ring_entries) (walk (map ready ring_entries) [] nothing_held words).held).rows) in
+    let has_ring : HasRing rows (record { cells = size.0; seed = pick.0; workers = crew.0 }) = record { cells = size.1; seed = pick.1; workers = crew.1 } in
+    (Ring (record { cells = size.0; seed = pick.0; workers = crew.0 }), (refl, has_ring))
 
 -- the shape of `self`, if it is named
 abbrev of_ring : Text → Option Shape
@@ -727,6 +746,7 @@ unfolding walk_fault walked defaults_fault
 check_alone =
     let rows = (rows_at check_shape []).1 in
     let told : HasEffort rows default_effort = record {
+      workers = number_read workers_option.word workers_option.least workers_option.greatest rows workers_option.default refl refl;
       conflicts = number_read conflicts_option.word conflicts_option.least conflicts_option.greatest rows conflicts_option.default refl refl;
       bound = number_read bound_option.word bound_option.least bound_option.greatest rows bound_option.default refl refl;
       frames = number_read frames_option.word frames_option.least frames_option.greatest rows frames_option.default refl refl;

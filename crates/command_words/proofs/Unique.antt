@@ -20,22 +20,24 @@ same_flag rows word false false x y = refl
 same_flag rows word true false x y = let e : Some (codes "true") ≡ Some (codes "false") = sym x ∙ y in cc
 same_flag rows word false true x y = let e : Some (codes "false") ≡ Some (codes "true") = sym x ∙ y in cc
 
-abbrev effort_with : ℕ → ℕ → ℕ → ℕ → Bool → Bool → Effort
-effort_with conflicts bound frames counter together cert =
-    record { conflicts = conflicts; bound = bound; frames = frames; counter = counter; together = together; cert = cert }
+abbrev effort_with : ℕ → ℕ → ℕ → ℕ → ℕ → Bool → Bool → Effort
+effort_with workers conflicts bound frames counter together cert =
+    record { workers = workers; conflicts = conflicts; bound = bound; frames = frames; counter = counter; together = together; cert = cert }
 
 same_effort : (rows : List Row) (a b : Effort) → HasEffort rows a → HasEffort rows b → a ≡ b
 same_effort rows a b h k =
-    ap₂ (λ (n m : ℕ). effort_with n m a.frames a.counter a.together a.cert) (same_number rows _ _ _ a.conflicts b.conflicts h.conflicts k.conflicts) (same_number rows _ _ _ a.bound b.bound h.bound k.bound)
-    ∙ ap₂ (λ (n m : ℕ). effort_with b.conflicts b.bound n m a.together a.cert) (same_number rows _ _ _ a.frames b.frames h.frames k.frames) (same_number rows _ _ _ a.counter b.counter h.counter k.counter)
-    ∙ ap₂ (λ (t u : Bool). effort_with b.conflicts b.bound b.frames b.counter t u) (same_flag rows _ a.together b.together h.together k.together) (same_flag rows _ a.cert b.cert h.cert k.cert)
+    ap (λ (n : ℕ). effort_with n a.conflicts a.bound a.frames a.counter a.together a.cert) (same_number rows _ _ _ a.workers b.workers h.workers k.workers)
+    ∙ ap₂ (λ (n m : ℕ). effort_with b.workers n m a.frames a.counter a.together a.cert) (same_number rows _ _ _ a.conflicts b.conflicts h.conflicts k.conflicts) (same_number rows _ _ _ a.bound b.bound h.bound k.bound)
+    ∙ ap₂ (λ (n m : ℕ). effort_with b.workers b.conflicts b.bound n m a.together a.cert) (same_number rows _ _ _ a.frames b.frames h.frames k.frames) (same_number rows _ _ _ a.counter b.counter h.counter k.counter)
+    ∙ ap₂ (λ (t u : Bool). effort_with b.workers b.conflicts b.bound b.frames b.counter t u) (same_flag rows _ a.together b.together h.together k.together) (same_flag rows _ a.cert b.cert h.cert k.cert)
 
-abbrev ring_with : ℕ → ℕ → RingOf
-ring_with cells seed = record { cells = cells; seed = seed }
+abbrev ring_with : ℕ → ℕ → ℕ → RingOf
+ring_with cells seed workers = record { cells = cells; seed = seed; workers = workers }
 
 same_ring : (rows : List Row) (a b : RingOf) → HasRing rows a → HasRing rows b → a ≡ b
 same_ring rows a b h k =
-    ap₂ ring_with (same_number rows _ _ _ a.cells b.cells h.cells k.cells) (same_number rows _ _ _ a.seed b.seed h.seed k.seed)
+    ap₂ (λ (n m : ℕ). ring_with n m a.workers) (same_number rows _ _ _ a.cells b.cells h.cells k.cells) (same_number rows _ _ _ a.seed b.seed h.seed k.seed)
+    ∙ ap (ring_with b.cells b.seed) (same_number rows _ _ _ a.workers b.workers h.workers k.workers)
 
 -- the word `self` is that of no other command
 ring_apart : (word : Text) → word ≡ ring_row.word → (word ≡ check_row.word → ⊥) × (word ≡ recheck_row.word → ⊥) × (word ≡ flat_row.word → ⊥)

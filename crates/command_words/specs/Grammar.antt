@@ -34,6 +34,10 @@ pub record CommandRow : Type 0 where
   pub options : List OptionRow
   pub flags : List Text
 
+-- how many workers explore frames together
+abbrev pub workers_option : OptionRow
+workers_option = record { word = codes "workers"; least = 1; greatest = 64; default = codes "1" }
+
 -- how many tickets a specification may cost
 abbrev pub conflicts_option : OptionRow
 conflicts_option = record { word = codes "conflicts"; least = 0; greatest = 1099511627776; default = codes "1000000" }
@@ -75,7 +79,7 @@ abbrev pub check_row : CommandRow
 check_row = record {
   word = codes "check";
   places = [];
-  options = conflicts_option ∷ bound_option ∷ frames_option ∷ counter_option ∷ [];
+  options = workers_option ∷ conflicts_option ∷ bound_option ∷ frames_option ∷ counter_option ∷ [];
   flags = together_flag ∷ cert_flag ∷ [];
 }
 
@@ -89,7 +93,7 @@ flat_row = record { word = codes "flat"; places = []; options = []; flags = [] }
 
 -- a ring is made, and its specifications are decided
 abbrev pub ring_row : CommandRow
-ring_row = record { word = codes "self"; places = cells_place ∷ seed_place ∷ []; options = []; flags = [] }
+ring_row = record { word = codes "self"; places = cells_place ∷ seed_place ∷ []; options = workers_option ∷ []; flags = [] }
 
 -- the table
 abbrev pub commands : List CommandRow
@@ -160,6 +164,7 @@ HasFlag rows word is_there = one_of word rows ≡ Some (flag_text is_there)
 
 -- the options of `check` have these numbers, and its flags are there or not
 pub record HasEffort (rows : List Row) (effort : Effort) : Type 0 where
+  pub workers : HasNumber rows workers_option.word workers_option.least workers_option.greatest effort.workers
   pub conflicts : HasNumber rows conflicts_option.word conflicts_option.least conflicts_option.greatest effort.conflicts
   pub bound : HasNumber rows bound_option.word bound_option.least bound_option.greatest effort.bound
   pub frames : HasNumber rows frames_option.word frames_option.least frames_option.greatest effort.frames
@@ -169,12 +174,13 @@ pub record HasEffort (rows : List Row) (effort : Effort) : Type 0 where
 
 -- the effort of a `check` without options
 abbrev pub default_effort : Effort
-default_effort = record { conflicts = 1000000; bound = 30; frames = 1000; counter = 16; together = false; cert = false }
+default_effort = record { workers = 1; conflicts = 1000000; bound = 30; frames = 1000; counter = 16; together = false; cert = false }
 
--- the numbers in the places of `self` are these
+-- the numbers in the places of `self`, and that of its option, are these
 pub record HasRing (rows : List Row) (ring : RingOf) : Type 0 where
   pub cells : HasNumber rows cells_place.name cells_place.least cells_place.greatest ring.cells
   pub seed : HasNumber rows seed_place.name seed_place.least seed_place.greatest ring.seed
+  pub workers : HasNumber rows workers_option.word workers_option.least workers_option.greatest ring.workers
 
 -- the command that was found, with its options and flags, is this one
 abbrev pub Tells : Option (Text × List Row) → Command → Type 0

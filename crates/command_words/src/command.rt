@@ -13,7 +13,8 @@ pub enum Command {
     Recheck { upgrade: bool },
     /// A model is read, and its slots and items are listed.
     Flat,
-    /// The model of this ring is made, and each of its specifications is decided with the effort of a `check` without options.
+    /// The model of this ring is made. Each of its specifications is decided with the effort of a `check` without options, by
+    /// the ring's workers.
     Ring(Ring),
 }
 
@@ -24,11 +25,15 @@ pub struct Ring {
     pub cells: usize,
     /// What picks the cell that begins with the token: the rest of a division by the number of cells.
     pub seed: u64,
+    /// How many workers explore frames together, from 1 on.
+    pub workers: u32,
 }
 
 /// How much effort a specification may cost.
 #[derive(Clone, Copy, Debug, Drop, PartialEq, Eq)]
 pub struct Effort {
+    /// How many workers explore frames together, from 1 on.
+    pub workers: u32,
     /// How many tickets: one for each query to the solver, and one for each clause that it learns.
     pub conflicts: u64,
     /// How many steps the lassos have at most that are looked for.
@@ -48,6 +53,7 @@ pub fn default_effort() -> Effort
     ensures { result ≡ default_effort }
 {
     Effort {
+        workers: 1,
         conflicts: 1_000_000,
         bound: 30,
         frames: 1000,

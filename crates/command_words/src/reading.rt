@@ -5,12 +5,12 @@ ghost use Rattle.clap.specs.Words.{found_of, rows_of, subcommand_rows_of};
 ghost use Rattle.command_words.specs.declared.command.Command.{Command as CommandOf};
 ghost use Rattle.command_words.specs.declared.command.Effort.{Effort as EffortOf};
 ghost use Rattle.command_words.specs.declared.command.Ring.{Ring as RingOf};
-ghost use Rattle.command_words.specs.Grammar.{HasEffort, HasFlag, HasNumber, HasRing, IsCommandLine, Says, Tells, bound_option, cells_place, cert_flag, conflicts_option, counter_option, frames_option, seed_place, together_flag, upgrade_flag};
+ghost use Rattle.command_words.specs.Grammar.{HasEffort, HasFlag, HasNumber, HasRing, IsCommandLine, Says, Tells, bound_option, cells_place, cert_flag, conflicts_option, counter_option, frames_option, seed_place, together_flag, upgrade_flag, workers_option};
 
 use crate::command::{Command, Effort, Ring};
 use crate::table::{
     BOUND, CELLS, CERT, CHECK, CONFLICTS, COUNTER, FLAT, FRAMES, RECHECK, SEED, TOGETHER, UPGRADE,
-    program,
+    WORKERS, program,
 };
 use clap::ArgMatches;
 use clap::error::ErrorKind;
@@ -52,11 +52,13 @@ fn effort_of(found: &ArgMatches<'_>) -> Effort
     requires { (effort : EffortOf) × HasEffort (rows_of (found_of found.now)) effort }
     ensures { HasEffort (rows_of (found_of found.now)) result }
 {
+    let workers = number_of(found, WORKERS, 1, 64);
     let conflicts = number_of(found, CONFLICTS, 0, 1_099_511_627_776);
     let bound = number_of(found, BOUND, 0, 10_000);
     let frames = number_of(found, FRAMES, 0, 100_000);
     let counter = number_of(found, COUNTER, 0, 64);
     Effort {
+        workers: workers as u32,
         conflicts,
         bound: bound as usize,
         frames: frames as u32,
@@ -66,16 +68,18 @@ fn effort_of(found: &ArgMatches<'_>) -> Effort
     }
 }
 
-// The ring that the numbers in the places of `self` give.
+// The ring that the numbers in the places of `self` give, and that of its option.
 fn ring_of(found: &ArgMatches<'_>) -> Ring
     requires { (ring : RingOf) × HasRing (rows_of (found_of found.now)) ring }
     ensures { HasRing (rows_of (found_of found.now)) result }
 {
     let cells = number_of(found, CELLS, 2, 12);
     let seed = number_of(found, SEED, 0, 4_294_967_295);
+    let workers = number_of(found, WORKERS, 1, 64);
     Ring {
         cells: cells as usize,
         seed,
+        workers: workers as u32,
     }
 }
 

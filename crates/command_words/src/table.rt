@@ -3,7 +3,7 @@
 ghost use Rattle.std.specs.Prelude.{◌≡◌, ◌∷◌, [], false, IfOk};
 ghost use Rattle.clap.specs.Words.{app_of, rule_of};
 ghost use Rattle.clap.specs.declared.Command.TheViews.{out-Command};
-ghost use Rattle.command_words.specs.Grammar.{bare_program, bound_option, cells_place, cert_flag, check_row, command_app, conflicts_option, counter_option, flag_rule, flat_row, frames_option, number_rule, option_rule, place_rule, program, program_with, recheck_row, ring_row, seed_place, together_flag, upgrade_flag};
+ghost use Rattle.command_words.specs.Grammar.{bare_program, bound_option, cells_place, cert_flag, check_row, command_app, conflicts_option, counter_option, flag_rule, flat_row, frames_option, number_rule, option_rule, place_rule, program, program_with, recheck_row, ring_row, seed_place, together_flag, upgrade_flag, workers_option};
 
 use clap::builder::ValueParser;
 use clap::{Arg, ArgAction, Command};
@@ -26,6 +26,9 @@ pub const CELLS: &str = "N";
 
 /// What the number is called that picks the cell that begins with the token.
 pub const SEED: &str = "SEED";
+
+/// The word of the option that says how many workers explore frames together.
+pub const WORKERS: &str = "workers";
 
 /// The word of the option that says how many tickets a specification may cost.
 pub const CONFLICTS: &str = "conflicts";
@@ -63,6 +66,13 @@ fn number_option<'a>(
         .long(word)
         .value_parser(ValueParser::unsigned(least, greatest))
         .default_value(default)
+}
+
+fn workers_option<'a>(alloc: Global) -> Arg<'a>
+    ensures rule { rule_of result ≡ option_rule workers_option }
+    ensures local { result.global ≡ false }
+{
+    number_option(alloc, WORKERS, 1, 64, "1")
 }
 
 fn conflicts_option<'a>(alloc: Global) -> Arg<'a>
@@ -121,18 +131,26 @@ fn flag<'a>(alloc: Global, word: &'a str) -> Arg<'a>
     Arg::new(alloc, word).long(word).action(ArgAction::SetTrue)
 }
 
+// The command `check` with its first options alone: the workers, the tickets and the lassos' lengths.
+fn check_start<'a>(alloc: Global) -> Result<Command<'a>, AllocError>
+    ensures app { IfOk result (λ c. app_of c ≡ command_app (record check_row { options = workers_option ∷ conflicts_option ∷ bound_option ∷ []; flags = [] })) }
+    ensures local { IfOk result (λ c. (out-Command c).has_globals ≡ false) }
+{
+    let (workers, conflicts) = (workers_option(alloc), conflicts_option(alloc));
+    let bound = bound_option(alloc);
+    Command::new(alloc, CHECK)
+        .arg(workers)?
+        .arg(conflicts)?
+        .arg(bound)
+}
+
 // The command `check` with its options alone.
 fn check_options<'a>(alloc: Global) -> Result<Command<'a>, AllocError>
     ensures app { IfOk result (λ c. app_of c ≡ command_app (record check_row { flags = [] })) }
     ensures local { IfOk result (λ c. (out-Command c).has_globals ≡ false) }
 {
-    let (conflicts, bound) = (conflicts_option(alloc), bound_option(alloc));
     let (frames, counter) = (frames_option(alloc), counter_option(alloc));
-    Command::new(alloc, CHECK)
-        .arg(conflicts)?
-        .arg(bound)?
-        .arg(frames)?
-        .arg(counter)
+    check_start(alloc)?.arg(frames)?.arg(counter)
 }
 
 fn check_command<'a>(alloc: Global) -> Result<Command<'a>, AllocError>
@@ -164,7 +182,8 @@ fn ring_command<'a>(alloc: Global) -> Result<Command<'a>, AllocError>
 {
     Command::new(alloc, RING)
         .arg(cells_place(alloc))?
-        .arg(seed_place(alloc))
+        .arg(seed_place(alloc))?
+        .arg(workers_option(alloc))
 }
 
 // The program without its commands: it wants one, and has no help of its own.

@@ -42,7 +42,7 @@ module _ (sys : TransitionSystem) (f : Ltl) (atoms : List Lit) (effort : LtlEffo
       record { log = log; so_it_was = is_log; kept = refl; right = (refl, refl, spent) }
 
   -- there is none
-  pub none_climbing : Gives sys.state_bits sys.fair sys.defs → HasNoneUpTo m effort.bound → IsClimbing sys f atoms effort m log 0 [] [] tickets
+  pub none_climbing : Gives sys.state_bits sys.fair sys.defs → HasNoneUpTo m effort.bound → IsClimbing sys f atoms effort m log 0 [] [] (length tickets)
   none_climbing own none =
       record {
         so_it_was = is_log;
@@ -51,7 +51,7 @@ module _ (sys : TransitionSystem) (f : Ltl) (atoms : List Lit) (effort : LtlEffo
         none = none;
         count = refl;
         lemmas = refl;
-        drawn = refl;
+        drawn = omega arith;
         passed = All-nil (IsPassed (limits_of effort));
         signals = inl refl;
         kept = refl;

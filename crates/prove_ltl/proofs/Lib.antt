@@ -1,4 +1,5 @@
 mod Beginning
+mod Counted
 mod Ladder
 mod Longer
 mod Owned

@@ -9,7 +9,6 @@ use Rattle.clause_core.specs.Systems.{TransitionSystem, StepBits, FirstBits, Rea
 use Rattle.cert_core.specs.Blocks.{Block}
 use Rattle.cert_core.specs.Certificates.{Certifies}
 use Rattle.cert_make.specs.Paying.{PartQuery}
-use Rattle.sat_core.specs.Queries.{Draws}
 use Rattle.sat_core.specs.Paying.{tickets_in}
 use Rattle.frame_core.specs.declared.parts.Lemma.{Lemma}
 use Rattle.frame_core.specs.declared.outcomes.Verdict.TheVariants.{Invariant, Reached}
@@ -28,7 +27,7 @@ use Rattle.prove_run.specs.declared.answers.Work.{Work}
 use Rattle.prove_run.specs.Answers.{CertifySays, IsLeftOpen}
 use Rattle.prove_run.specs.Certifying.{CertQuery, IsOfCertificate, PaysCertificates, clauses_above}
 use Rattle.prove_run.specs.Certifying.{queries_of as part_queries}
-use Rattle.prove_run.specs.Exploring.{IsExplored}
+use Rattle.frame_worker.specs.Exploring.{IsExplored}
 use Rattle.prove_run.proofs.Certified.{AllBefore, by_system, lacks_some, pays_more}
 use Rattle.sat_core.proofs.Payments.{log_none}
 use Rattle.frame_history.specs.History.{start}
@@ -39,10 +38,10 @@ use Rattle.prove_ltl.specs.declared.answers.LtlAnswer.TheVariants.{True, False, 
 use Rattle.prove_ltl.specs.declared.answers.LtlCause.{LtlCause}
 use Rattle.prove_ltl.specs.declared.answers.LtlCause.TheVariants.{Bound, Frames}
 use Rattle.prove_ltl.specs.Lengths.{queries_of}
-use Rattle.prove_ltl.specs.Rungs.{Rung, IsRung, IsPassed, drawn_after, tickets_of, histories_of, histories_in}
+use Rattle.prove_ltl.specs.Rungs.{Rung, IsRung, IsPassed, tickets_of, histories_of, histories_in}
 use Rattle.prove_ltl.specs.LtlAnswers.{LtlLog, IsLtlLog, IsLast, IsClimbOpen, IsLimitMet, IsLtlRight, IsLtlDone, limits_of}
-use Rattle.prove_ltl.specs.Climbing.{IsClimbing, Shows, cause_of, spent_cause}
-use Rattle.prove_ltl.proofs.Ladder.{rungs_more, lemmas_last, drawn_last, rungs_drawn, long_after}
+use Rattle.prove_ltl.specs.Climbing.{IsClimbing, IsUsedUp, Shows, cause_of, spent_cause}
+use Rattle.prove_ltl.proofs.Ladder.{rungs_more, lemmas_last, tickets_last, long_after}
 
 -- ---- An obligation that is a first state begins a run to a bad one
 
@@ -86,23 +85,28 @@ none_asked fr tickets =
 
 -- ---- One counter more
 
-pub same_after : (systems : List TransitionSystem) (limits : Limits) (carried : List Lemma) (history : List Entry) (fr : FrameState) (old new : List ℕ) (over : Bool) →
+pub same_after : (systems : List TransitionSystem) (limits : Limits) (carried : List Lemma) (history : List Entry) (fr : FrameState) (old new : ℕ) (over : Bool) →
     IsExplored systems limits carried history fr old new over → fr.systems ≡ systems
 same_after systems limits carried history fr old new over e = ap (λ (z : FrameState). z.systems) e.frames ∙ same_systems (start limits systems carried) history
 
-add_up : (asked drawn after x y z n : ℕ) → asked ≡ 0 + x → drawn ≡ asked + y → after ≡ drawn + z → after ≡ n → x + y + z ≡ n
-add_up asked drawn after x y z n a b c d = omega arith
+-- the tickets of the lengths, of the counters before, and of this one
+sum_of : (asked earlier rungs drawn old new : ℕ) → rungs ≡ earlier + drawn → asked + earlier ≡ old → old + drawn ≡ new → asked + rungs ≡ new
+sum_of asked earlier rungs drawn old new a b c = omega arith
+
+-- and those of the certificate
+add_up : (asked rungs new x z after n : ℕ) → asked ≡ 0 + x → asked + rungs ≡ new → after ≡ new + z → after ≡ n → x + rungs + z ≡ n
+add_up asked rungs new x z after n a b c d = omega arith
 
 which : (b : Bool) → (b ≡ true) ⊎ (b ≡ false)
 which true = inl refl
 which false = inr refl
 
 module _ (sys : TransitionSystem) (f : Ltl) (atoms : List Lit) (effort : LtlEffort) (m : TransitionSystem) (log : LtlLog) (k : ℕ) (carried : List Lemma)
-    (works : List Work) (old : List ℕ) (h : IsClimbing sys f atoms effort m log k carried works old) (c : TransitionSystem) (isc : IsCounted m k c)
-    (now : List Work) (one : Work) (is_now : now ≡ works ++ one ∷ []) (fr : FrameState) (new : List ℕ) (over : Bool)
-    (e : IsExplored (c ∷ []) (limits_of effort) carried one.history.items fr old new over) where
+    (works : List Work) (old : ℕ) (h : IsClimbing sys f atoms effort m log k carried works old) (c : TransitionSystem) (isc : IsCounted m k c)
+    (now : List Work) (one : Work) (is_now : now ≡ works ++ one ∷ []) (fr : FrameState) (tickets : List ℕ) (over : Bool)
+    (e : IsExplored (c ∷ []) (limits_of effort) carried one.history.items fr old (length tickets) over) where
   abbrev rung : Rung
-  rung = record { system = c; carried = carried; history = one.history.items; log = e.log; known = e.known; drawn = new }
+  rung = record { system = c; carried = carried; history = one.history.items; drawn = e.drawn; logs = e.logs }
 
   abbrev next : LtlLog
   next = record { monitored = log.monitored; lassos = log.lassos; known = log.known; asked = log.asked; rungs = log.rungs ++ rung ∷ [] }
@@ -110,13 +114,12 @@ module _ (sys : TransitionSystem) (f : Ltl) (atoms : List Lit) (effort : LtlEffo
   pub its_counted : IsCounted log.monitored k c
   its_counted = subst (λ (z : TransitionSystem). IsCounted z k c) (sym h.of) isc
 
-  is_rung : IsRung log.monitored (limits_of effort) (0 + length log.rungs) (drawn_after log.asked log.rungs) rung
+  is_rung : IsRung log.monitored (limits_of effort) (0 + length log.rungs) rung
   is_rung =
-      let base : IsRung log.monitored (limits_of effort) k old rung = record { counted = its_counted; lawful = e.lawful; paid = e.paid } in
+      let base : IsRung log.monitored (limits_of effort) k rung = record { counted = its_counted; lawful = e.lawful; paid = e.paid } in
       let counted = h.count in
       let count : k ≡ 0 + length log.rungs = omega (arith, counted) in
-      subst (λ (n : ℕ). IsRung log.monitored (limits_of effort) n (drawn_after log.asked log.rungs) rung) count
-      (subst (λ (z : List ℕ). IsRung log.monitored (limits_of effort) k z rung) (sym h.drawn) base)
+      subst (λ (n : ℕ). IsRung log.monitored (limits_of effort) n rung) count base
 
   so_it_was : IsLtlLog sys f atoms effort next
   so_it_was =
@@ -124,11 +127,14 @@ module _ (sys : TransitionSystem) (f : Ltl) (atoms : List Lit) (effort : LtlEffo
         monitor = h.so_it_was.monitor;
         gives = h.so_it_was.gives;
         searched = h.so_it_was.searched;
-        climbed = rungs_more log.monitored (limits_of effort) 0 [] log.asked log.rungs rung h.so_it_was.climbed is_rung (sym h.lemmas);
+        climbed = rungs_more log.monitored (limits_of effort) 0 [] log.rungs rung h.so_it_was.climbed is_rung (sym h.lemmas);
       }
 
+  drawn_all : length log.asked + tickets_of next.rungs ≡ length tickets
+  drawn_all = sum_of (length log.asked) (tickets_of log.rungs) (tickets_of next.rungs) e.drawn old (length tickets) (tickets_last log.rungs rung) h.drawn e.all
+
   systems_are : fr.systems ≡ c ∷ []
-  systems_are = same_after (c ∷ []) (limits_of effort) carried one.history.items fr old new over e
+  systems_are = same_after (c ∷ []) (limits_of effort) carried one.history.items fr old (length tickets) over e
 
   kept : histories_in now ≡ histories_of next.rungs
   kept =
@@ -151,7 +157,7 @@ module _ (sys : TransitionSystem) (f : Ltl) (atoms : List Lit) (effort : LtlEffo
       let some = (exact sys log.monitored c f atoms k h.so_it_was.monitor its_counted h.own h.so_it_was.gives bad.0).1 bad' in
       (some.0, some.2)
 
-  pub goes_on : (n : ℕ) → VerdictSays fr 0 (Some (Reached n)) → (z : LtlLog) × IsClimbing sys f atoms effort m z (k + 1) fr.lemmas now new
+  pub goes_on : (n : ℕ) → VerdictSays fr 0 (Some (Reached n)) → (z : LtlLog) × IsClimbing sys f atoms effort m z (k + 1) fr.lemmas now (length tickets)
   goes_on n says =
       let long = length-append log.rungs (rung ∷ []) in
       let count = h.count in
@@ -164,7 +170,7 @@ module _ (sys : TransitionSystem) (f : Ltl) (atoms : List Lit) (effort : LtlEffo
           none = h.none;
           count = omega (arith, long, count);
           lemmas = lemmas_last (limits_of effort) [] log.rungs rung ∙ ap (λ (z : FrameState). z.lemmas) (sym e.frames);
-          drawn = drawn_last log.asked log.rungs rung;
+          drawn = drawn_all;
           passed = All-push (IsPassed (limits_of effort)) log.rungs rung h.passed passed;
           signals = inr (more_signals n says);
           kept = kept;
@@ -183,23 +189,21 @@ module _ (sys : TransitionSystem) (f : Ltl) (atoms : List Lit) (effort : LtlEffo
 
   -- ---- The budget was spent
 
-  spent : (after : List ℕ) (parts : List CertQuery) → IsLeftOpen fr parts 0 → PaysCertificates fr new after parts → length after ≡ effort.conflicts →
+  spent : (after : List ℕ) (parts : List CertQuery) → IsLeftOpen fr parts 0 → PaysCertificates fr tickets after parts → length after ≡ effort.conflicts →
       IsLtlDone sys f atoms effort now (Unknown (spent_cause effort))
   spent after parts left certified all =
       let asked = long_after [] log.asked (tickets_in (queries_of log.lassos)) h.so_it_was.searched.paid.drawn in
-      let climbed : length new ≡ length log.asked + tickets_of next.rungs =
-      long_after log.asked new (tickets_of next.rungs)
-      (subst (λ (z : List ℕ). Draws log.asked z (tickets_of next.rungs)) (drawn_last log.asked log.rungs rung)
-      (rungs_drawn log.monitored (limits_of effort) 0 [] log.asked next.rungs so_it_was.climbed)) in
-      let last_drawn = long_after new after (tickets_in (part_queries parts)) certified.paid.drawn in
+      let last_drawn = long_after tickets after (tickets_in (part_queries parts)) certified.paid.drawn in
       let open' : IsClimbOpen effort next parts =
       record {
         earlier = log.rungs;
         here = rung;
         last = last;
         left = subst (λ (z : FrameState). IsLeftOpen z parts 0) e.frames left;
-        drawn = after;
-        certified = subst (λ (z : FrameState). PaysCertificates z new after parts) e.frames certified;
+        before = tickets;
+        after = after;
+        count = sym drawn_all;
+        certified = subst (λ (z : FrameState). PaysCertificates z tickets after parts) e.frames certified;
       } in
       done (Unknown (spent_cause effort)) (
         refl,
@@ -207,8 +211,8 @@ module _ (sys : TransitionSystem) (f : Ltl) (atoms : List Lit) (effort : LtlEffo
         record {
           parts = parts;
           left_open = inr open';
-          all = add_up (length log.asked) (length new) (length after) (tickets_in (queries_of log.lassos)) (tickets_of next.rungs) (tickets_in (part_queries parts))
-              effort.conflicts asked climbed last_drawn all;
+          all = add_up (length log.asked) (tickets_of next.rungs) (length tickets) (tickets_in (queries_of log.lassos)) (tickets_in (part_queries parts)) (length after)
+              effort.conflicts asked drawn_all last_drawn all;
         },
       )
 
@@ -232,19 +236,19 @@ module _ (sys : TransitionSystem) (f : Ltl) (atoms : List Lit) (effort : LtlEffo
       } in
       done (Unknown (Frames effort.bound effort.frames k)) (refl, refl, within, short, h.signals, met)
 
-  pub stops : (over ≡ true → length new ≡ effort.conflicts) → k ≤ effort.counter → (HasVerdict fr 0 → ⊥) →
+  pub stops : IsUsedUp effort tickets over → k ≤ effort.counter → (HasVerdict fr 0 → ⊥) →
       IsLtlDone sys f atoms effort now (Unknown (cause_of over k effort))
   stops whole within none = elim (which over) [
     | inl on ↦
         subst (λ (o : Bool). IsLtlDone sys f atoms effort now (Unknown (cause_of o k effort))) (sym on)
-        (spent new [] (inl none) (none_asked fr new) (whole on))
+        (spent tickets [] (inl none) (none_asked fr tickets) (whole on))
     | inr off ↦ subst (λ (o : Bool). IsLtlDone sys f atoms effort now (Unknown (cause_of o k effort))) (sym off) (limited off within none)
   ]
 
   -- ---- An invariant
 
   pub certified : (level : ℕ) (after : List ℕ) (late : Bool) (cert : Block) →
-      CertifySays (system_at fr.systems 0) (clauses_above level fr.lemmas) (Some k) new after late (Some cert) → k ≤ effort.counter →
+      CertifySays (system_at fr.systems 0) (clauses_above level fr.lemmas) (Some k) tickets after late (Some cert) → k ≤ effort.counter →
       (Certifies c cert → NeverViolated sys f atoms) → IsLtlDone sys f atoms effort now (True cert)
   certified level after late cert said within never =
       let certifies : Certifies c cert = subst (λ (z : List TransitionSystem). Certifies (system_at z 0) cert) systems_are said.0 in
@@ -263,17 +267,17 @@ module _ (sys : TransitionSystem) (f : Ltl) (atoms : List Lit) (effort : LtlEffo
       )
 
   pub uncertified : (level : ℕ) (after : List ℕ) (late : Bool) → VerdictSays fr 0 (Some (Invariant level)) →
-      CertifySays (system_at fr.systems 0) (clauses_above level fr.lemmas) (Some k) new after late None → (late ≡ true → length after ≡ effort.conflicts) →
+      CertifySays (system_at fr.systems 0) (clauses_above level fr.lemmas) (Some k) tickets after late None → IsUsedUp effort after late →
       IsLtlDone sys f atoms effort now (Unknown (spent_cause effort))
   uncertified level after late says said whole =
       let asked : List PartQuery = said.1.0 in
       let none : AllBefore 0 [] = All-nil (λ (q : CertQuery). q.system < 0) in
       let parts : List CertQuery = map (by_system 0) asked in
-      spent after parts (inr (lacks_some fr 0 level says new new after [] (none_asked fr new) none asked said.1.1 said.1.2))
-      (pays_more fr 0 level says new new after [] (none_asked fr new) none asked said.1.1) (whole said.0)
+      spent after parts (inr (lacks_some fr 0 level says tickets tickets after [] (none_asked fr tickets) none asked said.1.1 said.1.2))
+      (pays_more fr 0 level says tickets tickets after [] (none_asked fr tickets) none asked said.1.1) (whole said.0)
 
-  pub shown : (level : ℕ) (after : List ℕ) (late : Bool) (a : LtlAnswer) → VerdictSays fr 0 (Some (Invariant level)) → Shows effort fr level k new after late a →
-      k ≤ effort.counter → ((cert : Block) → Certifies c cert → NeverViolated sys f atoms) → (late ≡ true → length after ≡ effort.conflicts) →
+  pub shown : (level : ℕ) (after : List ℕ) (late : Bool) (a : LtlAnswer) → VerdictSays fr 0 (Some (Invariant level)) → Shows effort fr level k tickets after late a →
+      k ≤ effort.counter → ((cert : Block) → Certifies c cert → NeverViolated sys f atoms) → IsUsedUp effort after late →
       IsLtlDone sys f atoms effort now a
   shown level after late (True cert) says shows within never whole = certified level after late cert shows within (never cert)
   shown level after late (False lasso) says shows within never whole = absurd shows

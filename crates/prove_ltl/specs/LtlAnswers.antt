@@ -42,7 +42,7 @@ pub record IsLtlLog (sys : TransitionSystem) (f : Ltl) (atoms : List Lit) (effor
   pub monitor : IsMonitor sys f atoms log.monitored
   pub gives : Gives log.monitored.state_bits log.monitored.fair log.monitored.defs
   pub searched : PaysLengths log.monitored effort.bound log.known log.asked log.lassos
-  pub climbed : AreRungs log.monitored (limits_of effort) 0 [] log.asked log.rungs
+  pub climbed : AreRungs log.monitored (limits_of effort) 0 [] log.rungs
 
 -- the last counter is r, and each before it was passed, after no lasso was found
 pub record IsLast (effort : LtlEffort) (log : LtlLog) (earlier : List Rung) (r : Rung) : Type 0 where
@@ -50,14 +50,17 @@ pub record IsLast (effort : LtlEffort) (log : LtlLog) (earlier : List Rung) (r :
   pub rungs : log.rungs ≡ earlier ++ r ∷ []
   pub passed : All (IsPassed (limits_of effort)) earlier
 
--- the last counter's frames tell no verdict, or they tell an invariant, and its certificate lacks a part
+-- the last counter's frames tell no verdict, or they tell an invariant, and its certificate lacks a part; its queries were paid for by what
+-- was drawn after the lengths and counters
 pub record IsClimbOpen (effort : LtlEffort) (log : LtlLog) (parts : List CertQuery) : Type 0 where
   pub earlier : List Rung
   pub here : Rung
   pub last : IsLast effort log earlier here
   pub left : IsLeftOpen (frames_of (limits_of effort) here) parts 0
-  pub drawn : List ℕ
-  pub certified : PaysCertificates (frames_of (limits_of effort) here) here.drawn drawn parts
+  pub before : List ℕ
+  pub after : List ℕ
+  pub count : length before ≡ length log.asked + tickets_of log.rungs
+  pub certified : PaysCertificates (frames_of (limits_of effort) here) before after parts
 
 -- as many tickets as the effort has were drawn: for lassos, for the counters' claims, and for parts of a certificate. They left open a length
 -- of lassos, before any counter, or the last counter.

@@ -7,57 +7,101 @@ ghost use Rattle.cert_core.specs.declared.form.TheConstants.{MAX_COUNTER};
 ghost use Rattle.ltl_meaning.specs.Temporal.{formula_of};
 ghost use Rattle.ltl_meaning.specs.Unfolded.{unfolded};
 ghost use Rattle.ltl_monitor.specs.States.{AtomsBelow};
+ghost use Rattle.prove_ltl.specs.Climbing.{IsDoneFor};
 ghost use Rattle.prove_ltl.specs.LtlAnswers.{IsLtlDone};
 
-use crate::answers::{LtlAnswer, LtlDone};
-use crate::climbing::{climb_all, spent_by};
+use crate::answers::LtlDone;
+use crate::climbing::climb_all;
 use crate::effort::LtlEffort;
-use crate::searching::{search_all, violating};
+use crate::searching::search_first;
+use crate::together::prove_together;
 use clause_core::{Lit, System};
 use effort_purse::PlainPurse;
-use lasso_search::Searched;
 use ltl_meaning::formula::Formula;
-use ltl_monitor::monitored;
+use ltl_monitor::{Monitored, monitored};
+use outside::Gate;
 use std::alloc::{AllocError, Global};
+use std::sync::Wait;
+use std::thread::Threads;
 
-/// Whether a lasso of the system violates the formula, whose atoms are these literals.
+/// Whether a lasso of the system violates the formula, whose atoms are these literals, by so many workers.
 ///
 /// An answer is a certificate that none does; a lasso that does; or the cause why neither is known.
 /// Lassos of 1, 2, .. states are searched up to the bound. Then the system is counted up to 0, 1, .. signals, each with
-/// the lemmas of the one before, until it reaches no bad state. All work is paid from one budget of tickets. The only
-/// error is want of memory.
-pub fn prove_ltl(
+/// the lemmas of the one before, until it reaches no bad state. All work is paid from one budget of tickets.
+///
+/// One worker is the caller, with number 0. Several have the numbers from 1 on, and explore the frames of each counter. The
+/// caller searches the lengths before, finishes what they leave, and makes the certificate. Where the book of a counter
+/// has to be dropped, the caller begins anew alone, with a purse of its own. It works alone too where the numbers of tickets
+/// and of workers have no room in one purse. Each worker passes the gate before each of its tasks, but the caller not before
+/// those that it finishes for others. A worker of several that is refused memory ends alone; the caller's want of memory is
+/// the only error.
+pub fn prove_ltl<R: Threads + Wait + Sync, G: Gate + Sync>(
+    rt: &R,
     alloc: Global,
     system: &System,
     formula: &Formula,
     atoms: &[Lit],
     effort: &LtlEffort,
+    workers: u32,
+    gate: &G,
 ) -> Result<LtlDone, AllocError>
     requires numbers { AtomsBelow (length atoms.now) (unfolded (formula_of formula.now.root)) }
     requires within { Within system.now.all_bits atoms.now }
     requires given { Gives system.now.state_bits atoms.now system.now.defs }
     requires limit { effort.now.frames + 1 < 2 ^ 32 }
     requires counter { effort.now.counter ≤ MAX_COUNTER }
+    requires workers { 0 < workers }
     ensures { IfOk result (λ d. IsLtlDone system.now (unfolded (formula_of formula.now.root)) atoms.now effort.now d.work.items d.answer) }
 {
     system.law();
     let monitored = monitored(alloc, system, formula, atoms)?;
-    monitored.system.law();
+    let done = prove_monitored(rt, alloc, system, &monitored, effort, workers, gate)?;
+    Ok(done)
+}
+
+// The same of a monitored system.
+fn prove_monitored<R: Threads + Wait + Sync, G: Gate + Sync>(
+    rt: &R,
+    alloc: Global,
+    system: &System,
+    monitored: &Monitored,
+    effort: &LtlEffort,
+    workers: u32,
+    gate: &G,
+) -> Result<LtlDone, AllocError>
+    requires limit { effort.now.frames + 1 < 2 ^ 32 }
+    requires counter { effort.now.counter ≤ MAX_COUNTER }
+    requires workers { 0 < workers }
+    ensures { IfOk result (IsDoneFor system.now effort.now monitored.now.system) }
+{
+    if workers < 2 {
+        return prove_alone(rt, alloc, system, monitored, effort, gate);
+    }
+    match prove_together(rt, alloc, system, monitored, effort, workers, gate)? {
+        Some(done) => Ok(done),
+        None => prove_alone(rt, alloc, system, monitored, effort, gate),
+    }
+}
+
+// The same by one worker.
+fn prove_alone<R: Wait, G: Gate>(
+    rt: &R,
+    alloc: Global,
+    system: &System,
+    monitored: &Monitored,
+    effort: &LtlEffort,
+    gate: &G,
+) -> Result<LtlDone, AllocError>
+    requires limit { effort.now.frames + 1 < 2 ^ 32 }
+    requires counter { effort.now.counter ≤ MAX_COUNTER }
+    ensures { IfOk result (IsDoneFor system.now effort.now monitored.now.system) }
+{
     let mut purse = PlainPurse::new(effort.conflicts);
-    match search_all(alloc, &monitored.system, effort.bound, &mut purse)? {
-        Searched::Found(lasso) => {
-            let lasso = violating(alloc, system, &monitored, &lasso)?;
-            Ok(LtlDone {
-                answer: LtlAnswer::False(lasso),
-                work: Vec::new(alloc),
-            })
-        }
-        Searched::Spent { .. } => Ok(LtlDone {
-            answer: LtlAnswer::Unknown(spent_by(effort)),
-            work: Vec::new(alloc),
-        }),
-        Searched::None => {
-            let done = climb_all(alloc, &monitored, effort, &mut purse)?;
+    match search_first(rt, alloc, system, monitored, effort, &mut purse, gate)? {
+        Some(done) => Ok(done),
+        None => {
+            let done = climb_all(rt, alloc, monitored, effort, &mut purse, gate)?;
             Ok(done)
         }
     }

@@ -13,16 +13,15 @@ use Rattle.frame_core.specs.Runs.{IsBadRun}
 use Rattle.frame_history.specs.declared.entries.Entry.{Entry}
 use Rattle.frame_history.specs.History.{HasVerdict}
 use Rattle.frame_history.proofs.Keeping.{same_systems}
-use Rattle.prove_run.specs.Exploring.{IsExplored}
+use Rattle.frame_worker.specs.Exploring.{IsExplored}
 use Rattle.prove_run.specs.declared.answers.Answer.{Answer}
 use Rattle.prove_run.specs.declared.answers.Answer.TheVariants.{True, False, Unknown}
 use Rattle.prove_run.specs.declared.effort.Effort.{Effort}
 use Rattle.prove_run.specs.declared.answers.Cause.TheVariants.{Frames}
 use Rattle.prove_run.specs.Answers.{limits_of, first_of, frames_of, IsLeftOpen, IsCause, IsRight, IsDone, Answers, AreAnswered, cause_of, spent_cause}
 use Rattle.prove_run.specs.Certifying.{CertQuery, IsOfCertificate, PaysCertificates, queries_of}
-use Rattle.prove_run.specs.Paying.{queries_in}
 
-add_up : (t u x y n : ℕ) → t ≡ x → u ≡ t + y → u ≡ n → x + y ≡ n
+add_up : (t u x y n : ℕ) → x ≡ t → u ≡ t + y → u ≡ n → x + y ≡ n
 add_up t u x y n a b c = omega arith
 
 some_answer : (a b : Answer) → Some a ≡ Some b → a ≡ b
@@ -33,14 +32,13 @@ below_long zero = refl
 below_long (suc n) = omega (arith, length-append (numbers_below n) (n ∷ []), below_long n)
 
 module _ (systems : List TransitionSystem) (effort : Effort) (history : List Entry) (f : FrameState) (tickets : List ℕ) (over : Bool)
-    (h : IsExplored systems (limits_of effort) [] history f [] tickets over) where
+    (h : IsExplored systems (limits_of effort) [] history f 0 (length tickets) over) where
   -- the budget was spent, which left system j open
   by_conflicts : (after : List ℕ) (parts : List CertQuery) (j : ℕ) → PaysCertificates f tickets after parts → length after ≡ effort.conflicts →
       IsLeftOpen f parts j → IsCause systems effort history j (spent_cause effort)
   by_conflicts after parts j certified all left =
-      let claims = h.paid.paid.drawn in
       let more = certified.paid.drawn in
-      let count : length tickets ≡ tickets_in (queries_in h.log) = ap (λ (z : List ℕ). length z) claims.1 ∙ claims.2 in
+      let count : h.drawn ≡ length tickets = let e = h.all in omega arith in
       let long : length after ≡ length tickets + tickets_in (queries_of parts) =
       ap (λ (z : List ℕ). length z) more.1 ∙ length-append tickets more.0 ∙ ap (λ (n : ℕ). length tickets + n) more.2 in (
         refl,
@@ -48,13 +46,14 @@ module _ (systems : List TransitionSystem) (effort : Effort) (history : List Ent
         (
           parts,
           record {
-            log = h.log;
-            known = h.known;
-            claimed = tickets;
-            drawn = after;
+            drawn = h.drawn;
+            logs = h.logs;
             paid = h.paid;
+            claimed = tickets;
+            spent = after;
+            count = sym count;
             certified = subst (λ (z : FrameState). PaysCertificates z tickets after parts) h.frames certified;
-            all = add_up (length tickets) (length after) (tickets_in (queries_in h.log)) (tickets_in (queries_of parts)) effort.conflicts count long all;
+            all = add_up (length tickets) (length after) h.drawn (tickets_in (queries_of parts)) effort.conflicts count long all;
           },
           subst (λ (z : FrameState). IsLeftOpen z parts j) h.frames left,
         ),
@@ -71,7 +70,7 @@ module _ (systems : List TransitionSystem) (effort : Effort) (history : List Ent
   systems_are = ap (λ (z : FrameState). z.systems) h.frames ∙ same_systems (first_of systems effort) history
 
 cause_is : (systems : List TransitionSystem) (effort : Effort) (history : List Entry) (f : FrameState) (tickets after : List ℕ) (over : Bool)
-    (parts : List CertQuery) (j : ℕ) → IsExplored systems (limits_of effort) [] history f [] tickets over → PaysCertificates f tickets after parts →
+    (parts : List CertQuery) (j : ℕ) → IsExplored systems (limits_of effort) [] history f 0 (length tickets) over → PaysCertificates f tickets after parts →
     (over ≡ true → length after ≡ effort.conflicts) → j < length systems → (HasVerdict f j → ⊥) → IsCause systems effort history j (cause_of over effort)
 cause_is systems effort history f tickets after true parts j h certified whole lt none =
     by_conflicts systems effort history f tickets true h after parts j certified (whole refl) (inl none)
@@ -79,7 +78,7 @@ cause_is systems effort history f tickets after false parts j h certified whole 
     by_frames systems effort history f tickets false h j refl lt none
 
 right_of : (systems : List TransitionSystem) (effort : Effort) (history : List Entry) (f : FrameState) (tickets after : List ℕ) (over spent : Bool)
-    (parts : List CertQuery) (j : ℕ) (a : Answer) → IsExplored systems (limits_of effort) [] history f [] tickets over → PaysCertificates f tickets after parts →
+    (parts : List CertQuery) (j : ℕ) (a : Answer) → IsExplored systems (limits_of effort) [] history f 0 (length tickets) over → PaysCertificates f tickets after parts →
     (over ≡ true → spent ≡ true) → (spent ≡ true → length after ≡ effort.conflicts) → j < length systems → Answers effort f over parts spent j a →
     IsRight systems effort history j a
 right_of systems effort history f tickets after over spent parts j (True cert) h certified still whole lt said =
@@ -96,7 +95,7 @@ right_of systems effort history f tickets after over spent parts j (Unknown caus
 ]
 
 pub finished : (systems : List TransitionSystem) (effort : Effort) (history : List Entry) (f : FrameState) (tickets after : List ℕ) (over spent : Bool)
-    (answers : List Answer) → IsExplored systems (limits_of effort) [] history f [] tickets over → (spent ≡ true → length after ≡ effort.conflicts) →
+    (answers : List Answer) → IsExplored systems (limits_of effort) [] history f 0 (length tickets) over → (spent ≡ true → length after ≡ effort.conflicts) →
     length answers ≡ length f.systems → AreAnswered effort f over tickets after spent answers → IsDone systems effort history answers
 finished systems effort history f tickets after over spent answers h whole many are =
     let long : length answers ≡ length systems = many ∙ ap (λ (z : List TransitionSystem). length z) (systems_are systems effort history f tickets over h) in

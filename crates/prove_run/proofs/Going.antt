@@ -1,22 +1,16 @@
 -- One turn of the worker: the task that it took is settled, and the book is played on.
-use Rattle.std.proofs.Common.{◌≡◌, ℕ, ◌<◌, Bool, true, false, List, [], ◌∷◌, ◌++◌, length, set, refl, sym, subst, ap, ◌∙◌, inl, inr, arith}
+use Rattle.std.proofs.Common.{◌≡◌, ℕ, Bool, true, false, List, [], ◌∷◌, ◌++◌, length, set, refl, sym, subst, ap, ◌∙◌, inl, inr, arith}
 use Rattle.std.specs.Prelude.{Option, Some, None, All, map}
 use Rattle.std.proofs.Math.Seq.{get_or-append_seam}
 use Rattle.std.proofs.lemmas.List.{append_assoc}
-use Rattle.clause_core.specs.Assignments.{assignment_of}
-use Rattle.clause_core.specs.Systems.{FirstBits}
 use Rattle.frame_core.specs.declared.parts.Lemma.{Lemma}
-use Rattle.frame_core.specs.declared.outcomes.Verdict.TheVariants.{Reached}
-use Rattle.frame_core.specs.Law.{FramesHold, system_at, obligation_at}
-use Rattle.frame_core.proofs.States.{first_same}
-use Rattle.frame_history.specs.declared.entries.Limits.{Limits}
+use Rattle.frame_core.specs.Law.{FrameState, FramesHold}
 use Rattle.frame_history.specs.declared.entries.Subject.{Subject}
-use Rattle.frame_history.specs.declared.entries.Subject.TheVariants.{Bad, Block, Push}
 use Rattle.frame_history.specs.declared.entries.Made.{Made}
 use Rattle.frame_history.specs.declared.entries.Change.{Change}
 use Rattle.frame_history.specs.declared.entries.Entry.{Entry}
 use Rattle.frame_history.specs.declared.entries.Entry.TheVariants.{Claim, Settle, Back}
-use Rattle.frame_history.specs.History.{BookState, start, replay, all_changed, claim_at, ended, is_behind, IsClosed, IsDecided, IsOpenTask, IsLawfulClaim, IsNew, AcceptsAll}
+use Rattle.frame_history.specs.History.{BookState, start, replay, all_changed, claim_at, ended, is_behind, IsClosed, IsLawfulClaim, IsNew, AcceptsAll}
 use Rattle.frame_history.proofs.Keeping.{holds_at_start, same_systems}
 use Rattle.frame_history.proofs.Waiting.{holds_all, some_is_out}
 use Rattle.frame_query.specs.Findings.{SolverView, IsOlder}
@@ -25,12 +19,15 @@ use Rattle.frame_book.specs.declared.claim.Outcome.{Outcome}
 use Rattle.frame_book.specs.Claims.{ClaimView, IsOfSubject, IsOutHere}
 use Rattle.frame_book.specs.Outcomes.{IsOutcomeOf}
 use Rattle.frame_book.specs.Book.{BookView, IsBook, SettlesBy, entered}
-use Rattle.prove_run.specs.Asking.{IsAsked, MayBeAsked, PaysClaim}
-use Rattle.prove_run.specs.Paying.{MayAsk, IsPaidRun}
+use Rattle.frame_claims.specs.Asking.{AnswersClaim, MayBeAsked, PaysFor}
+use Rattle.frame_claims.specs.Outcomes.{IsAsked, IsThere, IsUpToDate, PaysClaim}
+use Rattle.frame_claims.specs.Paying.{MayAsk, MayAskFor, IsPaidRun}
+use Rattle.frame_claims.proofs.Claimed.{claims_each, changes_claims}
+use Rattle.frame_claims.proofs.Outcomes.{asked_so}
+use Rattle.frame_claims.proofs.Paid.{paid_claim, by_claim}
+use Rattle.frame_claims.proofs.Taken.{may_be_asked, paid_so, there_by}
+use Rattle.frame_claims.proofs.Turned.{older_all, not_behind, spent_all, all_ended}
 use Rattle.prove_run.specs.Playing.{IsPlayed, IsTaken, IsSettled}
-use Rattle.prove_run.proofs.Claimed.{claims_each, changes_claims}
-use Rattle.prove_run.proofs.Paid.{paid_claim, by_claim}
-use Rattle.prove_run.proofs.Turned.{older_all, not_behind, spent_all, all_ended}
 
 -- ---- What the book keeps
 
@@ -61,39 +58,41 @@ idle_never old b v tickets over h still_open none =
 
 -- ---- What a task asks is there
 
-first_decided : (s : BookState) (o : ℕ) → FramesHold s.frames → o < length s.frames.obligations →
-    FirstBits (system_at s.frames.systems 0) (assignment_of (obligation_at s.frames.obligations o).values) →
-    IsDecided s (obligation_at s.frames.obligations o).system
-first_decided s o holds lt first =
-    let x = obligation_at s.frames.obligations o in
-    let there = (holds.obligations o lt).of in
-    inl (
-      Reached o,
-      (
-        lt,
-        refl,
-        first_same false (system_at s.frames.systems 0) (system_at s.frames.systems x.system) (holds.alike x.system there)
-            (assignment_of x.values) first,
-      ),
-    )
+module _ (old : List ℕ) (b : BookView) (c : ClaimView) (v : SolverView) (tickets : List ℕ) (over : Bool) (t : IsTaken old b c v tickets over) where
+  -- the frames are as they were before the claim
+  same_frames : b.state.frames ≡ t.earlier.state.frames
+  same_frames = ap (λ (z : BookView). z.state.frames) t.claims.1
 
-asked_by : (limits : Limits) (s : BookState) (c : ClaimView) (u : Subject) → FramesHold s.frames → IsOpenTask limits s u c.level →
-    IsOfSubject s.frames u c.values c.clause → MayBeAsked s.frames c u
-asked_by limits s c (Bad j) holds task of = task.0
-asked_by limits s c (Block o) holds task of =
-    let later : FirstBits (system_at s.frames.systems 0) (assignment_of c.values) → ⊥ = λ first.
-    task.1 (first_decided s o holds task.0 (subst (λ (x : List Bool). FirstBits (system_at s.frames.systems 0) (assignment_of x)) of first)) in
-    (task.0, of, task.4.0, later)
-asked_by limits s c (Push n) holds task of = (task.0, task.2, of)
+  taken_holds : FramesHold b.state.frames
+  taken_holds = subst FramesHold (sym same_frames) (book_holds t.earlier t.played.book)
 
-pub taken_asks : (old : List ℕ) (b : BookView) (c : ClaimView) (v : SolverView) (tickets : List ℕ) (over : Bool) → IsTaken old b c v tickets over →
-    MayBeAsked b.state.frames c c.subject
-taken_asks old b c v tickets over t =
-    let e : BookView = t.earlier in
-    let now : BookView = entered e (Claim 0 c.subject c.level) in
-    let may : MayBeAsked e.state.frames c c.subject =
-    asked_by e.limits e.state c c.subject (book_holds e t.played.book) t.claims.0.task t.claims.5 in
-    subst (λ (z : BookView). MayBeAsked z.state.frames c c.subject) (sym t.claims.1) may
+  -- the lemmas of the solver are older than those of the frames, which are over its state bits
+  pub taken_older : IsOlder v.lemmas b.state.frames.lemmas
+  taken_older = subst (λ (f : FrameState). IsOlder v.lemmas f.lemmas) (sym same_frames) t.played.older
+
+  pub taken_systems : v.systems ≡ b.state.frames.systems
+  taken_systems = t.played.systems ∙ sym (book_systems t.earlier t.played.book) ∙ sym (ap (λ (f : FrameState). f.systems) same_frames)
+
+  pub taken_same : b.state.frames.systems ≡ b.systems
+  taken_same = sym taken_systems ∙ t.played.systems ∙ sym (ap (λ (z : BookView). z.systems) t.claims.1)
+
+  pub taken_asks : (w : SolverView) → IsUpToDate b.state.frames w → MayBeAsked w c c.subject
+  taken_asks w up =
+      may_be_asked t.earlier.limits t.earlier.state c w (book_holds t.earlier t.played.book) (subst (λ (f : FrameState). IsUpToDate f w) same_frames up)
+      t.claims.0.task t.claims.5
+
+  target : IsOfSubject b.state.frames c.subject c.values c.clause
+  target = subst (λ (f : FrameState). IsOfSubject f c.subject c.values c.clause) (sym same_frames) t.claims.5
+
+  pub taken_asked : (w : SolverView) (later : Bool) (o : Outcome) → IsUpToDate b.state.frames w → AnswersClaim w c c.subject later o → IsAsked b.state.frames c later o
+  taken_asked w later o up answer =
+      let f : FrameState = b.state.frames in
+      let there = subst (λ (z : FrameState). IsThere z c.subject) (sym same_frames) (there_by t.earlier.limits t.earlier.state c.subject c.level t.claims.0.task) in
+      asked_so f c w later o taken_holds up there target answer
+
+  pub taken_pays : (w x : SolverView) (before after : List ℕ) → IsUpToDate b.state.frames w → PaysFor w x before after (MayAskFor c c.subject) →
+      PaysClaim b.state.frames c w.known x.known before after
+  taken_pays w x before after up pays = paid_so b.state.frames c w x before after up target pays
 
 -- ---- The claim is out
 
@@ -195,13 +194,3 @@ went_on old b now c v w before after over later o t asked paid systems lemmas se
     (subst (λ (z : BookView). PaysClaim z.state.frames c v.known w.known before after) is paid) systems
     (lemmas ∙ ap (λ (z : BookView). z.state.frames.lemmas) is) by (subst IsBook now_is book) in
     subst (λ (z : BookView). IsPlayed old z w after later) (sym now_is) done
-
-pub taken_systems : (old : List ℕ) (b : BookView) (c : ClaimView) (v : SolverView) (tickets : List ℕ) (over : Bool) → IsTaken old b c v tickets over →
-    v.systems ≡ b.state.frames.systems
-taken_systems old b c v tickets over t =
-    t.played.systems ∙ sym (book_systems t.earlier t.played.book) ∙ sym (ap (λ (z : BookView). z.state.frames.systems) t.claims.1)
-
-pub taken_same : (old : List ℕ) (b : BookView) (c : ClaimView) (v : SolverView) (tickets : List ℕ) (over : Bool) → IsTaken old b c v tickets over →
-    b.state.frames.systems ≡ b.systems
-taken_same old b c v tickets over t =
-    ap (λ (z : BookView). z.state.frames.systems) t.claims.1 ∙ book_systems t.earlier t.played.book ∙ sym (ap (λ (z : BookView). z.systems) t.claims.1)

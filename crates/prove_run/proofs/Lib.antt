@@ -1,13 +1,7 @@
 pub mod Answered
-pub mod Blocking
 pub mod Certified
-pub mod Claimed
 pub mod Closing
 pub mod Finished
 pub mod Going
 pub mod Invariant
-pub mod Joining
-pub mod Outcomes
-pub mod Paid
 pub mod Results
-pub mod Turned

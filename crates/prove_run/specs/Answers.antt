@@ -17,7 +17,8 @@ use Rattle.prove_run.specs.declared.answers.Answer.TheVariants.{True, False, Unk
 use Rattle.prove_run.specs.declared.answers.Cause.{Cause}
 use Rattle.prove_run.specs.declared.answers.Cause.TheVariants.{Conflicts, Frames}
 use Rattle.prove_run.specs.declared.effort.Effort.{Effort}
-use Rattle.prove_run.specs.Paying.{ClaimQuery, IsPaidRun, queries_in}
+use Rattle.frame_claims.specs.Lists.{ArePaid}
+use Rattle.frame_claims.specs.Paying.{ClaimQuery}
 use Rattle.prove_run.specs.Certifying.{CertQuery, PaysCertificates, LacksPart, queries_of}
 
 -- the history is of these systems, with the frames of the effort as its limit
@@ -31,16 +32,17 @@ first_of systems effort = start (limits_of effort) systems []
 abbrev pub frames_of : List TransitionSystem → Effort → List Entry → FrameState
 frames_of systems effort history = (replay (first_of systems effort) history).frames
 
--- as many tickets as the effort has were drawn: first for queries of the history's claims, then for queries for certificates, no two of which
--- are equal
+-- as many tickets as the effort has were drawn: first for queries of the history's claims, a list for each worker, then for queries for
+-- certificates, no two of which are equal
 pub record IsSpent (systems : List TransitionSystem) (effort : Effort) (history : List Entry) (parts : List CertQuery) : Type 0 where
-  pub log : List ClaimQuery
-  pub known : List (List Lit)
+  pub drawn : ℕ
+  pub logs : List (List ClaimQuery)
+  pub paid : ArePaid (first_of systems effort) history drawn logs
   pub claimed : List ℕ
-  pub drawn : List ℕ
-  pub paid : IsPaidRun (first_of systems effort) history known [] claimed log
-  pub certified : PaysCertificates (frames_of systems effort history) claimed drawn parts
-  pub all : tickets_in (queries_in log) + tickets_in (queries_of parts) ≡ effort.conflicts
+  pub spent : List ℕ
+  pub count : length claimed ≡ drawn
+  pub certified : PaysCertificates (frames_of systems effort history) claimed spent parts
+  pub all : drawn + tickets_in (queries_of parts) ≡ effort.conflicts
 
 -- what was done leaves system j open: its frames tell no verdict; or they tell an invariant, and its certificate lacks a part
 abbrev pub IsLeftOpen : FrameState → List CertQuery → ℕ → Type 0

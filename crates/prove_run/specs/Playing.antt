@@ -8,7 +8,7 @@ use Rattle.frame_book.specs.declared.claim.Claiming.TheVariants.{Task}
 use Rattle.frame_book.specs.declared.claim.Outcome.{Outcome}
 use Rattle.frame_book.specs.Claims.{ClaimView}
 use Rattle.frame_book.specs.Book.{BookView, IsBook, Claims, SettlesBy, entered}
-use Rattle.prove_run.specs.Paying.{ClaimQuery, IsPaidRun}
+use Rattle.frame_claims.specs.Paying.{ClaimQuery, IsPaidRun}
 
 -- no claim is out or void; the solver has the systems, and the lemmas as they were; that the purse was spent is noted only where it was; and
 -- what was drawn since `old` was paid for queries of the history's claims, no two of which are equal

@@ -185,6 +185,8 @@ pub(crate) fn answers<Q: Purse>(
     requires ready { Q.ready purse.old }
     ensures each_one { IfOk result (λ v. length v.items ≡ length frames.now.systems) }
     ensures answered { IfOk result (λ v. (spent : Bool) × (spent ≡ true → Q.spent purse.new ≡ true) × AreAnswered effort.now frames.now over (Q.tickets purse.old) (Q.tickets purse.new) spent v.items) }
+    ensures kept { Q.kept purse.old purse.new }
+    ensures ready { Q.ready purse.new }
     ensures budget { Q.budget purse.new ≡ Q.budget purse.old }
 {
     let mut answers = Vec::new(alloc);

@@ -1,18 +1,17 @@
-//! IC3 (Bradley 2011) for one system or for several that share their lemmas: proves that no bad state is reached, finds a run
-//! to one, or says why neither is known.
+//! IC3 (Bradley 2011) for one system or for several that share their lemmas, by one worker or by several: proves that no bad
+//! state is reached, finds a run to one, or says why neither is known.
 #![tactic(auto)]
 
 pub mod answering;
 pub mod answers;
-mod asking;
-mod claims;
 pub mod effort;
 pub mod exploring;
 mod playing;
 mod proving;
+mod together;
 
 pub use answering::certificate_of;
 pub use answers::{Answer, Cause, Done, Work};
 pub use effort::Effort;
-pub use exploring::{Explored, explore};
+pub use exploring::explore;
 pub use proving::{prove_all, prove_invariant};

@@ -1,14 +1,20 @@
+ghost use Rattle.std.specs.Prelude.{◌<◌};
 ghost use Rattle.frame_core.specs.Law.{AreAlike};
 
 use bit_runs::what_is_built_is_alike;
 use bit_states::BuildStop;
 use bit_system::build;
 use clause_core::System;
+use outside::{Gate, OpenGate};
 use prove_run::{Answer, Cause, Effort, prove_all};
 use smv_flat::Flat;
 use smv_front::read_model;
 use std::alloc::{AllocError, Global};
+use std::sync::Wait;
+use std::sync::atomic::{AtomicU64, Ordering};
 use std::test::Fail;
+use std::thread;
+use std::thread::Threads;
 
 // A model, the effort, and a letter for each specification: true, false, or unknown by conflicts or limit of frames.
 #[derive(Clone, Copy)]
@@ -129,42 +135,73 @@ fn letters(alloc: Global, answers: &[Answer]) -> Result<Vec<u8>, AllocError> {
     Ok(letters)
 }
 
-// Whether these systems are answered as the row wants.
-fn are_answered(alloc: Global, systems: &[System], row: Row) -> Result<bool, AllocError>
+// Whether these systems are answered as the row wants, by so many workers.
+fn are_answered<R: Threads + Wait + Sync, G: Gate + Sync>(
+    rt: &R,
+    alloc: Global,
+    systems: &[System],
+    row: Row,
+    workers: u32,
+    gate: &G,
+) -> Result<bool, AllocError>
     requires alike { AreAlike systems.now }
+    requires workers { 0 < workers }
 {
     let effort = Effort {
         conflicts: row.conflicts,
         frames: u32::from(row.frames),
     };
-    let done = prove_all(alloc, systems, &effort)?;
+    let done = prove_all(rt, alloc, systems, &effort, workers, gate)?;
     let found = letters(alloc, &done.answers)?;
     Ok(found.as_slice() == row.wanted.as_bytes())
 }
 
-fn is_answered(alloc: Global, flat: &Flat, row: Row) -> Result<bool, AllocError> {
+fn is_answered<R: Threads + Wait + Sync, G: Gate + Sync>(
+    rt: &R,
+    alloc: Global,
+    flat: &Flat,
+    row: Row,
+    workers: u32,
+    gate: &G,
+) -> Result<bool, AllocError>
+    requires workers { 0 < workers }
+{
     match build(alloc, flat) {
         Ok(built) => {
             what_is_built_is_alike();
-            are_answered(alloc, built.systems(), row)
+            are_answered(rt, alloc, built.systems(), row, workers, gate)
         }
         Err(BuildStop::TooManyBits) => Ok(false),
         Err(BuildStop::NoMemory) => Err(AllocError),
     }
 }
 
-fn is_right(alloc: Global, row: Row) -> Result<bool, AllocError> {
+fn is_right<R: Threads + Wait + Sync, G: Gate + Sync>(
+    rt: &R,
+    alloc: Global,
+    row: Row,
+    workers: u32,
+    gate: &G,
+) -> Result<bool, AllocError>
+    requires workers { 0 < workers }
+{
     match read_model(alloc, row.source.as_bytes()) {
-        Ok(flat) => is_answered(alloc, &flat, row),
+        Ok(flat) => is_answered(rt, alloc, &flat, row, workers, gate),
         Err(_) => Ok(false),
     }
 }
 
-// The number of the first row that is answered otherwise.
-fn first_wrong(alloc: Global) -> Result<Option<usize>, AllocError> {
+// The number of the first row that is answered otherwise by so many workers.
+fn first_wrong<R: Threads + Wait + Sync>(
+    rt: &R,
+    alloc: Global,
+    workers: u32,
+) -> Result<Option<usize>, AllocError>
+    requires workers { 0 < workers }
+{
     for n in 0..ROWS.len() {
         let row = ROWS[n];
-        if !is_right(alloc, row)? {
+        if !is_right(rt, alloc, row, workers, &OpenGate)? {
             return Ok(Some(n));
         }
     }
@@ -172,7 +209,77 @@ fn first_wrong(alloc: Global) -> Result<Option<usize>, AllocError> {
 }
 
 #[test]
-fn specifications_are_answered(rt: HostRuntime) -> Result<(), Fail> {
-    assert_eq!(rt; first_wrong(rt.alloc())?, None);
+fn one_worker_answers(rt: HostRuntime) -> Result<(), Fail> {
+    assert_eq!(rt; first_wrong(&rt, rt.alloc(), 1)?, None);
+    Ok(())
+}
+
+#[test]
+fn two_workers_answer(rt: HostRuntime) -> Result<(), Fail> {
+    assert_eq!(rt; first_wrong(&rt, rt.alloc(), 2)?, None);
+    Ok(())
+}
+
+#[test]
+fn five_workers_answer(rt: HostRuntime) -> Result<(), Fail> {
+    assert_eq!(rt; first_wrong(&rt, rt.alloc(), 5)?, None);
+    Ok(())
+}
+
+// Counts who passes.
+#[derive(Drop)]
+struct Counter {
+    passed: AtomicU64,
+}
+
+impl Gate for Counter {
+    fn enter<R: Wait>(&self, _rt: &R, worker: u32) {
+        if worker == 0 {
+            self.passed.fetch_add(1, Ordering::SeqCst);
+        }
+    }
+}
+
+// A worker alone has the number 0, and asks for a task once more than there is one.
+#[test]
+fn one_worker_passes_the_gate(rt: HostRuntime) -> Result<(), Fail> {
+    let gate = Counter {
+        passed: AtomicU64::new(0),
+    };
+    assert!(rt; is_right(&rt, rt.alloc(), ROWS[5], 1, &gate)?);
+    assert!(rt; gate.passed.load(Ordering::SeqCst) > 1);
+    Ok(())
+}
+
+// Holds the first task of each of two workers until the other has come, for some turns.
+#[derive(Drop)]
+struct Meeting {
+    came: [AtomicU64; 2],
+    met: [AtomicU64; 2],
+}
+
+impl Gate for Meeting {
+    fn enter<R: Wait>(&self, _rt: &R, worker: u32) {
+        let (me, other) = if worker == 1 { (0, 1) } else { (1, 0) };
+        self.came[me].store(1, Ordering::SeqCst);
+        for _ in 0..1_000_000u32 {
+            if self.came[other].load(Ordering::SeqCst) == 1 {
+                self.met[me].store(1, Ordering::SeqCst);
+                return;
+            }
+            thread::yield_now();
+        }
+    }
+}
+
+#[test]
+fn two_workers_meet(rt: HostRuntime) -> Result<(), Fail> {
+    let gate = Meeting {
+        came: [AtomicU64::new(0), AtomicU64::new(0)],
+        met: [AtomicU64::new(0), AtomicU64::new(0)],
+    };
+    assert!(rt; is_right(&rt, rt.alloc(), ROWS[5], 2, &gate)?);
+    assert!(rt; gate.met[0].load(Ordering::SeqCst) == 1);
+    assert!(rt; gate.met[1].load(Ordering::SeqCst) == 1);
     Ok(())
 }

@@ -5,8 +5,14 @@
 #[cfg(test)]
 mod formulas;
 #[cfg(test)]
+mod gates;
+#[cfg(test)]
+mod refused;
+#[cfg(test)]
 mod reports;
 #[cfg(test)]
 mod rings;
 #[cfg(test)]
 mod values;
+#[cfg(test)]
+mod workers;

@@ -10,7 +10,7 @@ const USAGE: &str = "-- usage: smvcheck check | recheck | flat | self N SEED\n";
 const SMALLEST: &str =
     "-- model slots 2 items 4\n-- spec 1 INVARSPEC is true\n-- spec 2 LTLSPEC is true\n";
 
-const CASES: [Case; 16] = [
+const CASES: [Case; 21] = [
     (
         "self 4 7",
         "",
@@ -31,6 +31,11 @@ const CASES: [Case; 16] = [
     ("self 2 5 7", UNREAD, USAGE, 4),
     ("self 2 5 --cert", UNREAD, USAGE, 4),
     ("self 2 5 --conflicts 7", UNREAD, USAGE, 4),
+    ("self 2 5 --workers 3", UNREAD, SMALLEST, 0),
+    ("self --workers=2 2 5", UNREAD, SMALLEST, 0),
+    ("self 2 5 --workers 0", UNREAD, USAGE, 4),
+    ("self 2 5 --workers 65", UNREAD, USAGE, 4),
+    ("self 2 5 --workers", UNREAD, USAGE, 4),
     ("check 2 5", UNREAD, USAGE, 4),
     ("self 2 5 check", UNREAD, USAGE, 4),
 ];

@@ -38,6 +38,11 @@ refused_on_check (Recheck upgrade) effort bytes r is h = cc
 refused_on_check Flat effort bytes r is h = cc
 refused_on_check (Ring ring) effort bytes r is h = h
 
+-- a status of records is one of a report
+pub small_enough : (result : Result ℕ Stop) → IfOk result (λ (status : ℕ). status ≤ 2) → IfOk result (λ (status : ℕ). status ≤ 3)
+small_enough (Ok status) small = omega (arith, small)
+small_enough (Err stop) small = tt
+
 module _ (command : Command) where
   pub refused-done : (bytes : List ℕ) (r : Refusal) (old new : Option (List ℕ)) → IsRefusedIn command bytes r → Appends old new (refusal_text r) → CommandDone command bytes old new 3
   refused-done bytes r old new h took = record { text = refusal_text r; took = took; stage = refused r h refl refl }

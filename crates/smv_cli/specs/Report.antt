@@ -42,12 +42,16 @@ input_of (Recheck upgrade) bytes = bytes
 input_of Flat bytes = bytes
 input_of (Ring ring) bytes = ring_model ring
 
+-- the effort with which the specifications of a ring are decided: that of a `check` without options, with as many workers as it says
+abbrev pub ring_effort : RingOf → Effort
+ring_effort ring = record default_effort { workers = ring.workers }
+
 -- the effort with which a command decides specifications, where it does so
 abbrev pub effort_of : Command → Option Effort
 effort_of (Check effort) = Some effort
 effort_of (Recheck upgrade) = None
 effort_of Flat = None
-effort_of (Ring ring) = Some default_effort
+effort_of (Ring ring) = Some (ring_effort ring)
 
 -- what stands before the records: of a ring, how many slots and items it has
 abbrev pub heading : Command → Program → List ℕ

@@ -6,7 +6,7 @@ use Rattle.command_words.specs.declared.command.Command.{Command}
 use Rattle.clause_core.specs.Systems.{TransitionSystem}
 use Rattle.command_words.specs.declared.command.Command.TheVariants.{Check, Recheck, Flat, Ring}
 use Rattle.command_words.specs.declared.command.Effort.{Effort}
-use Rattle.command_words.specs.Grammar.{cells_place, counter_option, frames_option}
+use Rattle.command_words.specs.Grammar.{cells_place, counter_option, frames_option, workers_option}
 use Rattle.smv_tree.specs.declared.tree.Program.{Program}
 use Rattle.smv_tree.specs.declared.tree.SpecificationKind.{SpecificationKind}
 use Rattle.smv_resolve.specs.declared.item.Item.{Item}
@@ -70,16 +70,20 @@ abbrev pub IsPool : Program → List TransitionSystem → Effort → ℕ → Lis
 IsPool p systems effort i answers =
     effort.together ≡ true → AreAnswersOf p effort (drop i (specifications_of p)) (drop i systems) (reverse answers)
 
--- the greatest level and the greatest number of signals that the words of a command line can say
-abbrev pub IsInRange : Effort → Type 0
-IsInRange effort = (effort.frames ≤ frames_option.greatest) × (effort.counter ≤ counter_option.greatest)
+-- there are as many workers as the words of a command line can say
+abbrev pub IsCrew : ℕ → Type 0
+IsCrew workers = (workers_option.least ≤ workers) × (workers ≤ workers_option.greatest)
 
--- and so for the effort of a command; a ring has as many cells as the words can say at least
+-- the greatest level and the greatest number of signals that the words can say, and as many workers
+abbrev pub IsInRange : Effort → Type 0
+IsInRange effort = (effort.frames ≤ frames_option.greatest) × (effort.counter ≤ counter_option.greatest) × IsCrew effort.workers
+
+-- and so for the effort of a command; a ring has as many cells as the words can say at least, and as many workers
 abbrev pub IsCommandInRange : Command → Type 0
 IsCommandInRange (Check effort) = IsInRange effort
 IsCommandInRange (Recheck upgrade) = ⊤
 IsCommandInRange Flat = ⊤
-IsCommandInRange (Ring ring) = cells_place.least ≤ ring.cells
+IsCommandInRange (Ring ring) = (cells_place.least ≤ ring.cells) × IsCrew ring.workers
 
 -- what a command works on was read, up to one byte past the limit of a source; or it was made
 abbrev pub IsInput : Command → Option (List ℕ) → List ℕ → Type 0

@@ -24,10 +24,13 @@ use bit_lassos::what_is_never_violated;
 use bit_runs::{Lasso, lasso_of};
 use command_words::Effort;
 use lasso_search::BitLasso;
+use outside::Gate;
 use prove_ltl::{LtlAnswer, LtlDone, LtlEffort, prove_ltl};
 use smv_meaning::Typed;
 use smv_resolve::Item;
 use std::alloc::{AllocError, Global};
+use std::sync::Wait;
+use std::thread::Threads;
 use trace_replay::{Replayed, Trace, replay};
 
 // How much the prover of formulas may do.
@@ -45,11 +48,13 @@ fn ltl_effort(effort: &Effort) -> LtlEffort
 /// What is said of the LTLSPEC of this number.
 ///
 /// Its system is built anew, with the inputs that its formula reads. The only error is want of memory.
-pub fn judge_formula(
+pub fn judge_formula<R: Threads + Wait + Sync, G: Gate + Sync>(
+    rt: &R,
     alloc: Global,
     model: &Checking,
     number: usize,
     spec: &Item,
+    gate: &G,
 ) -> Result<Verdict, AllocError>
     requires ready { IsReady model.now }
     requires first { 0 < number }
@@ -58,7 +63,7 @@ pub fn judge_formula(
     ensures { IfOk result (IsRightFormula (program_in model.now) model.now.effort (item_in model.now spec.now)) }
 {
     let formula = build_formula(alloc, &model.flat, spec)?;
-    let answer = ask(alloc, &formula, &model.effort)?;
+    let answer = ask(rt, alloc, &formula, &model.effort, gate)?;
     formula_verdict(alloc, model, number, spec, &formula, answer)
 }
 
@@ -92,13 +97,29 @@ fn formula_verdict(
 }
 
 // What is answered of a system and its formula.
-fn ask(alloc: Global, formula: &FormulaSystem, effort: &Effort) -> Result<LtlAnswer, AllocError>
+fn ask<R: Threads + Wait + Sync, G: Gate + Sync>(
+    rt: &R,
+    alloc: Global,
+    formula: &FormulaSystem,
+    effort: &Effort,
+    gate: &G,
+) -> Result<LtlAnswer, AllocError>
     requires stands { (p : Program) × ((spec : ResolvedItem) × StandsForFormula p spec formula.now) }
     requires range { IsInRange effort.now }
     ensures { IfOk result (IsFormulaAnswered effort.now formula.now) }
 {
     let (stated, atoms) = (formula.formula(), formula.atoms());
-    let done = prove_ltl(alloc, formula.system(), stated, atoms, &ltl_effort(effort))?;
+    let (system, limits) = (formula.system(), ltl_effort(effort));
+    let done = prove_ltl(
+        rt,
+        alloc,
+        system,
+        stated,
+        atoms,
+        &limits,
+        effort.workers,
+        gate,
+    )?;
     let LtlDone { answer, work: _ } = done;
     Ok(answer)
 }

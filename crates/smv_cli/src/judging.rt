@@ -20,11 +20,14 @@ use cert_core::Certificate;
 use cert_core::laws::no_run_reaches_bad;
 use clause_core::System;
 use command_words::Effort;
+use outside::Gate;
 use prove_run::{Answer, prove_all, prove_invariant};
 use smv_meaning::{Inputs, State, Typed};
 use smv_resolve::{Item, ItemKind};
 use smv_tree::SpecificationKind;
 use std::alloc::{AllocError, Global};
+use std::sync::Wait;
+use std::thread::Threads;
 use trace_replay::{Replayed, Trace, replay_run};
 
 // How much the prover may do.
@@ -75,10 +78,12 @@ fn pooled(alloc: Global, built: &Built, specs: &[Item]) -> Result<Vec<System>, A
 }
 
 /// What is answered of all INVARSPECs at once, the first one last, where the effort says so; else nothing.
-pub fn ask_together(
+pub fn ask_together<R: Threads + Wait + Sync, G: Gate + Sync>(
+    rt: &R,
     alloc: Global,
     model: &Checking,
     specs: &[Item],
+    gate: &G,
 ) -> Result<Vec<Answer>, AllocError>
     requires ready { IsReady model.now }
     requires listed { map (item_in model.now) specs.now ≡ specifications_of (program_in model.now) }
@@ -89,20 +94,23 @@ pub fn ask_together(
     }
     let systems = pooled(alloc, &model.built, specs)?;
     what_is_built_is_alike();
-    let done = prove_all(alloc, &systems, &prover_effort(&model.effort))?;
+    let (effort, workers) = (prover_effort(&model.effort), model.effort.workers);
+    let done = prove_all(rt, alloc, &systems, &effort, workers, gate)?;
     let mut pool = done.answers;
     pool.reverse();
     Ok(pool)
 }
 
 /// The record of the specification of this number, by the next of the answers of all at once, or else by an answer of its own.
-pub fn judge(
+pub fn judge<R: Threads + Wait + Sync, G: Gate + Sync>(
+    rt: &R,
     alloc: Global,
     model: &Checking,
     number: usize,
     kind: SpecificationKind,
     spec: &Item,
     pool: &mut Vec<Answer>,
+    gate: &G,
 ) -> Result<Record, AllocError>
     requires ready { IsReady model.now }
     requires first { 0 < number }
@@ -114,7 +122,7 @@ pub fn judge(
     ensures right { IfOk result (λ r. IsRight kind (program_in model.now) model.now.effort (item_in model.now spec.now) r.verdict) }
     ensures pool { OnOk result (IsPool (program_in model.now) model.now.built.systems model.now.effort number pool.new.items) }
 {
-    let verdict = judge_by_kind(alloc, model, number, kind, spec, pool)?;
+    let verdict = judge_by_kind(rt, alloc, model, number, kind, spec, pool, gate)?;
     Ok(Record {
         number,
         kind,
@@ -123,13 +131,15 @@ pub fn judge(
 }
 
 // What is said of a specification of this kind.
-fn judge_by_kind(
+fn judge_by_kind<R: Threads + Wait + Sync, G: Gate + Sync>(
+    rt: &R,
     alloc: Global,
     model: &Checking,
     number: usize,
     kind: SpecificationKind,
     spec: &Item,
     pool: &mut Vec<Answer>,
+    gate: &G,
 ) -> Result<Verdict, AllocError>
     requires ready { IsReady model.now }
     requires first { 0 < number }
@@ -140,18 +150,22 @@ fn judge_by_kind(
     ensures pool { OnOk result (IsPool (program_in model.now) model.now.built.systems model.now.effort number pool.new.items) }
 {
     match kind {
-        SpecificationKind::Invariant => judge_invariant(alloc, model, number, spec, pool),
-        SpecificationKind::Temporal => judge_formula(alloc, model, number, spec),
+        SpecificationKind::Invariant => {
+            judge_invariant(rt, alloc, model, number, spec, pool, gate)
+        }
+        SpecificationKind::Temporal => judge_formula(rt, alloc, model, number, spec, gate),
     }
 }
 
 // What is said of an INVARSPEC, by the next of the answers of all at once, or else by an answer of its own.
-fn judge_invariant(
+fn judge_invariant<R: Threads + Wait + Sync, G: Gate + Sync>(
+    rt: &R,
     alloc: Global,
     model: &Checking,
     number: usize,
     spec: &Item,
     pool: &mut Vec<Answer>,
+    gate: &G,
 ) -> Result<Verdict, AllocError>
     requires ready { IsReady model.now }
     requires first { 0 < number }
@@ -161,7 +175,7 @@ fn judge_invariant(
     ensures right { IfOk result (IsRightInvariant (program_in model.now) model.now.effort (item_in model.now spec.now)) }
     ensures pool { OnOk result (IsPool (program_in model.now) model.now.built.systems model.now.effort number pool.new.items) }
 {
-    let answer = answer_of(alloc, model, number, spec, pool)?;
+    let answer = answer_of(rt, alloc, model, number, spec, pool, gate)?;
     verdict_of(alloc, model, number, spec, answer)
 }
 
@@ -177,12 +191,14 @@ fn last_of(answers: &mut Vec<Answer>) -> Answer
 }
 
 // What is answered of a specification: the next of the answers of all at once, or what is answered of it alone.
-fn answer_of(
+fn answer_of<R: Threads + Wait + Sync, G: Gate + Sync>(
+    rt: &R,
     alloc: Global,
     model: &Checking,
     number: usize,
     spec: &Item,
     pool: &mut Vec<Answer>,
+    gate: &G,
 ) -> Result<Answer, AllocError>
     requires ready { IsReady model.now }
     requires first { 0 < number }
@@ -195,16 +211,18 @@ fn answer_of(
     if model.effort.together {
         Ok(last_of(pool))
     } else {
-        ask_alone(alloc, model, number, spec)
+        ask_alone(rt, alloc, model, number, spec, gate)
     }
 }
 
 // What is answered of a specification that is asked alone.
-fn ask_alone(
+fn ask_alone<R: Threads + Wait + Sync, G: Gate + Sync>(
+    rt: &R,
     alloc: Global,
     model: &Checking,
     number: usize,
     spec: &Item,
+    gate: &G,
 ) -> Result<Answer, AllocError>
     requires ready { IsReady model.now }
     requires alone { model.now.effort.together ≡ false }
@@ -214,7 +232,8 @@ fn ask_alone(
     ensures { IfOk result (IsAnswered (program_in model.now) model.now.effort (system_of model.now.built (number - 1)) (item_in model.now spec.now)) }
 {
     let system = model.built.system_of(number - 1);
-    let done = prove_invariant(alloc, system, &prover_effort(&model.effort))?;
+    let (effort, workers) = (prover_effort(&model.effort), model.effort.workers);
+    let done = prove_invariant(rt, alloc, system, &effort, workers, gate)?;
     let mut answers = done.answers;
     Ok(last_of(&mut answers))
 }

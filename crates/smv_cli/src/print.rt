@@ -13,11 +13,13 @@ use crate::checking::Checking;
 use crate::judging::judge;
 use crate::record::{Reason, Record, Verdict, print};
 use crate::streams::write_all;
-use outside::{Sink, Stop};
+use outside::{Gate, Sink, Stop};
 use prove_run::Answer;
 use smv_resolve::{Item, ItemKind};
 use std::alloc::Global;
 use std::fmt;
+use std::sync::Wait;
+use std::thread::Threads;
 
 /// Writes one part.
 pub fn put<K: Sink, D: fmt::Display>(alloc: Global, sink: &mut K, part: &D) -> Result<(), Stop>
@@ -62,12 +64,14 @@ fn status_with(status: u8, verdict: &Verdict) -> u8
 
 /// Writes the record of each specification of a program, one by one, each when it is made: by what was answered of all at once,
 /// or else by an answer of its own. The answer is 1 where one is false, else 2 where one is unknown, else 0.
-pub fn put_records<K: Sink>(
+pub fn put_records<R: Threads + Wait + Sync, K: Sink, G: Gate + Sync>(
+    rt: &R,
     alloc: Global,
     sink: &mut K,
     model: &Checking,
     specs: &[Item],
     pool: Vec<Answer>,
+    gate: &G,
 ) -> Result<u8, Stop>
     requires ready { IsReady model.now }
     requires claims { All (λ spec. is_claim spec.kind ≡ true) specs.now }
@@ -86,7 +90,7 @@ pub fn put_records<K: Sink>(
         let ItemKind::Specification(kind) = spec.kind else {
             unreachable!()
         };
-        let Ok(made) = judge(alloc, model, i + 1, kind, spec, &mut pool) else {
+        let Ok(made) = judge(rt, alloc, model, i + 1, kind, spec, &mut pool, gate) else {
             return Err(Stop::NoMemory);
         };
         put_record(alloc, sink, &made)?;

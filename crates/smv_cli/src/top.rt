@@ -10,7 +10,7 @@ ghost use Rattle.smv_meaning.specs.Runs.{is_claim, specifications_of};
 ghost use Rattle.smv_cli.specs.Listing.{listing_text};
 ghost use Rattle.smv_recheck.specs.Checking.{status_of as status_again};
 ghost use Rattle.smv_recheck.specs.Printed.{report_text};
-ghost use Rattle.smv_cli.specs.Report.{Answered, Begun, CommandReport, IsTaken, Stage, effort_of, heading, input_of};
+ghost use Rattle.smv_cli.specs.Report.{Answered, Begun, CommandReport, IsTaken, Stage, effort_of, heading, input_of, ring_effort};
 ghost use Rattle.smv_cli.specs.Streams.{AppendsFront};
 ghost use Rattle.smv_cli.specs.Texts.{usage_text};
 ghost use Rattle.smv_cli.specs.Written.{CommandDone, CommandPart, IsCommandInRange, IsInRange, IsReady, Reported, ReportedPart, item_in, program_in};
@@ -23,7 +23,7 @@ use crate::preparing::{Preparation, put_block};
 use crate::print::{put, put_open, put_records};
 use crate::streams::{SourceStop, write_all};
 use cert_core::Sound;
-use command_words::{Command, Effort, WordsStop, default_effort, read_words};
+use command_words::{Command, Effort, Ring, WordsStop, default_effort, read_words};
 use outside::{Gate, OpenGate, Sink, Source, Stop, SureSink, SureSource};
 use smv_front::read_model;
 use smv_meaning::{Typed, specifications};
@@ -49,12 +49,14 @@ fn refuse<K: Sink>(alloc: Global, sink: &mut K, refusal: &Refusal) -> Result<u8,
 }
 
 // Writes the records of a model of which no item faults, and in front of them the steps that show that, where these are to be printed.
-fn report_sound<K: Sink>(
+fn report_sound<R: Threads + Wait + Sync, K: Sink, G: Gate + Sync>(
+    rt: &R,
     alloc: Global,
     sink: &mut K,
     model: &Checking,
     specs: &[Item],
     sound: &Sound,
+    gate: &G,
 ) -> Result<u8, Stop>
     requires ready { IsReady model.now }
     requires claims { All (λ spec. is_claim spec.kind ≡ true) specs.now }
@@ -67,14 +69,20 @@ fn report_sound<K: Sink>(
     ensures no_memory { IsErrOf result Stop.NoMemory → K.faults sink.new ≡ K.faults sink.old }
 {
     put_block(alloc, sink, &model.effort, specs.len(), sound)?;
-    let Ok(pool) = ask_together(alloc, model, specs) else {
+    let Ok(pool) = ask_together(rt, alloc, model, specs, gate) else {
         return Err(Stop::NoMemory);
     };
-    put_records(alloc, sink, model, specs, pool)
+    put_records(rt, alloc, sink, model, specs, pool, gate)
 }
 
 // Writes the records of a model, and what stands in front of them.
-fn report_model<K: Sink>(alloc: Global, sink: &mut K, model: &Checking) -> Result<u8, Stop>
+fn report_model<R: Threads + Wait + Sync, K: Sink, G: Gate + Sync>(
+    rt: &R,
+    alloc: Global,
+    sink: &mut K,
+    model: &Checking,
+    gate: &G,
+) -> Result<u8, Stop>
     requires ready { IsReady model.now }
     ensures ok { IfOk result (λ status. Reported (program_in model.now) model.now.effort model.now.preparation (K.taken sink.old) (K.taken sink.new) status) }
     ensures small { IfOk result (λ status. status ≤ 2) }
@@ -87,7 +95,9 @@ fn report_model<K: Sink>(alloc: Global, sink: &mut K, model: &Checking) -> Resul
         return Err(Stop::NoMemory);
     };
     match &model.preparation {
-        Preparation::Sound(sound) => report_sound(alloc, sink, model, specs.as_slice(), sound),
+        Preparation::Sound(sound) => {
+            report_sound(rt, alloc, sink, model, specs.as_slice(), sound, gate)
+        }
         Preparation::Spent { drawn, budget } => {
             put_open(alloc, sink, specs.as_slice(), *drawn, *budget)
         }
@@ -145,12 +155,14 @@ fn report_checked<K: Sink>(alloc: Global, sink: &mut K, checked: &Checked) -> Re
 }
 
 // Decides the specifications of the model that a text is, for a command that does so with this effort.
-fn check<K: Sink>(
+fn check<R: Threads + Wait + Sync, K: Sink, G: Gate + Sync>(
+    rt: &R,
     alloc: Global,
     sink: &mut K,
     text: &[u8],
     command: &Command,
     effort: &Effort,
+    gate: &G,
 ) -> Result<u8, Stop>
     requires asked { effort_of command.now ≡ Some effort.now }
     requires range { IsInRange effort.now }
@@ -164,7 +176,7 @@ fn check<K: Sink>(
     match begin(alloc, text, effort) {
         Ok(model) => {
             put_heading(alloc, sink, command, &model.flat.typed)?;
-            report_model(alloc, sink, &model)
+            report_model(rt, alloc, sink, &model, gate)
         }
         Err(TextStop::Refused(refusal)) => refuse(alloc, sink, &refusal),
         Err(TextStop::NoMemory) => Err(Stop::NoMemory),
@@ -204,8 +216,25 @@ fn recheck<K: Sink>(alloc: Global, sink: &mut K, text: &[u8], upgrade: bool) -> 
     }
 }
 
+// The effort with which the specifications of a ring are decided.
+fn ring_effort(ring: &Ring) -> Effort
+    ensures { result ≡ ring_effort ring.now }
+{
+    Effort {
+        workers: ring.workers,
+        ..default_effort()
+    }
+}
+
 // Reports on a text what the command asks for, and gives the status.
-fn report<K: Sink>(alloc: Global, sink: &mut K, text: &[u8], command: &Command) -> Result<u8, Stop>
+fn report<R: Threads + Wait + Sync, K: Sink, G: Gate + Sync>(
+    rt: &R,
+    alloc: Global,
+    sink: &mut K,
+    text: &[u8],
+    command: &Command,
+    gate: &G,
+) -> Result<u8, Stop>
     requires range { IsCommandInRange command.now }
     ensures ok { IfOk result (λ status. CommandDone command.now text.now (K.taken sink.old) (K.taken sink.new) status) }
     ensures small { IfOk result (λ status. status ≤ 3) }
@@ -215,15 +244,22 @@ fn report<K: Sink>(alloc: Global, sink: &mut K, text: &[u8], command: &Command) 
     ensures no_memory { IsErrOf result Stop.NoMemory → K.faults sink.new ≡ K.faults sink.old }
 {
     match command {
-        Command::Check(effort) => check(alloc, sink, text, command, effort),
+        Command::Check(effort) => check(rt, alloc, sink, text, command, effort, gate),
         Command::Recheck { upgrade } => recheck(alloc, sink, text, *upgrade),
         Command::Flat => list(alloc, sink, text),
-        Command::Ring(_) => check(alloc, sink, text, command, &default_effort()),
+        Command::Ring(ring) => check(rt, alloc, sink, text, command, &ring_effort(ring), gate),
     }
 }
 
 // Reads a model, or makes one, and reports what the command asks for.
-fn answer<S: Source, K: Sink>(alloc: Global, source: &mut S, sink: &mut K, command: &Command) -> u8
+fn answer<R: Threads + Wait + Sync, S: Source, K: Sink, G: Gate + Sync>(
+    rt: &R,
+    alloc: Global,
+    source: &mut S,
+    sink: &mut K,
+    command: &Command,
+    gate: &G,
+) -> u8
     requires range { IsCommandInRange command.now }
     ensures answered { result ≤ 4 → Answered (CommandReport command.now) (S.left source.old) (K.taken sink.old) (K.taken sink.new) result }
     ensures begun { 4 < result → Begun (CommandReport command.now) (S.left source.old) (K.taken sink.old) (K.taken sink.new) }
@@ -240,7 +276,7 @@ fn answer<S: Source, K: Sink>(alloc: Global, source: &mut S, sink: &mut K, comma
         Err(SourceStop::Failed) => return 5,
         Err(SourceStop::NoMemory) => return 7,
     };
-    match report(alloc, sink, &text, command) {
+    match report(rt, alloc, sink, &text, command, gate) {
         Ok(status) => status,
         Err(Stop::Failed) => 6,
         Err(Stop::NoMemory) => 7,
@@ -263,11 +299,13 @@ fn refuse_words<K: Sink>(alloc: Global, sink: &mut K) -> u8
 }
 
 // Does what the words say.
-fn perform<'a, S: Source, K: Sink>(
+fn perform<'a, R: Threads + Wait + Sync, S: Source, K: Sink, G: Gate + Sync>(
+    rt: &R,
     alloc: Global,
     words: &'a [&'a str],
     source: &mut S,
     sink: &mut K,
+    gate: &G,
 ) -> u8
     ensures answered { result ≤ 4 → Answered (Stage (map (λ w. w.now) words.now)) (S.left source.old)
         (K.taken sink.old) (K.taken sink.new) result }
@@ -285,7 +323,7 @@ fn perform<'a, S: Source, K: Sink>(
     ensures no_write_fault { result ≢ 6 → K.faults sink.new ≡ K.faults sink.old }
 {
     match read_words(alloc, words) {
-        Ok(command) => answer(alloc, source, sink, &command),
+        Ok(command) => answer(rt, alloc, source, sink, &command, gate),
         Err(WordsStop::Outside) => refuse_words(alloc, sink),
         Err(WordsStop::NoMemory) => 7,
     }
@@ -301,17 +339,19 @@ fn perform<'a, S: Source, K: Sink>(
 /// `recheck` judges a report that stands beside its model, by its traces and certificates alone, and asks no solver
 /// (`smv_recheck::recheck`); with `--upgrade` it prints each certificate anew in the form that is judged by hints. What it shows holds.
 ///
-/// `self` makes the model of a ring (`model_gen::ring`), writes how many slots and items it has, and decides its specifications as
-/// `check` without options does. It reads no source.
+/// `self` makes the model of a ring (`model_gen::ring`), and writes how many slots and items it has. It decides its
+/// specifications as `check` without options does, by as many workers as its words say. It reads no source.
 ///
-/// No worker runs yet, so the gate is entered by none: a gate that holds its workers holds no run.
+/// So many workers as the words say explore the frames of a specification together (`prove_run`, `prove_ltl`). Each passes
+/// the gate before each of its tasks: one alone is the caller, with number 0; several have the numbers from 1 on, and the
+/// caller takes what they leave.
 pub fn run<'a, R: Threads + Wait + Sync, S: Source, K: Sink, G: Gate + Sync>(
-    _rt: &R,
+    rt: &R,
     alloc: Global,
     words: &'a [&'a str],
     source: &mut S,
     sink: &mut K,
-    _gate: &G,
+    gate: &G,
 ) -> u8
     // What was taken is a report of what the source held, with the effort that the words say; or the line of usage.
     ensures answered { result ≤ 4 → Answered (Stage (map (λ w. w.now) words.now)) (S.left source.old)
@@ -336,7 +376,7 @@ pub fn run<'a, R: Threads + Wait + Sync, S: Source, K: Sink, G: Gate + Sync>(
         → (Rose (S.faults source.old) (S.faults source.new) → ⊥) → (Rose (K.faults sink.old) (K.faults sink.new) → ⊥)
         → IfSome (S.left source.old) (λ bytes. IsTaken command (input_of command bytes) → (result ≤ 2) ⊎ (result ≡ 7)) }
 {
-    perform(alloc, words, source, sink)
+    perform(rt, alloc, words, source, sink, gate)
 }
 
 /// The same over bytes: the status, and what was printed.

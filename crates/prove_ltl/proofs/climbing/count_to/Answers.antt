@@ -1,118 +1,38 @@
-use Rattle.std.proofs.Common.{◌≡◌, ◌∙◌, ℕ, Bool, true, List, length, ap, sym, subst, arith}
-use Rattle.std.specs.Prelude.{Some}
-use Rattle.clause_core.specs.Systems.{TransitionSystem}
-use Rattle.cert_core.specs.Blocks.{Block}
-use Rattle.cert_core.specs.Certificates.{Certifies}
+use Rattle.std.proofs.Common.{◌∙◌, ℕ, Bool, List, length, sym, subst}
+use Rattle.std.proofs.lemmas.Result.{IfOk-weaker}
 use Rattle.effort_purse.specs.Drawing.{numbers_below}
 use Rattle.effort_purse.specs.Plain.{plain_count, plain_spent}
-use Rattle.frame_core.specs.declared.outcomes.Verdict.{Verdict}
-use Rattle.frame_core.specs.Changes.{VerdictSays}
 use Rattle.frame_core.specs.Law.{FrameState}
-use Rattle.ltl_lassos.specs.Violating.{NeverViolated}
-use Rattle.prove_run.specs.declared.answers.Work.{Work}
-use Rattle.prove_run.specs.Exploring.{IsExplored}
+use Rattle.frame_history.specs.declared.entries.Entry.{Entry}
+use Rattle.frame_worker.specs.Exploring.{IsExplored}
 use Rattle.prove_run.proofs.Finished.{below_long}
-use Rattle.prove_run.proofs.Invariant.{no_verdict}
-use Rattle.prove_ltl.specs.declared.answers.LtlAnswer.TheVariants.{Unknown}
-use Rattle.prove_ltl.specs.declared.answers.LtlCause.{LtlCause}
-use Rattle.prove_ltl.specs.Climbing.{cause_of}
-use Rattle.prove_ltl.specs.LtlAnswers.{IsLtlDone, limits_of}
-use Rattle.prove_ltl.proofs.Stepping.{same_after, its_counted, goes_on, ends, stops, shown}
+use Rattle.prove_ltl.specs.Climbing.{Climbs, ClimbsBy}
+use Rattle.prove_ltl.specs.LtlAnswers.{limits_of}
+use Rattle.prove_ltl.proofs.Counted.{climbs_so, plain_used}
 use Rattle.prove_ltl.proofs.climbing.count_to.Goals as goal
 
-pub returns-in-Some-Invariant-clause-climbs : goal.returns-in-Some-Invariant-clause-climbs
-returns-in-Some-Invariant-clause-climbs c = λ sys f atoms log h.
-    let effort = c.args.effort.now in
-    let m = c.args.monitored.now.system in
-    let k : ℕ = c.args.k in
-    let carried = c.args.frames.lemmas in
-    let works = c.args.work.items in
-    let old : List ℕ = numbers_below (plain_count c.args.purse.now) in
-    let fr : FrameState = c.in_ok-frames.field-0.frames in
-    let one : Work = record { history = c.in_ok-frames.field-0.history } in
-    let now = c.push.new.self.items in
-    let is_now = c.in_ok-push.ensures.items in
-    let new : List ℕ = numbers_below (plain_count c.explore.new.purse) in
-    let over : Bool = plain_spent c.explore.new.purse in
-    let c0 : TransitionSystem = c.requires.counted.0 in
-    let isc = c.requires.counted.2 in
-    let e = subst (λ (z : List TransitionSystem). IsExplored z (limits_of effort) carried one.history.items fr old new over) c.requires.counted.1 c.in_ok-frames.ensures.explored in
-    let p = c.shown.new.purse in
-    let level : ℕ = c.in-Some-Invariant.level in
-    let says = subst (λ (v : Verdict). VerdictSays fr 0 (Some v)) c.in-Some-Invariant.field-0-is c.in-Some-Invariant.ensures in
-    let whole : plain_spent p ≡ true → length (numbers_below (plain_count p)) ≡ effort.conflicts = λ on.
-    below_long (plain_count p) ∙ p.used_up on ∙ c.in_ok-answer-in-Some-Invariant.ensures.budget ∙ c.in_ok-frames.ensures.budget ∙ c.requires.budget in
-    let never : (cert : Block) → Certifies c0 cert → NeverViolated sys f atoms = λ cert certifies.
-    c.counted_systems.ensures.certified sys log.monitored c0 f atoms k cert h.so_it_was.monitor (its_counted sys f atoms effort m log k carried works old h c0 isc now one is_now fr new over e) h.own h.so_it_was.gives certifies in
-    shown sys f atoms effort m log k carried works old h c0 isc now one is_now fr new over e level (numbers_below (plain_count p)) (plain_spent p) c.in_ok-answer-in-Some-Invariant.answer says c.in_ok-answer-in-Some-Invariant.ensures.shows
-    c.requires.within never whole
-
-pub returns-then-k-effort-clause-climbs : goal.returns-then-k-effort-clause-climbs
-returns-then-k-effort-clause-climbs c =
-    let effort = c.args.effort.now in
-    let m = c.args.monitored.now.system in
-    let k : ℕ = c.args.k in
-    let carried = c.args.frames.lemmas in
-    let works = c.args.work.items in
-    let old : List ℕ = numbers_below (plain_count c.args.purse.now) in
-    let fr : FrameState = c.in_ok-frames.field-0.frames in
-    let one : Work = record { history = c.in_ok-frames.field-0.history } in
-    let now = c.push.new.self.items in
-    let is_now = c.in_ok-push.ensures.items in
-    let new : List ℕ = numbers_below (plain_count c.explore.new.purse) in
-    let over : Bool = plain_spent c.explore.new.purse in
-    let c0 : TransitionSystem = c.requires.counted.0 in
-    let isc = c.requires.counted.2 in
-    let e = subst (λ (z : List TransitionSystem). IsExplored z (limits_of effort) carried one.history.items fr old new over) c.requires.counted.1 c.in_ok-frames.ensures.explored in
-    let says = subst (λ (v : Verdict). VerdictSays fr 0 (Some v)) c.in-Some-Reached.field-0-is c.in-Some-Reached.ensures in (
-      c.if-k-effort.true,
-      same_after c.args.frames.systems (limits_of effort) carried one.history.items fr old new over c.in_ok-frames.ensures.explored,
-      λ sys f atoms log h. goes_on sys f atoms effort m log k carried works old h c0 isc now one is_now fr new over e c.in-Some-Reached.field-0-0 says,
-    )
-
-pub returns-in-Some-Reached-clause-climbs : goal.returns-in-Some-Reached-clause-climbs
-returns-in-Some-Reached-clause-climbs c = λ sys f atoms log h.
-    let effort = c.args.effort.now in
-    let m = c.args.monitored.now.system in
-    let k : ℕ = c.args.k in
-    let carried = c.args.frames.lemmas in
-    let works = c.args.work.items in
-    let old : List ℕ = numbers_below (plain_count c.args.purse.now) in
-    let fr : FrameState = c.in_ok-frames.field-0.frames in
-    let one : Work = record { history = c.in_ok-frames.field-0.history } in
-    let now = c.push.new.self.items in
-    let is_now = c.in_ok-push.ensures.items in
-    let new : List ℕ = numbers_below (plain_count c.explore.new.purse) in
-    let over : Bool = plain_spent c.explore.new.purse in
-    let c0 : TransitionSystem = c.requires.counted.0 in
-    let isc = c.requires.counted.2 in
-    let e = subst (λ (z : List TransitionSystem). IsExplored z (limits_of effort) carried one.history.items fr old new over) c.requires.counted.1 c.in_ok-frames.ensures.explored in
-    let says = subst (λ (v : Verdict). VerdictSays fr 0 (Some v)) c.in-Some-Reached.field-0-is c.in-Some-Reached.ensures in
-    let most = c.if-k-effort.false in
-    let within = c.requires.within in
-    let at : k ≡ effort.counter = omega (arith, most, within) in
-    ends sys f atoms effort m log k carried works old h c0 isc now one is_now fr new over e c.in-Some-Reached.field-0-0 says at
-
 pub returns-clause-climbs : goal.returns-clause-climbs
-returns-clause-climbs c = λ sys f atoms log h.
+returns-clause-climbs g c =
     let effort = c.args.effort.now in
     let m = c.args.monitored.now.system in
     let k : ℕ = c.args.k in
-    let carried = c.args.frames.lemmas in
+    let f = c.args.frames in
     let works = c.args.work.items in
-    let old : List ℕ = numbers_below (plain_count c.args.purse.now) in
+    let p = c.args.purse.now in
+    let q = c.explore.new.purse in
+    let r = c.climbed_by.new.purse in
     let fr : FrameState = c.in_ok-frames.field-0.frames in
-    let one : Work = record { history = c.in_ok-frames.field-0.history } in
-    let now = c.push.new.self.items in
-    let is_now = c.in_ok-push.ensures.items in
-    let new : List ℕ = numbers_below (plain_count c.explore.new.purse) in
-    let over : Bool = plain_spent c.explore.new.purse in
-    let c0 : TransitionSystem = c.requires.counted.0 in
-    let isc = c.requires.counted.2 in
-    let e = subst (λ (z : List TransitionSystem). IsExplored z (limits_of effort) carried one.history.items fr old new over) c.requires.counted.1 c.in_ok-frames.ensures.explored in
-    let p = c.explore.new.purse in
-    let none = no_verdict fr 0 (subst (VerdictSays fr 0) c.in-None.is c.verdict.ensures) in
-    let whole : plain_spent p ≡ true → length (numbers_below (plain_count p)) ≡ effort.conflicts = λ on.
-    below_long (plain_count p) ∙ p.used_up on ∙ c.in_ok-frames.ensures.budget ∙ c.requires.budget in
-    subst (λ (z : LtlCause). IsLtlDone sys f atoms effort now (Unknown z)) (sym (c.cause.ensures ∙ ap (λ (o : Bool). cause_of o k effort) c.seen_spent-over.ensures))
-    (stops sys f atoms effort m log k carried works old h c0 isc now one is_now fr new over e whole c.requires.within none)
+    let history : List Entry = c.in_ok-frames.field-0.history.items in
+    let over : Bool = c.seen_spent-over.result in
+    let n : ℕ = plain_count p in
+    let before : List ℕ = numbers_below (plain_count q) in
+    let after : List ℕ = numbers_below (plain_count r) in
+    let late : IsExplored f.systems (limits_of effort) f.lemmas history fr (length (numbers_below n)) (length before) over =
+    subst (IsExplored f.systems (limits_of effort) f.lemmas history fr (length (numbers_below n)) (length before)) (sym c.seen_spent-over.ensures) c.in_ok-frames.ensures.explored in
+    let e : IsExplored f.systems (limits_of effort) f.lemmas history fr n (length before) over =
+    subst (λ (z : ℕ). IsExplored f.systems (limits_of effort) f.lemmas history fr z (length before) over) (below_long n) late in
+    IfOk-weaker c.climbed_by.result (ClimbsBy effort m k history fr over works before after (plain_spent r))
+    (Climbs effort m k f.systems f.lemmas works n (plain_count r))
+    (λ z by. subst (λ (x : ℕ). Climbs effort m k f.systems f.lemmas works n x z) (below_long (plain_count r))
+    (climbs_so effort m k history fr over works before after (plain_spent r) z by f.systems f.lemmas n c.requires.counted e
+    (plain_used effort r (c.climbed_by.ensures.budget ∙ c.in_ok-frames.ensures.budget ∙ c.requires.budget)))) c.climbed_by.ensures.climbs

@@ -1,10 +1,10 @@
-use Rattle.std.proofs.Common.{Bool, List, ap, subst}
+use Rattle.std.proofs.Common.{Bool, List, length, ap, subst}
 use Rattle.std.specs.Prelude.{ℕ, IfOk}
 use Rattle.clause_core.specs.Systems.{TransitionSystem}
 use Rattle.frame_core.specs.declared.parts.Lemma.{Lemma}
 use Rattle.frame_history.specs.declared.entries.Limits.{Limits}
 use Rattle.frame_book.specs.Book.{BookView}
-use Rattle.prove_run.specs.Exploring.{IsExplored}
+use Rattle.frame_worker.specs.Exploring.{IsExplored}
 use Rattle.prove_run.proofs.Closing.{starts}
 use Rattle.prove_run.proofs.exploring.explore_by.Goals as goal
 
@@ -24,7 +24,7 @@ returns-clause-explored g c =
     let new : List ℕ = g.Q.Purse.tickets c.play_out.new.purse in
     let over : Bool = g.Q.Purse.spent c.play_out.new.purse in
     let E : List TransitionSystem → Limits → List Lemma → List ℕ → Type 0 =
-    λ systems at carried before. IfOk c.play_out.result (λ e. IsExplored systems at carried e.history.items e.frames before new over) in
+    λ systems at carried before. IfOk c.play_out.result (λ e. IsExplored systems at carried e.history.items e.frames (length before) (length new) over) in
     subst (λ (z : List TransitionSystem). E z limits f.lemmas old) (ap (λ (z : BookView). z.systems) is)
     (subst (λ (z : Limits). E start.systems z f.lemmas old) (ap (λ (z : BookView). z.limits) is)
     (subst (λ (z : List Lemma). E start.systems start.limits z old) (ap (λ (z : BookView). z.carried) is)

@@ -7,14 +7,14 @@ use Rattle.smv_cli.proofs.Asking.{kept_pool}
 use Rattle.smv_cli.proofs.judging.judge_by_kind.Goals as goal
 
 pub judge_invariant-requires-clause-invariant : goal.judge_invariant-requires-clause-invariant
-judge_invariant-requires-clause-invariant c = ap is_invariant (c.requires.kind ∙ ap item.Specification c.in-Invariant.is)
+judge_invariant-requires-clause-invariant g c _ _ = ap is_invariant (c.requires.kind ∙ ap item.Specification c.in-Invariant.is)
 
 on_ok : {A E : Type 0} (P : Type 0) (r : Result A E) → P → OnOk r P
 on_ok P (Ok x) h = h
 on_ok P (Err e) h = tt
 
 pub returns-in-Temporal-clause-pool : goal.returns-in-Temporal-clause-pool
-returns-in-Temporal-clause-pool c =
+returns-in-Temporal-clause-pool g c =
     let model = c.args.model.now in
     let p = program_in model in
     let answers = c.args.pool.now.items in

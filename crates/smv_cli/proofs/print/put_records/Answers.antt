@@ -27,7 +27,7 @@ numbered_claim p nodes specs i s within same =
     ∙ ap (λ (x : ResolvedItem). Some x) (get_or-map (item_by nodes) specs i s)
 
 pub judge-requires-clause-numbered : goal.judge-requires-clause-numbered
-judge-requires-clause-numbered g c = numbered_claim (program_in c.args.model.now) c.args.model.now.flat.typed.nodes c.args.specs.now c.specs.i _ c.specs-test.true c.requires.listed
+judge-requires-clause-numbered g c _ _ = numbered_claim (program_in c.args.model.now) c.args.model.now.flat.typed.nodes c.args.specs.now c.specs.i _ c.specs-test.true c.requires.listed
 
 pub specs-preserved : goal.specs-preserved
 specs-preserved g c =

@@ -34,7 +34,7 @@ pub returns-in-Err-NoMemory-clause-begun : goal.returns-in-Err-NoMemory-clause-b
 returns-in-Err-NoMemory-clause-begun g c = λ _. unread-begun (map (λ (w : Bor (List ℕ)). w.now) c.args.words.now) (g.S.Source.left c.args.source.now) (g.K.Sink.taken c.args.sink.now)
 
 pub answer-requires : goal.answer-requires
-answer-requires g c = record { range = in_range (map (λ (w : Bor (List ℕ)). w.now) c.args.words.now) c.in-Ok.command c.in-Ok.ensures.said }
+answer-requires g c = (c.type_bounds.sync-R, (c.type_bounds.sync-G, in_range (map (λ (w : Bor (List ℕ)). w.now) c.args.words.now) c.in-Ok.command c.in-Ok.ensures.said))
 
 pub returns-in-Ok-clause-made : goal.returns-in-Ok-clause-made
 returns-in-Ok-clause-made g c = λ ring says.

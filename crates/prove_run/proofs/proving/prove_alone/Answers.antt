@@ -7,12 +7,12 @@ use Rattle.frame_core.specs.declared.parts.Lemma.{Lemma}
 use Rattle.frame_history.specs.declared.entries.Entry.{Entry}
 use Rattle.prove_run.specs.declared.answers.Answer.{Answer}
 use Rattle.prove_run.specs.Answers.{limits_of}
-use Rattle.prove_run.specs.Exploring.{IsExplored}
+use Rattle.frame_worker.specs.Exploring.{IsExplored}
 use Rattle.prove_run.proofs.Finished.{below_long, finished}
-use Rattle.prove_run.proofs.proving.prove_some.Goals as goal
+use Rattle.prove_run.proofs.proving.prove_alone.Goals as goal
 
 pub returns : goal.returns
-returns c =
+returns g c =
     let systems = c.args.systems.now in
     let effort = c.args.effort.now in
     let p = c.explore.new.purse in
@@ -25,7 +25,7 @@ returns c =
     let is = c.in_ok-frames.ensures in
     let old : numbers_below (plain_count c.new-purse.result) ≡ [] = ap numbers_below c.new-purse.ensures.count in
     let new : List ℕ = numbers_below (plain_count p) in
-    let E : List TransitionSystem → List Lemma → List ℕ → Bool → Type 0 = λ ss carried before late. IsExplored ss (limits_of effort) carried history f before new late in
+    let E : List TransitionSystem → List Lemma → List ℕ → Bool → Type 0 = λ ss carried before late. IsExplored ss (limits_of effort) carried history f (length before) (length new) late in
     let h : E systems [] [] over =
     subst (λ (z : List TransitionSystem). E z [] [] over) (ap (λ (z : FrameState). z.systems) is)
     (subst (λ (z : List Lemma). E first.systems z [] over) (ap (λ (z : FrameState). z.lemmas) is)
