@@ -1,0 +1,4 @@
+mod OfEntries
+mod OfPrinted
+mod OfRead
+mod OfReading

@@ -1,0 +1,10 @@
+//! A law of lines.
+
+ghost use Rattle.std.specs.Prelude.{List, ℕ};
+ghost use Rattle.trace_lines.specs.declared.entry.Entry.{Entry};
+ghost use Rattle.trace_lines.specs.Printed.{SaysExactly};
+
+/// A line of a trace says what is printed so, and nothing else.
+pub fn is_said_exactly()
+    ensures { (line : List ℕ) (e : Entry) → SaysExactly line e }
+{}

@@ -1,0 +1,12 @@
+//! The counterexamples of a report, read from its text alone: no model is needed, and none is asked for.
+#![tactic(auto)]
+
+mod entry;
+mod laws;
+mod reading;
+mod trace;
+
+pub use entry::{Binding, Entry, entry_read, is_trace_line, number_of, pieces};
+pub use laws::is_said_exactly;
+pub use reading::{ReadStop, Reading, head_row, report_read};
+pub use trace::Trace;

@@ -1,0 +1,2 @@
+mod OfPictures
+mod OfSvg

@@ -1,0 +1,4 @@
+pub mod Answers
+pub mod Svg
+pub mod Vcd
+pub mod WellFormed
