@@ -1,5 +1,5 @@
 -- Full parts are rejected for a reason of the program alone.
-use Rattle.std.proofs.Common.{◌≡◌, ◌⊎◌, ℕ, zero, suc, ◌<◌, ◌≤◌, Bool, true, false, List, [], ◌∷◌, ◌++◌, length, take, slice_get, Option, None, Some, sym, subst, arith, inl, inr}
+use Rattle.std.proofs.Common.{◌≡◌, ◌∙◌, ◌⊎◌, ℕ, zero, suc, ◌<◌, ◌≤◌, Bool, true, false, List, [], ◌∷◌, ◌++◌, length, take, slice_get, Option, None, Some, sym, subst, arith, inl, inr}
 use borrow.Author.Count.{below_more}
 use Rattle.std.specs.List.{All, Any}
 use Rattle.std.specs.Prelude.{slice_index_or}
@@ -29,9 +29,12 @@ use Rattle.bit_clauses.specs.declared.deciding.Decided.{Decided}
 use Rattle.bit_states.specs.Layouts.{named_width, state_width}
 use Rattle.bit_states.specs.Coding.{inputs_of, next_of, state_of}
 use Rattle.bit_conditions.specs.Asked.{is_broken_in}
-use Rattle.bit_faults.specs.Questions.{AreFaultQuestions, IsFaultQuestion, faults_at, judged_items}
+use Rattle.bit_faults.specs.Mending.{mended}
+use Rattle.bit_faults.specs.Questions.{AreFaultQuestions, IsFaultQuestion, judged_items}
+use Rattle.bit_faults.proofs.Bits.{faults_same}
 use Rattle.bit_system.specs.Standing.{StandsFor}
 use Rattle.sound_check.specs.Judgements.{PartShows, FailsFirst as FailsFirstItem}
+use Rattle.smv_recheck.proofs.Reaching.{reached}
 use Rattle.smv_recheck.proofs.Recording.{element_at}
 use Rattle.smv_recheck.specs.Full.{HasFault, HasReason, IsFull, IsFullItem, IsFullPart}
 
@@ -179,8 +182,16 @@ item_fails : (p : Program) (x : ResolvedItem) (q : Option Decided) (parts : List
 item_fails p x None parts item log full at is fails = absurd (fails tt)
 item_fails p x (Some d) parts item log full at is fails =
     let never : Derives d.vars d.clauses log.steps → ⊥ = λ shown. fails (subst (λ (o : Option HintedLog). Shows Plain d.vars d.clauses o) (sym full.there) shown) in
-    let found = reason (named_width p) d.vars d.clauses d.clauses [] log.steps (faults_at p x) is.room is.decides (own_covers d.clauses) full.full never in
-    record { judged = x; is_it = at; step = found.0; within = found.1; faults = found.2 }
+    let found = reason (named_width p) d.vars d.clauses d.clauses [] log.steps is.test is.room is.decides (own_covers d.clauses) full.full never in
+    let bits = mended p (full.full.values found.0) in
+    let there = reached bits (named_width p) log.steps full.full in
+    record {
+      judged = x;
+      is_it = at;
+      step = there.0;
+      within = there.1;
+      faults = sym (faults_same p x bits (full.full.values there.0) there.2) ∙ is.faulty (full.full.values found.0) found.2;
+    }
 
 pub has_fault : (p : Program) (questions : List (Option Decided)) (parts : List (Option HintedLog)) (item : ℕ) (log : HintedLog) (full : IsFullItem p parts item log) →
     AreFaultQuestions p questions → FailsFirstItem questions parts item → HasFault p parts item log full
