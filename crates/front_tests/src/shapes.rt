@@ -1,13 +1,15 @@
-//! How operators group: the first formula of a source, each node of it in parentheses.
+//! How operators group: the first formula or claim of a source, each node of it in parentheses.
 
 use crate::program_of;
 use smv_tree::{Expr, Name, Place, Program, Section, Start};
-use smv_value::{Arithmetic, Logic, Operator, Order, Shift, Value};
+use smv_value::{Arithmetic, Bounded, Logic, Operator, Order, Shift, Temporal, Value};
 use std::alloc::{AllocError, Global};
 use std::test::Fail;
 
-/// A constraint, and its formula with each node in parentheses; what stands in parentheses itself, in brackets.
-const SHAPES: [(&str, &str); 23] = [
+/// A source of one formula, and the formula with each node in parentheses; what stands in parentheses itself, in brackets.
+type Shape = (&'static str, &'static str);
+
+const SHAPES: [Shape; 23] = [
     ("MODULE main INVAR a -> b -> c", "(a -> (b -> c))"),
     ("MODULE main INVAR (a -> b) -> c", "([(a -> b)] -> c)"),
     ("MODULE main INVAR !a = b", "((! a) = b)"),
@@ -63,6 +65,87 @@ const SHAPES: [(&str, &str); 23] = [
     ),
 ];
 
+const TEMPORAL_SHAPES: [Shape; 32] = [
+    ("MODULE main LTLSPEC F a & b", "((F a) & b)"),
+    ("MODULE main LTLSPEC F a = b", "(F (a = b))"),
+    ("MODULE main LTLSPEC a U b & c", "((a U b) & c)"),
+    ("MODULE main LTLSPEC a & b U c & d", "(a & (b U c) & d)"),
+    ("MODULE main LTLSPEC a U b U c", "(a U b U c)"),
+    ("MODULE main LTLSPEC a S b T c V d", "(a S b T c V d)"),
+    ("MODULE main LTLSPEC a U (b U c)", "(a U [(b U c)])"),
+    ("MODULE main LTLSPEC !X a = b", "(! (X (a = b)))"),
+    ("MODULE main LTLSPEC !a = b U c", "(((! a) = b) U c)"),
+    ("MODULE main LTLSPEC !a U b", "((! a) U b)"),
+    ("MODULE main LTLSPEC !!F a U b", "((! (! (F a))) U b)"),
+    ("MODULE main LTLSPEC X !!a & b", "((X (! (! a))) & b)"),
+    ("MODULE main LTLSPEC X a U b", "((X a) U b)"),
+    ("MODULE main LTLSPEC a U X b", "(a U (X b))"),
+    ("MODULE main LTLSPEC a U !X b V c", "(a U (! (X b)) V c)"),
+    ("MODULE main LTLSPEC G F [1,2] a", "(G (F[1,2] a))"),
+    (
+        "MODULE main LTLSPEC O [0,0] H [3,255] a | b",
+        "((O[0,0] (H[3,255] a)) | b)",
+    ),
+    ("MODULE main LTLSPEC G [1,2] a = b", "(G[1,2] (a = b))"),
+    ("MODULE main LTLSPEC F w[h:l] = c", "(F ((w [ h : l) = c))"),
+    ("MODULE main LTLSPEC Y Z O H a", "(Y (Z (O (H a))))"),
+    ("MODULE main LTLSPEC a -> X b U c", "(a -> ((X b) U c))"),
+    ("MODULE main LTLSPEC G a -> F b", "((G a) -> (F b))"),
+    ("MODULE main LTLSPEC G (a -> F b)", "(G [(a -> (F b))])"),
+    (
+        "MODULE main LTLSPEC F a <-> G b | H c",
+        "((F a) <-> ((G b) | (H c)))",
+    ),
+    ("MODULE main LTLSPEC a xor F b U c", "(a xor ((F b) U c))"),
+    ("MODULE main LTLSPEC X a ? b : c", "((X a) ? b : c)"),
+    ("MODULE main LTLSPEC F -a < b", "(F ((- a) < b))"),
+    (
+        "MODULE main LTLSPEC F a + b * c < d & e",
+        "((F ((a + (b * c)) < d)) & e)",
+    ),
+    (
+        "MODULE main LTLSPEC F a in b union c",
+        "(F (a in (b union c)))",
+    ),
+    (
+        "MODULE main LTLSPEC F a :: b = c << d U e",
+        "((F ((a :: b) = (c << d))) U e)",
+    ),
+    (
+        "MODULE main LTLSPEC NAME n := F a & G b;",
+        "((F a) & (G b))",
+    ),
+    (
+        "MODULE main LTLSPEC F case a : b; c : d; esac & e",
+        "((F (? a : b : c : d)) & e)",
+    ),
+];
+
+fn temporal_text(operator: Temporal) -> &'static str {
+    match operator {
+        Temporal::Next => "X",
+        Temporal::Finally => "F",
+        Temporal::Globally => "G",
+        Temporal::Previously => "Y",
+        Temporal::WeaklyPreviously => "Z",
+        Temporal::Once => "O",
+        Temporal::Historically => "H",
+        Temporal::Until => "U",
+        Temporal::Releases => "V",
+        Temporal::Since => "S",
+        Temporal::Triggered => "T",
+    }
+}
+
+fn bounded_text(operator: Bounded) -> &'static str {
+    match operator {
+        Bounded::Finally => "F",
+        Bounded::Globally => "G",
+        Bounded::Once => "O",
+        Bounded::Historically => "H",
+    }
+}
+
 fn operator_text(operator: Operator) -> &'static str {
     match operator {
         Operator::Logic(Logic::Iff) => "<->",
@@ -86,7 +169,18 @@ fn operator_text(operator: Operator) -> &'static str {
         Operator::Members => "{",
         Operator::Index | Operator::Select => "[",
         Operator::Maximum => "max",
+        Operator::Temporal(o) => temporal_text(o),
+        Operator::Bounded(o, _, _) => bounded_text(o),
         _ => "",
+    }
+}
+
+// Writes an operator, and the bounds that it may have.
+fn put_operator(out: &mut String, operator: Operator) -> Result<(), AllocError> {
+    out.push_str(operator_text(operator))?;
+    match operator {
+        Operator::Bounded(_, low, high) => write!(out, "[{low},{high}]"),
+        _ => Ok(()),
     }
 }
 
@@ -117,7 +211,7 @@ fn put_applied(
         put(out, depth, operand)?;
         out.push_str(" ")?;
     }
-    out.push_str(operator_text(operator))?;
+    put_operator(out, operator)?;
     for (n, operand) in below.iter().enumerate() {
         out.push_str(if n == 0 { " " } else { " : " })?;
         put(out, depth, operand)?;
@@ -183,6 +277,7 @@ fn put(out: &mut String, depth: usize, expr: &Expr) -> Result<(), AllocError> {
 fn formula_of(program: &Program) -> Option<&Expr> {
     match program.modules.get(0)?.sections.get(0)? {
         Section::Constraint(constraint) => Some(&constraint.formula),
+        Section::Specification(specification) => Some(&specification.formula),
         _ => None,
     }
 }
@@ -205,10 +300,10 @@ fn holds(alloc: Global, source: &str, wanted: &str) -> bool {
     }
 }
 
-// The first row that is wrong.
-fn first_wrong(alloc: Global) -> Option<&'static str> {
-    for (source, wanted) in &SHAPES {
-        if !holds(alloc, *source, *wanted) {
+// The first shape that is wrong.
+fn first_wrong(alloc: Global, shapes: &[Shape]) -> Option<&'static str> {
+    for (source, wanted) in shapes {
+        if !holds(alloc, source, wanted) {
             return Some(*wanted);
         }
     }
@@ -217,7 +312,14 @@ fn first_wrong(alloc: Global) -> Option<&'static str> {
 
 #[test]
 fn operators_group(rt: HostRuntime) -> Result<(), Fail> {
-    let wrong = first_wrong(rt.alloc());
+    let wrong = first_wrong(rt.alloc(), &SHAPES);
+    assert_eq!(rt; wrong, None);
+    Ok(())
+}
+
+#[test]
+fn temporal_operators_group(rt: HostRuntime) -> Result<(), Fail> {
+    let wrong = first_wrong(rt.alloc(), &TEMPORAL_SHAPES);
     assert_eq!(rt; wrong, None);
     Ok(())
 }

@@ -6,7 +6,7 @@ use std::alloc::{AllocError, Global};
 use std::test::Fail;
 
 /// A source, and the line by which it is refused; or nothing, where it is read.
-const VERDICTS: [(&str, &str); 54] = [
+const VERDICTS: [(&str, &str); 60] = [
     ("", ""),
     ("MODULE main", ""),
     (
@@ -197,6 +197,28 @@ const VERDICTS: [(&str, &str); 54] = [
         "MODULE main\nLTLSPEC X [0, 1] x",
         "-- refused 201 Unexpected at 2:11: [\n",
     ),
+    // A temporal operator is no operand of a relation, of a sum or of what stands closer.
+    (
+        "MODULE main\nLTLSPEC x = F y",
+        "-- refused 201 Unexpected at 2:13: F\n",
+    ),
+    (
+        "MODULE main\nLTLSPEC F x = F y",
+        "-- refused 201 Unexpected at 2:15: F\n",
+    ),
+    (
+        "MODULE main\nLTLSPEC -F x",
+        "-- refused 201 Unexpected at 2:10: F\n",
+    ),
+    (
+        "MODULE main\nLTLSPEC F x F y",
+        "-- refused 201 Unexpected at 2:13: F\n",
+    ),
+    (
+        "MODULE main\nLTLSPEC x U & y",
+        "-- refused 201 Unexpected at 2:13: &\n",
+    ),
+    ("MODULE main\nLTLSPEC x = (F y) & x + (G y) in (x U y)", ""),
     (
         "MODULE main\nLTLSPEC x 3]",
         "-- refused 201 Unexpected at 2:11: 3\n",
@@ -208,7 +230,7 @@ const VERDICTS: [(&str, &str); 54] = [
 ];
 
 /// The head of a source, what opens and closes a level before and behind `x`, how often, and the line by which it is refused.
-const LEVELS: [(&str, &str, &str, usize, &str); 13] = [
+const LEVELS: [(&str, &str, &str, usize, &str); 21] = [
     ("MODULE main\nINIT ", "(", ")", 256, ""),
     (
         "MODULE main\nINIT ",
@@ -219,6 +241,33 @@ const LEVELS: [(&str, &str, &str, usize, &str); 13] = [
     ),
     ("MODULE main\nINIT ", "!", "", 256, ""),
     ("MODULE main\nLTLSPEC ", "X ", "", 256, ""),
+    (
+        "MODULE main\nLTLSPEC ",
+        "X ",
+        "",
+        257,
+        "-- refused 202 TooDeep at 2:521\n",
+    ),
+    ("MODULE main\nLTLSPEC ", "!G ", "", 128, ""),
+    (
+        "MODULE main\nLTLSPEC ",
+        "!G ",
+        "",
+        129,
+        "-- refused 202 TooDeep at 2:393\n",
+    ),
+    ("MODULE main\nLTLSPEC ", "O (", ")", 128, ""),
+    (
+        "MODULE main\nLTLSPEC ",
+        "O (",
+        ")",
+        129,
+        "-- refused 202 TooDeep at 2:393\n",
+    ),
+    // Operators with two operands open none, and what one before them opened has ended there.
+    ("MODULE main\nLTLSPEC ", "x U ", "", 300, ""),
+    ("MODULE main\nLTLSPEC ", "X x U ", "", 300, ""),
+    ("MODULE main\nLTLSPEC ", "F [0, 1] ", "", 255, ""),
     (
         "MODULE main\nLTLSPEC ",
         "F [0, 1] ",

@@ -9,4 +9,6 @@ mod graph_clauses;
 #[cfg(test)]
 mod graphs;
 #[cfg(test)]
+mod operators;
+#[cfg(test)]
 mod words;

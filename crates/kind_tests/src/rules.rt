@@ -3,10 +3,14 @@ use smv_kinds::{
     ArrayKind, Discrete, Interval, Kind, KindRule, Operand, assigned_element, constant_given,
     constant_of, kind_given, kind_in_context, kind_of_value, next_kind, takes, takes_sets,
 };
-use smv_value::{Arithmetic, Bounded, Operator, Value};
+use smv_value::{Arithmetic, Bounded, Division, Operator, Value};
 use std::test::Fail;
 
 const ADD: Operator = Operator::Arithmetic(Arithmetic::Add);
+
+const MULTIPLY: Operator = Operator::Arithmetic(Arithmetic::Multiply);
+
+const QUOTIENT: Operator = Operator::Division(Division::Quotient);
 
 // An integer of 0..9, and constants.
 const DIGIT: Kind = Kind::Discrete(Discrete {
@@ -23,6 +27,22 @@ const MOST: Kind = Kind::Discrete(Discrete {
     integers: Some(Interval {
         low: 2147483647,
         high: 2147483647,
+    }),
+    symbols: false,
+});
+
+const LEAST: Kind = Kind::Discrete(Discrete {
+    integers: Some(Interval {
+        low: -2147483648,
+        high: 0,
+    }),
+    symbols: false,
+});
+
+const LONG_RANGE: Kind = Kind::Discrete(Discrete {
+    integers: Some(Interval {
+        low: 0,
+        high: 65536,
     }),
     symbols: false,
 });
@@ -46,7 +66,7 @@ const LONG: Kind = Kind::Word {
 #[derive(Clone, Copy)]
 struct Row(Operator, Kind, Kind, Option<i64>, KindRule);
 
-const ROWS: [Row; 10] = [
+const ROWS: [Row; 13] = [
     Row(ADD, MOST, DIGIT, None, KindRule::IntWidth),
     Row(ADD, BYTE, SIGNED_BYTE, None, KindRule::TypeMismatch),
     Row(Operator::Equal, DIGIT, DIGITS, None, KindRule::TypeMismatch),
@@ -69,6 +89,10 @@ const ROWS: [Row; 10] = [
         KindRule::WordWidth,
     ),
     Row(Operator::In, DIGITS, DIGITS, None, KindRule::TypeMismatch),
+    Row(MULTIPLY, LONG_RANGE, LONG_RANGE, None, KindRule::IntWidth),
+    // A quotient may be as far from 0 as what is divided, on both sides.
+    Row(QUOTIENT, LEAST, DIGIT, None, KindRule::IntWidth),
+    Row(QUOTIENT, BYTE, DIGIT, None, KindRule::TypeMismatch),
 ];
 
 fn operand(kind: Kind, constant: Option<i64>) -> Operand {
