@@ -1,4 +1,4 @@
-//! A certificate that is changed line by line, and certificates that are printed again.
+//! Certificates that are changed line by line and literal by literal, and certificates that are printed again.
 
 use crate::saying::{both, said};
 use std::alloc::Global;
@@ -104,6 +104,104 @@ fn changed_lines_are_judged(rt: HostRuntime) -> Result<(), Fail> {
     for (change, wanted) in TABLE {
         assert_eq!(rt; first_wrong(rt.alloc(), change, wanted)?, None);
     }
+    Ok(())
+}
+
+// Four bits that stay TRUE; the claim speaks of the last two.
+const FIXED: &str =
+    "MODULE main\nFROZENVAR a : boolean; b : boolean; c : boolean; d : boolean;\nINIT a & b & c & d\nINVARSPEC c & d\n";
+
+const FIXED_LINES: [&str; 31] = [
+    "--% cert 1 spec 1 counter none\n",
+    "--% clause 1 2 0\n",
+    "--% clause 1 -2 0\n",
+    "--% clause 3 4 0\n",
+    "--% clause 3 -4 0\n",
+    "--% clause -3 4 0\n",
+    "--% part first 1\n",
+    "--% step 0\n",
+    "--% part first 2\n",
+    "--% step 0\n",
+    "--% part first 3\n",
+    "--% step 0\n",
+    "--% part first 4\n",
+    "--% step 0\n",
+    "--% part first 5\n",
+    "--% step 0\n",
+    "--% part kept 1\n",
+    "--% step 0\n",
+    "--% part kept 2\n",
+    "--% step 0\n",
+    "--% part kept 3\n",
+    "--% step 0\n",
+    "--% part kept 4\n",
+    "--% step 0\n",
+    "--% part kept 5\n",
+    "--% step 0\n",
+    "--% part safe 0\n",
+    "--% step 1 0\n",
+    "--% step 3 0\n",
+    "--% step 0\n",
+    "--% end\n",
+];
+
+const UNSAFE: &str = "-- spec 1 INVARSPEC is rejected: part safe 0\n";
+
+// The number of a line, the line with one literal negated in its place, and what is said. With a clause of two literals gone from
+// either pair, no step follows by units alone. The last change is sound: from bit 3 the fourth one follows and its negation.
+const NEGATED: [(usize, &str, &str); 13] = [
+    (0, "--% cert 1 spec 1 counter none\n", TRUE),
+    (1, "--% clause -1 2 0\n", UNSAFE),
+    (1, "--% clause 1 -2 0\n", UNSAFE),
+    (
+        2,
+        "--% clause -1 -2 0\n",
+        "-- spec 1 INVARSPEC is rejected: part first 2\n",
+    ),
+    (2, "--% clause 1 2 0\n", UNSAFE),
+    (3, "--% clause -3 4 0\n", UNSAFE),
+    (3, "--% clause 3 -4 0\n", UNSAFE),
+    (
+        4,
+        "--% clause -3 -4 0\n",
+        "-- spec 1 INVARSPEC is rejected: part first 4\n",
+    ),
+    (4, "--% clause 3 4 0\n", UNSAFE),
+    (5, "--% clause 3 4 0\n", UNSAFE),
+    (
+        5,
+        "--% clause -3 -4 0\n",
+        "-- spec 1 INVARSPEC is rejected: part first 5\n",
+    ),
+    (27, "--% step -1 0\n", UNSAFE),
+    (28, "--% step -3 0\n", TRUE),
+];
+
+// The model and its certificate with this line in the place of the one of this number.
+fn with_line(alloc: Global, number: usize, line: &str) -> Result<Vec<u8>, Fail> {
+    let mut text = FIXED.as_bytes().to_vec(alloc)?;
+    for (k, kept) in FIXED_LINES.iter().enumerate() {
+        let next = if k == number { line } else { *kept };
+        text.extend_from_slice(next.as_bytes())?;
+    }
+    Ok(text)
+}
+
+// The first row that is answered otherwise.
+fn wrong_negation(alloc: Global) -> Result<Option<usize>, Fail> {
+    for (row, (number, line, wanted)) in NEGATED.iter().enumerate() {
+        let text = with_line(alloc, *number, line)?;
+        let found = said(alloc, &text, false)?;
+        if found.text.as_str() != *wanted {
+            return Ok(Some(row));
+        }
+    }
+    Ok(None)
+}
+
+#[test]
+fn negated_literals_are_judged(rt: HostRuntime) -> Result<(), Fail> {
+    assert_eq!(rt; wrong_negation(rt.alloc())?, None);
     Ok(())
 }
 
