@@ -1,1 +1,2 @@
 mod OfThreeBits
+mod Played

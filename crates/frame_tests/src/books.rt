@@ -1,5 +1,6 @@
-// A book played by hand: a claim that is given back, one that is out while another worker finds none, and one that is
-// settled by a spent purse.
+//! Books played by hand: a claim that is given back, one that is out while another worker finds none, and one that is settled by a
+//! spent purse. Also claims of another book.
+
 ghost use Rattle.std.specs.Prelude.{◌≡◌, ◌<◌};
 
 use clause_core::{Clauses, Lit, System, is_within};
@@ -107,5 +108,100 @@ fn book_is_played_by_hand(rt: HostRuntime) -> Result<(), Fail> {
     let system = one_bit(rt.alloc())?;
     let entries = play::<Brand>(rt.alloc(), &system, Blank::new(1))?;
     assert_eq!(rt; entries, Some(4));
+    Ok(())
+}
+
+// What another book says to this claim, where it is settled there by a spent purse.
+fn settled_elsewhere<L: Ledger>(
+    book: &mut Book<L>,
+    claim: Claim,
+    share: &mut Share<L>,
+) -> Option<Settling>
+    requires { 0 < share.old.parts }
+{
+    let outcome = Outcome::Spent {
+        drawn: 1,
+        budget: 1,
+    };
+    match book.settle(claim, outcome, share) {
+        Ok(settling) => Some(settling),
+        Err(Unsettled { claim, outcome: _ }) => {
+            book.give_back(claim);
+            None
+        }
+    }
+}
+
+// Whether a claim of the first book is not out in the second, and still out in the first.
+fn strays_to_settle<L: Ledger, M: Ledger>(
+    first: &mut Book<L>,
+    second: &mut Book<M>,
+    share: &mut Share<M>,
+) -> Result<bool, AllocError>
+    requires { 0 < share.old.parts }
+{
+    match first.claim(1)? {
+        Claiming::Task(claim) => {
+            let wanted = Settling::NotOut(claim.number());
+            let settling = settled_elsewhere(second, claim, share);
+            Ok(settling == Some(wanted) && second.history().is_empty() && is_idle(first))
+        }
+        Claiming::Idle => Ok(false),
+        Claiming::Closed => Ok(false),
+    }
+}
+
+// The same of a claim that is given back to the second book.
+fn strays_back<L: Ledger, M: Ledger>(
+    first: &mut Book<L>,
+    second: &mut Book<M>,
+) -> Result<bool, AllocError> {
+    match first.claim(1)? {
+        Claiming::Task(claim) => {
+            let wanted = Returning::NotOut(claim.number());
+            let returning = second.give_back(claim);
+            Ok(returning == wanted && second.history().is_empty() && is_idle(first))
+        }
+        Claiming::Idle => Ok(false),
+        Claiming::Closed => Ok(false),
+    }
+}
+
+// Whether another book knows nothing of a claim, which is settled there or given back.
+fn strays<L: Ledger, M: Ledger>(
+    alloc: Global,
+    system: &System,
+    back: bool,
+    first: Blank,
+    second: Blank,
+) -> Result<bool, AllocError>
+    requires first_name { first.name ≡ L.name }
+    requires first_parts { first.parts ≡ L.parts }
+    requires second_name { second.name ≡ M.name }
+    requires second_parts { second.parts ≡ M.parts }
+    requires some { 0 < second.parts }
+{
+    let limits = Limits { frames: 2 };
+    let (ledger, _share) = first.open::<L>();
+    let mut book = Book::new(alloc, Frames::of_one(alloc, system)?, limits, ledger)?;
+    let (ledger, mut share) = second.open::<M>();
+    let mut other = Book::new(alloc, Frames::of_one(alloc, system)?, limits, ledger)?;
+    if back {
+        strays_back(&mut book, &mut other)
+    } else {
+        strays_to_settle(&mut book, &mut other, &mut share)
+    }
+}
+
+// The same of two new books.
+fn strays_anew(alloc: Global, system: &System, back: bool) -> Result<bool, AllocError> {
+    strays::<Brand, Brand>(alloc, system, back, Blank::new(1), Blank::new(1))
+}
+
+#[test]
+fn claims_of_another_book_are_not_out(rt: HostRuntime) -> Result<(), Fail> {
+    let system = one_bit(rt.alloc())?;
+    assert!(rt; strays_anew(rt.alloc(), &system, false)?);
+    assert!(rt; strays_anew(rt.alloc(), &system, true)?);
     Ok(())
 }

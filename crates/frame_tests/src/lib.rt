@@ -8,3 +8,7 @@ mod books;
 mod frame_queries;
 #[cfg(test)]
 mod frames;
+#[cfg(test)]
+mod plays;
+#[cfg(test)]
+mod steps;
