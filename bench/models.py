@@ -1,105 +1,267 @@
 #!/usr/bin/env python3
 """Runs smvcheck on the models of bench/models, and Berkeley ABC's pdr beside it where it is installed.
 
-    bench/models.py [--only WORD] [--limit SECONDS] [--runs N] [WORDS OF check ..]
+    bench/models.py [--live | --words] [--only WORD] [--limit SECONDS] [--runs N] [--program FILE] [WORDS OF check ..]
+    bench/models.py --recheck [--live | --words | --examples] [..]
 
-Prints a line for each model: the answers, the seconds of processor time of each (the least of N runs), and their ratio; then the
-geometric mean of the ratios, with times below a hundredth of a second taken as that. Further words, as --frames 60, are handed to
-`smvcheck check`. Ends with status 1 where an answer is wrong by the model's name, or where the two differ.
+The first prints a line for each model: the answers, the seconds of processor time of each (the least of N runs), and their ratio; then
+the geometric mean of the ratios, with times below a hundredth of a second taken as that. The models are boolean ones with an invariant,
+or with --live those of bench/models/liveness.py, or with --words those of bench/models/words.py. For --live the number of signals is
+shown that the certificate counts (its `counter`), and ABC's model is that after the transformation from liveness to safety.
+
+The second runs `check`, `check --cert`, and `recheck` of what that printed, and prints the times and what was shown. It goes through all
+models and examples, or through those that are named.
+
+Further words, as --frames 60, are handed to `smvcheck check`. Ends with status 1 where an answer is wrong by the model's name, where the
+two differ, or where a record that says true or false is not shown by `recheck`.
 """
 import argparse
-import math
 import os
-import resource
-import shutil
-import subprocess
+import re
 import sys
 import tempfile
 
 HERE = os.path.dirname(os.path.abspath(__file__))
 sys.path.insert(0, os.path.join(HERE, "models"))
 import generate  # noqa: E402
-
-FLOOR = 0.01
-
-
-def timed(command, limit, **streams):
-    """The output of a run and its processor time, or None where it did not end within the limit."""
-
-    def bound():
-        resource.setrlimit(resource.RLIMIT_CPU, (limit, limit + 1))
-
-    before = resource.getrusage(resource.RUSAGE_CHILDREN)
-    run = subprocess.run(command, stdout=subprocess.PIPE, stderr=subprocess.STDOUT, preexec_fn=bound, **streams)
-    after = resource.getrusage(resource.RUSAGE_CHILDREN)
-    seconds = after.ru_utime + after.ru_stime - before.ru_utime - before.ru_stime
-    return (run.stdout.decode(errors="replace"), seconds) if run.returncode >= 0 and seconds < limit else (None, None)
+import liveness  # noqa: E402
+import words as word_models  # noqa: E402
+from programs import (  # noqa: E402
+    BUILT, EXAMPLES, abc, answer_of, answer_of_abc, geometric_mean, has_abc, head, is_decided, least, ratio, records, row, shown, timed,
+)
 
 
-def smvcheck(path, limit, words):
-    program = os.path.join(HERE, "..", "crates", "smvcheck", "out", "smvcheck")
-    with open(path, "rb") as model:
-        out, seconds = timed([program, "check", *words], limit, stdin=model)
-    if out is None:
-        return "no end", None
-    first = out.split("\n", 1)[0]
-    for answer in ("true", "false"):
-        if first.endswith("is " + answer):
-            return answer, seconds
-    return "unknown" if "unknown" in first else first, None
+def text_of(path):
+    with open(path, "rb") as file:
+        return file.read()
 
 
-def abc(path, limit):
-    out, seconds = timed(["berkeley-abc", "-c", f"read_aiger {path}; pdr"], limit)
-    if out is None:
-        return "no end", None
-    if "Property proved" in out:
-        return "true", seconds
-    return ("false", seconds) if "was asserted" in out else ("unknown", None)
+def check(options, text, *more):
+    """The fastest of so many runs of `check`."""
+    command = [options.program, "check", *more, *options.words]
+    return least(options.runs, lambda: timed(command, options.limit, text))
 
 
-def least(runs, run):
-    results = [run() for _ in range(runs)]
-    answer = results[0][0]
-    seconds = [s for _, s in results if s is not None]
-    return answer, min(seconds) if seconds else None
+# Beside ABC.
 
 
-def shown(seconds):
-    return "-" if seconds is None else f"{seconds:.2f}"
+def counter_in(out):
+    """How many signals the certificate of an LTLSPEC counts, and the number of bits of its states' clauses."""
+    found = re.search(r"^--% cert \d+ spec \d+ counter (\w+)", out, re.MULTILINE)
+    return found.group(1) if found else "-"
 
 
-def main():
-    parser = argparse.ArgumentParser()
+def signals(options, text, answer):
+    """The counter of a true claim's certificate; how many states the lasso of a false one has."""
+    if answer == "true":
+        run = check(options, text, "--cert")
+        return "k " + (counter_in(run.out) if run.ended() else "no end")
+    if answer == "false":
+        out = check(options, text).out or ""
+        return f"{out.count('--@ state ')} states"
+    return "-"
+
+
+def beside_abc(options, path):
+    """ABC's answer and time on the model, where it is installed and the model has an AIGER form."""
+    if not has_abc() or not os.path.exists(path + ".aig"):
+        return "-", None
+    run = least(options.runs, lambda: abc(path + ".aig", options.limit))
+    answer = answer_of_abc(run)
+    return answer, run.seconds if is_decided(answer) else None
+
+
+def compared(options, folder, name):
+    """One line of the table: both answers, both times or None, and what else is shown."""
+    path = os.path.join(folder, name)
+    text = text_of(path + ".smv")
+    run = check(options, text)
+    ours = answer_of(run)
+    seconds = run.seconds if is_decided(ours) else None
+    theirs, their_seconds = beside_abc(options, path)
+    more = [signals(options, text, ours)] if options.live else []
+    return ours, seconds, theirs, their_seconds, more
+
+
+def is_wrong(name, *answers):
+    """Whether one of the answers is not the one that the model's name says."""
+    truth = "false" if name.endswith("-false") else "true"
+    return any(is_decided(answer) and answer != truth for answer in answers)
+
+
+def compare(options, folder, names):
+    """Prints the table beside ABC, and gives the names of the models that were answered wrong."""
+    wrong, ratios, solved, missed = [], [], [0, 0], []
+    head("Model", "smvcheck", "s", "ABC pdr", "s", "ratio", *(["k or length"] if options.live else []))
+    for name in names:
+        ours, seconds, theirs, their_seconds, more = compared(options, folder, name)
+        if is_wrong(name, ours, theirs):
+            wrong.append(name)
+        solved[0] += seconds is not None
+        solved[1] += their_seconds is not None
+        if seconds is None and their_seconds is not None:
+            missed.append(name)
+        both = seconds is not None and their_seconds is not None
+        if both:
+            ratios.append(ratio(seconds, their_seconds))
+        row(f"`{name}`", ours, shown(seconds), theirs, shown(their_seconds), f"{ratios[-1]:.2f}" if both else "-", *more)
+    print(f"\nOf {len(names)} models, decided: {solved[0]} by smvcheck, {solved[1]} by ABC.")
+    if missed:
+        print("Decided by ABC alone: " + ", ".join(missed) + ".")
+    if ratios:
+        print(f"Geometric mean of the ratio, of the {len(ratios)} that both decided: {geometric_mean(ratios):.2f}")
+    return wrong
+
+
+# Judged again.
+
+
+def claimed(out):
+    """What each record claims: true, false, or unknown."""
+    return [answer if is_decided(answer) else "unknown" for answer in records(out)]
+
+
+def judged(out):
+    """What `recheck` says of each record: true, false, nothing, or its whole line where it rejects."""
+    said = []
+    for line in out.split("\n"):
+        if " is shown " in line:
+            said.append(line.rsplit(" ", 1)[1])
+        elif " has nothing shown" in line:
+            said.append("unknown")
+        elif line:
+            said.append(line)
+    return said
+
+
+def brief(answers):
+    """Answers in short: how many of each."""
+    kinds = [kind for kind in ("true", "false", "unknown") if kind in answers]
+    return ", ".join(kind if len(answers) == 1 else f"{answers.count(kind)} {kind}" for kind in kinds) or "-"
+
+
+def report_of(text, printed):
+    """A model with a report behind it, whose lines begin at column 1."""
+    return text + (b"" if text.endswith(b"\n") else b"\n") + printed.encode()
+
+
+class Sums:
+    """Times of `check`, `check --cert` and `recheck` over the models of which all three ended."""
+
+    def __init__(self):
+        self.models = 0
+        self.times = [0.0, 0.0, 0.0]
+
+    def add(self, times):
+        self.models += 1
+        self.times = [total + time for total, time in zip(self.times, times)]
+
+    def show(self, of):
+        plain, cert, again = self.times
+        if self.models and plain > 0:
+            print(
+                f"{of}: {self.models} models; check {plain:.2f} s, check --cert {cert:.2f} s ({cert / plain:.2f} times), "
+                f"recheck {again:.2f} s ({again / plain:.2f} times)."
+            )
+
+
+def judge_again(options, name, text, sums):
+    """Checks one model with certificates, judges the report, prints a line, and gives whether each record is shown."""
+    plain = check(options, text)
+    cert = check(options, text, "--cert")
+    if not plain.ended() or not cert.ended():
+        row(f"`{name}`", "no end", shown(plain.seconds), shown(cert.seconds), "-", "-", "-")
+        return True
+    again = timed([options.program, "recheck"], options.limit, report_of(text, cert.out))
+    if not again.ended():
+        row(f"`{name}`", brief(claimed(cert.out)), shown(plain.seconds), shown(cert.seconds), "no end", "-", "-")
+        return True
+    right = judged(again.out) == claimed(cert.out) if claimed(cert.out) else again.out == cert.out
+    lines = sum(line.startswith("--%") for line in cert.out.split("\n"))
+    said = "all" if right else " / ".join(judged(again.out))[:200]
+    row(f"`{name}`", brief(claimed(cert.out)), shown(plain.seconds), shown(cert.seconds), shown(again.seconds), lines, said)
+    of = claimed(cert.out)
+    if of and "unknown" not in of:
+        for group in sums:
+            group.add((plain.seconds, cert.seconds, again.seconds))
+    return right
+
+
+def recheck_all(options, sets):
+    """Goes through the sets of models, and gives the names of those of which a record is not shown."""
+    unshown, total = [], Sums()
+    head("Model", "answers", "check: s", "check --cert: s", "recheck: s", "lines of certificates", "shown")
+    each = []
+    for title, models in sets:
+        sums = Sums()
+        for name, path in models:
+            if options.only in name and not judge_again(options, name, text_of(path), (sums, total)):
+                unshown.append(name)
+        each.append((title, sums))
+    print("\nWhere all three ended, and nothing is unknown:")
+    for title, sums in each + [("All", total)]:
+        sums.show(title)
+    return unshown
+
+
+# Sets of models.
+
+
+def written(module, folder, only):
+    return module.write(folder, [only] if only else [])
+
+
+def set_of(title, module, folder, only):
+    return title, [(name, os.path.join(folder, name + ".smv")) for name in written(module, folder, only)]
+
+
+def examples():
+    names = sorted(name for name in os.listdir(EXAMPLES) if name.endswith(".smv"))
+    return "Examples", [("examples/" + name, os.path.join(EXAMPLES, name)) for name in names]
+
+
+def sets_of(options, folder):
+    """The sets that are asked for, or all."""
+    every = not (options.live or options.words_set or options.examples)
+    sets = []
+    if every:
+        sets.append(set_of("Boolean", generate, folder, options.only))
+    if every or options.live:
+        sets.append(set_of("Liveness", liveness, folder, options.only))
+    if every or options.words_set:
+        sets.append(set_of("Words", word_models, folder, options.only))
+    if every or options.examples:
+        sets.append(examples())
+    return sets
+
+
+def read_options():
+    parser = argparse.ArgumentParser(description=__doc__, formatter_class=argparse.RawDescriptionHelpFormatter)
     parser.add_argument("--only", default="")
     parser.add_argument("--limit", type=int, default=20)
     parser.add_argument("--runs", type=int, default=1)
+    parser.add_argument("--live", action="store_true")
+    parser.add_argument("--words", dest="words_set", action="store_true")
+    parser.add_argument("--examples", action="store_true")
+    parser.add_argument("--recheck", action="store_true")
+    parser.add_argument("--program", default=BUILT)
     options, words = parser.parse_known_args()
-    beside = shutil.which("berkeley-abc") is not None
-    wrong, logs, solved = [], [], [0, 0]
-    print("| Model | smvcheck | s | ABC pdr | s | ratio |\n|---|---|---|---|---|---|")
+    options.words = words
+    return options
+
+
+def main():
+    options = read_options()
     with tempfile.TemporaryDirectory() as folder:
-        for name in generate.write(folder, [options.only] if options.only else []):
-            path = os.path.join(folder, name)
-            ours, our_time = least(options.runs, lambda: smvcheck(path + ".smv", options.limit, words))
-            theirs, their_time = least(options.runs, lambda: abc(path + ".aig", options.limit)) if beside else ("-", None)
-            truth = "false" if name.endswith("-false") else "true"
-            for answer in (ours, theirs):
-                if answer in ("true", "false") and answer != truth:
-                    wrong.append(name)
-            solved[0] += our_time is not None
-            solved[1] += their_time is not None
-            ratio = "-"
-            if our_time is not None and their_time is not None:
-                value = max(our_time, FLOOR) / max(their_time, FLOOR)
-                logs.append(math.log(value))
-                ratio = f"{value:.2f}"
-            print(f"| `{name}` | {ours} | {shown(our_time)} | {theirs} | {shown(their_time)} | {ratio} |", flush=True)
-    print(f"\nDecided: {solved[0]} by smvcheck, {solved[1]} by ABC.")
-    if logs:
-        print(f"Geometric mean of the ratio, of the {len(logs)} that both decided: {math.exp(sum(logs) / len(logs)):.2f}")
-    if wrong:
-        sys.exit("wrong: " + " ".join(wrong))
+        if options.recheck:
+            unshown = recheck_all(options, sets_of(options, folder))
+            if unshown:
+                sys.exit("not shown: " + " ".join(unshown))
+            return
+        module = liveness if options.live else word_models if options.words_set else generate
+        wrong = compare(options, folder, written(module, folder, options.only))
+        if wrong:
+            sys.exit("wrong: " + " ".join(wrong))
 
 
 if __name__ == "__main__":
