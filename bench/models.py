@@ -1,7 +1,7 @@
 #!/usr/bin/env python3
 """Runs smvcheck on the models of bench/models, and Berkeley ABC's pdr beside it where it is installed.
 
-    bench/models.py [--live | --words] [--only WORD] [--limit SECONDS] [--runs N] [--program FILE] [WORDS OF check ..]
+    bench/models.py [--live | --words] [--only WORD] [--limit SECONDS] [--runs N] [--program FILE] [--folder FOLDER] [WORDS OF check ..]
     bench/models.py --recheck [--live | --words | --examples] [..]
 
 The first prints a line for each model: the answers, the seconds of processor time of each (the least of N runs), and their ratio; then
@@ -12,6 +12,7 @@ shown that the certificate counts (its `counter`), and ABC's model is that after
 The second runs `check`, `check --cert`, and `recheck` of what that printed, and prints the times and what was shown. It goes through all
 models and examples, or through those that are named.
 
+With --folder the models are written to that folder, and stay there; those of words.py are taken from it where they are there.
 Further words, as --frames 60, are handed to `smvcheck check`. Ends with status 1 where an answer is wrong by the model's name, where the
 two differ, or where a record that says true or false is not shown by `recheck`.
 """
@@ -46,7 +47,7 @@ def check(options, text, *more):
 
 
 def counter_in(out):
-    """How many signals the certificate of an LTLSPEC counts, and the number of bits of its states' clauses."""
+    """How many signals of fairness the certificate of an LTLSPEC counts."""
     found = re.search(r"^--% cert \d+ spec \d+ counter (\w+)", out, re.MULTILINE)
     return found.group(1) if found else "-"
 
@@ -245,6 +246,7 @@ def read_options():
     parser.add_argument("--examples", action="store_true")
     parser.add_argument("--recheck", action="store_true")
     parser.add_argument("--program", default=BUILT)
+    parser.add_argument("--folder")
     options, words = parser.parse_known_args()
     options.words = words
     return options
@@ -252,7 +254,8 @@ def read_options():
 
 def main():
     options = read_options()
-    with tempfile.TemporaryDirectory() as folder:
+    with tempfile.TemporaryDirectory() as made:
+        folder = options.folder or made
         if options.recheck:
             unshown = recheck_all(options, sets_of(options, folder))
             if unshown:

@@ -15,10 +15,10 @@ CIRCUITS = os.path.join(HERE, "verilog")
 
 # To the word circuit: one memory-free module whose flip-flops all begin at a value.
 WORDS = (
-    "prep -top {top} -flatten; memory_map; opt -full; async2sync; dffunmap; setundef -undriven -init -zero; opt_clean"
+    "prep -top {top} -flatten; memory_map; async2sync; dffunmap; setundef -undriven -init -zero; opt_clean"
 )
 # From there to gates of two inputs and latches.
-GATES = "techmap; opt -fast; dffunmap; aigmap; opt_clean"
+GATES = "techmap; opt -fast; dffunmap; aigmap; setundef -undriven -zero; opt_clean"
 
 
 def models():
@@ -86,7 +86,9 @@ def by_hand(text, numbers):
 
 
 def write_one(folder, circuit, numbers, name):
-    """Writes one model in both forms."""
+    """Writes one model in both forms, but where both are there."""
+    if all(os.path.exists(os.path.join(folder, name + end)) for end in (".smv", ".aig")):
+        return
     text_by_hand = os.path.join(CIRCUITS, circuit + ".smv")
     written = os.path.join(folder, name + ".smv")
     shutil.copy(os.path.join(CIRCUITS, circuit + ".v"), folder)
