@@ -1,7 +1,7 @@
 #!/usr/bin/env python3
 """Counts the clauses of the systems that smvcheck makes, beside those of Berkeley ABC for the same circuits.
 
-    bench/clauses.py [--words] [--only WORD] [--counter FILE] [--folder FOLDER]
+    bench/clauses.py [--words] [--only WORDS] [--counter FILE] [--folder FOLDER]
 
 The models are those of bench/models/generate.py, or with --words those of words.py. Ours are counted by the program `clause_bench`: the
 variables are the bits of a state, of the next, of the inputs and of the gates; the clauses are those of a step, and those that tell bad
@@ -71,7 +71,7 @@ def main():
     with tempfile.TemporaryDirectory() as made:
         folder = options.folder or made
         module = word_models if options.words else generate
-        for name in module.write(folder, [options.only] if options.only else []):
+        for name in module.write(folder, [word for word in options.only.split(",") if word]):
             if not count(options.counter, folder, name, ratios):
                 missed.append(name)
     if ratios:

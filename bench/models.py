@@ -1,7 +1,7 @@
 #!/usr/bin/env python3
 """Runs smvcheck on the models of bench/models, and Berkeley ABC's pdr beside it where it is installed.
 
-    bench/models.py [--live | --words] [--only WORD] [--limit SECONDS] [--runs N] [--program FILE] [--folder FOLDER] [WORDS OF check ..]
+    bench/models.py [--live | --words] [--only WORDS] [--limit SECONDS] [--runs N] [--program FILE] [--folder FOLDER] [WORDS OF check ..]
     bench/models.py --recheck [--live | --words | --examples] [..]
 
 The first prints a line for each model: the answers, the seconds of processor time of each (the least of N runs), and their ratio; then
@@ -12,7 +12,8 @@ shown that the certificate counts (its `counter`), and ABC's model is that after
 The second runs `check`, `check --cert`, and `recheck` of what that printed, and prints the times and what was shown. It goes through all
 models and examples, or through those that are named.
 
-With --folder the models are written to that folder, and stay there; those of words.py are taken from it where they are there.
+With --only, only the models whose names hold one of these words, between commas. With --folder the models are written to that folder,
+and stay there; those of words.py are taken from it where they are there.
 Further words, as --frames 60, are handed to `smvcheck check`. Ends with status 1 where an answer is wrong by the model's name, where the
 two differ, or where a record that says true or false is not shown by `recheck`.
 """
@@ -196,7 +197,7 @@ def recheck_all(options, sets):
     for title, models in sets:
         sums = Sums()
         for name, path in models:
-            if options.only in name and not judge_again(options, name, text_of(path), (sums, total)):
+            if is_asked_for(options.only, name) and not judge_again(options, name, text_of(path), (sums, total)):
                 unshown.append(name)
         each.append((title, sums))
     print("\nWhere all three ended, and nothing is unknown:")
@@ -208,8 +209,12 @@ def recheck_all(options, sets):
 # Sets of models.
 
 
+def is_asked_for(only, name):
+    return not only or any(word in name for word in only)
+
+
 def written(module, folder, only):
-    return module.write(folder, [only] if only else [])
+    return module.write(folder, only)
 
 
 def set_of(title, module, folder, only):
@@ -249,6 +254,7 @@ def read_options():
     parser.add_argument("--folder")
     options, words = parser.parse_known_args()
     options.words = words
+    options.only = [word for word in options.only.split(",") if word]
     return options
 
 
