@@ -1,11 +1,12 @@
 #!/usr/bin/env python3
 """Random small models of the language of values, judged by an explicit search that shares nothing with smvcheck.
 
-judge.py --exe CMD [--count N] [--seed S] [--keep DIR]
+judge.py --exe CMD [--count N] [--seed S] [--keep DIR] [--recheck]
 
-Each model has few slots (booleans, ranges, enumerations, words), definitions, assignments, constraints and specifications. The judge
-evaluates them over all states: it knows which items fault and at which valuations, which states are reached, and which formulas some fair
-lasso violates. It compares the verdicts, replays each counterexample, and looks at each refusal (rule, place, valuation).
+Each model has few slots (booleans, ranges, enumerations, words, arrays of them), definitions, assignments, constraints and specifications,
+and perhaps a module with parameters. The judge evaluates them over all states: it knows which items fault and at which valuations, which
+states are reached, and which formulas some fair lasso violates. It compares the verdicts and what `flat` lists, replays each
+counterexample, and looks at each refusal (rule, place, valuation).
 """
 import argparse, itertools, os, random, shlex, subprocess, sys
 
@@ -48,6 +49,9 @@ class N:
 
 BIN = {'&', '|', 'xor', 'xnor', '->', '<->', '=', '!=', '<', '>', '<=', '>=', '+', '-', '*', '/', 'mod', '<<', '>>', '::', 'union', 'in', 'U', 'V', 'S', 'T'}
 
+# operators with bounds: the operand, and the nodes of the two bounds
+BOUNDED = {'BF', 'BG', 'BO', 'BH'}
+
 
 class Out:
     def __init__(self):
@@ -78,6 +82,22 @@ def write(o, n):
     if op in ('const', 'name'):
         n.first = n.place = o.here()
         o.put(n.extra if op == 'name' else show(n.extra))
+        return n.first
+    if op == 'index':
+        n.first = write(o, n.args[0])
+        n.place = o.here()
+        o.put('[')
+        write(o, n.args[1])
+        o.put(']')
+        return n.first
+    if op in BOUNDED:
+        n.first = n.place = o.here()
+        o.put(op[1] + ' [')
+        write(o, n.args[1])
+        o.put(', ')
+        write(o, n.args[2])
+        o.put('] ')
+        enclosed(o, n.args[0])
         return n.first
     if op == 'paren':
         first = o.here()
@@ -171,18 +191,18 @@ def one(vs):
 
 
 def ev(m, n, s, u, t):
-    """The values of the expression in state s with inputs u and next state t (dicts by name); raises Fault."""
+    """The values of the expression in state s with inputs u and next state t (dicts by slot); raises Fault."""
     op = n.op
     if op == 'const':
         return [n.extra]
-    if op == 'name':
-        if n.extra in m.defines:
-            return ev(m, m.defines[n.extra], s, u, t)
-        if n.extra in s:
-            return [s[n.extra]]
-        if u is not None and n.extra in u:
-            return [u[n.extra]]
-        return [('s', n.extra)]
+    if op == 'named':
+        return ev(m, n.args[0], s, u, t)
+    if op == 'slot':
+        return [s[n.extra] if n.extra in s else u[n.extra]]
+    if op == 'index':
+        name, dims = element(m, n, s, u, t)
+        assert not dims, name
+        return [s[name] if name in s else u[name]]
     if op == 'paren':
         return ev(m, n.args[0], s, u, t)
     if op == 'next':
@@ -207,6 +227,20 @@ def ev(m, n, s, u, t):
         return ev(m, n.args[1 if c else 2], s, u, t)
     vs = [one(ev(m, a, s, u, t)) for a in n.args]
     return [apply(n, op, vs)]
+
+
+def element(m, n, s, u, t):
+    """The array or element that a name with indices leads to, with the dimensions that are left."""
+    if n.op == 'array':
+        return n.extra, m.dims[n.extra]
+    if n.op in ('named', 'paren'):
+        return element(m, n.args[0], s, u, t)
+    name, dims = element(m, n.args[0], s, u, t)
+    _, k = one(ev(m, n.args[1], s, u, t))
+    lo, hi = dims[0]
+    if not lo <= k <= hi:
+        raise Fault(603, n.place)
+    return '%s[%d]' % (name, k), dims[1:]
 
 
 def apply(n, op, vs):
@@ -269,15 +303,42 @@ def apply(n, op, vs):
     raise AssertionError(op)
 
 
+def constant(n):
+    """The integer that an expression is, if it is a constant."""
+    if n.op == 'const':
+        return n.extra[1] if n.extra not in (True, False) and n.extra[0] == 'i' else None
+    if n.op in ('named', 'paren'):
+        return constant(n.args[0])
+    if n.op not in ('neg', '+', '-', '*', '/', 'mod'):
+        return None
+    vs = [constant(a) for a in n.args]
+    if None in vs or (n.op in ('/', 'mod') and vs[1] == 0):
+        return None
+    return apply(n, n.op, [('i', v) for v in vs])[1]
+
+
+def elements(m, n, under, now, later):
+    """The elements that a name with indices may lead to, and the dimensions that are left; notes what occurs in the indices."""
+    if n.op == 'array':
+        return [n.extra], m.dims[n.extra]
+    if n.op in ('named', 'paren'):
+        return elements(m, n.args[0], under, now, later)
+    names, dims = elements(m, n.args[0], under, now, later)
+    occurring(m, n.args[1], under, now, later)
+    k, (lo, hi) = constant(n.args[1]), dims[0]
+    which = range(lo, hi + 1) if k is None else [k] if lo <= k <= hi else []
+    return ['%s[%d]' % (name, i) for name in names for i in which], dims[1:]
+
+
 def occurring(m, n, under, now, later):
     op = n.op
-    if op == 'name':
-        if n.extra in m.defines:
-            occurring(m, m.defines[n.extra], under, now, later)
-        elif n.extra in m.slots:
-            (later if under else now).add(n.extra)
+    if op == 'slot':
+        (later if under else now).add(n.extra)
         return
-    if op == 'const' or op == 'range':
+    if op == 'index':
+        (later if under else now).update(elements(m, n, under, now, later)[0])
+        return
+    if op in ('const', 'range'):
         return
     for a in n.args:
         occurring(m, a, under or op == 'next', now, later)
@@ -303,71 +364,247 @@ def type_text(ty):
     return ('signed word[%d]' if ty[1] else 'unsigned word[%d]') % ty[2]
 
 
+class Variable:
+    """A variable with its section, its dimensions (and the nodes of their bounds), and the type of it or of each element."""
+    def __init__(self, section, name, ty, dims=(), bounds=()):
+        self.section, self.name, self.type, self.dims, self.bounds = section, name, ty, list(dims), list(bounds)
+
+    def targets(self):
+        """What may be assigned: the slots, each as it is written and named."""
+        out = []
+        for c in combinations(self.dims):
+            n = N('name', extra=self.name)
+            for k in c:
+                n = N('index', n, N('const', extra=('i', k)))
+            out.append((n, self.name + subscripts(c)))
+        return out
+
+
+def combinations(dims):
+    return itertools.product(*[range(lo, hi + 1) for lo, hi in dims])
+
+
+def subscripts(c):
+    return ''.join('[%d]' % k for k in c)
+
+
+class Module:
+    def __init__(self, name):
+        self.name, self.params, self.variables = name, [], []
+        self.constants, self.defines, self.items, self.specs = [], [], [], []
+
+
+class Entry:
+    """What an expression may name in its module: a value, or an array. Of a variable of the module `slots` names its slots."""
+    def __init__(self, name, kind, is_input, dims=(), variable=False):
+        self.name, self.kind, self.is_input, self.dims = name, kind, is_input, list(dims)
+        self.slots = [name + subscripts(c) for c in combinations(self.dims)] if variable else None
+
+
 class Gen:
     def __init__(self, rng):
         self.r = rng
+        self.entries, self.constants, self.only, self.of_step, self.nested = [], {}, None, False, 0
 
     def pick(self, *xs):
         return self.r.choice(xs)
 
     def model(self):
         r, m = self.r, Model()
-        m.slots, m.kinds, m.order = {}, {}, []
-        size = 1
+        self.m, self.size = m, 1
+        main = Module('main')
+        m.modules, m.instances, m.types = [main], [], []
+        for k in range(r.choice([0, 0, 1, 2])):
+            value = r.choice([0, 1, 1, 2, -1])
+            main.constants.append(('k%d' % k, N('const', extra=('i', value))))
+            self.constants['k%d' % k] = value
         for k in range(r.randint(1, 4)):
-            ty = self.type()
-            d = len(domain(ty))
-            kind = self.pick('VAR', 'VAR', 'VAR', 'VAR', 'IVAR', 'FROZENVAR')
-            if size * d > (48 if kind != 'IVAR' else 96):
-                continue
-            size *= d
-            name = 'xyzvw'[k]
-            m.slots[name], m.kinds[name] = ty, kind
-            m.order.append(name)
-        if not m.order:
-            m.slots['x'], m.kinds['x'] = 'boolean', 'VAR'
-            m.order.append('x')
-        m.defines = {}
-        self.m = m
-        self.inputs = False
+            self.declare(main, 'xyzvw'[k], 1, 0.35)
+        if not main.variables:
+            main.variables.append(Variable('VAR', 'x', 'boolean'))
+            m.types.append('boolean')
+        self.entries = [self.entry(v) for v in main.variables]
+        given = set()
+        sub = self.submodule(given) if r.random() < 0.4 else None
         for k in range(r.randint(0, 2)):
-            name = 'd%d' % k
             kind = self.kind()
-            self.depth_allowed = 3
-            e = self.gen(kind, 2, next=False, inputs=False)
-            m.defines[name] = e
-            m.define_kinds = getattr(m, 'define_kinds', {})
-            m.define_kinds[name] = kind
-        m.items = []
-        for name in m.order:
-            if m.kinds[name] == 'IVAR':
+            main.defines.append(('d%d' % k, self.gen(kind, 2, next=False, inputs=False)))
+            self.entries.append(Entry('d%d' % k, kind, False))
+        self.fill(main, [x for v in main.variables for x in self.assignable(v) if x[1] not in given])
+        if sub:
+            self.entries, self.constants = sub.entries, sub.known
+            self.fill(sub, [x for v in sub.variables for x in self.assignable(v)] + sub.handed)
+        return m
+
+    def declare(self, module, name, copies, arrays):
+        """Declares a variable or an array, of which there will be so many copies, if the states do not get too many."""
+        r = self.r
+        section = self.pick('VAR', 'VAR', 'VAR', 'VAR', 'IVAR', 'FROZENVAR')
+        ty, dims = self.type(), []
+        if r.random() < arrays:
+            ty = ty if r.random() < 0.3 else self.pick('boolean', 'boolean', 'boolean', ('range', 0, 1), ('range', -1, 1), ('enum', (('s', 'a'), ('s', 'b'))))
+            for _ in range(self.pick(1, 1, 1, 2, 2)):
+                lo = r.choice([0, 0, 0, 0, 1, -1, -2])
+                dims.append((lo, lo + r.choice([0, 1, 1, 1, 2, 3])))
+        states = len(domain(ty)) ** (len(list(combinations(dims))) * copies)
+        if self.size * states > (48 if section != 'IVAR' else 96):
+            return
+        self.size *= states
+        self.m.types.append(ty)
+        module.variables.append(Variable(section, name, ty, dims, [(self.constant(lo), self.constant(hi)) for lo, hi in dims]))
+
+    def entry(self, v, prefix=''):
+        return Entry(prefix + v.name, self.kind_of(v.type), v.section == 'IVAR', v.dims, not prefix)
+
+    def assignable(self, v):
+        return [] if v.section == 'IVAR' else [(n, slot, v.section, v.type) for n, slot in v.targets()]
+
+    def submodule(self, given):
+        """A module with parameters, and one instance of it or two. Slots of `main` that it assigns are added to those given."""
+        r, m = self.r, self.m
+        sub = Module('sub')
+        names = ['s0', 's1'] if r.random() < 0.3 else ['s0']
+        actuals = {name: [] for name in names}
+        sub.entries, sub.known, sub.handed = [], {}, []
+        for k in range(r.randint(1, 2)):
+            self.hand(sub, 'p%d' % k, list(actuals.values()), given)
+        outer, self.constants = self.constants, sub.known
+        for k in range(r.randint(0, 2)):
+            self.declare(sub, 'fg'[k], len(names), 0.5)
+        self.constants = outer
+        sub.entries = [self.entry(v) for v in sub.variables] + sub.entries
+        for name in names:
+            self.entries += [self.entry(v, name + '.') for v in sub.variables]
+        m.modules.append(sub)
+        m.instances = list(actuals.items())
+        return sub
+
+    def hand(self, sub, name, rows, given):
+        """Gives a parameter an array, a part of one, a value or a constant."""
+        r = self.r
+        arrays = [e for e in self.entries if e.dims]
+        how = r.random()
+        sub.params.append(name)
+        if how < 0.7 and arrays:
+            e = r.choice(arrays)
+            rest = r.choice([e.dims] + [e.dims[k:] for k in range(1, len(e.dims) + 1)])
+            taken = len(e.dims) - len(rest)
+            for row in rows:
+                node, chosen = N('name', extra=e.name), []
+                for lo, hi in e.dims[:taken]:
+                    k = r.randint(lo, hi)
+                    chosen.append(k)
+                    node = N('index', node, self.constant(k) if r.random() < 0.7 else self.index(lo, hi, k, False, False))
+                row.append(node)
+            sub.entries.append(Entry(name, e.kind, e.is_input, rest))
+            v = next(v for v in self.m.modules[0].variables if v.name == e.name)
+            fixed = all(self.is_fixed(n) for n in index_nodes(node))
+            if len(rows) == 1 and fixed and v.section != 'IVAR' and r.random() < 0.5:
+                self.hand_targets(sub, name, v, rest, chosen, given)
+        elif how < 0.85:
+            value = r.choice([0, 1, 1, 2])
+            sub.known[name] = value
+            for row in rows:
+                row.append(self.constant(value))
+        else:
+            values = [e for e in self.entries if not e.dims]
+            e = r.choice(values) if values else None
+            sub.entries.append(Entry(name, e.kind if e else 'bool', e.is_input if e else False))
+            for row in rows:
+                row.append(N('name', extra=e.name) if e else N('const', extra=True))
+
+    def hand_targets(self, sub, name, v, rest, chosen, given):
+        """The slots of an array of `main` that the module may assign through its parameter."""
+        for c in combinations(rest):
+            slot = v.name + subscripts(chosen) + subscripts(c)
+            if slot in given:
                 continue
+            node = N('name', extra=name)
+            for k in c:
+                node = N('index', node, N('const', extra=('i', k)))
+            given.add(slot)
+            sub.handed.append((node, None, v.section, v.type))
+
+    def fill(self, module, targets):
+        """Assignments of these slots, constraints and specifications."""
+        r = self.r
+        for node, slot, section, ty in targets:
             how = r.random()
-            if m.kinds[name] == 'FROZENVAR':
+            if section == 'FROZENVAR':
                 if how < 0.6:
-                    m.items.append(('init', name, self.rhs(name, False)))
+                    module.items.append(('init', node, self.rhs(node, slot, ty, False, acyclic=r.random() < 0.9)))
             elif how < 0.15:
-                m.items.append(('now', name, self.rhs(name, False, acyclic=True)))
+                module.items.append(('now', node, self.rhs(node, slot, ty, False, acyclic=True)))
             else:
                 if how < 0.85:
-                    m.items.append(('init', name, self.rhs(name, False, acyclic=True)))
+                    module.items.append(('init', node, self.rhs(node, slot, ty, False, acyclic=True)))
                 if r.random() < 0.85:
-                    m.items.append(('next', name, self.rhs(name, True)))
-        if r.random() < 0.25:
-            m.items.append(('INIT', None, self.gen('bool', 2, False, False)))
-        if r.random() < 0.25:
-            m.items.append(('INVAR', None, self.gen('bool', 2, False, False)))
-        if r.random() < 0.3:
-            m.items.append(('TRANS', None, self.gen('bool', 3, True, True)))
-        if r.random() < 0.25:
-            m.items.append(('JUSTICE', None, self.gen('bool', 2, False, False)))
-        m.specs = []
-        for _ in range(r.randint(1, 3)):
+                    self.of_step = r.random() < 0.2
+                    module.items.append(('next', node, self.rhs(node, slot, ty, True)))
+                    self.of_step = False
+        for kind, chance in (('INIT', 0.2), ('INVAR', 0.2), ('TRANS', 0.25), ('JUSTICE', 0.2)):
+            if r.random() < chance:
+                self.of_step = kind == 'TRANS'
+                module.items.append((kind, None, self.gen('bool', 3 if self.of_step else 2, self.of_step, self.of_step)))
+                self.of_step = False
+        for _ in range(r.randint(1 if module.name == 'main' else 0, 3 if module.name == 'main' else 1)):
             if r.random() < 0.6:
-                m.specs.append(('INVARSPEC', self.gen('bool', 3, False, False)))
+                module.specs.append(('INVARSPEC', self.gen('bool', 3, False, False)))
             else:
-                m.specs.append(('LTLSPEC', self.ltl(2)))
-        return m
+                module.specs.append(('LTLSPEC', self.ltl(2)))
+
+    def constant(self, value):
+        """A constant of this value, of what may stand in a bound of a type."""
+        r = self.r
+        names = [name for name, v in self.constants.items() if v == value]
+        k = r.random()
+        if names and k < 0.5:
+            return N('name', extra=r.choice(names))
+        if k < 0.8:
+            return N('const', extra=('i', value))
+        a = r.choice([0, 1, 2, 3])
+        if k < 0.9:
+            return N('+', N('const', extra=('i', value - a)), N('const', extra=('i', a)))
+        return N('-', N('const', extra=('i', value + a)), N('const', extra=('i', a)))
+
+    def is_fixed(self, n):
+        return n.op == 'const' or n.extra in self.constants or (n.op in ('+', '-') and all(self.is_fixed(a) for a in n.args))
+
+    def index(self, lo, hi, value, next, inputs):
+        """An index: mostly this constant, or what is computed; sometimes it is outside."""
+        r = self.r
+        k = r.random()
+        if k < 0.45 or self.nested > 1:
+            return self.constant(value)
+        if k < 0.46:
+            return self.constant(r.choice([lo - 1, hi + 1]))
+        self.nested += 1
+        e = self.gen('int', 1, next, inputs)
+        self.nested -= 1
+        if k < 0.49:
+            return e
+        e = N('mod', N('abs', e), N('const', extra=('i', hi - lo + 1)))
+        return e if lo == 0 else N('+', e, N('const', extra=('i', lo)))
+
+    def element(self, e, next, inputs):
+        """An element of an array; None where none may be read."""
+        chosen = list(combinations(e.dims))
+        if self.only is not None:
+            allowed = [c for c in chosen if e.name + subscripts(c) in self.only]
+            if not allowed:
+                return None
+            if len(allowed) < len(chosen):
+                node = N('name', extra=e.name)
+                for k in self.r.choice(allowed):
+                    node = N('index', node, N('const', extra=('i', k)))
+                return node
+        c = self.r.choice(chosen)
+        node = N('name', extra=e.name)
+        if self.r.random() < 0.03:
+            node = N('paren', node)
+        for (lo, hi), k in zip(e.dims, c):
+            node = N('index', node, self.index(lo, hi, k, next, inputs))
+        return node
 
     def type(self):
         r = self.r
@@ -395,61 +632,63 @@ class Gen:
     def kind(self):
         return self.pick('bool', 'bool', 'int', 'disc', ('word', False, 2), ('word', True, 3), ('word', False, 1))
 
-    def rhs(self, name, is_next, acyclic=False):
-        kind = self.kind_of(self.m.slots[name])
-        ty = self.m.slots[name]
-        k = self.r.random()
-        before = set(self.m.order[:self.m.order.index(name)]) if acyclic else None
-        self.only = before
+    def rhs(self, node, slot, ty, is_next, acyclic=False):
+        kind, r = self.kind_of(ty), self.r
+        k = r.random()
+        self.only = self.before(slot) if acyclic else None
         if k < 0.35 and kind in ('int', 'disc', 'bool'):
             vs = domain(ty)
-            n = self.r.randint(1, min(3, len(vs)))
-            e = N('set', *[N('const', extra=v) for v in self.r.sample(vs, n)]) if self.r.random() < 0.8 or kind != 'int' else N('range', extra=(vs[0][1], vs[-1][1]) if kind == 'int' and ty[0] == 'range' and vs[0][1] >= 0 else (0, 1))
-            if self.r.random() < 0.4:
+            n = r.randint(1, min(3, len(vs)))
+            e = N('set', *[N('const', extra=v) for v in r.sample(vs, n)]) if r.random() < 0.8 or kind != 'int' else N('range', extra=(vs[0][1], vs[-1][1]) if kind == 'int' and ty[0] == 'range' and vs[0][1] >= 0 else (0, 1))
+            if r.random() < 0.4:
                 e = N('case', self.gen('bool', 1, is_next, is_next), e, N('const', extra=True), self.leaf(kind, is_next, is_next, ty))
         elif k < 0.7:
             args = []
-            for _ in range(self.r.randint(0, 2)):
+            for _ in range(r.randint(0, 2)):
                 args += [self.gen('bool', 1, is_next, is_next), self.gen(kind, 1, is_next, is_next, ty)]
-            if self.r.random() < 0.9 or not args:
+            if r.random() < 0.9 or not args:
                 args += [N('const', extra=True), self.leaf(kind, is_next, is_next, ty)]
             e = N('case', *args)
         elif k < 0.85:
             e = self.gen(kind, 2, is_next, is_next, ty)
         else:
             e = self.leaf(kind, is_next, is_next, ty)
-            if kind == 'int' and ty[0] == 'range' and self.r.random() < 0.7:
+            if kind == 'int' and ty[0] == 'range' and r.random() < 0.7:
                 w = ty[2] - ty[1] + 1
-                x = N('name', extra=name) if is_next else N('const', extra=('i', ty[1]))
+                x = copied(node) if is_next else N('const', extra=('i', ty[1]))
                 e = N('+', N('mod', N('+', N('-', x, N('const', extra=('i', ty[1]))), N('const', extra=('i', 1))), N('const', extra=('i', w))), N('const', extra=('i', ty[1])))
                 e = e if ty[1] >= 0 else x
         self.only = None
         return e
 
+    def before(self, slot):
+        """The slots of the module that stand before this one."""
+        slots = [s for e in self.entries if e.slots for s in e.slots]
+        return set(slots[:slots.index(slot)] if slot in slots else [])
+
     def vars_of(self, want, next, inputs):
+        """What may be named here and has values of this kind."""
         out = []
-        for name in self.m.order:
-            if self.m.kinds[name] == 'IVAR' and not inputs:
+        for e in self.entries:
+            if e.is_input and not inputs:
                 continue
-            if getattr(self, 'only', None) is not None and name not in self.only:
+            if self.only is not None and not (e.slots and any(s in self.only for s in e.slots)):
                 continue
-            k = self.kind_of(self.m.slots[name])
-            if k == want or (want == 'disc' and k == 'int'):
-                out.append(name)
-        if getattr(self, 'only', None) is None:
-            for d, k in getattr(self.m, 'define_kinds', {}).items():
-                if k == want:
-                    out.append(d)
+            if e.kind == want or (want == 'disc' and e.kind == 'int'):
+                out.append(e)
         return out
+
+    def read(self, e, next, inputs):
+        return self.element(e, next, inputs) if e.dims else N('name', extra=e.name)
 
     def leaf(self, kind, next, inputs, ty=None):
         r = self.r
         names = self.vars_of(kind, next, inputs)
         if names and r.random() < 0.65:
-            n = N('name', extra=r.choice(names))
-            if next and r.random() < 0.25 and self.m.kinds.get(n.extra) not in ('IVAR',) and n.extra in self.m.slots and getattr(self, 'only', None) is None and self.in_trans:
-                return N('next', n)
-            return n
+            e = r.choice(names)
+            if next and self.of_step and not e.is_input and r.random() < 0.3:
+                return N('next', self.read(e, False, False))
+            return self.read(e, next, inputs)
         if ty is not None:
             return N('const', extra=r.choice(domain(ty)))
         if kind == 'bool':
@@ -457,11 +696,9 @@ class Gen:
         if kind == 'int':
             return N('const', extra=('i', r.choice([0, 1, 1, 2, 3, 4])))
         if kind == 'disc':
-            syms = sorted({v for t in self.m.slots.values() if t != 'boolean' and t[0] == 'enum' for v in t[1] if v[0] == 's'})
+            syms = sorted({v for t in self.m.types if t != 'boolean' and t[0] == 'enum' for v in t[1] if v[0] == 's'})
             return N('const', extra=r.choice(syms)) if syms and r.random() < 0.8 else N('const', extra=('i', r.choice([0, 1, 4])))
         return N('const', extra=('w', kind[1], kind[2], r.randrange(1 << kind[2])))
-
-    in_trans = False
 
     def gen(self, kind, depth, next, inputs, ty=None):
         r = self.r
@@ -545,6 +782,9 @@ class Gen:
         if depth == 0 or r.random() < 0.1:
             return self.gen('bool', 2, False, r.random() < 0.3)
         k = r.random()
+        if k < 0.15:
+            low = r.choice([0, 0, 1, 2])
+            return N(self.pick('BF', 'BG', 'BO', 'BH'), self.ltl(depth - 1), self.constant(low), self.constant(low + r.choice([0, 1, 1, 2])))
         if k < 0.65:
             return N(self.pick('X', 'F', 'G', 'G', 'F', 'Y', 'Z', 'O', 'H'), self.ltl(depth - 1))
         if k < 0.8:
@@ -552,44 +792,138 @@ class Gen:
         return N(self.pick('&', '|', '->', '<->', 'xor'), self.ltl(depth - 1), self.ltl(depth - 1))
 
 
-def text_of(m):
-    o = Out()
-    o.put('MODULE main\n')
-    for name in m.order:
-        o.put('%s %s : %s;\n' % (m.kinds[name], name, type_text(m.slots[name])))
-    for d, e in m.defines.items():
+def copied(n):
+    return N(n.op, *[copied(a) for a in n.args], extra=n.extra)
+
+
+def index_nodes(n):
+    return index_nodes(n.args[0]) + [n.args[1]] if n.op == 'index' else []
+
+
+def declaration(o, v):
+    o.put('%s %s : ' % (v.section, v.name))
+    for low, high in v.bounds:
+        o.put('array ')
+        write(o, low)
+        o.put('..')
+        write(o, high)
+        o.put(' of ')
+    o.put(type_text(v.type) + ';\n')
+
+
+def item_text(o, kind, target, e):
+    """Writes an item, and gives its place."""
+    if kind in ('init', 'next', 'now'):
+        o.put('ASSIGN ')
+        at = o.here()
+        if kind != 'now':
+            o.put(kind + '(')
+        write(o, target)
+        o.put(' := ' if kind == 'now' else ') := ')
+    else:
+        at = o.here()
+        o.put(kind + ' ')
+    write(o, e)
+    o.put(';\n')
+    return at
+
+
+def module_text(o, module, instances):
+    o.put('MODULE %s%s\n' % (module.name, '(%s)' % ', '.join(module.params) if module.params else ''))
+    for name, e in module.constants:
+        o.put('DEFINE %s := ' % name)
+        write(o, e)
+        o.put(';\n')
+    for v in module.variables:
+        declaration(o, v)
+    for name, actuals in instances:
+        o.put('VAR %s : sub(' % name)
+        for k, e in enumerate(actuals):
+            if k:
+                o.put(', ')
+            write(o, e)
+        o.put(');\n')
+    for d, e in module.defines:
         o.put('DEFINE %s := ' % d)
         write(o, e)
         o.put(';\n')
-    m.listed = []
-    for kind, name, e in m.items:
-        if kind in ('init', 'next', 'now'):
-            o.put('ASSIGN ')
-            at = o.here()
-            o.put(name if kind == 'now' else '%s(%s)' % (kind, name))
-            o.put(' := ')
-            write(o, e)
-            o.put(';\n')
+    module.placed = [(kind, target, e, item_text(o, kind, target, e)) for kind, target, e in module.items + [(k, None, e) for k, e in module.specs]]
+
+
+class Scope:
+    """An instance: what its names lead to."""
+    def __init__(self, m, module, prefix, actuals=(), owner=None):
+        self.m, self.module, self.prefix, self.owner = m, module, prefix, owner
+        self.given = dict(zip(module.params, actuals))
+        self.defined = dict(module.constants + module.defines)
+
+    def variable(self, name, place):
+        op = 'array' if name in self.m.dims else 'slot'
+        out = N(op, extra=name)
+        out.first = out.place = place
+        return out
+
+    def resolved(self, n):
+        """A copy of the expression in which names are what they lead to."""
+        if n.op != 'name':
+            out = N(n.op, *[self.resolved(a) for a in n.args], extra=n.extra)
+            out.first, out.place = n.first, n.place
+            if n.op in BOUNDED:
+                out.window = (constant(out.args[1]), constant(out.args[2]))
+                out.args = out.args[:1]
+            return out
+        if n.extra in self.given:
+            out = N('named', self.owner.resolved(self.given[n.extra]))
+        elif n.extra in self.defined:
+            out = N('named', self.resolved(self.defined[n.extra]))
         else:
-            at = o.here()
-            o.put(kind + ' ')
-            write(o, e)
-            o.put(';\n')
-        m.listed.append((kind, name, e, at))
-    for kind, e in m.specs:
-        at = o.here()
-        o.put(kind + ' ')
-        write(o, e)
-        o.put(';\n')
-        m.listed.append((kind, None, e, at))
+            return self.variable(self.prefix + n.extra, n.place)
+        out.first, out.place = n.first, n.place
+        return out
+
+
+def text_of(m):
+    o = Out()
+    main, subs = m.modules[0], m.modules[1:]
+    before = len(main.variables) % 2 == 0
+    for module in subs + [main] if before else [main] + subs:
+        module_text(o, module, m.instances if module is main else [])
+    m.slots, m.kinds, m.order, m.dims = {}, {}, [], {}
+    scopes = [Scope(m, main, '')]
+    scopes += [Scope(m, subs[0], name + '.', actuals, scopes[0]) for name, actuals in m.instances]
+    for scope in scopes:
+        for v in scope.module.variables:
+            if v.dims:
+                m.dims[scope.prefix + v.name] = v.dims
+            for c in combinations(v.dims):
+                name = scope.prefix + v.name + subscripts(c)
+                m.slots[name], m.kinds[name] = v.type, v.section
+                m.order.append(name)
+    m.listed = []
+    for scope in scopes:
+        for kind, target, e, at in scope.module.placed:
+            slot = None if target is None else target_slot(m, scope.resolved(target))
+            m.listed.append((kind, slot, scope.resolved(e), at, scope.prefix[:-1] or 'main'))
     return ''.join(o.text)
 
 
-TEMP = {'X', 'F', 'G', 'Y', 'Z', 'O', 'H', 'U', 'V', 'S', 'T'}
+def target_slot(m, n):
+    """The slot that a left side leads to; its indices are constants."""
+    while n.op == 'named':
+        n = n.args[0]
+    return element(m, n, {}, {}, {})[0] if n.op == 'index' else n.extra
+
+
+TEMP = {'X', 'F', 'G', 'Y', 'Z', 'O', 'H', 'U', 'V', 'S', 'T'} | BOUNDED
 
 
 def temporal(n):
     return n.op in TEMP or any(temporal(a) for a in n.args)
+
+
+def formulas(n):
+    """The operands of an operator over formulas, without its bounds."""
+    return n.args[:1] if n.op in BOUNDED else n.args
 
 
 def parts(n):
@@ -597,14 +931,14 @@ def parts(n):
     if n.op in TEMP or n.op in ('!', '&', '|', 'xor', 'xnor', '->', '<->'):
         if temporal(n) or n.op in TEMP or n.op in ('!', '&', '|', 'xor', 'xnor', '->', '<->'):
             out = []
-            for a in n.args:
+            for a in formulas(n):
                 out += parts(a)
             return out
     return [n]
 
 
 def item_value(m, item, s, u, t):
-    kind, name, e, _ = item
+    kind, name, e, *_ = item
     if kind == 'LTLSPEC':
         for p in parts(e):
             ev(m, p, s, u, None)
@@ -657,7 +991,7 @@ def is_true(m, e, s, u, t):
 
 
 def allowed(m, s, when):
-    for kind, name, e, _ in m.listed:
+    for kind, name, e, *_ in m.listed:
         if kind == 'now' or (kind == 'init' and when == 'first'):
             if s[name] not in ev(m, e, s, {}, None):
                 return False
@@ -671,7 +1005,7 @@ def step_ok(m, s, u, t):
     for n in s:
         if m.kinds[n] == 'FROZENVAR' and s[n] != t[n]:
             return False
-    for kind, name, e, _ in m.listed:
+    for kind, name, e, *_ in m.listed:
         if kind == 'next' and t[name] not in ev(m, e, s, u, t):
             return False
         if kind == 'TRANS' and not is_true(m, e, s, u, t):
@@ -701,25 +1035,35 @@ class Graph:
         self.reached = seen
 
 
-def formula_nodes(n, out):
-    for a in n.args:
-        if temporal(a) or n.op in TEMP:
-            formula_nodes(a, out)
-    if n.op in TEMP:
-        out.append(n)
+def unfolded(n):
+    """The formula without bounds: `F [0,b] f` is `f | X F [0,b-1] f`, and so on."""
+    if not temporal(n):
+        return n
+    if n.op not in BOUNDED:
+        out = N(n.op, *[unfolded(a) for a in n.args])
+        return out
+    f = unfolded(n.args[0])
+    low, high = n.window
+    step = {'BF': 'X', 'BG': 'X', 'BO': 'Y', 'BH': 'Z'}[n.op]
+    join = '|' if n.op in ('BF', 'BO') else '&'
+    out = f
+    for _ in range(high - low):
+        out = N(join, f, N(step, out))
+    for _ in range(low):
+        out = N(step, out)
     return out
 
 
 def violated(g, f):
     """Whether some fair lasso violates the formula: a tableau over (state, input, one bit for each temporal node)."""
-    m = g.m
+    m, f = g.m, unfolded(f)
     nodes = []
 
     def collect(n):
-        if n.op in TEMP or (temporal(n)):
+        if temporal(n):
             for a in n.args:
                 collect(a)
-        if n.op in TEMP:
+        if n.op in TEMP and not any(n is x for x in nodes):
             nodes.append(n)
     collect(f)
     index = {id(n): k for k, n in enumerate(nodes)}
@@ -790,7 +1134,7 @@ def violated(g, f):
                             seen.add(w)
                             todo.append(w)
         succ[v] = out
-    fair = [lambda v, e=e: is_true(m, e, g.states[v[0]], {}, None) for kind, _, e, _ in m.listed if kind == 'JUSTICE']
+    fair = [lambda v, e=e: is_true(m, e, g.states[v[0]], {}, None) for kind, _, e, *_ in m.listed if kind == 'JUSTICE']
     for n in nodes:
         q = index[id(n)]
         if n.op == 'F': fair.append(lambda v, n=n, q=q: (not v[2][q]) or truth(n.args[0], *v))
@@ -859,7 +1203,8 @@ def truth_on(m, f, states, inputs, start):
     n, p = len(states), len(states) - start
 
     def height(x):
-        return max([height(a) for a in x.args], default=0) + (1 if x.op in 'YZOHST' and x.op in TEMP else 0)
+        own = x.window[1] if x.op in ('BO', 'BH') else 1 if x.op in ('Y', 'Z', 'O', 'H', 'S', 'T') else 0
+        return max([height(a) for a in x.args], default=0) + own
     h = height(f)
     total = n + (h + 1) * p
     at = lambda i: i if i < n else start + (i - start) % p
@@ -868,12 +1213,22 @@ def truth_on(m, f, states, inputs, start):
     def table(x):
         if not temporal(x):
             return [one(ev(m, x, states[at(i)], inputs[at(i)], None)) for i in range(total)]
-        vs = [table(a) for a in x.args]
+        vs = [table(a) for a in formulas(x)]
         if x.op not in TEMP:
             return [apply(x, x.op, [v[i] for v in vs]) for i in range(total)]
         nxt = lambda i: i + 1 if i + 1 < total else last
         if x.op == 'X':
             return [vs[0][nxt(i)] for i in range(total)]
+        if x.op in ('BF', 'BG'):
+            def later(i, k):
+                for _ in range(k):
+                    i = nxt(i)
+                return i
+            which = any if x.op == 'BF' else all
+            return [which(vs[0][later(i, k)] for k in range(x.window[0], x.window[1] + 1)) for i in range(total)]
+        if x.op in ('BO', 'BH'):
+            which = any if x.op == 'BO' else all
+            return [which(vs[0][i - k] for k in range(x.window[0], x.window[1] + 1) if k <= i) for i in range(total)]
         if x.op in ('F', 'G', 'U', 'V'):
             a = vs[0]
             b = vs[1] if len(vs) > 1 else vs[0]
@@ -916,26 +1271,107 @@ def check_trace(m, lines, spec):
     for i in range(len(states) - 1):
         if not step_ok(m, states[i], inputs[i], states[i + 1]):
             return 'no step %d' % i
-    kind, e = spec
+    kind, _, e, *_ = spec
     if kind == 'INVARSPEC':
         return None if is_true(m, e, states[-1], {}, None) is False else 'the last state is not bad'
     if not step_ok(m, states[-1], inputs[-1], states[loop]):
         return 'no step back'
-    for k, _, j, _ in m.listed:
+    for k, _, j, *_ in m.listed:
         if k == 'JUSTICE' and not any(is_true(m, j, s, {}, None) for s in states[loop:]):
             return 'unfair'
     return 'the formula holds' if truth_on(m, e, states, inputs, loop) else None
 
 
-def judge(m, text, cmd, words):
-    p = subprocess.run(cmd + words, input=text.encode(), stdout=subprocess.PIPE, stderr=subprocess.PIPE, timeout=300)
+def call(cmd, words, text):
+    return subprocess.run(cmd + words, input=text.encode(), stdout=subprocess.PIPE, stderr=subprocess.PIPE, timeout=300)
+
+
+def listing(m):
+    """What `flat` prints."""
+    sections = {'VAR': 'state', 'IVAR': 'input', 'FROZENVAR': 'frozen'}
+    out = ['-- slot %d %s %s : %s' % (k, sections[m.kinds[n]], n, type_text(m.slots[n])) for k, n in enumerate(m.order)]
+    items = [x for x in m.listed if x[0] not in ('INVARSPEC', 'LTLSPEC')]
+    return out + ['-- item %d %s at %d:%d of %s' % (k, x[0], x[3][0], x[3][1], x[4]) for k, x in enumerate(items)]
+
+
+def wrong_listing(m, text, cmd):
+    out = call(cmd, ['flat'], text).stdout.decode().split('\n')
+    want = listing(m) + ['']
+    return None if out == want else next('flat: %r, not %r' % (x, y) for x, y in itertools.zip_longest(out, want) if x != y)
+
+
+def wrong_again(text, cmd, words):
+    """The report with certificates, judged by `recheck`."""
+    report = call(cmd, words + ['--cert'], text).stdout.decode()
+    out = call(cmd, ['recheck'], text + report).stdout.decode().split('\n')
+    said = [x for x in report.split('\n') if x.startswith('-- spec ')]
+    shown = {'true': 'is shown true', 'false': 'is shown false'}
+    want = [' '.join(x.split(' ')[:4]) + ' ' + shown.get(x.split(' is ')[1], 'has nothing shown') for x in said]
+    return None if out == want + [''] else 'recheck: %r' % out[:4]
+
+
+def assigned_twice(m):
+    """How the first assignment of a slot that another one has assigned is refused."""
+    before = []
+    for kind, slot, _, at, _ in m.listed:
+        if slot is None:
+            continue
+        if any(slot == other and (kind == k or 'now' in (kind, k)) for k, other in before):
+            return '-- refused 501 AssignedTwice at %d:%d: %s' % (at[0], at[1], slot)
+        before.append((kind, slot))
+    return None
+
+
+def dependences(m, time):
+    """Of initial values or of next ones: what each slot depends on, and where it is assigned."""
+    graph, places = {}, {}
+    for kind, slot, e, at, _ in m.listed:
+        if kind not in ('now', time):
+            continue
+        now, later = set(), set()
+        occurring(m, e, False, now, later)
+        graph[slot], places[slot] = later if kind == 'next' else now, at
+    return graph, places
+
+
+def has_cycle(graph):
+    succ = {slot: [t for t in after if t in graph] for slot, after in graph.items()}
+    return any(len(c) > 1 or c[0] in succ[c[0]] for c in sccs(list(succ), succ))
+
+
+def wrong_assignments(m, line):
+    """Whether the refusal of assignments that meet, or of a cycle of them, is right; and that there is one where it must be."""
+    said = line if line.startswith('-- refused 50') else None
+    twice = assigned_twice(m)
+    if twice:
+        return None if said == twice else 'not: ' + twice
+    for graph, places in (dependences(m, 'init'), dependences(m, 'next')):
+        if not has_cycle(graph):
+            continue
+        head, _, detail = (said or '').partition(': ')
+        path = detail.split(', ')
+        at = places.get(path[0], (0, 0))
+        right = head == '-- refused 502 AssignCycle at %d:%d' % at and path[0] == path[-1] and len(path) > 1
+        right = right and len(set(path)) == len(path) - 1 and all(b in graph[a] for a, b in zip(path, path[1:]))
+        return None if right and min(path, key=m.order.index) == path[0] else 'a cycle of assignments'
+    return 'no cycle' if said else None
+
+
+def judge(m, text, cmd, words, again=False):
+    p = call(cmd, words, text)
     out = p.stdout.decode().split('\n')
     if p.returncode in (5, 6, 7) or p.stderr:
         return 'status %d %r' % (p.returncode, p.stderr[-200:]), out
     order = [x for x in m.listed if x[0] not in ('INVARSPEC', 'LTLSPEC')] + [x for x in m.listed if x[0] in ('INVARSPEC', 'LTLSPEC')]
     refused = out[0].startswith('-- refused ')
+    why = None if out[0].startswith(('-- refused 2', '-- refused 3', '-- refused 4')) else wrong_assignments(m, out[0])
+    if why:
+        return why, out
     if refused and not out[0].startswith('-- refused 6'):
         return 'refusal', out
+    why = wrong_listing(m, text, cmd)
+    if why:
+        return why, out
     for item in order:
         now, later, fs = faults_of(m, item)
         if fs:
@@ -952,7 +1388,7 @@ def judge(m, text, cmd, words):
         return 'refused without a fault', out
     g = Graph(m)
     k, summary, statuses = 0, [], set()
-    for i, spec in enumerate(m.specs):
+    for i, spec in enumerate(x for x in m.listed if x[0] in ('INVARSPEC', 'LTLSPEC')):
         line = out[k]
         k += 1
         head = '-- spec %d %s is ' % (i + 1, spec[0])
@@ -964,9 +1400,9 @@ def judge(m, text, cmd, words):
             trace.append(out[k])
             k += 1
         if spec[0] == 'INVARSPEC':
-            bad = any(not is_true(m, spec[1], g.states[j], {}, None) for j in g.reached)
+            bad = any(not is_true(m, spec[2], g.states[j], {}, None) for j in g.reached)
         else:
-            bad = violated(g, spec[1])
+            bad = violated(g, spec[2])
         summary.append(said.split(':')[0] + ('?' if bad is None else ''))
         statuses.add(said.split(':')[0])
         if said == 'true' and bad:
@@ -982,7 +1418,7 @@ def judge(m, text, cmd, words):
     want = 1 if 'false' in statuses else 2 if 'unknown' in statuses else 0
     if p.returncode != want:
         return 'status %d' % p.returncode, out
-    return None, summary
+    return (wrong_again(text, cmd, words) if again else None), summary
 
 
 def main():
@@ -992,6 +1428,7 @@ def main():
     a.add_argument('--seed', type=int, default=1)
     a.add_argument('--words', default='check')
     a.add_argument('--keep', default='/tmp/judged')
+    a.add_argument('--recheck', action='store_true')
     a = a.parse_args()
     cmd = shlex.split(a.exe)
     os.makedirs(a.keep, exist_ok=True)
@@ -999,9 +1436,13 @@ def main():
     for k in range(a.count):
         seed = a.seed * 1000003 + k
         m = Gen(random.Random(seed)).model()
-        text = text_of(m)
         try:
-            why, out = judge(m, text, cmd, shlex.split(a.words))
+            text = text_of(m)
+        except Fault:
+            tally['left out'] = tally.get('left out', 0) + 1    # a parameter that is assigned was given an element outside its array
+            continue
+        try:
+            why, out = judge(m, text, cmd, shlex.split(a.words), a.recheck)
         except subprocess.TimeoutExpired:
             why, out = 'no answer in time', []
         if why == 'refusal':

@@ -1,3 +1,5 @@
+//! Choice of a word by a condition, and comparison of words as numbers or as signed integers.
+
 ghost use Rattle.std.specs.Prelude.{◌≡◌, ◌<◌, ◌≤◌, ◌+◌, ◌*◌, ◌^◌, ◌==◌, ◌&&◌, nat_lt, ℕ, Bool, not, List, map, length, true, IfOk, if◌then◌else◌};
 ghost use Rattle.bit_graph.specs.Meaning.{edge_value, Consistent, Stands};
 ghost use Rattle.bit_graph.specs.Growth.{Extends};

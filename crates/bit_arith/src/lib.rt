@@ -2,7 +2,7 @@
 //!
 //! A list has the lowest bit first. Each function adds nodes to the graph and answers edges whose
 //! number is the operator's, whatever the values of the inputs; each edge that was made earlier keeps
-//! its value, also after want of memory, which is the only error.
+//! its value, also if memory runs out, which is the only error.
 #![tactic(auto)]
 
 mod choices;

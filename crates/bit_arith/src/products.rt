@@ -1,3 +1,5 @@
+//! Multiplication of words by shift and add, from the highest bit down (Horner's rule).
+
 ghost use Rattle.std.specs.Prelude.{◌≡◌, ◌<◌, ◌≤◌, ◌+◌, ◌*◌, ◌^◌, ◌%◌, ◌∷◌, ℕ, Bool, List, map, length, false, IfOk};
 ghost use Rattle.bit_graph.specs.Meaning.{edge_value, Consistent, Stands};
 ghost use Rattle.bit_graph.specs.Growth.{Extends};

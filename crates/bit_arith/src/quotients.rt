@@ -1,3 +1,5 @@
+//! Division of words as numbers: restoring long division, from the highest bit down.
+
 ghost use Rattle.std.specs.Prelude.{◌≡◌, ◌<◌, ◌≤◌, ◌+◌, ◌*◌, ◌^◌, ◌/◌, ◌%◌, ◌∷◌, ◌++◌, [], ℕ, Bool, List, map, length, IfOk, false};
 ghost use Rattle.bit_graph.specs.Meaning.{edge_value, Consistent, Stands};
 ghost use Rattle.bit_graph.specs.Growth.{Extends};

@@ -1,3 +1,5 @@
+//! Negation, and signed division by way of absolute values.
+
 ghost use Rattle.std.specs.Prelude.{◌≡◌, ◌<◌, ◌≤◌, ◌+◌, ◌*◌, ◌^◌, ℕ, Bool, List, length, IfOk, false, true, if◌then◌else◌};
 ghost use Rattle.bit_graph.specs.Meaning.{edge_value, exclusive_or, Consistent, Stands};
 ghost use Rattle.bit_graph.specs.Growth.{Extends};

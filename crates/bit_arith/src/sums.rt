@@ -1,3 +1,5 @@
+//! Addition and subtraction of words by ripple-carry adders.
+
 ghost use Rattle.std.specs.Prelude.{◌≡◌, ◌<◌, ◌≤◌, ◌+◌, ◌*◌, ◌^◌, ◌%◌, ℕ, Bool, not, List, map, length, IfOk};
 ghost use Rattle.bit_graph.specs.Meaning.{edge_value, Consistent, Stands};
 ghost use Rattle.bit_graph.specs.Growth.{Extends};

@@ -37,7 +37,7 @@ pub struct Defined {
 /// The inputs, which are the graph's first nodes, are the first variables; `by` numbers behind them are
 /// left free, and the variables of gates follow. Where the conditions hold, values of the gates meet
 /// the clauses; where they don't, unit propagation from the inputs' values finds a conflict. Time and
-/// memory grow with the nodes and the conditions. The only error is want of memory.
+/// memory grow with the nodes and the conditions. The only error is out of memory.
 pub fn decide(
     alloc: Global,
     graph: &Graph,

@@ -26,7 +26,7 @@ pub fn is_single(either: Either) -> bool
 
 /// Asks that the edge is true; where it always is, for nothing.
 ///
-/// As the other calls that ask, it makes no node. The only error is want of memory, after which a part
+/// As the other calls that ask, it makes no node. The only error is out of memory, after which a part
 /// of what was asked for may stand in the list.
 #[tactic(auto, using(crate::proofs::Asserting::all_hold_more, crate::proofs::Asserting::eithers_more))]
 pub fn ask(graph: &Graph, asked: &mut Vec<Either>, edge: Edge) -> Result<(), AllocError>

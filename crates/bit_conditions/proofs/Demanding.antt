@@ -9,7 +9,7 @@ use Rattle.smv_resolve.specs.declared.item.Item.{Item}
 use Rattle.smv_resolve.specs.declared.item.ItemKind.{ItemKind}
 use Rattle.smv_resolve.specs.declared.item.ItemKind.TheVariants as item
 use Rattle.smv_resolve.specs.declared.node.Node.{Node}
-use Rattle.smv_scope.specs.declared.slot.Slot.{Slot}
+use Rattle.smv_slots.specs.declared.slot.Slot.{Slot}
 use Rattle.smv_resolve.specs.Items.{ResolvedItem, item_by, target_by}
 use Rattle.smv_resolve.specs.Resolved.{Resolved, part_of, parts_of}
 use Rattle.value_types.proofs.Elements.{both_true}

@@ -9,7 +9,7 @@ use Rattle.std.proofs.lemmas.List.{drop-map, length-map, length-take-le, take-ma
 use Rattle.smv_value.specs.Results.{same}
 use Rattle.value_types.specs.declared.value_type.ValueType.{ValueType}
 use Rattle.value_types.specs.Types.{is_type}
-use Rattle.smv_scope.specs.declared.slot.Slot.{Slot}
+use Rattle.smv_slots.specs.declared.slot.Slot.{Slot}
 use Rattle.smv_meaning.specs.Runs.{is_frozen, keeps}
 use Rattle.bit_graph.specs.declared.edge.Edge.{Edge}
 use Rattle.bit_graph.specs.Meaning.{edge_value}

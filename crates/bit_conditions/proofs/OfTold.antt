@@ -3,8 +3,8 @@ use Rattle.std.proofs.Common.{◌≡◌, ◌∙◌, ℕ, Bool, true, List, [], l
 use Rattle.smv_tree.specs.declared.tree.Program.{Program}
 use Rattle.smv_value.specs.declared.value.Value.{Value}
 use Rattle.smv_resolve.specs.declared.node.Node.{Node}
-use Rattle.smv_scope.specs.declared.slot.Slot.{Slot}
-use Rattle.smv_scope.specs.Slots.{slots_of}
+use Rattle.smv_slots.specs.declared.slot.Slot.{Slot}
+use Rattle.smv_slots.specs.Slots.{slots_of}
 use Rattle.smv_meaning.specs.declared.typed.Typed.{Typed}
 use Rattle.smv_meaning.specs.declared.outcome.Outcome.{Outcome}
 use Rattle.smv_meaning.specs.Runs.{are_inputs, is_state}
@@ -23,10 +23,10 @@ use Rattle.bit_conditions.proofs.OfStates.{input_codes, state_codes}
 
 -- outcomes of the program's nodes
 
-module _ (typed : Typed) (v : ℕ → Bool) (slots : List Slot) (nodes : List Node) (slots_is : slots ≡ typed.scope.slots) (nodes_is : nodes ≡ typed.nodes) where
+module _ (typed : Typed) (v : ℕ → Bool) (slots : List Slot) (nodes : List Node) (slots_is : slots ≡ typed.slots) (nodes_is : nodes ≡ typed.nodes) where
   same_outcomes : (s u t : List Value) → outcomes_of slots s u t nodes ≡ outcomes_of (slots_of typed.scope.program) s u t typed.nodes
   same_outcomes s u t =
-      let laid : slots ≡ slots_of typed.scope.program = slots_is ∙ typed.scope.laid_out in
+      let laid : slots ≡ slots_of typed.scope.program = slots_is ∙ typed.laid_out in
       λ i. outcomes_of (laid i) s u t (nodes_is i)
 
   pub told_as : (ts : List Told) (s u t : List Value) → TellsAll v ts (outcomes_of slots s u t nodes) → TellsAll v ts (outcomes_of (slots_of typed.scope.program) s u t typed.nodes)

@@ -12,8 +12,8 @@ use Rattle.value_types.specs.Types.{element_value, is_element, is_of_type, is_ty
 use Rattle.value_types.specs.Codes.{HasCode}
 use Rattle.value_types.proofs.Coding.{coding}
 use Rattle.value_types.proofs.Elements.{and_right, both_true, int_le_refl}
-use Rattle.smv_scope.specs.Slots.{slots_of}
-use Rattle.smv_declared.specs.Types.{types_of}
+use Rattle.smv_slots.specs.Slots.{slots_of}
+use Rattle.smv_slots.specs.Slots.{types_of}
 use Rattle.smv_meaning.specs.Runs.{input_slots}
 use Rattle.bit_outcomes.proofs.OfAsked.{same_refl}
 use Rattle.bit_states.specs.Layouts.{HasTypes, input_types}

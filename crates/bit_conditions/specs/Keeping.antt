@@ -3,7 +3,7 @@ use Rattle.std.specs.Prelude.{Bool, true, ◌&&◌, List, [], ◌∷◌}
 use Rattle.std.specs.Bool.{beq}
 use Rattle.std.specs.List.{list_all, zip}
 use Rattle.smv_value.specs.declared.value.Value.{Value}
-use Rattle.smv_scope.specs.declared.slot.Slot.{Slot}
+use Rattle.smv_slots.specs.declared.slot.Slot.{Slot}
 use Rattle.smv_meaning.specs.Runs.{keeps}
 
 -- the bits are the same, one by one

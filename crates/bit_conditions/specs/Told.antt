@@ -11,7 +11,7 @@ use Rattle.bit_clauses.specs.declared.either.Either.{Either}
 use Rattle.bit_clauses.specs.Asserted.{EithersStand, all_hold}
 use Rattle.smv_tree.specs.declared.tree.Program.{Program}
 use Rattle.smv_value.specs.declared.value.Value.{Value}
-use Rattle.smv_scope.specs.Slots.{slots_of}
+use Rattle.smv_slots.specs.Slots.{slots_of}
 use Rattle.smv_meaning.specs.declared.typed.Typed.{Typed}
 use Rattle.smv_meaning.specs.Runs.{are_inputs, is_state}
 use Rattle.smv_meaning.specs.Tables.{outcomes_of}

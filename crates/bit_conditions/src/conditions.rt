@@ -5,8 +5,8 @@ ghost use Rattle.std.specs.List.{list_all};
 ghost use Rattle.bit_graph.specs.Growth.{Extends};
 ghost use Rattle.bit_graph.specs.Meaning.{Consistent};
 ghost use Rattle.bit_clauses.specs.Asserted.{EithersStand, all_hold};
-ghost use Rattle.smv_scope.specs.Slots.{slots_of};
-ghost use Rattle.smv_resolve.specs.Items.{items_of};
+ghost use Rattle.smv_slots.specs.Slots.{slots_of};
+ghost use Rattle.smv_layout.specs.Layout.{items_of};
 ghost use Rattle.smv_meaning.specs.Runs.{allows_first, allows_step, are_inputs, is_first_state, is_state, is_step, keeps_frozen, meets_invariants};
 ghost use Rattle.bit_conditions.specs.Told.{Tells, TellsInputs, TellsState, inputs_under, state_under};
 
@@ -128,7 +128,7 @@ fn ask_frozen(
         is_state typed.now.scope.program (state_under typed.now.scope.program v to.now.bits) ≡ true →
         all_hold v asked.new.items ≡ (all_hold v asked.old.items && keeps_frozen (slots_of typed.now.scope.program) (state_under typed.now.scope.program v from.now.bits) (state_under typed.now.scope.program v to.now.bits))) }
 {
-    let slots = state_slots(alloc, &typed.scope)?;
+    let slots = state_slots(alloc, typed.slots.as_slice())?;
     let types = state_types(alloc, typed)?;
     ask_kept(
         graph,

@@ -13,7 +13,7 @@ ghost use Rattle.bit_conditions.specs.Keeping.{all_kept, are_same};
 use bit_clauses::{Either, ask_same};
 use bit_graph::{Edge, Graph};
 use bit_values::width;
-use smv_scope::Slot;
+use smv_slots::Slot;
 use smv_tree::VariableKind;
 use std::alloc::AllocError;
 use value_types::ValueType;

@@ -48,12 +48,7 @@ pub fn nowhere(alloc: Global, graph: &mut Graph, typed: &Typed) -> Result<Items<
     ensures extends { Extends graph.old graph.new }
     ensures told { IfOk result (TellsNowhere graph.new typed.now) }
 {
-    let told = outcomes_nowhere(
-        alloc,
-        graph,
-        typed.scope.slots.as_slice(),
-        typed.nodes.as_slice(),
-    )?;
+    let told = outcomes_nowhere(alloc, graph, typed.slots.as_slice(), typed.nodes.as_slice())?;
     Ok(told)
 }
 
@@ -83,7 +78,7 @@ pub fn told_state(
     let told = table(
         alloc,
         graph,
-        typed.scope.slots.as_slice(),
+        typed.slots.as_slice(),
         typed.nodes.as_slice(),
         values.as_slice(),
         &[],
@@ -139,7 +134,7 @@ pub fn told_step(
     let told = table(
         alloc,
         graph,
-        typed.scope.slots.as_slice(),
+        typed.slots.as_slice(),
         typed.nodes.as_slice(),
         from.values.as_slice(),
         inputs.values.as_slice(),
@@ -166,7 +161,7 @@ pub fn told_moment(
     let told = table(
         alloc,
         graph,
-        typed.scope.slots.as_slice(),
+        typed.slots.as_slice(),
         typed.nodes.as_slice(),
         state.values.as_slice(),
         inputs.values.as_slice(),

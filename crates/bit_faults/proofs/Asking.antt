@@ -13,8 +13,8 @@ use Rattle.smv_value.specs.declared.value.Value.{Value}
 use Rattle.smv_resolve.specs.declared.item.Item.{Item}
 use Rattle.smv_resolve.specs.declared.node.Node.{Node}
 use Rattle.smv_resolve.specs.Items.{ResolvedItem, item_by}
-use Rattle.smv_scope.specs.Slots.{slots_of}
-use Rattle.smv_declared.specs.Types.{types_of}
+use Rattle.smv_slots.specs.Slots.{slots_of}
+use Rattle.smv_slots.specs.Slots.{types_of}
 use Rattle.smv_meaning.specs.Faults.{IsFaultFree, item_fault}
 use Rattle.smv_meaning.specs.Runs.{are_inputs, is_state}
 use Rattle.bit_states.specs.Coding.{inputs_of, next_of, state_of}

@@ -8,10 +8,11 @@ use Rattle.std.proofs.lemmas.List.Folds.{list_all-append}
 use Rattle.smv_tree.specs.declared.tree.Program.{Program}
 use Rattle.smv_resolve.specs.declared.item.Item.{Item}
 use Rattle.smv_resolve.specs.declared.node.Node.{Node}
-use Rattle.smv_resolve.specs.Items.{ResolvedItem, item_by, items_of}
+use Rattle.smv_resolve.specs.Items.{ResolvedItem, item_by}
+use Rattle.smv_layout.specs.Layout.{items_of}
 use Rattle.smv_meaning.specs.declared.typed.Typed.{Typed}
 use Rattle.smv_meaning.specs.Runs.{is_claim, is_known_item, specifications_of}
-use Rattle.smv_scope.specs.Slots.{slots_of}
+use Rattle.smv_slots.specs.Slots.{slots_of}
 use Rattle.bit_faults.specs.Questions.{IsKnown, judged_items}
 
 -- items over nodes

@@ -6,7 +6,7 @@ use Rattle.bit_arith.specs.Number.{AllStand}
 use Rattle.bit_graph.specs.Meaning.{Consistent, edge_value}
 use Rattle.std.specs.Option.{is_some}
 use Rattle.smv_tree.specs.declared.tree.Program.{Program}
-use Rattle.smv_scope.specs.Slots.{slots_of}
+use Rattle.smv_slots.specs.Slots.{slots_of}
 use Rattle.smv_resolve.specs.Items.{ResolvedItem}
 use Rattle.smv_resolve.specs.Resolved.{parts_of}
 use Rattle.smv_meaning.specs.declared.typed.Typed.{Typed}

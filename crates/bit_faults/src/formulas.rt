@@ -5,7 +5,7 @@ ghost use Rattle.bit_graph.specs.declared.edge.Node.{Node as Gate};
 ghost use Rattle.bit_graph.specs.Growth.{Extends};
 ghost use Rattle.bit_graph.specs.Meaning.{Consistent};
 ghost use Rattle.smv_value.specs.declared.value.Value.{Value};
-ghost use Rattle.smv_scope.specs.declared.slot.Slot.{Slot};
+ghost use Rattle.smv_slots.specs.declared.slot.Slot.{Slot};
 ghost use Rattle.smv_resolve.specs.Resolved.{Resolved, parts_of, resolved_by};
 ghost use Rattle.smv_meaning.specs.declared.outcome.Outcome.{Outcome};
 ghost use Rattle.smv_meaning.specs.Tables.{outcome_at, outcomes_of};

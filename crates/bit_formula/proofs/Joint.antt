@@ -12,8 +12,8 @@ use Rattle.clause_core.specs.Assignments.{Agrees}
 use Rattle.smv_tree.specs.declared.tree.Program.{Program}
 use Rattle.smv_value.specs.declared.value.Value.{Value}
 use Rattle.smv_value.specs.declared.value.Value.TheVariants as value
-use Rattle.smv_scope.specs.Slots.{slots_of}
-use Rattle.smv_declared.specs.Types.{types_of}
+use Rattle.smv_slots.specs.Slots.{slots_of}
+use Rattle.smv_slots.specs.Slots.{types_of}
 use Rattle.smv_meaning.specs.Runs.{are_inputs, input_slots, is_first_state, is_state, is_step, state_slots}
 use Rattle.value_types.specs.declared.value_type.ValueType.{ValueType}
 use Rattle.value_types.specs.declared.value_type.ValueType.TheVariants as type

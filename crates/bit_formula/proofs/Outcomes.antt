@@ -6,8 +6,8 @@ use Rattle.std.proofs.lemmas.Bool.{and_from, cases_lt, eq-eqb, or_from, or_left,
 use Rattle.std.proofs.lemmas.Option.{slice_get_past}
 use Rattle.smv_tree.specs.declared.tree.Program.{Program}
 use Rattle.smv_value.specs.declared.value.Value.{Value}
-use Rattle.smv_scope.specs.declared.slot.Slot.{Slot}
-use Rattle.smv_scope.specs.Slots.{given_to, is_input, slots_of}
+use Rattle.smv_slots.specs.declared.slot.Slot.{Slot}
+use Rattle.smv_slots.specs.Slots.{given_to, is_input, slots_of}
 use Rattle.smv_resolve.specs.Resolved.{Resolved, Operands}
 use Rattle.smv_meaning.specs.declared.outcome.Outcome.{Outcome}
 use Rattle.smv_meaning.specs.Outcomes.{applied, valued}

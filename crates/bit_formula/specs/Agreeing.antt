@@ -5,7 +5,7 @@ use Rattle.clause_core.specs.Systems.{FirstBits, StepBits}
 use Rattle.ltl_monitor.specs.States.{Extends, value}
 use Rattle.smv_tree.specs.declared.tree.Program.{Program}
 use Rattle.smv_value.specs.declared.value.Value.{Value}
-use Rattle.smv_scope.specs.Slots.{slots_of}
+use Rattle.smv_slots.specs.Slots.{slots_of}
 use Rattle.smv_resolve.specs.Resolved.{Resolved}
 use Rattle.smv_meaning.specs.Runs.{are_inputs, is_state, IsFirstState, IsStep}
 use Rattle.smv_meaning.specs.Values.{outcome}

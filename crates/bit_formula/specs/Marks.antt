@@ -1,7 +1,7 @@
 -- Which nodes read an input, each by the nodes before it.
 use Rattle.std.specs.Prelude.{ℕ, Bool, false, ◌||◌, List, map, Option, slice_get, slice_index_or}
 use Rattle.std.specs.List.{list_any}
-use Rattle.smv_scope.specs.declared.slot.Slot.{Slot}
+use Rattle.smv_slots.specs.declared.slot.Slot.{Slot}
 use Rattle.smv_resolve.specs.declared.node.Node.{Node}
 use Rattle.smv_resolve.specs.declared.node.Node.TheVariants as node
 use Rattle.smv_resolve.specs.Resolved.{last_of, parts_of}

@@ -3,8 +3,8 @@ use Rattle.std.specs.Prelude.{◌≡◌, ℕ, ◌<◌, ◌==◌, ◌&&◌, ◌||
 use Rattle.std.specs.List.{range_with_len, list_any}
 use Rattle.smv_tree.specs.declared.tree.Program.{Program}
 use Rattle.smv_value.specs.declared.value.Value.{Value}
-use Rattle.smv_scope.specs.declared.slot.Slot.{Slot}
-use Rattle.smv_scope.specs.Slots.{is_input, slots_of}
+use Rattle.smv_slots.specs.declared.slot.Slot.{Slot}
+use Rattle.smv_slots.specs.Slots.{is_input, slots_of}
 use Rattle.smv_resolve.specs.Resolved.{Resolved, Operands}
 use Rattle.bit_formula.specs.Coding.{input_count}
 

@@ -9,7 +9,7 @@ use Rattle.ltl_monitor.specs.States.{AtomsBelow}
 use Rattle.smv_tree.specs.declared.tree.Program.{Program}
 use Rattle.smv_resolve.specs.Items.{ResolvedItem}
 use Rattle.smv_resolve.specs.Resolved.{Resolved}
-use Rattle.smv_scope.specs.Slots.{slots_of}
+use Rattle.smv_slots.specs.Slots.{slots_of}
 use Rattle.smv_meaning.specs.Runs.{are_inputs, is_first_state, is_state, is_step, is_true}
 use Rattle.smv_meaning.specs.Values.{outcome}
 use Rattle.smv_formulas.specs.Says.{Says}

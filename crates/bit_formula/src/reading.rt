@@ -2,7 +2,7 @@
 
 ghost use Rattle.std.specs.Prelude.{◌≡◌, ℕ, Bool, List, Some, filter, slice_get, IfOk};
 ghost use Rattle.std.specs.List.{list_any, range_with_len};
-ghost use Rattle.smv_scope.specs.Slots.{is_input, slots_of};
+ghost use Rattle.smv_slots.specs.Slots.{is_input, slots_of};
 ghost use Rattle.smv_formulas.specs.Says.{atom_parts};
 ghost use Rattle.bit_formula.specs.Coding.{input_count};
 ghost use Rattle.bit_formula.specs.Marks.{is_asked, mark_at, mark_by, marks_of};
@@ -10,7 +10,7 @@ ghost use Rattle.bit_formula.specs.Reading.{is_read, reads_of, reads_slot};
 
 use smv_meaning::{Typed, slots};
 use smv_resolve::{Node, last};
-use smv_scope::Slot;
+use smv_slots::Slot;
 use smv_tree::VariableKind;
 use std::alloc::{AllocError, Global};
 

@@ -6,7 +6,7 @@ ghost use Rattle.bit_graph.specs.Growth.{Extends};
 ghost use Rattle.bit_graph.specs.Meaning.{Consistent, Denotes, Stands, edge_value};
 ghost use Rattle.bit_outcomes.specs.Telling.{AllTold, TellsAll};
 ghost use Rattle.smv_resolve.specs.Resolved.{Resolved};
-ghost use Rattle.smv_scope.specs.Slots.{slots_of};
+ghost use Rattle.smv_slots.specs.Slots.{slots_of};
 ghost use Rattle.smv_formulas.specs.Says.{atom_parts};
 ghost use Rattle.smv_meaning.specs.declared.outcome.Outcome.{Outcome};
 ghost use Rattle.smv_meaning.specs.Runs.{are_inputs, is_first_state, is_given, is_state, is_true};

@@ -1,3 +1,5 @@
+//! The nodes of a graph, and edges to them that may negate.
+
 ghost use Rattle.std.specs.Prelude.{◌≡◌, not, false};
 
 /// A node of a graph, or the negation of one.

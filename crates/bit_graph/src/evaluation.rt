@@ -1,3 +1,5 @@
+//! The values of a graph's nodes under an assignment of its inputs.
+
 ghost use Rattle.std.specs.Prelude.{◌≡◌, ◌<◌, ℕ, false, length, IfOk, slice_index_or};
 ghost use Rattle.bit_graph.specs.Meaning.{IsBelow, edge_value};
 ghost use Rattle.bit_graph.specs.Values.{assigned, node_value, values};

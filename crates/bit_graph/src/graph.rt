@@ -1,3 +1,6 @@
+//! And-inverter graphs with gates for exclusive or and choice, in which equal gates are shared
+//! (Kuehlmann, Paruthi, Krohm and Ganai 2002).
+
 ghost use Rattle.std.specs.Prelude.{◌≡◌, ◌<◌, ◌≤◌, ◌+◌, ℕ, Bool, ◌&&◌, ◌||◌, ◌⊎◌, false, List, length, IfOk, IfSome, IsSome, ◌↔◌, slice_index_or, if◌then◌else◌};
 ghost use Rattle.bit_graph.specs.declared.edge.Node.TheVariants.{False, Input};
 ghost use Rattle.bit_graph.specs.Meaning.{edge_value, exclusive_or, gate_value, IsGate, IsNode, Consistent, Stands, Acyclic, IsNew, Denotes, HasInputs, IsBelow};
@@ -82,7 +85,7 @@ impl Graph {
 
     /// The edge that is true where both are.
     ///
-    /// Constants fold, and a gate that stands already is found again. After want of memory every
+    /// Constants fold, and a gate that stands already is found again. If memory runs out, every
     /// earlier edge keeps its value.
     pub fn and(&mut self, a: Edge, b: Edge) -> Result<Edge, AllocError>
         requires a_stands { Stands self.old a }

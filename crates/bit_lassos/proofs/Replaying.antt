@@ -12,8 +12,9 @@ use Rattle.ltl_monitor.specs.Lassos.{word_of}
 use Rattle.ltl_monitor.specs.States.{Extends, justice_of}
 use Rattle.smv_tree.specs.declared.tree.Program.{Program}
 use Rattle.smv_value.specs.declared.value.Value.{Value}
-use Rattle.smv_resolve.specs.Items.{ResolvedItem, items_of}
-use Rattle.smv_scope.specs.Slots.{slots_of}
+use Rattle.smv_resolve.specs.Items.{ResolvedItem}
+use Rattle.smv_layout.specs.Layout.{items_of}
+use Rattle.smv_slots.specs.Slots.{slots_of}
 use Rattle.smv_meaning.specs.Lassos.{IsLasso, Lasso, Violates}
 use Rattle.smv_meaning.specs.Runs.{IsStep, allows_step, are_inputs, at_time, is_first_state, is_state, is_step, keeps_frozen, meets_invariants}
 use Rattle.bit_states.specs.Coding.{decoded}

@@ -7,7 +7,7 @@ use Rattle.bit_graph.specs.declared.edge.Edge.{Edge}
 use Rattle.bit_graph.specs.declared.edge.Node.{Node}
 use Rattle.bit_graph.specs.Meaning.{Consistent, edge_value}
 use Rattle.smv_tree.specs.declared.place.Place.{Place}
-use Rattle.smv_value.specs.declared.value.FaultRule.TheVariants as fault
+use Rattle.smv_value.specs.declared.value.FaultRule.{FaultRule}
 use Rattle.smv_value.specs.declared.value.Value.{Value}
 use Rattle.smv_value.specs.declared.value.Value.TheVariants as value
 use Rattle.smv_meaning.specs.declared.outcome.Outcome.{Outcome}
@@ -28,22 +28,22 @@ two_more xs i l =
     drop_more xs i Nothing (omega (arith, l))
     ∙ ap (λ (ys : List Outcome). get_or xs i Nothing ∷ ys) (drop_more xs (i + 1) Nothing l ∙ ap (λ (n : ℕ). get_or xs (i + 1) Nothing ∷ drop n xs) two)
 
-pub choice_pair : (p : Place) (xs : List Outcome) (i : ℕ) → 2 * i + 1 < length xs →
-    choice p (drop (2 * i) xs) ≡ taken (truth (get_or xs (2 * i) Nothing)) (get_or xs (2 * i) Nothing) (get_or xs (2 * i + 1) Nothing) (choice p (drop (2 * (i + 1)) xs))
-choice_pair p xs i l =
+pub choice_pair : (rule : FaultRule) (p : Place) (xs : List Outcome) (i : ℕ) → 2 * i + 1 < length xs →
+    choice rule p (drop (2 * i) xs) ≡ taken (truth (get_or xs (2 * i) Nothing)) (get_or xs (2 * i) Nothing) (get_or xs (2 * i + 1) Nothing) (choice rule p (drop (2 * (i + 1)) xs))
+choice_pair rule p xs i l =
     let next : 2 * i + 2 ≡ 2 * (i + 1) = omega arith in
-    ap (choice p) (two_more xs (2 * i) l)
-    ∙ ap (λ (n : ℕ). taken (truth (get_or xs (2 * i) Nothing)) (get_or xs (2 * i) Nothing) (get_or xs (2 * i + 1) Nothing) (choice p (drop n xs))) next
+    ap (choice rule p) (two_more xs (2 * i) l)
+    ∙ ap (λ (n : ℕ). taken (truth (get_or xs (2 * i) Nothing)) (get_or xs (2 * i) Nothing) (get_or xs (2 * i + 1) Nothing) (choice rule p (drop n xs))) next
 
-pub choice_step : (p : Place) (xs : List Outcome) (k i : ℕ) → k + 1 ≡ i → 2 * k + 1 < length xs →
-    choice p (drop (2 * k) xs) ≡ taken (truth (get_or xs (2 * k) Nothing)) (get_or xs (2 * k) Nothing) (get_or xs (2 * k + 1) Nothing) (choice p (drop (2 * i) xs))
-choice_step p xs k i e l =
-    choice_pair p xs k l
-    ∙ ap (λ (n : ℕ). taken (truth (get_or xs (2 * k) Nothing)) (get_or xs (2 * k) Nothing) (get_or xs (2 * k + 1) Nothing) (choice p (drop (2 * n) xs))) e
+pub choice_step : (rule : FaultRule) (p : Place) (xs : List Outcome) (k i : ℕ) → k + 1 ≡ i → 2 * k + 1 < length xs →
+    choice rule p (drop (2 * k) xs) ≡ taken (truth (get_or xs (2 * k) Nothing)) (get_or xs (2 * k) Nothing) (get_or xs (2 * k + 1) Nothing) (choice rule p (drop (2 * i) xs))
+choice_step rule p xs k i e l =
+    choice_pair rule p xs k l
+    ∙ ap (λ (n : ℕ). taken (truth (get_or xs (2 * k) Nothing)) (get_or xs (2 * k) Nothing) (get_or xs (2 * k + 1) Nothing) (choice rule p (drop (2 * n) xs))) e
 
 -- a last branch
-pub choice_last : (p : Place) (xs : List Outcome) (i : ℕ) → i < length xs → length xs ≤ i + 1 → choice p (drop i xs) ≡ get_or xs i Nothing
-choice_last p xs i l e = choice_end p xs i e ∙ get_or_default xs i (Fault fault.CaseOpen p) Nothing l
+pub choice_last : (rule : FaultRule) (p : Place) (xs : List Outcome) (i : ℕ) → i < length xs → length xs ≤ i + 1 → choice rule p (drop i xs) ≡ get_or xs i Nothing
+choice_last rule p xs i l e = choice_end rule p xs i e ∙ get_or_default xs i (Fault rule p) Nothing l
 
 past : (xs : List Outcome) (i : ℕ) (d : Outcome) → length xs ≤ i → get_or xs i d ≡ d
 past [] i d l = refl
@@ -51,8 +51,8 @@ past (x ∷ xs) zero d l = absurd (omega (arith, l))
 past (x ∷ xs) (suc i) d l = past xs i d (omega (arith, l))
 
 -- none
-pub choice_open : (p : Place) (xs : List Outcome) (i : ℕ) → length xs ≤ i → choice p (drop i xs) ≡ Fault fault.CaseOpen p
-choice_open p xs i l = choice_end p xs i (omega (arith, l)) ∙ past xs i (Fault fault.CaseOpen p) l
+pub choice_open : (rule : FaultRule) (p : Place) (xs : List Outcome) (i : ℕ) → length xs ≤ i → choice rule p (drop i xs) ≡ Fault rule p
+choice_open rule p xs i l = choice_end rule p xs i (omega (arith, l)) ∙ past xs i (Fault rule p) l
 
 module _ (v : ℕ → Bool) where
   or_right : (a b : Bool) → b ≡ true → (a || b) ≡ true

@@ -6,6 +6,7 @@ use Rattle.std.proofs.lemmas.Bool.{cases_Bool}
 use Rattle.bit_graph.specs.declared.edge.Edge.{Edge}
 use Rattle.bit_graph.specs.Meaning.{edge_value}
 use Rattle.smv_tree.specs.declared.place.Place.{Place}
+use Rattle.smv_value.specs.declared.value.FaultRule.{FaultRule}
 use Rattle.smv_value.specs.declared.value.Value.{Value}
 use Rattle.smv_meaning.specs.declared.outcome.Outcome.{Outcome}
 use Rattle.smv_meaning.specs.declared.outcome.Outcome.TheVariants.{Fault, Nothing, Values}
@@ -22,14 +23,14 @@ abbrev pub front_of : List Outcome → ℕ → Outcome → Outcome
 front_of os zero r = r
 front_of os (suc i) r = front_of os i (taken (truth (get_or os (2 * i) Nothing)) (get_or os (2 * i) Nothing) (get_or os (2 * i + 1) Nothing) r)
 
-pub front_choice : (p : Place) (os : List Outcome) (i : ℕ) → 2 * i ≤ length os → front_of os i (choice p (drop (2 * i) os)) ≡ choice p os
-front_choice p os zero l = refl
-front_choice p os (suc i) l =
+pub front_choice : (rule : FaultRule) (p : Place) (os : List Outcome) (i : ℕ) → 2 * i ≤ length os → front_of os i (choice rule p (drop (2 * i) os)) ≡ choice rule p os
+front_choice rule p os zero l = refl
+front_choice rule p os (suc i) l =
     let next : suc i ≡ i + 1 = omega arith in
     ap (front_of os i)
-    (ap (λ (n : ℕ). taken (truth (get_or os (2 * i) Nothing)) (get_or os (2 * i) Nothing) (get_or os (2 * i + 1) Nothing) (choice p (drop (2 * n) os))) next
-    ∙ sym (choice_pair p os i (omega (arith, l))))
-    ∙ front_choice p os i (omega (arith, l))
+    (ap (λ (n : ℕ). taken (truth (get_or os (2 * i) Nothing)) (get_or os (2 * i) Nothing) (get_or os (2 * i + 1) Nothing) (choice rule p (drop (2 * n) os))) next
+    ∙ sym (choice_pair rule p os i (omega (arith, l))))
+    ∙ front_choice rule p os i (omega (arith, l))
 
 -- what is so of a value, where there is one
 pub some_of : {X : Type 0} (P : X → Type 0) (o : Option X) (x : X) → o ≡ Some x → IfSome o P → P x

@@ -5,9 +5,10 @@ use Rattle.bit_graph.specs.Meaning.{Consistent}
 use Rattle.smv_tree.specs.declared.place.Place.{Place}
 use Rattle.smv_value.specs.declared.operator.Operator.{Operator}
 use Rattle.smv_value.specs.declared.operator.Operator.TheVariants as operator
+use Rattle.smv_value.specs.declared.value.FaultRule.{FaultRule}
 use Rattle.smv_value.specs.Results.{result_of}
 use Rattle.smv_meaning.specs.declared.outcome.Outcome.{Outcome}
-use Rattle.smv_meaning.specs.Outcomes.{applied, given, operated}
+use Rattle.smv_meaning.specs.Outcomes.{applied, choice, given, operated}
 use Rattle.smv_meaning.proofs.Operating.{applied_by}
 use Rattle.bit_outcomes.specs.declared.told.Told.{Told}
 use Rattle.bit_outcomes.specs.Telling.{Tells, TellsAll}
@@ -22,6 +23,13 @@ pub anywhere : {E : Type 0} (r : Result Told E) (g : List Node) (ts : List Told)
 anywhere (Ok t) g ts f h = λ place v os c all. h v os c all
 anywhere (Err e) g ts f h = h
 
+-- a choice that faults by this rule
+pub by_rule : {E : Type 0} (r : Result Told E) (g : List Node) (ts : List Told) (rule : FaultRule) →
+    IfOk r (λ t. (rule : FaultRule) (place : Place) (v : ℕ → Bool) (os : List Outcome) → Consistent v g → TellsAll v ts os → Tells v t (choice rule place os)) →
+    Says r g ts (applied (operator.Choice rule))
+by_rule (Ok t) g ts rule h = λ place v os c all. h rule place v os c all
+by_rule (Err e) g ts rule h = h
+
 -- by another name of the operator
 pub told_of : {E : Type 0} (r : Result Told E) (g : List Node) (ts : List Told) (o q : Operator) → o ≡ q → Says r g ts (applied q) → Says r g ts (applied o)
 told_of r g ts o q is h = subst (λ (p : Operator). Says r g ts (applied p)) (sym is) h
@@ -35,7 +43,7 @@ abbrev by_values : Operator → Place → List Outcome → Outcome
 by_values o place os = operated (λ vs. given place (result_of o vs)) [] os
 
 -- one that takes one value of each operand
-pub other_told : {E : Type 0} (r : Result Told E) (g : List Node) (ts : List Told) (o : Operator) → (o ≡ operator.Choice → ⊥) → (o ≡ operator.Members → ⊥) → (o ≡ operator.Union → ⊥) →
+pub other_told : {E : Type 0} (r : Result Told E) (g : List Node) (ts : List Told) (o : Operator) → ((rule : FaultRule) → o ≡ operator.Choice rule → ⊥) → (o ≡ operator.Members → ⊥) → (o ≡ operator.Union → ⊥) →
     (o ≡ operator.Range → ⊥) → (o ≡ operator.In → ⊥) → Says r g ts (by_values o) → Says r g ts (applied o)
 other_told r g ts o a b c d e h =
     along r g ts (by_values o) (applied o) (λ place os. applied_by {E = ℕ} (Ok (by_values o place os)) o place os a b c d e refl) h

@@ -20,7 +20,8 @@ use bit_graph::{Edge, Graph};
 use bit_operators::Symbolic;
 use std::alloc::{AllocError, Global};
 
-/// The branch of the first condition that is TRUE, or a last branch that has none. The only error is want of memory.
+/// The branch of the first condition that is TRUE, or a last branch that has none; without one a fault, by whichever rule. The only
+/// error is want of memory.
 ///
 /// It takes a gate for each condition without a branch behind it for the rest, and so many for a branch as its value has edges. Up to
 /// the last branch that is a set, a condition takes some gates, and each member of its branch one.
@@ -28,7 +29,7 @@ pub fn choice(alloc: Global, graph: &mut Graph, operands: &[Told]) -> Result<Tol
     requires { AllTold graph.old operands.now }
     ensures extends { Extends graph.old graph.new }
     ensures stands { IfOk result (λ t. ToldStands graph.new t) }
-    ensures told { IfOk result (λ t. (place : Place) (v : ℕ → Bool) (os : List Outcome) → Consistent v graph.new → TellsAll v operands.now os → Tells v t (choice place os)) }
+    ensures told { IfOk result (λ t. (rule : FaultRule) (place : Place) (v : ℕ → Bool) (os : List Outcome) → Consistent v graph.new → TellsAll v operands.now os → Tells v t (choice rule place os)) }
 {
     let tail = values_behind(alloc, graph, operands)?;
     if tail.from == 0 {
@@ -52,8 +53,8 @@ fn values_behind(alloc: Global, graph: &mut Graph, operands: &[Told]) -> Result<
     ensures extends { Extends graph.old graph.new }
     ensures stands { IfOk result (λ x. ToldStands graph.new x.told) }
     ensures from { IfOk result (λ x. 2 * x.from ≤ length operands.now) }
-    ensures told { IfOk result (λ x. (place : Place) (v : ℕ → Bool) (os : List Outcome) → Consistent v graph.new → TellsAll v operands.now os →
-        Tells v x.told (choice place (drop (2 * x.from) os))) }
+    ensures told { IfOk result (λ x. (rule : FaultRule) (place : Place) (v : ℕ → Bool) (os : List Outcome) → Consistent v graph.new → TellsAll v operands.now os →
+        Tells v x.told (choice rule place (drop (2 * x.from) os))) }
 {
     let mut rest = last_branch(alloc, graph, operands)?;
     'pairs: for i in (0..operands.len() / 2).rev() {
@@ -94,8 +95,8 @@ fn with_front(
     requires from { 2 * tail.now.from ≤ length operands.now }
     ensures extends { Extends graph.old graph.new }
     ensures stands { IfOk result (λ t. ToldStands graph.new t) }
-    ensures told { IfOk result (λ t. (place : Place) (v : ℕ → Bool) (os : List Outcome) → Consistent v graph.new → TellsAll v operands.now os →
-        Tells v tail.now.told (choice place (drop (2 * tail.now.from) os)) → Tells v t (choice place os)) }
+    ensures told { IfOk result (λ t. (rule : FaultRule) (place : Place) (v : ℕ → Bool) (os : List Outcome) → Consistent v graph.new → TellsAll v operands.now os →
+        Tells v tail.now.told (choice rule place (drop (2 * tail.now.from) os)) → Tells v t (choice rule place os)) }
 {
     let mut front = Front::new(alloc, graph);
     'pairs: for i in 0..tail.from {
@@ -114,8 +115,8 @@ fn with_front(
 fn last_branch(alloc: Global, graph: &Graph, operands: &[Told]) -> Result<Told, AllocError>
     requires { AllTold graph.now operands.now }
     ensures stands { IfOk result (λ t. ToldStands graph.now t) }
-    ensures told { IfOk result (λ t. (place : Place) (v : ℕ → Bool) (os : List Outcome) → Consistent v graph.now → TellsAll v operands.now os →
-        Tells v t (choice place (drop (2 * (length operands.now / 2)) os))) }
+    ensures told { IfOk result (λ t. (rule : FaultRule) (place : Place) (v : ℕ → Bool) (os : List Outcome) → Consistent v graph.now → TellsAll v operands.now os →
+        Tells v t (choice rule place (drop (2 * (length operands.now / 2)) os))) }
 {
     let paired = 2 * (operands.len() / 2);
     if paired < operands.len() {

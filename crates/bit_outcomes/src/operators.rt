@@ -40,13 +40,16 @@ pub fn applied(
     ensures told { IfOk result (λ t. (place : Place) (v : ℕ → Bool) (os : List Outcome) → Consistent v graph.new → TellsAll v operands.now os → Tells v t (applied operator place os)) }
 {
     match operator {
-        Operator::Choice => choice(alloc, graph, operands),
+        Operator::Choice(_) => choice(alloc, graph, operands),
         Operator::Members => united(alloc, graph, operands),
         Operator::Union => united(alloc, graph, operands),
         Operator::Range => range(alloc, graph, operands),
         Operator::In => inclusion(alloc, graph, operands),
         Operator::Temporal(_) => Ok(Told::Untold),
         Operator::Bounded(..) => Ok(Told::Untold),
+        Operator::Window(_) => Ok(Told::Untold),
+        Operator::WholeArray => Ok(Told::Untold),
+        Operator::Index => Ok(Told::Untold),
         other => operated(alloc, graph, other, operands),
     }
 }

@@ -7,9 +7,9 @@ use Rattle.std.proofs.lemmas.List.FromFn.{get_or-map-range_with_len, length-map-
 use Rattle.smv_tree.specs.declared.tree.Program.{Program}
 use Rattle.smv_value.specs.declared.value.Value.{Value}
 use Rattle.value_types.specs.declared.value_type.ValueType.{ValueType}
-use Rattle.smv_scope.specs.Slots.{is_input, slots_of}
-use Rattle.smv_scope.specs.declared.slot.Slot.{Slot}
-use Rattle.smv_declared.specs.Types.{types_of}
+use Rattle.smv_slots.specs.Slots.{is_input, slots_of}
+use Rattle.smv_slots.specs.declared.slot.Slot.{Slot}
+use Rattle.smv_slots.specs.Slots.{types_of}
 use Rattle.smv_meaning.specs.Runs.{fits}
 use Rattle.bit_states.specs.Values.{are_codes, decoded_all, encoded_all, width_of_all}
 use Rattle.bit_states.specs.Layouts.{HasTypes, input_types, input_width, state_types, state_width, type_of_slot}

@@ -11,10 +11,10 @@ use Rattle.smv_value.specs.declared.value.Value.{Value}
 use Rattle.value_types.specs.declared.value_type.ValueType.{ValueType}
 use Rattle.value_types.specs.declared.value_type.ValueType.TheVariants as type
 use Rattle.value_types.specs.Types.{is_of_type, is_type}
-use Rattle.smv_scope.specs.declared.slot.Slot.{Slot}
-use Rattle.smv_scope.specs.Slots.{slots_of}
-use Rattle.smv_declared.specs.Types.{types_of}
-use Rattle.smv_declared.proofs.Counted.{counted, numbered}
+use Rattle.smv_slots.specs.declared.slot.Slot.{Slot}
+use Rattle.smv_slots.specs.Slots.{slots_of}
+use Rattle.smv_slots.specs.Slots.{types_of}
+use Rattle.smv_slots.proofs.Counted.{counted, numbered}
 use Rattle.smv_meaning.specs.Runs.{fits, in_type}
 use Rattle.bit_states.specs.Layouts.{type_of_slot}
 use Rattle.bit_states.proofs.OfValues.{are_of, are_types}

@@ -7,7 +7,7 @@ ghost use Rattle.bit_states.specs.Values.{width_of_all};
 
 use bit_values::width;
 use smv_meaning::{Typed, input_slots, state_slots};
-use smv_scope::Slot;
+use smv_slots::Slot;
 use sqlite_items::{Items, at};
 use std::alloc::{AllocError, Global};
 use value_types::ValueType;
@@ -19,7 +19,7 @@ const MOST: usize = 65_536;
 pub fn state_types(alloc: Global, typed: &Typed) -> Result<Items<ValueType>, AllocError>
     ensures { IfOk result (λ r. r ≡ state_types typed.now.scope.program) }
 {
-    let slots = state_slots(alloc, &typed.scope)?;
+    let slots = state_slots(alloc, typed.slots.as_slice())?;
     types_of_slots(alloc, typed.types.as_slice(), slots.as_slice())
 }
 
@@ -27,7 +27,7 @@ pub fn state_types(alloc: Global, typed: &Typed) -> Result<Items<ValueType>, All
 pub fn input_types(alloc: Global, typed: &Typed) -> Result<Items<ValueType>, AllocError>
     ensures { IfOk result (λ r. r ≡ input_types typed.now.scope.program) }
 {
-    let slots = input_slots(alloc, &typed.scope)?;
+    let slots = input_slots(alloc, typed.slots.as_slice())?;
     types_of_slots(alloc, typed.types.as_slice(), slots.as_slice())
 }
 

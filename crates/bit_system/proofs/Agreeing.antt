@@ -9,8 +9,9 @@ use Rattle.clause_core.specs.Systems.{TransitionSystem, StepBits, DefinedTrue, M
 use Rattle.clause_core.specs.declared.literal.Lit.{Lit}
 use Rattle.smv_tree.specs.declared.tree.Program.{Program}
 use Rattle.smv_value.specs.declared.value.Value.{Value}
-use Rattle.smv_resolve.specs.Items.{ResolvedItem, items_of}
-use Rattle.smv_scope.specs.Slots.{slots_of}
+use Rattle.smv_resolve.specs.Items.{ResolvedItem}
+use Rattle.smv_layout.specs.Layout.{items_of}
+use Rattle.smv_slots.specs.Slots.{slots_of}
 use Rattle.smv_meaning.specs.Runs.{allows_step, are_inputs, is_state, is_step, keeps_frozen, meets_invariants}
 use Rattle.bit_clauses.specs.Deciding.{Decides, Defines}
 use Rattle.bit_clauses.specs.Gated.{DefinesAll}

@@ -5,8 +5,9 @@ use Rattle.std.proofs.lemmas.Bool.{and_from, and_parts}
 use Rattle.clause_core.specs.Systems.{TransitionSystem, BadBits, ReachedWithin}
 use Rattle.smv_tree.specs.declared.tree.Program.{Program}
 use Rattle.smv_value.specs.declared.value.Value.{Value}
-use Rattle.smv_resolve.specs.Items.{ResolvedItem, items_of}
-use Rattle.smv_scope.specs.Slots.{slots_of}
+use Rattle.smv_resolve.specs.Items.{ResolvedItem}
+use Rattle.smv_layout.specs.Layout.{items_of}
+use Rattle.smv_slots.specs.Slots.{slots_of}
 use Rattle.smv_meaning.specs.Values.{outcome_in}
 use Rattle.smv_meaning.specs.Runs.{Breaks, allows_first, allows_step, are_inputs, at_time, is_first_state, is_state, is_step, keeps_frozen, meets_invariants}
 use Rattle.bit_outcomes.specs.Asked.{is_false}

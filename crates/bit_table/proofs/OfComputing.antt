@@ -7,15 +7,17 @@ use Rattle.smv_value.specs.declared.operator.Operator.TheVariants as operator
 use Rattle.smv_value.specs.declared.value.Value.{Value}
 use Rattle.smv_value.specs.declared.value.Value.TheVariants as value
 use Rattle.smv_value.specs.declared.value.FaultRule.{FaultRule}
-use Rattle.smv_value.specs.Results.{fault_if, fault_of, integer, is_int, is_true, is_value, one, result_of, same, second_fault, three, two, unless, value_of}
+use Rattle.smv_value.specs.Results.{fault_if, fault_of, integer, is_int, is_true, is_value, of_integer, one, result_of, same, second_fault, three, two, unless, value_of}
 use Rattle.value_types.proofs.Elements.{and_left, and_right}
 use Rattle.bit_graph.specs.declared.edge.Edge.{Edge}
 use Rattle.bit_graph.specs.declared.edge.Node.{Node}
 use Rattle.bit_graph.specs.Meaning.{Consistent, Denotes, Stands, edge_value}
+use Rattle.bit_operators.specs.declared.symbolic.Discrete.{Discrete}
 use Rattle.bit_operators.specs.declared.symbolic.Symbolic.{Symbolic}
 use Rattle.bit_operators.specs.declared.symbolic.Symbolic.TheVariants as symbolic
-use Rattle.bit_operators.specs.Denoting.{ComputesOne, ComputesTwo, ComputesUnless, StandsIn, denoted}
+use Rattle.bit_operators.specs.Denoting.{ComputesOne, ComputesTwo, ComputesUnless, StandsIn, denoted, integer_of}
 use Rattle.bit_numbers.specs.Counts.{AreDenoted}
+use Rattle.bit_numbers.proofs.OfOperators.{discretes_one, of_one_integer}
 use Rattle.bit_table.specs.Computing.{Computes, ComputesAlways, ComputesThree, is_fault}
 
 -- of one value
@@ -84,6 +86,14 @@ always_count v o ss s eo h = record {
   gives = λ xs z d i e.
       h xs d ∙ given (is_int (pos (count_by is_true xs))) (value.Int (pos (count_by is_true xs))) z (sym (ap (λ p. value_of p xs) eo) ∙ e);
 }
+
+-- an index
+
+pub index_given : (v : ℕ → Bool) (a r : Symbolic) (d : Discrete) (l : List Edge) → a ≡ symbolic.Discrete d → l ≡ d.number → denoted v r ≡ Some (value.Int (integer_of v l)) →
+    ComputesOne v (of_integer (λ n. n)) a r
+index_given v a r d l ia ld er =
+    discretes_one v (of_integer (λ n. n)) a r d ia (of_one_integer (λ n. n))
+    (λ z i g. er ∙ ap (λ m. Some (value.Int (integer_of v m))) ld ∙ given (is_int (integer_of v d.number)) (value.Int (integer_of v d.number)) z g)
 
 -- the table
 

@@ -271,6 +271,7 @@ value_stays operator.Count = λ xs z i e. integer_stays (pos (count_by is_true x
 value_stays (operator.Shift o) = two_stays (shifted o) (shifted_stays o)
 value_stays operator.Join = two_stays joined joined_stays
 value_stays operator.Select = three_stays selected selected_stays
+value_stays operator.Subscript = one_stays (of_integer (λ a. a)) (one_integer_stays (λ a. a))
 value_stays operator.ToWord = one_stays to_word to_word_stays
 value_stays operator.ToBoolean = one_stays to_boolean to_boolean_stays
 value_stays operator.Signed = one_stays (with_sign true) (sign_stays true)

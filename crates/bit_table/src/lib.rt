@@ -2,6 +2,7 @@
 #![tactic(auto)]
 
 mod compared;
+mod indices;
 mod known;
 mod laws;
 mod table;

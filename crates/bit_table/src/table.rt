@@ -8,6 +8,7 @@ ghost use Rattle.bit_numbers.specs.Counts.{AllStandIn};
 ghost use Rattle.bit_table.specs.Computing.{Computes, ComputesAlways};
 
 use crate::compared::{difference, equality, order};
+use crate::indices::subscript;
 use crate::known::{extended_by, resized_by, selected_by, word_of_constants};
 use bit_graph::{Edge, Graph};
 use bit_numbers::{absolute, counted, divided, extreme, negated, shifted, size, to_boolean};
@@ -149,6 +150,10 @@ fn of_one(
         }
         Operator::Size => {
             let made = size(alloc, graph, a)?;
+            Ok(made)
+        }
+        Operator::Subscript => {
+            let made = subscript(alloc, graph, a)?;
             Ok(made)
         }
         _ => Ok(None),

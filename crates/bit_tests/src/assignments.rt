@@ -1,4 +1,5 @@
-// The systems of small models under all assignments of their bits.
+//! Tests of the systems of small models under all assignments of their bits.
+
 use crate::refuting::{is_refuted, set_by};
 use bit_states::BuildStop;
 use bit_system::{Built, build};
@@ -65,7 +66,13 @@ INVARSPEC n < 2
 INVARSPEC n != 3
 ";
 
-const ROWS: [Row; 5] = [
+const ARRAY: &str = "MODULE main
+VAR a : array 0..1 of boolean; i : 0..1;
+TRANS next(a[0]) = a[i]
+INVARSPEC a[i] -> a[0] | a[1]
+";
+
+const ROWS: [Row; 6] = [
     Row {
         source: LIGHT,
         width: 3,
@@ -106,6 +113,14 @@ const ROWS: [Row; 5] = [
         steps: 16,
         clauses: [8, 50, 2, 2, 0],
     },
+    Row {
+        source: ARRAY,
+        width: 3,
+        states: 8,
+        named: 6,
+        steps: 64,
+        clauses: [0, 4, 4, 7, 0],
+    },
 ];
 
 // The low bits of a number.
@@ -123,7 +138,7 @@ pub fn bits_of(alloc: Global, number: usize, count: usize) -> Result<Vec<bool>, 
 fn value_in(alloc: Global, typed: &Typed, s: &State, node: usize) -> Result<u8, AllocError> {
     let all = outcomes(
         alloc,
-        typed.scope.slots.as_slice(),
+        typed.slots.as_slice(),
         typed.nodes.as_slice(),
         s.as_slice(),
         &[],

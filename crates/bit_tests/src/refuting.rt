@@ -1,4 +1,5 @@
-// Unit propagation, naively.
+//! Unit propagation by plain passes over all clauses, for tests.
+
 use clause_core::{Clauses, Lit, Scan, is_within, scan_clause, set};
 use std::alloc::{AllocError, Global};
 

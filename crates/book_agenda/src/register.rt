@@ -90,7 +90,7 @@ impl Register {
         }
     }
 
-    /// Makes a claim, and room for the entry that ends it. After want of memory all is as before.
+    /// Makes a claim, and room for the entry that ends it. If memory runs out, all is as before.
     pub fn claim(&mut self, worker: u32, subject: Subject, level: u32) -> Result<(), AllocError>
         requires new { IsNewIn self.old subject level }
         requires up_to { IsUpTo self.old subject level }

@@ -1,3 +1,5 @@
+//! Finds hints for the derivation of each part of a certificate.
+
 ghost use Rattle.std.specs.Prelude.{◌≡◌, ◌≤◌, ◌++◌, [], All, OnOk, OnErr, IfOk, length, slice_index_or};
 ghost use Rattle.clause_core.specs.Literals.{Within};
 ghost use Rattle.clause_core.specs.Derivations.{Derives};

@@ -1,3 +1,6 @@
+//! Judges a certificate part by part, and names the first part that fails: shared steps,
+//! initiation, consecution, safety.
+
 ghost use Rattle.std.specs.Prelude.{◌≡◌, ◌*◌, ◌≤◌, ◌++◌, [], length, All, IfOk, MatchBool, MatchOption, slice_index_or};
 ghost use Rattle.clause_core.specs.Literals.{Within};
 ghost use Rattle.cert_core.specs.declared.form.Form.TheVariants.{Hinted};

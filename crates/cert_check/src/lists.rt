@@ -1,3 +1,5 @@
+//! Lists of clauses joined, and the negation of a clause as literals, in this state or the next.
+
 ghost use Rattle.std.specs.Prelude.{◌≡◌, ◌<◌, ◌*◌, ◌^◌, ◌++◌, map, OnOk, IfOk};
 ghost use Rattle.clause_core.specs.Literals.{negate, Within};
 ghost use Rattle.cert_core.specs.Certificates.{unit_clauses, negated, negated_next};

@@ -1,3 +1,6 @@
+//! Judges the derivation of one part by unit propagation (Goldberg and Novikov 2003) or by its
+//! hints (Cruz-Filipe and others 2017).
+
 ghost use Rattle.std.specs.Prelude.{◌≡◌, ◌<◌, ◌≤◌, ◌*◌, ◌++◌, length, All, IfOk, MatchBool, slice_index_or};
 ghost use Rattle.clause_core.specs.Literals.{Within};
 ghost use Rattle.hinted_log.specs.Hints.{IsHinted};

@@ -1,3 +1,5 @@
+//! Makes of a certificate that certifies one of the same clauses that is judged by hints alone.
+
 ghost use Rattle.std.specs.Prelude.{◌≡◌, ◌≤◌, All, IfOk, OnOk, None, Some};
 ghost use Rattle.std.specs.Option.{ForSome};
 ghost use Rattle.clause_core.specs.Literals.{Within};
@@ -68,7 +70,7 @@ fn hint_all(
 /// Makes of a certificate that certifies one of the same clauses and the same counter that is judged by hints, with no
 /// shared part, and that certifies, too; `No` exactly where `check` says it.
 ///
-/// The only error is want of memory; more variables than a text can number count as that. Its time is that of finding
+/// The only error is out of memory; more variables than a text can number count as that. Its time is that of finding
 /// hints for each part, from the clauses that it follows from.
 pub fn upgrade(alloc: Global, system: &System, cert: &Certificate) -> Result<Upgraded, AllocError>
     ensures { IfOk result (UpgradeSays system.now cert.now) }

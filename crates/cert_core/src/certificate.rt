@@ -1,3 +1,6 @@
+//! A certificate: the clauses of an inductive invariant, with derivations that show initiation,
+//! consecution and safety.
+
 ghost use Rattle.std.specs.Prelude.{◌≡◌, ◌≤◌, OnOk, OnErr, IfSome, option_copied};
 ghost use Rattle.std.specs.Option.{ForSome};
 ghost use Rattle.clause_core.specs.Literals.{Within};
@@ -103,7 +106,7 @@ impl Certificate {
         }
     }
 
-    /// Adds a clause at the end, whose parts are missing. After want of memory all is as before.
+    /// Adds a clause at the end, whose parts are missing. If memory runs out, all is as before.
     pub fn push_clause(&mut self, c: &[Lit]) -> Result<(), AllocError>
         requires { Within MAX_VARS c.now }
         ensures done { OnOk result (self.new ≡ with_clause self.old c.now) }

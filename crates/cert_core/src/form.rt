@@ -1,3 +1,5 @@
+//! How a certificate is judged, the names of its parts, and the limits of its text.
+
 /// How the steps of a certificate are judged.
 #[derive(Clone, Copy, PartialEq, Eq, Debug)]
 pub enum Form {

@@ -1,9 +1,11 @@
+//! Lists of derivations, each of which may be missing.
+
 ghost use Rattle.std.specs.Prelude.{◌≡◌, ◌∷◌, ◌++◌, [], OnOk, OnErr, None, option_copied, slice_index_or};
 
 use hinted_log::Hinted;
 use std::alloc::AllocError;
 
-// Adds a part that is missing. After want of memory the parts are as before.
+// Adds a part that is missing. If memory runs out, the parts are as before.
 pub(crate) fn push_missing(parts: &mut Vec<Option<Hinted>>) -> Result<(), AllocError>
     ensures done { OnOk result (parts.new.items ≡ parts.old.items ++ None ∷ []) }
     ensures failed { OnErr result (parts.new.items ≡ parts.old.items) }

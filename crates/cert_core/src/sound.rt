@@ -1,3 +1,5 @@
+//! Derivations which show that the items of a model never fault.
+
 ghost use Rattle.std.specs.Prelude.{◌≡◌, ◌<◌, IfOk, IfSome, None, Some, length, replicate, option_copied, slice_index_or, slice_set};
 ghost use Rattle.cert_core.specs.declared.form.Form.TheVariants.{Plain};
 ghost use Rattle.cert_core.specs.Blocks.{LogFits};

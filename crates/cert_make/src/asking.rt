@@ -1,3 +1,5 @@
+//! Asks a solver to refute its clauses under assumptions, within a purse.
+
 ghost use Rattle.std.specs.Prelude.{◌≡◌, IfOk};
 ghost use Rattle.clause_core.specs.Literals.{Within};
 ghost use Rattle.sat_core.specs.Paying.{PaysForOne};
@@ -13,7 +15,7 @@ use std::alloc::{AllocError, Global};
 
 pub type Engine = Solver<Watched>;
 
-/// What a question gives whose clauses and assumptions can't all be true.
+/// The outcome of a query whose clauses and assumptions are unsatisfiable.
 #[derive(Clone, Copy)]
 pub enum Asked {
     /// It is refuted.
@@ -22,7 +24,7 @@ pub enum Asked {
     Spent { drawn: u64, budget: u64 },
 }
 
-// Lets the solver show that its clauses and the assumptions can't all be true.
+// Has the solver refute its clauses under the assumptions.
 pub fn ask<Q: Purse>(
     alloc: Global,
     solver: &mut Engine,

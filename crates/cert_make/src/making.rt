@@ -1,3 +1,6 @@
+//! Makes a certificate of an inductive invariant: a solver refutes each part's negation, and its
+//! log is the derivation.
+
 ghost use Rattle.std.specs.Prelude.{◌≡◌, ◌+◌, ◌≤◌, ◌++◌, [], All, IfOk, None, length};
 ghost use Rattle.clause_core.specs.Literals.{Within};
 ghost use Rattle.cert_core.specs.declared.form.Form.TheVariants.{Hinted as Hints};
@@ -88,7 +91,7 @@ fn put_first_with<Q: Purse>(
     Ok(Asked::Refuted)
 }
 
-// The same, by a solver that it makes.
+// As `put_first_with`, by a solver that it makes.
 fn put_first<Q: Purse>(
     alloc: Global,
     checker: &mut Checker,
@@ -232,7 +235,7 @@ fn put_all<Q: Purse>(
 /// state; and one for the part `safe` its own question. What the second one learns follows from the clauses and the steps
 /// alone, and is the shared part, so that each part `kept` is one step. Each question costs a ticket of the purse, and each
 /// clause that a solver learns another; `Spent` comes only where the purse refused one, and then some part is not answered.
-/// The other error is want of memory; more variables than a text can number count as that.
+/// The other error is out of memory; more variables than a text can number count as that.
 pub fn make<Q: Purse>(
     alloc: Global,
     system: &System,

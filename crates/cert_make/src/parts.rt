@@ -1,3 +1,5 @@
+//! The derivation of one part, from the log of a solver.
+
 ghost use Rattle.std.specs.Prelude.{◌≡◌, ◌+◌, ◌≤◌, ◌*◌, ◌++◌, [], All, IfOk, length, slice_index_or};
 ghost use Rattle.clause_core.specs.Literals.{Within};
 ghost use Rattle.sat_core.specs.Paying.{PaysForOne};
@@ -21,7 +23,7 @@ use std::alloc::{AllocError, Global};
 
 pub fn discard(_solver: Engine) {}
 
-// Asks the solver, and gives the part the steps that show of these clauses and units that they can't all be true.
+// Has the solver refute these clauses and units, and gives the part the derivation.
 pub fn put_part<Q: Purse>(
     alloc: Global,
     solver: &mut Engine,
@@ -59,7 +61,7 @@ pub fn put_part<Q: Purse>(
     }
 }
 
-// Asks of each clause whether it is kept, so that the solver learns what shows it.
+// Asks of each clause whether steps keep it, so that the solver learns the clauses that show it.
 pub fn learn_kept<Q: Purse>(
     alloc: Global,
     solver: &mut Engine,

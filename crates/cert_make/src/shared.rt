@@ -1,3 +1,6 @@
+//! The shared part of a certificate: what a solver learned from the clauses and the steps. The
+//! parts that show consecution then take one step each.
+
 ghost use Rattle.std.specs.Prelude.{◌≡◌, ◌+◌, ◌≤◌, ◌*◌, ◌++◌, [], ◌∷◌, All, IfOk, OnOk, None, length, slice_index_or};
 ghost use Rattle.clause_core.specs.Literals.{Within};
 ghost use Rattle.clause_core.specs.Derivations.{AllStepsBelow, Derives};
@@ -69,7 +72,7 @@ fn learn_with<Q: Purse>(
     }
 }
 
-// What a solver learns of these clauses when it is asked of each clause whether it is kept.
+// The clauses that a solver learns when it is asked of each clause whether steps keep it.
 pub fn learn<Q: Purse>(
     alloc: Global,
     system: &System,

@@ -1,3 +1,5 @@
+//! Reads the tokens of one line: the head of a certificate, the name of a part, or an item.
+
 ghost use Rattle.std.specs.Prelude.{◌≡◌, ◌≤◌, IfSome};
 ghost use Rattle.std.specs.Option.{ForSome};
 ghost use Rattle.cert_text.specs.Lines as lines;

@@ -1,3 +1,6 @@
+//! A certificate while it is read: first its clauses, then its parts in order, each with its
+//! derivation.
+
 ghost use Rattle.std.specs.Prelude.{◌≡◌, ◌∷◌, [], IfOk, None, Some};
 ghost use Rattle.std.specs.Option.{ForSome};
 ghost use Rattle.clause_core.specs.Literals.{Within};

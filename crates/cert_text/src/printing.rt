@@ -1,3 +1,5 @@
+//! Prints certificates and soundness blocks as comment lines of a model.
+
 ghost use Rattle.std.specs.Prelude.{◌≡◌, ◌++◌, ◌<◌, IfOk, OnOk, All, None, Some, codes, slice_index_or, string_bytes};
 ghost use Rattle.clause_core.specs.Literals.{Within};
 ghost use Rattle.cert_core.specs.Blocks.{part_of};
@@ -218,7 +220,7 @@ fn write_items(out: &mut String, sound: &Sound) -> Result<(), AllocError>
     Ok(())
 }
 
-/// The text of the certificate of specification number `spec`, counted from 1. Only want of memory is an error.
+/// The text of the certificate of specification number `spec`, counted from 1. The only error is out of memory.
 pub fn print(alloc: Global, spec: usize, cert: &Certificate) -> Result<Text, AllocError>
     ensures { IfOk result (λ t. t ≡ printed.certificate_text spec cert.now) }
 {
@@ -227,7 +229,7 @@ pub fn print(alloc: Global, spec: usize, cert: &Certificate) -> Result<Text, All
     Text::from_str(alloc, out.as_str())
 }
 
-/// The text of a sound block. Only want of memory is an error.
+/// The text of a sound block. The only error is out of memory.
 pub fn print_sound(alloc: Global, sound: &Sound) -> Result<Text, AllocError>
     ensures { IfOk result (λ t. t ≡ printed.sound_text sound.now) }
 {

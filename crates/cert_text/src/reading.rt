@@ -1,3 +1,6 @@
+//! Reads the certificate lines of a text one after another: the block that is open, and those
+//! complete so far.
+
 ghost use Rattle.std.specs.Prelude.{◌≡◌, ◌∷◌, [], IfOk, IfSome, MatchOption, None, Some};
 ghost use Rattle.std.specs.Bool.{OnTrue};
 ghost use Rattle.std.specs.Option.{option_map};

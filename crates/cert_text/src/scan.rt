@@ -1,3 +1,6 @@
+//! Splits bytes at a separator and words into tokens; reads literals and hints up to the zero that
+//! ends them.
+
 ghost use Rattle.std.specs.Prelude.{◌≡◌, ◌≤◌, IfOk, IfSome, MatchOption, None, Some, drop, length, map};
 ghost use Rattle.std.specs.Option.{option_map};
 ghost use Rattle.clause_core.specs.Literals.{Within};

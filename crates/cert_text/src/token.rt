@@ -1,3 +1,5 @@
+//! The words of a certificate line: keywords and numbers.
+
 /// A word of a certificate's line.
 #[derive(Clone, Copy, PartialEq, Eq, Debug)]
 pub enum Token {

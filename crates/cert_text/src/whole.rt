@@ -1,3 +1,5 @@
+//! Reads all certificates in a text. The first line that is out of form or out of order is refused.
+
 ghost use Rattle.std.specs.Prelude.{◌≡◌, IfOk, IfErr, MatchOption, IfNone, Ok, Err, map};
 ghost use Rattle.cert_text.specs.Reading as reading;
 ghost use Rattle.cert_text.specs.Reading.{lines_of, nothing, read_from, read_text, refusal_at, IsStopped};
@@ -17,8 +19,8 @@ pub struct Certificates {
     pub certificates: Vec<Option<Certificate>>,
 }
 
-/// The lines of a text, without the line feeds at which they end; what stands behind the last line feed is a line, too. Only
-/// want of memory is an error. Its time and memory are linear in the text.
+/// The lines of a text, without the line feeds at which they end; what stands behind the last line feed is a line, too. The
+/// only error is out of memory. Its time and memory are linear in the text.
 pub fn lines(alloc: Global, text: &[u8]) -> Result<Vec<&[u8]>, AllocError>
     ensures { IfOk result (λ v. map (λ x. x.now) v.items ≡ lines_of text.now) }
 {
@@ -86,7 +88,7 @@ fn refused(line: usize) -> Refusal
 /// part. Lines that begin with `--%` belong to them, wherever they stand; all others are not looked at.
 ///
 /// Refused by 701 at the first line that is not as it should be: out of form, out of order, given twice, of a specification
-/// or an item that does not exist; or at the last line of a block that does not end. The other error is want of memory.
+/// or an item that does not exist; or at the last line of a block that does not end. The other error is out of memory.
 /// Its time and memory are linear in the text.
 pub fn read(
     alloc: Global,

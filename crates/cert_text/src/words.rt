@@ -1,3 +1,5 @@
+//! Recognises one word of a certificate line as a keyword or a number.
+
 ghost use Rattle.std.specs.Prelude.{◌≡◌, true, bytes_eq};
 ghost use Rattle.std.specs.List.{list_all};
 ghost use Rattle.std.specs.Char.{is_ascii_digit};

@@ -1,3 +1,5 @@
+//! Values of variables, and whether they meet a clause.
+
 ghost use Rattle.std.specs.Prelude.{◌≡◌, ◌<◌, ◌↔◌, false, List, length, IfOk, IsTrue, slice_index_or};
 ghost use Rattle.clause_core.specs.Literals.{Within};
 ghost use Rattle.clause_core.specs.Assignments.{assignment_of, ClauseTrue};

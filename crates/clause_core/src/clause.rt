@@ -1,3 +1,5 @@
+//! Clauses, and lists of clauses in one buffer of literals.
+
 ghost use Rattle.std.specs.Prelude.{◌≡◌, ◌<◌, ◌==◌, ◌↔◌, ◌≤◌, List, [], ◌∷◌, ◌++◌, length, take, All, OnOk, OnErr, IfOk, IsTrue, slice_index_or};
 ghost use Rattle.clause_core.specs.Literals.{Within};
 
@@ -116,7 +118,7 @@ impl Clauses {
         &tail[..span.len]
     }
 
-    /// Adds the clause at the end. After want of memory the list is as before.
+    /// Adds the clause at the end. If memory runs out, the list is as before.
     pub fn push(&mut self, c: &[Lit]) -> Result<(), AllocError>
         ensures done { OnOk result (self.new ≡ self.old ++ c.now ∷ []) }
         ensures failed { OnErr result (self.new ≡ self.old) }

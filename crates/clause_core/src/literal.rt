@@ -1,3 +1,5 @@
+//! Literals: a variable or its negation.
+
 ghost use Rattle.std.specs.Prelude.{◌≡◌, MatchBool};
 ghost use Rattle.clause_core.specs.Literals.{negate};
 

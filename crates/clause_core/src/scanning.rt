@@ -1,3 +1,5 @@
+//! What unit propagation finds at one clause: a conflict, a literal to be set, or nothing.
+
 ghost use Rattle.std.specs.Prelude.{length};
 ghost use Rattle.clause_core.specs.Literals.{Within};
 ghost use Rattle.clause_core.specs.Values.{holds};

@@ -1,3 +1,6 @@
+//! Transition systems over bits, as clauses: first states, steps, bad and good states, and fairness
+//! literals.
+
 ghost use Rattle.std.specs.Prelude.{◌≡◌, [], ◌∷◌, IfOk, map};
 ghost use Rattle.clause_core.specs.Literals.{negate, units};
 
@@ -81,7 +84,7 @@ impl System {
     }
 
     /// The system with no fairness literals and no definitions, whose bad states are those in which each of
-    /// these literals is true. Only want of memory is an error.
+    /// these literals is true. The only error is out of memory.
     pub fn plain(
         alloc: Global,
         state_bits: usize,

@@ -1,3 +1,5 @@
+//! The cone of influence of some roots: the nodes that they depend on.
+
 ghost use Rattle.std.specs.Prelude.{◌≡◌, ◌<◌, ◌≤◌, ℕ, Bool, true, length, IfOk, All};
 ghost use Rattle.bit_graph.specs.Meaning.{Stands, IsBelow};
 ghost use Rattle.cnf_build.specs.Cone.{marked, IsCone, RootsLive, AllReached, Included, Reaches};

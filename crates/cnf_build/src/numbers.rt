@@ -1,3 +1,5 @@
+//! Numbers the inputs and the marked nodes of a graph: their variables.
+
 ghost use Rattle.std.specs.Prelude.{◌≡◌, ◌≤◌, ◌+◌, length, IfOk, if◌then◌else◌, ◌||◌};
 ghost use Rattle.cnf_build.specs.Cone.{marked};
 ghost use Rattle.cnf_build.specs.Numbering.{is_input, is_named, count_below, AreNumbers};

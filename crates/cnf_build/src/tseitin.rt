@@ -1,3 +1,5 @@
+//! Clauses for the gates below some roots, with a variable for each node (Tseitin 1968).
+
 ghost use Rattle.std.specs.Prelude.{◌≡◌, ◌<◌, ◌≤◌, ℕ, Bool, List, [], ◌∷◌, ◌++◌, length, IfOk, OnOk, All, map, if◌then◌else◌};
 ghost use Rattle.bit_graph.specs.Meaning.{Stands, IsBelow};
 ghost use Rattle.clause_core.specs.Literals.{Within};
@@ -27,7 +29,7 @@ pub struct Cnf {
 /// input, in the nodes' order: where the inputs are the first nodes, input k is variable k.
 ///
 /// It takes time and memory in proportion to the number of nodes, at most six clauses a node, and
-/// no recursion. The only error is want of memory.
+/// no recursion. The only error is out of memory.
 pub fn clauses(alloc: Global, graph: &Graph, roots: &[Edge]) -> Result<Cnf, AllocError>
     requires { All (Stands graph.now) roots.now }
     ensures law { IfOk result (λ c. CnfLaw graph.now roots.now c.vars c.clauses c.roots.items) }

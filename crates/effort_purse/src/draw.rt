@@ -1,4 +1,4 @@
-// What a purse answers.
+//! What a purse answers: a ticket or a length, or that there are no more.
 
 /// What a call of `Purse::draw` gave.
 #[derive(Clone, Copy, Debug, Drop)]

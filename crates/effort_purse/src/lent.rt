@@ -1,3 +1,5 @@
+//! A shared purse and a seat of it, used together as a purse of one thread.
+
 ghost use Rattle.effort_purse.specs.Lending.{KeepsSeat, KeepsLent};
 
 use crate::draw::Draw;

@@ -1,3 +1,5 @@
+//! A purse of one thread: a counter and its limit.
+
 ghost use Rattle.std.specs.Prelude.{◌≡◌, ◌≤◌, true, false};
 
 use crate::draw::Draw;

@@ -1,4 +1,5 @@
-// The rule of the table, and what each step tells.
+//! The rule of the table of a shared purse, and what each atomic step tells.
+
 use crate::view::{Limits, View};
 use atomic_table::{Join, Play, Split, TableRule};
 use std::marker::{Brand, PhantomData};

@@ -1,3 +1,5 @@
+//! What a purse is, as a trait: it gives numbered tickets out of a budget.
+
 ghost use Rattle.std.specs.Prelude.{◌≡◌};
 ghost use Rattle.effort_purse.specs.Drawing.{DrawsOne};
 

@@ -1,3 +1,5 @@
+//! A thread's right to draw from a shared purse.
+
 ghost use Rattle.std.specs.Prelude.{◌≡◌, ◌||◌, []};
 
 use crate::view::View;

@@ -1,3 +1,5 @@
+//! A purse that several threads share, by atomic steps on three words.
+
 ghost use Rattle.std.specs.Prelude.{◌≡◌, ◌+◌, ◌-◌, ◌^◌, ◌<◌, ◌≤◌, true, false, [], IfOk};
 ghost use Rattle.effort_purse.specs.Drawing.{DrawsOne, BoundsOne};
 ghost use Rattle.effort_purse.specs.Rule.{stays, goes, joined, Takes, ticket_lane, bound_lane, with_tickets, with_bounds, SeesStop, KnowsWhole};
@@ -36,7 +38,7 @@ impl SharedPurse {
 
     /// A purse of `budget` tickets and the lengths up to `bounds`, and a seat with all of its `seats` shares.
     ///
-    /// The one error is want of memory.
+    /// The one error is out of memory.
     pub fn new(
         alloc: Global,
         budget: u64,

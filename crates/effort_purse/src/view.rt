@@ -1,4 +1,5 @@
-// What a seat knows, for proofs alone. No value of these types is made, but of `Limits`.
+//! What a seat knows, for proofs alone. No value of these types is made, but of `Limits`.
+
 use std::collections::LinkedList;
 
 /// The numbers that a seat drew from one word, and whether it found that there are no more.

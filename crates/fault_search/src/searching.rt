@@ -45,7 +45,7 @@ fn note(sound: &mut Sound, item: usize, steps: Option<Hinted>)
 /// There is a question for each item, or none where nothing is asked. Each has a solver of its own, which knows its
 /// clauses alone. A question costs a ticket of the purse, and each clause that its solver learns another; nothing is
 /// paid where nothing is asked. `Spent` comes only where the purse refused one, and then some item is not answered.
-/// The other error is want of memory; more variables than a text can number count as that. After it, too, what was
+/// The other error is out of memory; more variables than a text can number count as that. After it, too, what was
 /// drawn was paid for such queries.
 pub fn search<Q: Purse>(
     alloc: Global,

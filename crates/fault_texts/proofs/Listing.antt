@@ -6,7 +6,7 @@ use Rattle.std.proofs.lemmas.List.Elements.{filter-append}
 use Rattle.std.proofs.lemmas.List.FromFn.{map-range_with_len_more}
 use Rattle.smv_tree.specs.declared.tree.Program.{Program}
 use Rattle.smv_resolve.specs.Resolved.{Resolved}
-use Rattle.smv_scope.specs.Slots.{slots_of}
+use Rattle.smv_slots.specs.Slots.{slots_of}
 use Rattle.smv_flat.specs.Assignments.{occurs, slot_numbers}
 use Rattle.fault_texts.specs.Marks.{TellsSlots, mark}
 use Rattle.fault_texts.specs.Valuations.{slots_in}

@@ -8,9 +8,8 @@ use Rattle.smv_tree.specs.declared.tree.Program.{Program}
 use Rattle.smv_value.specs.declared.value.FaultRule.{FaultRule}
 use Rattle.smv_value.specs.declared.value.FaultRule.TheVariants as fault
 use Rattle.smv_value.specs.declared.value.Value.{Value}
-use Rattle.smv_declared.specs.Types.{types_of}
 use Rattle.smv_resolve.specs.Items.{ResolvedItem}
-use Rattle.smv_scope.specs.Slots.{slots_of}
+use Rattle.smv_slots.specs.Slots.{slots_of, types_of}
 use Rattle.smv_meaning.specs.Faults.{item_fault}
 use Rattle.smv_meaning.specs.Runs.{are_inputs, is_state}
 use Rattle.fault_texts.specs.Valuations.{valuation_text}

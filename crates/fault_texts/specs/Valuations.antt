@@ -6,7 +6,7 @@ use Rattle.smv_tree.specs.declared.tree.Program.{Program}
 use Rattle.smv_value.specs.declared.value.Value.{Value}
 use Rattle.value_texts.specs.Told.{told_text}
 use Rattle.smv_scope.specs.Enumerated.{symbols_of}
-use Rattle.smv_scope.specs.Slots.{item_of, slots_of}
+use Rattle.smv_slots.specs.Slots.{item_of, slots_of}
 use Rattle.smv_resolve.specs.Resolved.{Resolved}
 use Rattle.smv_flat.specs.Assignments.{name_of_slot, occurs, slot_numbers}
 

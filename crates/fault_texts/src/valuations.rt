@@ -4,13 +4,13 @@ ghost use Rattle.std.specs.Prelude.{◌≡◌, ◌++◌, false, map, filter, cod
 ghost use Rattle.std.specs.List.{flat_map};
 ghost use Rattle.smv_flat.specs.Assignments.{name_of_slot, slot_numbers};
 ghost use Rattle.smv_resolve.specs.Resolved.{part_of};
-ghost use Rattle.smv_scope.specs.Slots.{item_of};
+ghost use Rattle.smv_slots.specs.Slots.{item_of};
 ghost use Rattle.fault_texts.specs.Valuations.{listed, shown, told, told_all, valuation_text, with_name};
 
 use crate::reads::occurring;
 use plain_text::Text;
 use smv_meaning::Typed;
-use smv_scope::{Slot, slot_name};
+use smv_slots::{Slot, slot_name};
 use smv_tree::VariableKind;
 use smv_value::Value;
 use std::alloc::{AllocError, Global};
@@ -44,7 +44,7 @@ fn told_all(
 ) -> Result<Vec<Text>, AllocError>
     ensures { IfOk result (λ texts. texts.items ≡ told_all typed.now.scope.program s.now u.now next.now (part_of typed.now.nodes value)) }
 {
-    let slots = typed.scope.slots.len();
+    let slots = typed.slots.len();
     let found = occurring(alloc, typed.nodes.as_slice(), value, slots)?;
     let mut texts = Vec::new(alloc);
     push_told(alloc, typed, false, &found.now, s, u, &mut texts)?;
@@ -64,7 +64,7 @@ fn push_told(
 ) -> Result<(), AllocError>
     ensures { OnOk result (texts.new.items ≡ texts.old.items ++ map (told typed.now.scope.program ahead s.now u.now) (filter (λ n. slice_index_or marks.now n false) (slot_numbers typed.now.scope.program))) }
 {
-    for n in 0..typed.scope.slots.len() {
+    for n in 0..typed.slots.len() {
         if is_marked(marks, n) {
             let text = told(alloc, typed, ahead, s, u, n)?;
             texts.push(text)?;
@@ -94,11 +94,7 @@ fn told(
     ensures { IfOk result (λ text. text ≡ told typed.now.scope.program ahead s.now u.now n) }
 {
     let name = name_of_slot(alloc, typed, n)?;
-    let value = shown(
-        alloc,
-        typed,
-        value_of(typed.scope.slots.as_slice(), s, u, n),
-    )?;
+    let value = shown(alloc, typed, value_of(typed.slots.as_slice(), s, u, n))?;
     with_name(alloc, ahead, &name, &value)
 }
 
@@ -117,8 +113,8 @@ fn with_name(alloc: Global, ahead: bool, name: &Text, value: &Text) -> Result<Te
 fn name_of_slot(alloc: Global, typed: &Typed, n: usize) -> Result<Text, AllocError>
     ensures { IfOk result (λ name. name ≡ name_of_slot typed.now.scope.program n) }
 {
-    match typed.scope.slots.get(n) {
-        Some(slot) => slot_name(alloc, &typed.scope, slot),
+    match typed.slots.get(n) {
+        Some(slot) => slot_name(alloc, &typed.scope, typed.variables.as_slice(), slot),
         None => Text::from_str(alloc, ""),
     }
 }

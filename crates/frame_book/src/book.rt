@@ -70,7 +70,7 @@ impl<'a, L: Ledger> Book<'a, L> {
     }
 
     /// A task, which is a lawful claim of this worker; `Idle` exactly where no claim is lawful now, and
-    /// `Closed` exactly where none will be. After want of memory all is as before.
+    /// `Closed` exactly where none will be. If memory runs out, all is as before.
     ///
     /// A lemma that was just added or raised is pushed first, and at a new top all lemmas are; then comes an
     /// obligation of the least level, the newest of them; then the frame of the top; then any lemma. It looks

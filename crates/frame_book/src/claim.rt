@@ -118,7 +118,7 @@ pub enum Returning {
     NotOut(usize),
 }
 
-/// A claim that could not be settled for want of memory, and its outcome.
+/// A claim that could not be settled since memory ran out, and its outcome.
 pub struct Unsettled<'a> {
     pub claim: Claim,
     pub outcome: Outcome<'a>,

@@ -105,7 +105,7 @@ impl<'a> Pages<'a> {
     }
 
     /// A task, which is a lawful claim of this worker, if there is one: lemmas from number `from` on are
-    /// pushed first. After want of memory all is as before.
+    /// pushed first. If memory runs out, all is as before.
     pub(crate) fn claim(&mut self, worker: u32, from: usize) -> Result<Claiming, AllocError>
         ensures done { IfOk result (λ a. Claims self.old worker a self.new) }
         ensures err { OnErr result (self.new ≡ self.old) }
@@ -161,7 +161,7 @@ impl<'a> Pages<'a> {
         Returning::Back
     }
 
-    /// Enters a lawful claim, and makes room for the entry that ends it. After want of memory all is as
+    /// Enters a lawful claim, and makes room for the entry that ends it. If memory runs out, all is as
     /// before.
     pub(crate) fn take(
         &mut self,

@@ -15,7 +15,7 @@ use std::alloc::{AllocError, Global};
 /// Whether each claim of the history that came to nothing is older than the last lemma that was added or raised by then.
 ///
 /// Then no two claims of a lawful history are equal. It looks at each entry once, and keeps a number for each. The only
-/// error is want of memory.
+/// error is out of memory.
 pub fn are_apart(alloc: Global, history: &[Entry]) -> Result<bool, AllocError>
     ensures { IfOk result (λ apart. apart ≡ true → (limits : ALimits) (systems : List TransitionSystem) (carried : List ALemma) → IsLawful limits (start limits systems carried) history.now → VoidsAreOld (start limits systems carried) history.now) }
 {

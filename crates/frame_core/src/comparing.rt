@@ -1,3 +1,5 @@
+//! Whether two systems are equal, and the first place at which they differ.
+
 ghost use Rattle.std.specs.Prelude.{◌≡◌, ◌<◌, ◌↔◌, false, length, IsTrue, MatchOption};
 ghost use Rattle.frame_core.specs.Differences.{DifferFirstAt, IsSameSystem, DifferAt};
 ghost use Rattle.frame_core.specs.Law.{AreAlike, system_at};

@@ -1,3 +1,6 @@
+//! Subsumption of lemmas: one covers another if its literals are a part of that one's, and its
+//! level is at least as high.
+
 ghost use Rattle.std.specs.Prelude.{◌<◌, ◌↔◌, length, Contains, IsTrue};
 ghost use Rattle.frame_core.specs.Facts.{IsPart};
 ghost use Rattle.frame_core.specs.Looking.{CoversAt};

@@ -1,3 +1,6 @@
+//! What queries showed, as types: an inductive clause, a frame without bad states, a step, a state
+//! that leads to a bad one.
+
 use crate::parts::Parent;
 use clause_core::{Bits, Clause, Lit, System};
 use std::marker::Model;

@@ -1,3 +1,6 @@
+//! The frames of IC3 (Bradley 2011): lemmas with levels, a top for each system, and proof
+//! obligations. Each call keeps the law of the frames.
+
 ghost use Rattle.std.specs.Prelude.{◌<◌, ◌↔◌, length, IsTrue};
 ghost use Rattle.frame_core.specs.Law.{IsAsHigh};
 
@@ -157,7 +160,7 @@ impl<'a> Frames<'a> {
     }
 
     /// Adds the clause as a lemma, unless it is of another system, a lemma holds it already, or a parent's
-    /// level, looked up now, is too low. After want of memory the frames are as before.
+    /// level, looked up now, is too low. If memory runs out, the frames are as before.
     ///
     /// It compares the systems clause by clause, and then does as `insert_same`.
     pub fn insert(&mut self, proved: Proved) -> Result<Insertion, AllocError>
@@ -174,7 +177,7 @@ impl<'a> Frames<'a> {
     }
 
     /// The same where the clause is known to be of the frames' systems; compares no systems. The proof is
-    /// lent, and `clause` is a copy of its clause, which becomes the lemma's. After want of memory the frames
+    /// lent, and `clause` is a copy of its clause, which becomes the lemma's. If memory runs out, the frames
     /// are as before.
     ///
     /// It takes a table of two entries for each state bit, and looks at one word of each lemma. Where that
@@ -259,8 +262,8 @@ impl<'a> Frames<'a> {
         count_less(&mut self.counts, live, level);
     }
 
-    /// Opens the top of system `j`: it is one more where its frame has no state that is bad for `j`. After
-    /// want of memory the frames are as before.
+    /// Opens the top of system `j`: it is one more where its frame has no state that is bad for `j`. If
+    /// memory runs out, the frames are as before.
     pub fn open(&mut self, j: usize, clear: Clear) -> Result<Opening, AllocError>
         requires in_range { j < length self.old.systems }
         requires room { top_at self.old.tops j + 1 < 2 ^ 32 }
@@ -297,7 +300,7 @@ impl<'a> Frames<'a> {
     }
 
     /// Notes a state that leads to one that is bad for system `j`: a bad state has no parent, and a step
-    /// ends in the state of the parent, which is of `j`. After want of memory the frames are as before.
+    /// ends in the state of the parent, which is of `j`. If memory runs out, the frames are as before.
     pub fn add_obligation(
         &mut self,
         j: usize,

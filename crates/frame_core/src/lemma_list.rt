@@ -1,3 +1,5 @@
+//! The list of lemmas with levels and signatures, and how a copy of it is brought up to date.
+
 ghost use Rattle.std.specs.Prelude.{◌≡◌, ◌<◌, vec_len};
 ghost use Rattle.frame_core.specs.Law.{raised_at, retired_at};
 
@@ -150,7 +152,7 @@ impl Lemmas {
     }
 
     /// Brings this copy of the lemmas up to date, where `changed` names those that were raised or retired
-    /// since it was; what was added since is found by the lengths. After want of memory the copy has a
+    /// since it was; what was added since is found by the lengths. If memory runs out, the copy has a
     /// part of that, and the same call brings it up to date. It costs a step for each number in `changed`
     /// and a copy of each clause that was added.
     pub fn follow(&mut self, lemmas: &Lemmas, changed: &[usize]) -> Result<(), AllocError>

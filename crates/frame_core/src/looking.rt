@@ -1,3 +1,5 @@
+//! Looks up the levels of a proof's parents, and a lemma that covers a clause.
+
 ghost use Rattle.std.specs.Prelude.{◌≡◌, ◌≤◌, ℕ, true, IfOk, IsTrue, All, ◌↔◌, MatchOption};
 ghost use Rattle.clause_core.specs.Literals.{Within};
 ghost use Rattle.frame_core.specs.Law.{AllStand};
@@ -24,7 +26,7 @@ fn kept_level(lemmas: &[Lemma], parent: &Parent) -> u32
     0
 }
 
-// The first parent that is below this level here, with its level.
+// A parent whose level here is below this one, with its level.
 pub(crate) fn first_behind(lemmas: &[Lemma], least: u32, parents: &[Parent]) -> Option<(usize, u32)>
     ensures { MatchOption result (AllStand lemmas.now least parents.now) (λ b. IsBehind lemmas.now least parents.now b.0 b.1) }
 {
@@ -37,8 +39,7 @@ pub(crate) fn first_behind(lemmas: &[Lemma], least: u32, parents: &[Parent]) -> 
     None
 }
 
-// The first lemma that has a part of these literals, whose variables are below `vars`, and at least this
-// level.
+// A lemma that has a part of these literals, whose variables are below `vars`, and at least this level.
 pub(crate) fn holder(
     alloc: Global,
     vars: usize,

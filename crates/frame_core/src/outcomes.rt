@@ -1,3 +1,6 @@
+//! What became of a lemma, a top or a proof obligation that was given to the frames, and their
+//! verdict.
+
 use crate::comparing::Place;
 
 /// What became of a clause that was to be inserted.

@@ -1,3 +1,5 @@
+//! Lemmas, the parents of a proof, and proof obligations.
+
 use clause_core::{Bits, Clause};
 
 /// A lemma of the frames.

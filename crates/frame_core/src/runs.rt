@@ -1,3 +1,5 @@
+//! A counterexample over bits: the rows of a run that ends in a bad state.
+
 ghost use Rattle.std.specs.Prelude.{◌≡◌, ◌<◌, [], length, slice_index_or};
 
 use clause_core::Bits;

@@ -1,3 +1,6 @@
+//! A clause's signature: one word that soon shows that a clause is no part of another (Eén and
+//! Biere 2005).
+
 ghost use Rattle.frame_core.specs.Signatures.{IsSignature};
 
 use clause_core::Lit;

@@ -1,3 +1,5 @@
+//! Whether the literals of one clause are among those of another, by a table of marks.
+
 ghost use Rattle.std.specs.Prelude.{◌≡◌, ◌<◌, ◌↔◌, ◌⊎◌, Bool, true, false, List, length, All, Contains, IfOk, IsTrue, slice_index_or};
 ghost use Rattle.clause_core.specs.declared.literal.Lit.{Lit as ALit};
 ghost use Rattle.clause_core.specs.Literals.{Within};

@@ -1,3 +1,6 @@
+//! The entries of the history of frames: claims that were made, settled with some changes, or given
+//! back.
+
 use clause_core::{Bits, Clause};
 use frame_core::Parent;
 
@@ -27,13 +30,13 @@ pub struct Made {
     pub level: u32,
     /// How often a lemma had been added or raised.
     pub growth: usize,
-    /// Whether it is out.
+    /// Whether it is out: neither settled nor given back.
     pub out: bool,
-    /// Whether it was given back, or settled by an outcome that was behind.
+    /// Whether it was given back, or settled by an outcome that no longer applied to the frames.
     pub void: bool,
 }
 
-/// Why an outcome says nothing of the frames as they are.
+/// Why an outcome does not apply to the frames as they are now.
 #[derive(Drop)]
 pub enum Lag {
     /// This lemma, which the proof used, has this level here, which is too low; 0 where it is no lemma.
@@ -65,7 +68,7 @@ pub enum Change {
     },
     /// This lemma is retired, since another covers it.
     Retire(usize),
-    /// The outcome says nothing of the frames as they are.
+    /// The outcome does not apply to the frames as they are now.
     Behind(Lag),
     /// The lemma that was to be pushed needs it no more, or the top was opened since.
     Dropped,

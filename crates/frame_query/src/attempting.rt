@@ -1,3 +1,6 @@
+//! One trial of a generalisation: whether the smaller clause satisfies initiation and is inductive
+//! at its level.
+
 ghost use Rattle.std.specs.Prelude.{◌≡◌, ◌⊎◌, MatchBool, ◌-◌, ◌<◌, ◌≤◌, ◌++◌, ℕ, Bool, List, IfOk, All, Contains, length, take, IfSome};
 ghost use Rattle.frame_core.specs.declared.parts.Lemma.{Lemma as ALemma};
 ghost use Rattle.clause_core.specs.Literals.{Within};
@@ -223,7 +226,7 @@ pub(crate) fn attempt<Q: Purse>(
     }
 }
 
-// The same; no query is asked about a clause that has just the literals of one that failed.
+// As `attempt`; no query is asked about a clause that has just the literals of one that failed.
 pub(crate) fn attempt_new<Q: Purse>(
     alloc: Global,
     systems: &[System],

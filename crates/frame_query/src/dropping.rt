@@ -1,3 +1,6 @@
+//! Generalises a proved clause: drops literals while it stays inductive at its level (Bradley
+//! 2011).
+
 ghost use Rattle.std.specs.Prelude.{◌≡◌, ◌+◌, ◌-◌, ◌<◌, OnOk, IfSome, ◌≤◌, ◌++◌, ◌∷◌, [], ℕ, Bool, List, IfOk, All, Contains, length, take};
 ghost use Rattle.frame_core.specs.declared.parts.Lemma.{Lemma as ALemma};
 ghost use Rattle.clause_core.specs.declared.literal.Lit.{Lit as ALit};
@@ -37,7 +40,7 @@ fn drafted(alloc: Global, proved: &Proved) -> Result<Draft, AllocError>
     })
 }
 
-// What a trial that holds does to the walk; `left` are the literals still to be tried.
+// After a trial that holds: the smaller proof becomes the draft; `left` are the literals still to be tried.
 fn dropped(
     alloc: Global,
     walk: &mut Walk,
@@ -60,7 +63,7 @@ fn dropped(
     Ok(())
 }
 
-// What the trial of the clause without a literal does to the walk; `left` are the literals still to be tried.
+// After the trial of the clause without the literal: it is dropped or kept; `left` are the literals still to be tried.
 fn moved(
     alloc: Global,
     walk: &mut Walk,
@@ -85,7 +88,8 @@ fn moved(
     }
 }
 
-// What the trial of the hint's clause does to the walk; `left` are the literals still to be tried, if it holds.
+// After the trial of the hint's clause: it becomes the draft or fails. `left` are the literals still to be tried if it
+// holds.
 fn hint_moved(
     alloc: Global,
     walk: &mut Walk,
@@ -158,7 +162,7 @@ fn turn<Q: Purse>(
     moved(alloc, walk, l, left, trial)
 }
 
-// Tries the clause of what is needed and of the hint; the literal `l` is not among these.
+// Tries the clause of the needed literals and those of the hint; the literal `l` is not among these.
 fn hint_turn<Q: Purse>(
     alloc: Global,
     systems: &[System],
@@ -317,7 +321,7 @@ pub(crate) fn generalised<Q: Purse>(
     Ok(Ending::Done(draft))
 }
 
-// The proof that a draft is.
+// Puts a draft together as a proof.
 pub(crate) fn finished<'a>(system: &'a System, level: u32, draft: Draft) -> Proved<'a>
     requires { IsProved (proof_of system.now level draft) }
     ensures { result ≡ proof_of system.now level draft }
@@ -332,7 +336,7 @@ pub(crate) fn finished<'a>(system: &'a System, level: u32, draft: Draft) -> Prov
     Proved::new(system, clause, part, level, parents)
 }
 
-// The proof of a smaller clause; where that is not reached the proof that was given.
+// Generalises a proof; if the purse is spent or memory runs out, gives back the proof that was given.
 pub(crate) fn generalise_in<'a, Q: Purse>(
     alloc: Global,
     systems: &'a [System],

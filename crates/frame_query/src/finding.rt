@@ -1,3 +1,5 @@
+//! Turns what queries found into facts that the frames accept: proofs, steps and bad states.
+
 ghost use Rattle.std.specs.Prelude.{◌≡◌, ◌<◌, ◌≤◌, ℕ, Bool, List, IfOk, All, length};
 ghost use Rattle.frame_core.specs.declared.parts.Lemma.{Lemma as ALemma};
 ghost use Rattle.clause_core.specs.Literals.{Within};
@@ -18,7 +20,7 @@ use frame_solver::{
 };
 use std::alloc::{AllocError, Global};
 
-// What was found of steps, as callers see it.
+// The answer of a query about steps, as a fact with its proof.
 pub(crate) fn step_outcome<'a>(
     alloc: Global,
     system: &'a System,

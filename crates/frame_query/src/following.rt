@@ -1,3 +1,5 @@
+//! Brings a copy of the lemmas up to date: lemmas that were added, raised or retired.
+
 ghost use Rattle.std.specs.Prelude.{◌≡◌, ◌<◌, ◌≤◌, ◌++◌, [], ◌∷◌, true, OnOk, OnErr, length, take, slice_set};
 ghost use Rattle.frame_core.specs.Law.{lemma_at};
 ghost use Rattle.frame_query.specs.Findings.{IsOlder};
@@ -31,7 +33,7 @@ pub(crate) fn follow_levels(copy: &mut Lemmas, lemmas: &Lemmas)
     }
 }
 
-// Adds a copy of the lemma. After want of memory all is as before.
+// Adds a copy of the lemma. If memory runs out, all is as before.
 fn add_copy(copy: &mut Lemmas, lemma: &Lemma) -> Result<(), AllocError>
     ensures done { OnOk result (copy.new ≡ copy.old ++ lemma.now ∷ []) }
     ensures failed { OnErr result (copy.new ≡ copy.old) }
@@ -45,7 +47,7 @@ fn add_copy(copy: &mut Lemmas, lemma: &Lemma) -> Result<(), AllocError>
     Ok(())
 }
 
-// Adds the lemmas that the copy lacks. After want of memory it has some of them.
+// Adds the lemmas that the copy lacks. If memory runs out, it has some of them.
 pub(crate) fn follow_adds(copy: &mut Lemmas, lemmas: &Lemmas) -> Result<(), AllocError>
     requires { copy.old ≡ take (length copy.old) lemmas.now }
     ensures done { OnOk result (copy.new ≡ lemmas.now) }

@@ -122,7 +122,7 @@ fn keep_bad(
 }
 
 // Where a step was found out of a clause that says that a state is another, keeps a hint for the state that it leaves.
-// For want of memory there may be none.
+// Where memory runs out there may be none.
 pub(crate) fn note_step(
     alloc: Global,
     hints: &mut Vec<Hint>,
@@ -137,7 +137,7 @@ pub(crate) fn note_step(
     }
 }
 
-// Where a bad state was found, keeps a hint for it. For want of memory there may be none.
+// Where a bad state was found, keeps a hint for it. Where memory runs out there may be none.
 pub(crate) fn note_bad(alloc: Global, hints: &mut Vec<Hint>, system: &System, found: &Bads) {
     if let Bads::Found(state) = found {
         let _kept = keep_bad(alloc, hints, system, state.values());

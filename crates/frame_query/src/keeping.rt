@@ -1,3 +1,6 @@
+//! The queries of IC3 (Bradley 2011; Eén, Mishchenko and Brayton 2011), to solvers that are kept:
+//! relative induction, pushing, bad states, initial states and generalisation.
+
 use crate::dropping::generalise_in;
 use crate::finding::{bad_of, noted_of, relative_of};
 use crate::following::{follow_adds, follow_levels};
@@ -56,7 +59,7 @@ impl<'a> FrameSolver<'a> {
     ghost use Rattle.frame_query.specs.Dropping.{Generalises, PaysParts};
     ghost use Rattle.frame_solver.specs.Paying.{Steps, Firsts as AskFirsts, PaysOne};
 
-    /// Solvers for these systems, with no lemma. The only error is want of memory, which more variables than
+    /// Solvers for these systems, with no lemma. The only error is out of memory, which more variables than
     /// can be numbered count as.
     pub fn new(alloc: Global, systems: &'a [System]) -> Result<FrameSolver<'a>, AllocError>
         requires some { 0 < length systems.now }
@@ -77,7 +80,7 @@ impl<'a> FrameSolver<'a> {
         })
     }
 
-    /// Takes over what was added to the lemmas, raised and retired since. After want of memory it has taken
+    /// Takes over what was added to the lemmas, raised and retired since. If memory runs out, it has taken
     /// a part of that, and the same call takes the rest.
     pub fn follow(&mut self, lemmas: &Lemmas) -> Result<(), AllocError>
         requires older { IsOlder self.old.lemmas lemmas.now }
@@ -95,7 +98,7 @@ impl<'a> FrameSolver<'a> {
     /// state of that frame that meets the clause to one that does not; at level 1, from a first state.
     ///
     /// First states meet the clause. At most one query is asked, and the tickets drawn are its own, after
-    /// each way out. `Spent` comes only where the purse refused a ticket; want of memory is the only error.
+    /// each way out. `Spent` comes only where the purse refused a ticket; out of memory is the only error.
     pub fn relative<Q: Purse>(
         &mut self,
         alloc: Global,
@@ -166,7 +169,7 @@ impl<'a> FrameSolver<'a> {
     ///
     /// A state found comes with whether it is a first one, for which a second query is asked where `top` is
     /// not 0. The tickets drawn are those of these two queries at most, after each way out. `Spent` comes
-    /// only where the purse refused a ticket; want of memory is the only error.
+    /// only where the purse refused a ticket; out of memory is the only error.
     pub fn bad<Q: Purse>(
         &mut self,
         alloc: Global,
@@ -202,7 +205,7 @@ impl<'a> FrameSolver<'a> {
     /// The state that the step leads from, with whether it is a first one.
     ///
     /// At most one query is asked, and the tickets drawn are its own, after each way out. `Spent` comes only
-    /// where the purse refused a ticket; want of memory is the only error.
+    /// where the purse refused a ticket; out of memory is the only error.
     pub fn note<Q: Purse>(
         &mut self,
         alloc: Global,
@@ -234,7 +237,7 @@ impl<'a> FrameSolver<'a> {
     /// not meet it.
     ///
     /// At most one query is asked, and the tickets drawn are its own, after each way out. `Spent` comes only
-    /// where the purse refused a ticket; want of memory is the only error.
+    /// where the purse refused a ticket; out of memory is the only error.
     pub fn first<Q: Purse>(
         &mut self,
         alloc: Global,

@@ -1,3 +1,6 @@
+//! The proof of each lemma's last push. While its parents hold at that level, a push needs no
+//! query.
+
 ghost use Rattle.std.specs.Prelude.{◌≡◌, ◌+◌, ◌-◌, ◌<◌, ◌≤◌, ◌^◌, ℕ, List, All, Option, None, map, length, slice_index_or, IfOk, IfSome, IsTrue, OnOk};
 ghost use Rattle.clause_core.specs.Systems.{TransitionSystem};
 ghost use Rattle.clause_core.specs.Literals.{Within};

@@ -1,3 +1,6 @@
+//! The answers of the queries of IC3: a proof or a counterexample to induction; a bad state or
+//! none.
+
 use frame_core::{Clear, Found, Proved, Step};
 
 /// What a query about steps finds.
@@ -31,7 +34,7 @@ pub enum Noted<'a> {
     Spent { drawn: u64, budget: u64 },
 }
 
-/// What became of a proof that was to be generalised.
+/// The outcome of a generalisation.
 #[derive(Drop)]
 pub enum Generalised<'a> {
     /// A proof of a part of its clause, none of whose literals can be dropped.

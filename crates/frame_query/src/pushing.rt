@@ -1,3 +1,5 @@
+//! Pushes a lemma one level higher where it is inductive there (Bradley 2011).
+
 ghost use Rattle.std.specs.Prelude.{◌≡◌, ◌+◌, ◌<◌, ◌^◌, ℕ, Bool, IfOk, All, length};
 ghost use Rattle.frame_core.specs.declared.parts.Lemma.{Lemma as ALemma};
 ghost use Rattle.clause_core.specs.Literals.{Within};

@@ -1,3 +1,5 @@
+//! A proof issued again at another level.
+
 ghost use Rattle.std.specs.Prelude.{◌≡◌, ◌<◌};
 
 use frame_core::{Proved, ProvedParts};

@@ -1,7 +1,10 @@
+//! The state of a generalisation: the proof at hand, the literals that are needed, and those still
+//! to be tried.
+
 use clause_core::{Clause, Lit};
 use frame_core::Parent;
 
-// What is found of a clause without a literal.
+// The outcome of a trial: whether the smaller clause is inductive.
 #[derive(Drop)]
 pub enum Trial {
     // A step from a state of the frame below that meets the parents and the clause ends in this part of it, and
@@ -45,16 +48,16 @@ pub struct Walk {
     pub failed: Option<Clause>,
 }
 
-// What became of a literal that was to be dropped.
+// Whether one turn of a generalisation was completed.
 #[derive(Drop)]
 pub enum Turn {
-    // It was, or it is needed.
+    // The literal was dropped, or it is needed.
     Went,
     // The purse was spent before it was known.
     Spent { drawn: u64, budget: u64 },
 }
 
-// What a generalisation came to.
+// The outcome of a generalisation.
 #[derive(Drop)]
 pub enum Ending {
     // None of the literals of the proof can be dropped.

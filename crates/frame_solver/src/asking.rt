@@ -1,3 +1,6 @@
+//! Asks about one frame, by assuming the activation literals of its clauses (Eén and Sörensson
+//! 2003).
+
 ghost use Rattle.std.specs.Prelude.{◌≡◌, ◌+◌, ◌-◌, ◌<◌, ◌≤◌, ◌^◌, IfOk, length};
 ghost use Rattle.clause_core.specs.Literals.{Within};
 ghost use Rattle.frame_solver.specs.Groups.{is_of_frame, is_asked};
@@ -10,7 +13,7 @@ use frame_core::Lemma;
 use sat_core::Answer;
 use std::alloc::{AllocError, Global};
 
-// Whether group k says that a state is one of frame i.
+// Whether group k belongs to frame i: the initial states at 0, and above 0 each lemma of that level or a higher one.
 fn is_of_frame(heads: usize, lemmas: &[Lemma], i: u32, k: usize) -> bool
     requires { k < heads + length lemmas.now }
     ensures { result ≡ is_of_frame heads lemmas.now i k }
@@ -21,7 +24,7 @@ fn is_of_frame(heads: usize, lemmas: &[Lemma], i: u32, k: usize) -> bool
     0 < i && i <= lemmas[k - heads].level
 }
 
-// Whether group k is asked for: it is group `also`, or says that a state is one of frame i.
+// Whether the query assumes group k: it is group `also`, or belongs to frame i.
 fn is_asked(heads: usize, lemmas: &[Lemma], i: u32, also: usize, k: usize) -> bool
     requires { k < heads + length lemmas.now }
     ensures { result ≡ is_asked heads lemmas.now i also k }
@@ -96,7 +99,7 @@ fn all_assumptions(
     groups_first(alloc, base, heads, lemmas, i, also, extra)
 }
 
-// Whether the clauses of frame i and of group `also`, and these literals, can all be true.
+// Whether the clauses of frame i and of group `also` are satisfiable with these literals.
 pub(crate) fn ask<Q: Purse>(
     alloc: Global,
     engine: &mut Engine,

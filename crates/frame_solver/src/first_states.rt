@@ -1,3 +1,5 @@
+//! Initiation: whether all initial states satisfy a clause (Bradley 2011).
+
 ghost use Rattle.std.specs.Prelude.{◌≡◌, ◌+◌, ◌<◌, ◌≤◌, ℕ, Bool, List, IfOk, All, length, take, map};
 ghost use Rattle.frame_core.specs.declared.parts.Lemma.{Lemma as ALemma};
 ghost use Rattle.clause_core.specs.Literals.{Within, negate};

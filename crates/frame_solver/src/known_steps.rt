@@ -1,3 +1,6 @@
+//! A bounded list of steps that queries found. One that leaves a clause is a counterexample to its
+//! induction, and saves a query.
+
 ghost use Rattle.std.specs.Prelude.{◌≡◌, ◌+◌, ◌-◌, ◌<◌, ◌≤◌, ℕ, Bool, not, true, All, IfSome, IsTrue, length};
 ghost use Rattle.std.specs.List.{HoldsAt};
 ghost use Rattle.clause_core.specs.declared.literal.Lit.{Lit as ALit};
@@ -118,7 +121,7 @@ pub(crate) fn last_out(
     None
 }
 
-// The step at this place goes to the end. After want of memory it is gone.
+// The step at this place goes to the end. If memory runs out, it is gone.
 pub(crate) fn put_last(steps: &mut Vec<KnownStep>, k: usize) -> Result<(), AllocError>
     requires { k < length steps.old.items }
     ensures { (sys : TransitionSystem) → All (IsKnownStep sys) steps.old.items → All (IsKnownStep sys) steps.new.items }

@@ -1,3 +1,6 @@
+//! A solver of groups of clauses, each switched on by an activation literal (Eén and Sörensson
+//! 2003).
+
 ghost use Rattle.std.specs.Prelude.{◌≡◌, ◌+◌, ◌<◌, ◌≤◌, ◌^◌, ℕ, List, [], ◌∷◌, ◌++◌, map, All, Contains, OnOk, OnErr, IfOk, length};
 ghost use Rattle.clause_core.specs.declared.literal.Lit.{Lit as ALit};
 ghost use Rattle.clause_core.specs.Literals.{Within};
@@ -22,7 +25,7 @@ pub struct Engine {
     pub heads: usize,
     // How many lemmas were loaded.
     pub loaded: usize,
-    // From this variable on single queries were served.
+    // The activation variables from this one on were used by single queries.
     pub used: usize,
 }
 
@@ -47,7 +50,7 @@ pub(crate) fn sum(a: usize, b: usize) -> Result<usize, AllocError>
     }
 }
 
-// Adds the clause behind this activation variable, which is decided last. After want of memory the solver
+// Adds the clause behind this activation variable, which is decided last. If memory runs out, the solver
 // is as before.
 pub(crate) fn push_guarded(
     alloc: Global,

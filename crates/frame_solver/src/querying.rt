@@ -1,3 +1,6 @@
+//! Questions about steps, initial states and bad states. The solver is asked only where earlier
+//! answers do not tell.
+
 ghost use Rattle.std.specs.Prelude.{◌≡◌, ◌<◌, ◌≤◌, ℕ, Bool, List, IfOk, All, length};
 ghost use Rattle.frame_core.specs.declared.parts.Lemma.{Lemma as ALemma};
 ghost use Rattle.clause_core.specs.Literals.{Within};
@@ -22,8 +25,8 @@ use effort_purse::Purse;
 use frame_core::{Lemma, Parent};
 use std::alloc::{AllocError, Global};
 
-// Whether a step from a state of the frame below the level, that meets the clause, leaves the clause. No query
-// is asked where a known step does.
+// Relative induction: whether a step from a state that meets the clause, in the frame below the level, leaves the
+// clause. No query is asked where a known step does.
 pub fn steps_of<Q: Purse>(
     alloc: Global,
     systems: &[System],
@@ -119,7 +122,7 @@ pub fn bads_of<Q: Purse>(
     query_bads(alloc, systems, lemmas, engine, j, i, purse)
 }
 
-// Whether a state is a first one.
+// Whether a state is an initial state.
 #[derive(Drop)]
 pub enum Flag {
     Known(bool),
@@ -138,7 +141,7 @@ fn read_flag(answer: Firsts) -> Flag
     }
 }
 
-// Whether the state of these values is a first one.
+// Whether the state of these values is an initial state.
 pub fn flag_of<Q: Purse>(
     alloc: Global,
     systems: &[System],

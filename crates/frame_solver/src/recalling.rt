@@ -1,3 +1,6 @@
+//! What earlier queries found about a system, from which later questions are answered without a
+//! query.
+
 use crate::first_states::Firsts;
 use crate::known_steps::{KnownStep, is_outside, keep, last_out, put_last};
 use crate::stepping::Stepping;

@@ -1,3 +1,6 @@
+//! Loads new lemmas into the solvers. A solver is made anew when its activation variables run out
+//! or it has learned too many clauses.
+
 ghost use Rattle.std.specs.Prelude.{◌≡◌, ◌+◌, ◌<◌, ◌≤◌, ◌^◌, ℕ, List, [], ◌∷◌, ◌++◌, All, Contains, OnOk, OnErr, IfOk, length};
 ghost use Rattle.clause_core.specs.declared.literal.Lit.{Lit as ALit};
 ghost use Rattle.clause_core.specs.Literals.{Within};
@@ -23,7 +26,7 @@ const ROOM: usize = 1000;
 // learned long ago costs each query more than it saves.
 const LEARNED: usize = 300;
 
-// Whether the solver has learned less than makes it slow.
+// Whether the solver has learned few enough clauses to be kept.
 fn is_light(systems: &[System], engine: &Engine) -> bool
     requires some { 0 < length systems.now }
 {
@@ -101,7 +104,7 @@ pub fn fresh_states(alloc: Global, systems: &[System], lemmas: usize) -> Result<
     })
 }
 
-// Loads one lemma more. After want of memory all is as before.
+// Loads one lemma more. If memory runs out, all is as before.
 fn add_lemma(alloc: Global, engine: &mut Engine, clause: &[Lit]) -> Result<(), AllocError>
     requires room { engine.old.base + (engine.old.heads + engine.old.loaded) < engine.old.used }
     requires fits { engine.old.used ≤ engine.old.solver.vars }
@@ -116,7 +119,7 @@ fn add_lemma(alloc: Global, engine: &mut Engine, clause: &[Lit]) -> Result<(), A
     Ok(())
 }
 
-// Loads the lemmas that were not loaded yet. After want of memory some of them were.
+// Loads the lemmas that were not loaded yet. If memory runs out, some of them are loaded.
 pub(crate) fn catch_up(
     alloc: Global,
     engine: &mut Engine,

@@ -1,3 +1,6 @@
+//! Relative induction (Bradley 2011): whether a step from the frame below that satisfies the clause
+//! leaves it. The core tells which literals and lemmas were needed.
+
 ghost use Rattle.std.specs.Prelude.{◌≡◌, ◌+◌, ◌-◌, ◌*◌, ◌<◌, ◌≤◌, ◌^◌, ◌∷◌, [], ◌++◌, ℕ, Bool, List, IfOk, OnOk, OnErr, All, Contains, MatchBool, length, take, map, true};
 ghost use Rattle.frame_core.specs.declared.parts.Lemma.{Lemma as ALemma};
 ghost use Rattle.clause_core.specs.Literals.{Within};
@@ -154,8 +157,8 @@ fn read(
     }
 }
 
-// Whether a step from a state of the frame below the level, that meets the clause, leaves the clause. The clause
-// stands behind the last activation variable that is left, for this query alone.
+// Relative induction: whether a step from a state that meets the clause, in the frame below the level, leaves it. The
+// clause stands behind the last activation variable that is left, for this query alone.
 pub(crate) fn query_steps<Q: Purse>(
     alloc: Global,
     systems: &[System],

@@ -1,5 +1,6 @@
-// A book played by hand: a claim that is given back, one that is out while another worker finds none, and one that is
-// settled by a spent purse.
+//! A book played by hand. One claim is given back, one is out while another worker finds none, and
+//! one is settled by a spent purse.
+
 ghost use Rattle.std.specs.Prelude.{◌≡◌, ◌<◌};
 
 use clause_core::{Clauses, Lit, System, is_within};

@@ -1,3 +1,5 @@
+//! Tests of queries about frames, on a latch of three bits: with enough tickets and with none.
+
 ghost use Rattle.std.specs.Prelude.{◌≡◌, ◌<◌, IfOk, length};
 ghost use Rattle.clause_core.specs.Literals.{Within};
 ghost use Rattle.frame_core.specs.Law.{system_at};

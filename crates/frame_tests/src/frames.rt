@@ -1,3 +1,6 @@
+//! Tests of frames, on a latch and a shift register of three bits worked by hand: lemmas, tops, and
+//! runs.
+
 ghost use Rattle.std.specs.Prelude.{◌≡◌, ◌<◌, ◌≤◌, [], ◌∷◌, true, false, Some, None, IfOk, IsTrue, map, length};
 ghost use Rattle.clause_core.specs.Literals.{Within};
 ghost use Rattle.frame_tests.specs.ThreeBits.{three_bits, latch, register, low, either_low, low_parent, last_values, middle_values, first_values, last, middle, register_frames};

@@ -19,7 +19,7 @@ use std::alloc::{AllocError, Global};
 use std::sync::ledger::Ledger;
 
 /// What was explored, by workers that have seen so much of the history; none where the book has to be dropped. The only
-/// error is want of memory.
+/// error is out of memory.
 pub(crate) fn explored_of<'a, L: Ledger, J: Naming + Begun>(
     alloc: Global,
     desk: Desk<'a, L, J>,

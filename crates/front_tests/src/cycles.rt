@@ -1,3 +1,5 @@
+//! Tests of the search for a cycle in a graph.
+
 use digraph::{is_closed, least_round};
 use sqlite_items::Items;
 use std::alloc::{AllocError, Global};

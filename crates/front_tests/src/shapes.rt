@@ -1,8 +1,8 @@
-//! How operators group: the first formula or claim of a source, each node of it in parentheses.
+//! How operators group: the first formula or claim of a source, each node of it in parentheses; and what arrays are declared.
 
 use crate::program_of;
-use smv_tree::{Expr, Name, Place, Program, Section, Start};
-use smv_value::{Arithmetic, Bounded, Logic, Operator, Order, Shift, Temporal, Value};
+use smv_tree::{Dimension, Expr, Name, Place, Program, Section, Start, TypeExpr, Variable};
+use smv_value::{Arithmetic, Bounded, Division, Logic, Operator, Order, Shift, Temporal, Value};
 use std::alloc::{AllocError, Global};
 use std::test::Fail;
 
@@ -65,7 +65,7 @@ const SHAPES: [Shape; 23] = [
     ),
 ];
 
-const TEMPORAL_SHAPES: [Shape; 32] = [
+const TEMPORAL_SHAPES: [Shape; 34] = [
     ("MODULE main LTLSPEC F a & b", "((F a) & b)"),
     ("MODULE main LTLSPEC F a = b", "(F (a = b))"),
     ("MODULE main LTLSPEC a U b & c", "((a U b) & c)"),
@@ -81,12 +81,23 @@ const TEMPORAL_SHAPES: [Shape; 32] = [
     ("MODULE main LTLSPEC X a U b", "((X a) U b)"),
     ("MODULE main LTLSPEC a U X b", "(a U (X b))"),
     ("MODULE main LTLSPEC a U !X b V c", "(a U (! (X b)) V c)"),
-    ("MODULE main LTLSPEC G F [1,2] a", "(G (F[1,2] a))"),
+    ("MODULE main LTLSPEC G F [1,2] a", "(G (F.. [1] : [2] : a))"),
     (
         "MODULE main LTLSPEC O [0,0] H [3,255] a | b",
-        "((O[0,0] (H[3,255] a)) | b)",
+        "((O.. [0] : [0] : (H.. [3] : [255] : a)) | b)",
     ),
-    ("MODULE main LTLSPEC G [1,2] a = b", "(G[1,2] (a = b))"),
+    (
+        "MODULE main LTLSPEC G [1,2] a = b",
+        "(G.. [1] : [2] : (a = b))",
+    ),
+    (
+        "MODULE main LTLSPEC F [a.b - 1, 2 * n] p & q",
+        "((F.. [(a.b - 1)] : [(2 * n)] : p) & q)",
+    ),
+    (
+        "MODULE main LTLSPEC G [-1, (n)] !p U q",
+        "((G.. [(- 1)] : [[n]] : (! p)) U q)",
+    ),
     ("MODULE main LTLSPEC F w[h:l] = c", "(F ((w [ h : l) = c))"),
     ("MODULE main LTLSPEC Y Z O H a", "(Y (Z (O (H a))))"),
     ("MODULE main LTLSPEC a -> X b U c", "(a -> ((X b) U c))"),
@@ -139,10 +150,10 @@ fn temporal_text(operator: Temporal) -> &'static str {
 
 fn bounded_text(operator: Bounded) -> &'static str {
     match operator {
-        Bounded::Finally => "F",
-        Bounded::Globally => "G",
-        Bounded::Once => "O",
-        Bounded::Historically => "H",
+        Bounded::Finally => "F..",
+        Bounded::Globally => "G..",
+        Bounded::Once => "O..",
+        Bounded::Historically => "H..",
     }
 }
 
@@ -157,8 +168,10 @@ fn operator_text(operator: Operator) -> &'static str {
         Operator::NotEqual => "!=",
         Operator::Not => "!",
         Operator::Logic(Logic::Implies) => "->",
-        Operator::Choice => "?",
+        Operator::Choice(_) => "?",
         Operator::Arithmetic(Arithmetic::Add) => "+",
+        Operator::Arithmetic(Arithmetic::Subtract) => "-",
+        Operator::Division(Division::Remainder) => "mod",
         Operator::Arithmetic(Arithmetic::Multiply) => "*",
         Operator::Negate => "-",
         Operator::Join => "::",
@@ -170,17 +183,8 @@ fn operator_text(operator: Operator) -> &'static str {
         Operator::Index | Operator::Select => "[",
         Operator::Maximum => "max",
         Operator::Temporal(o) => temporal_text(o),
-        Operator::Bounded(o, _, _) => bounded_text(o),
+        Operator::Window(o) => bounded_text(o),
         _ => "",
-    }
-}
-
-// Writes an operator, and the bounds that it may have.
-fn put_operator(out: &mut String, operator: Operator) -> Result<(), AllocError> {
-    out.push_str(operator_text(operator))?;
-    match operator {
-        Operator::Bounded(_, low, high) => write!(out, "[{low},{high}]"),
-        _ => Ok(()),
     }
 }
 
@@ -211,7 +215,7 @@ fn put_applied(
         put(out, depth, operand)?;
         out.push_str(" ")?;
     }
-    put_operator(out, operator)?;
+    out.push_str(operator_text(operator))?;
     for (n, operand) in below.iter().enumerate() {
         out.push_str(if n == 0 { " " } else { " : " })?;
         put(out, depth, operand)?;
@@ -262,6 +266,7 @@ fn put(out: &mut String, depth: usize, expr: &Expr) -> Result<(), AllocError> {
     match expr {
         Expr::Constant(_, Value::Bool(true)) => out.push_str("TRUE"),
         Expr::Constant(_, Value::Bool(false)) => out.push_str("FALSE"),
+        Expr::Constant(_, Value::Int(n)) => write!(out, "{n}"),
         Expr::Constant(..) => out.push_str("?"),
         Expr::Name(name) => put_name(out, name),
         Expr::Group(_, inner) => put_within(out, depth, "[", inner.get(), "]"),
@@ -298,6 +303,127 @@ fn holds(alloc: Global, source: &str, wanted: &str) -> bool {
         },
         Err(_) => false,
     }
+}
+
+const TYPES: [Shape; 8] = [
+    ("MODULE main VAR x : boolean;", "boolean"),
+    (
+        "MODULE main VAR x : array 0..3 of boolean;",
+        "0 .. 3 of boolean",
+    ),
+    (
+        "MODULE main VAR x : array -1..2 of array 4..(n) of word[m + 1];",
+        "(- 1) .. 2 of 4 .. [n] of word (m + 1)",
+    ),
+    (
+        "MODULE main VAR x : array a.n - 1..2 * self.n of signed word[4];",
+        "(a.n - 1) .. (2 * self.n) of signed word 4",
+    ),
+    (
+        "MODULE main VAR x : array n..m of cell(y, 1);",
+        "n .. m of cell y 1",
+    ),
+    (
+        "MODULE main VAR x : array 1..2 of array 3..4 of array 5..6 of m;",
+        "1 .. 2 of 3 .. 4 of 5 .. 6 of m",
+    ),
+    (
+        "MODULE main VAR x : array 0..1 of {p, -1};",
+        "0 .. 1 of p -1",
+    ),
+    (
+        "MODULE main VAR x : array 0..1 of n..m mod 2;",
+        "0 .. 1 of n .. (m mod 2)",
+    ),
+];
+
+// Writes the two ends of a range.
+fn put_range(out: &mut String, low: &Expr, high: &Expr) -> Result<(), AllocError> {
+    put(out, 20, low)?;
+    out.push_str(" .. ")?;
+    put(out, 20, high)
+}
+
+fn put_type(out: &mut String, declared: &TypeExpr) -> Result<(), AllocError> {
+    match declared {
+        TypeExpr::Boolean(_) => out.push_str("boolean"),
+        TypeExpr::Word(_, signed, width) => {
+            out.push_str(if *signed { "signed word " } else { "word " })?;
+            put(out, 20, width)
+        }
+        TypeExpr::Range(_, low, high) => put_range(out, low, high),
+        TypeExpr::Enumeration(_, elements) => {
+            for (n, element) in elements.as_slice().iter().enumerate() {
+                out.push_str(if n == 0 { "" } else { " " })?;
+                out.push_str(element.text.as_str())?;
+            }
+            Ok(())
+        }
+        TypeExpr::Instance(_, name, given) => {
+            out.push_str(name.as_str())?;
+            for actual in given.as_slice() {
+                out.push_str(" ")?;
+                put(out, 20, actual)?;
+            }
+            Ok(())
+        }
+    }
+}
+
+// Writes what a variable is declared as: the dimensions of an array, and the type of its elements.
+fn put_declared(
+    out: &mut String,
+    dimensions: &[Dimension],
+    declared: &TypeExpr,
+) -> Result<(), AllocError> {
+    for dimension in dimensions {
+        put_range(out, &dimension.low, &dimension.high)?;
+        out.push_str(" of ")?;
+    }
+    put_type(out, declared)
+}
+
+fn is_declared(alloc: Global, variable: &Variable, wanted: &str) -> bool {
+    let mut out = String::new(alloc);
+    match put_declared(&mut out, variable.dimensions.as_slice(), &variable.declared) {
+        Ok(()) => out.as_str() == wanted,
+        Err(_) => false,
+    }
+}
+
+// The first variable of the first section of the first module.
+fn variable_of(program: &Program) -> Option<&Variable> {
+    match program.modules.get(0)?.sections.get(0)? {
+        Section::Variables(_, variables) => variables.get(0),
+        _ => None,
+    }
+}
+
+fn declares(alloc: Global, source: &str, wanted: &str) -> bool {
+    match program_of(alloc, source.as_bytes()) {
+        Ok(program) => match variable_of(&program) {
+            Some(variable) => is_declared(alloc, variable, wanted),
+            None => false,
+        },
+        Err(_) => false,
+    }
+}
+
+// The first type that is wrong.
+fn first_wrong_type(alloc: Global) -> Option<&'static str> {
+    for (source, wanted) in &TYPES {
+        if !declares(alloc, source, wanted) {
+            return Some(*wanted);
+        }
+    }
+    None
+}
+
+#[test]
+fn arrays_have_dimensions(rt: HostRuntime) -> Result<(), Fail> {
+    let wrong = first_wrong_type(rt.alloc());
+    assert_eq!(rt; wrong, None);
+    Ok(())
 }
 
 // The first shape that is wrong.

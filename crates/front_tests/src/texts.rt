@@ -1,3 +1,5 @@
+//! Tests of texts: copies, comparison and printing.
+
 use plain_text::Text;
 use std::test::Fail;
 

@@ -6,7 +6,7 @@ use std::alloc::{AllocError, Global};
 use std::test::Fail;
 
 /// A source, and the line by which it is refused; or nothing, where it is read.
-const VERDICTS: [(&str, &str); 60] = [
+const VERDICTS: [(&str, &str); 72] = [
     ("", ""),
     ("MODULE main", ""),
     (
@@ -106,9 +106,46 @@ const VERDICTS: [(&str, &str); 60] = [
         "VAR x : integer;",
         "-- refused 203 Unsupported at 1:9: integer\n",
     ),
+    // Arrays.
     (
-        "MODULE main\nVAR x : array 0..3 of boolean;",
-        "-- refused 203 Unsupported at 2:9: array\n",
+        "MODULE main VAR x : array 0..3 of boolean; y : array -N..self.n of array a.b - 1..2 * M of {p, -1}; z : array 0..1 of cell(x, y);",
+        "",
+    ),
+    (
+        "MODULE main\nVAR x : array 0..3 boolean;",
+        "-- refused 201 Unexpected at 2:20: boolean\n",
+    ),
+    (
+        "MODULE main\nVAR x : array 3 of boolean;",
+        "-- refused 201 Unexpected at 2:17: of\n",
+    ),
+    (
+        "MODULE main\nVAR x : array of boolean;",
+        "-- refused 201 Unexpected at 2:15: of\n",
+    ),
+    (
+        "MODULE main\nVAR x : array boolean of boolean;",
+        "-- refused 201 Unexpected at 2:15: boolean\n",
+    ),
+    (
+        "MODULE main\nVAR x : array 0..1 .. 2 of boolean;",
+        "-- refused 201 Unexpected at 2:20: ..\n",
+    ),
+    (
+        "MODULE main\nVAR x : array 0..3 of;",
+        "-- refused 201 Unexpected at 2:22: ;\n",
+    ),
+    (
+        "MODULE main\nVAR x : array 0..3 of array;",
+        "-- refused 201 Unexpected at 2:28: ;\n",
+    ),
+    (
+        "MODULE main\nVAR array : boolean;",
+        "-- refused 201 Unexpected at 2:5: array\n",
+    ),
+    (
+        "MODULE main\nINIT of",
+        "-- refused 201 Unexpected at 2:6: of\n",
     ),
     // Values of the other types: ranges, enumerations, words; sets, cases, functions and selections.
     (
@@ -181,8 +218,20 @@ const VERDICTS: [(&str, &str); 60] = [
         "-- refused 201 Unexpected at 2:13: ]\n",
     ),
     (
-        "MODULE main\nLTLSPEC F [0, x] x",
-        "-- refused 201 Unexpected at 2:15: x\n",
+        "MODULE main LTLSPEC F [a.b - 1, 2 * n] p & G [-(k), self.n mod 2] q",
+        "",
+    ),
+    (
+        "MODULE main\nLTLSPEC F [x = 1, 2] x",
+        "-- refused 201 Unexpected at 2:14: =\n",
+    ),
+    (
+        "MODULE main\nLTLSPEC F [0, TRUE] x",
+        "-- refused 201 Unexpected at 2:15: TRUE\n",
+    ),
+    (
+        "MODULE main\nLTLSPEC F [0, 1, 2] x",
+        "-- refused 201 Unexpected at 2:16: ,\n",
     ),
     (
         "MODULE main\nLTLSPEC F [0 3] x",
@@ -230,7 +279,7 @@ const VERDICTS: [(&str, &str); 60] = [
 ];
 
 /// The head of a source, what opens and closes a level before and behind `x`, how often, and the line by which it is refused.
-const LEVELS: [(&str, &str, &str, usize, &str); 21] = [
+const LEVELS: [(&str, &str, &str, usize, &str); 25] = [
     ("MODULE main\nINIT ", "(", ")", 256, ""),
     (
         "MODULE main\nINIT ",
@@ -296,6 +345,35 @@ const LEVELS: [(&str, &str, &str, usize, &str); 21] = [
         256,
         "-- refused 202 TooDeep at 2:266\n",
     ),
+    // What stands in an array stands in the levels that the words `array` before it open.
+    (
+        "MODULE main\nVAR v : array 0..1 of array 0..1 of m(",
+        "(",
+        ")",
+        253,
+        "-- refused 201 Unexpected at 2:546: end\n",
+    ),
+    (
+        "MODULE main\nVAR v : array 0..1 of array 0..1 of m(",
+        "(",
+        ")",
+        254,
+        "-- refused 202 TooDeep at 2:292\n",
+    ),
+    (
+        "MODULE main\nVAR v : array ",
+        "(",
+        ")",
+        255,
+        "-- refused 201 Unexpected at 2:526: end\n",
+    ),
+    (
+        "MODULE main\nVAR v : array ",
+        "(",
+        ")",
+        256,
+        "-- refused 202 TooDeep at 2:270\n",
+    ),
     ("MODULE main\nINIT ", "- ", "", 256, ""),
     (
         "MODULE main\nINIT ",
@@ -313,6 +391,20 @@ const LEVELS: [(&str, &str, &str, usize, &str); 21] = [
         257,
         "-- refused 202 TooDeep at 2:519\n",
     ),
+];
+
+/// How many arrays stand one in another, the type of the innermost elements, and the line by which the declaration is refused.
+const ARRAYS: [(usize, &str, &str); 10] = [
+    (256, "boolean;", ""),
+    (257, "boolean;", "-- refused 202 TooDeep at 2:3593\n"),
+    (256, "m;", ""),
+    (256, "-1..n;", "-- refused 202 TooDeep at 2:3593\n"),
+    (256, "m(x);", "-- refused 202 TooDeep at 2:3594\n"),
+    (256, "{a};", "-- refused 202 TooDeep at 2:3593\n"),
+    (255, "{a, -1};", "-- refused 202 TooDeep at 2:3583\n"),
+    (254, "{a, -1};", ""),
+    (256, "word[4];", "-- refused 202 TooDeep at 2:3597\n"),
+    (255, "signed word[4];", ""),
 ];
 
 fn is_refused_by(alloc: Global, stop: &TextStop, wanted: &str) -> bool {
@@ -373,6 +465,33 @@ fn first_wrong_level(alloc: Global) -> Option<usize> {
         }
     }
     None
+}
+
+fn arrays(alloc: Global, count: usize, element: &str) -> Result<String, AllocError> {
+    let mut text = String::from_str(alloc, "MODULE main\nVAR v : ")?;
+    push_times(&mut text, "array 0..1 of ", count)?;
+    text.push_str(element)?;
+    Ok(text)
+}
+
+fn first_wrong_array(alloc: Global) -> Option<usize> {
+    for (n, (count, element, wanted)) in ARRAYS.iter().enumerate() {
+        let right = match arrays(alloc, *count, *element) {
+            Ok(source) => holds(alloc, source.as_str(), *wanted),
+            Err(_) => false,
+        };
+        if !right {
+            return Some(n);
+        }
+    }
+    None
+}
+
+#[test]
+fn arrays_open_levels(rt: HostRuntime) -> Result<(), Fail> {
+    let wrong = first_wrong_array(rt.alloc());
+    assert_eq!(rt; wrong, None);
+    Ok(())
 }
 
 #[test]

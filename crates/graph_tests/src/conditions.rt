@@ -1,3 +1,5 @@
+//! Tests of how many clauses and gates come of conditions of many shapes.
+
 ghost use Rattle.std.specs.Prelude.{◌<◌, length, IfOk};
 ghost use Rattle.bit_graph.specs.Growth.{Extends};
 ghost use Rattle.bit_graph.specs.Meaning.{HasInputs, Stands};

@@ -1,3 +1,5 @@
+//! Tests of a graph's clauses: they hold just where each variable has its node's value.
+
 ghost use Rattle.std.specs.Prelude.{◌<◌, length, IfOk};
 ghost use Rattle.bit_graph.specs.Meaning.{Stands};
 

@@ -1,3 +1,5 @@
+//! Tests of gates: their values under all assignments, and that equal gates are shared.
+
 ghost use Rattle.std.specs.Prelude.{◌<◌, ◌≤◌, length};
 
 use bit_graph::{Edge, Graph, evaluate};

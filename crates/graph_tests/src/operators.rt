@@ -365,7 +365,7 @@ const ON_INTEGERS: [Operator; 13] = [
 ];
 
 // Operators on an integer.
-const ON_INTEGER: [Operator; 2] = [Operator::Negate, Operator::Absolute];
+const ON_INTEGER: [Operator; 3] = [Operator::Negate, Operator::Absolute, Operator::Subscript];
 
 const ON_SHIFTED: [Operator; 2] = [Operator::Shift(Shift::Left), Operator::Shift(Shift::Right)];
 

@@ -1,3 +1,5 @@
+//! Tests of operators on words of three bits against plain arithmetic.
+
 ghost use Rattle.std.specs.Prelude.{◌≡◌, ◌+◌, ◌≤◌, length, IfOk};
 ghost use Rattle.bit_graph.specs.Meaning.{Stands};
 ghost use Rattle.bit_arith.specs.Number.{AllStand};

@@ -1,3 +1,5 @@
+//! A derivation whose steps name the clauses that they follow from (Cruz-Filipe and others 2017).
+
 use crate::numbers::Numbers;
 use clause_core::{Clauses, Lit};
 use std::alloc::{AllocError, Global};
@@ -60,7 +62,7 @@ impl Hinted {
         self.hints.get(k)
     }
 
-    /// Adds a step with its hints at the end. After want of memory the steps are as before.
+    /// Adds a step with its hints at the end. If memory runs out, the steps are as before.
     pub fn push(&mut self, step: &[Lit], hints: &[usize]) -> Result<(), AllocError>
         ensures done { OnOk result (self.new ≡ record { steps = self.old.steps ++ step.now ∷ []; hints = self.old.hints ++ hints.now ∷ [] }) }
         ensures failed { OnErr result (self.new ≡ self.old) }

@@ -1,3 +1,5 @@
+//! Lists of numbers, one after another in a single buffer.
+
 ghost use Rattle.std.specs.Prelude.{◌≡◌, ◌<◌, List, [], ◌∷◌, ◌++◌, length, take, OnOk, OnErr, slice_index_or};
 
 use std::alloc::{AllocError, Global};
@@ -56,7 +58,7 @@ impl Numbers {
         &tail[..place.len]
     }
 
-    /// Adds the list at the end. After want of memory the lists are as before.
+    /// Adds the list at the end. If memory runs out, the lists are as before.
     pub fn push(&mut self, list: &[usize]) -> Result<(), AllocError>
         ensures done { OnOk result (self.new ≡ self.old ++ list.now ∷ []) }
         ensures failed { OnErr result (self.new ≡ self.old) }

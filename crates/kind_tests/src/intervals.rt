@@ -46,7 +46,7 @@ fn integer(low: i32, high: i32) -> Operand {
 fn is_right(row: &Row) -> bool {
     let left = integer(row.1, row.2);
     let right = integer(row.3, row.4);
-    kind_given(&[], row.0, &[left, right]) == Ok(integers(row.5, row.6))
+    kind_given(row.0, &[left, right]) == Ok(integers(row.5, row.6))
 }
 
 // The number of the first row that is wrong.

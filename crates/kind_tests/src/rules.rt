@@ -1,9 +1,9 @@
 //! Rules that operands break, and kinds that they give.
 use smv_kinds::{
-    ArrayKind, Discrete, Interval, Kind, KindRule, Operand, assigned_element, constant_given,
-    constant_of, kind_given, kind_in_context, kind_of_value, next_kind, takes, takes_sets,
+    Discrete, Interval, Kind, KindRule, Operand, constant_given, constant_of, kind_given,
+    kind_in_context, kind_of_value, next_kind, takes, takes_sets,
 };
-use smv_value::{Arithmetic, Bounded, Division, Operator, Value};
+use smv_value::{Arithmetic, Bounded, Division, FaultRule, Operator, Value};
 use std::test::Fail;
 
 const ADD: Operator = Operator::Arithmetic(Arithmetic::Add);
@@ -66,7 +66,7 @@ const LONG: Kind = Kind::Word {
 #[derive(Clone, Copy)]
 struct Row(Operator, Kind, Kind, Option<i64>, KindRule);
 
-const ROWS: [Row; 13] = [
+const ROWS: [Row; 16] = [
     Row(ADD, MOST, DIGIT, None, KindRule::IntWidth),
     Row(ADD, BYTE, SIGNED_BYTE, None, KindRule::TypeMismatch),
     Row(Operator::Equal, DIGIT, DIGITS, None, KindRule::TypeMismatch),
@@ -93,6 +93,21 @@ const ROWS: [Row; 13] = [
     // A quotient may be as far from 0 as what is divided, on both sides.
     Row(QUOTIENT, LEAST, DIGIT, None, KindRule::IntWidth),
     Row(QUOTIENT, BYTE, DIGIT, None, KindRule::TypeMismatch),
+    Row(
+        Operator::Equal,
+        Kind::Array,
+        Kind::Array,
+        None,
+        KindRule::TypeMismatch,
+    ),
+    Row(
+        Operator::Index,
+        Kind::Array,
+        BYTE,
+        None,
+        KindRule::TypeMismatch,
+    ),
+    Row(Operator::Index, DIGIT, DIGIT, None, KindRule::TypeMismatch),
 ];
 
 fn operand(kind: Kind, constant: Option<i64>) -> Operand {
@@ -101,7 +116,7 @@ fn operand(kind: Kind, constant: Option<i64>) -> Operand {
 
 fn is_right(row: &Row) -> bool {
     let operands = [operand(row.1, None), operand(row.2, row.3)];
-    kind_given(&[], row.0, &operands) == Err(row.4)
+    kind_given(row.0, &operands) == Err(row.4)
 }
 
 // The number of the first row that is wrong.
@@ -116,36 +131,39 @@ fn selected(high: i64, low: i64) -> Result<Kind, KindRule> {
         operand(DIGIT, Some(high)),
         operand(DIGIT, Some(low)),
     ];
-    kind_given(&[], Operator::Select, &operands)
+    kind_given(Operator::Select, &operands)
 }
 
-// The element of an array of bytes from 1 to 3 that is assigned.
-fn element(index: i64) -> Result<Kind, KindRule> {
-    let arrays = [ArrayKind {
-        low: 1,
-        high: 3,
-        element: BYTE,
-    }];
-    assigned_element(
-        &arrays,
-        operand(Kind::Array(0), None),
-        operand(DIGIT, Some(index)),
-    )
+// A window from `low` to `high` as it is written.
+fn window(low: Option<i64>, high: Option<i64>) -> Result<Kind, KindRule> {
+    let operands = [
+        operand(DIGIT, low),
+        operand(DIGIT, high),
+        operand(Kind::Boolean, None),
+    ];
+    kind_given(Operator::Window(Bounded::Once), &operands)
+}
+
+// The element of an array that has two, by an index.
+fn element(first: Kind, second: Kind) -> Result<Kind, KindRule> {
+    let operands = [
+        operand(Kind::Boolean, None),
+        operand(first, None),
+        operand(Kind::Boolean, None),
+        operand(second, None),
+    ];
+    kind_given(Operator::Choice(FaultRule::IndexOutside), &operands)
 }
 
 // A set of two digits, where one may stand or not.
 fn set(sets: bool) -> Result<Kind, KindRule> {
     let operands = [operand(DIGIT, None), operand(DIGIT, None)];
-    kind_in_context(sets, &[], Operator::Members, &operands)
+    kind_in_context(sets, Operator::Members, &operands)
 }
 
 fn bounded(low: u32, high: u32) -> Result<Kind, KindRule> {
     let operands = [operand(Kind::Boolean, None)];
-    kind_given(
-        &[],
-        Operator::Bounded(Bounded::Finally, low, high),
-        &operands,
-    )
+    kind_given(Operator::Bounded(Bounded::Finally, low, high), &operands)
 }
 
 #[test]
@@ -159,9 +177,18 @@ fn rules_are_told_in_their_order(rt: HostRuntime) -> Result<(), Fail> {
             })
     );
     assert!(rt; selected(8, 0) == Err(KindRule::BadSelection));
-    assert!(rt; element(3) == Ok(BYTE));
-    assert!(rt; element(4) == Err(KindRule::BadSelection));
     assert!(rt; bounded(2, 1) == Err(KindRule::BadBound));
+    assert!(rt; window(Some(-1), Some(3)) == Err(KindRule::BadBound));
+    assert!(rt; window(Some(0), None) == Err(KindRule::NotConstant));
+    Ok(())
+}
+
+#[test]
+fn arrays_are_no_values(rt: HostRuntime) -> Result<(), Fail> {
+    assert!(rt; kind_given(Operator::WholeArray, &[]) == Ok(Kind::Array));
+    assert!(rt; kind_given(Operator::Subscript, &[operand(DIGIT, None)]) == Ok(DIGIT));
+    assert!(rt; element(BYTE, BYTE) == Ok(BYTE));
+    assert!(rt; element(Kind::Array, Kind::Array) == Err(KindRule::TypeMismatch));
     Ok(())
 }
 
@@ -181,6 +208,7 @@ fn constants_are_folded(rt: HostRuntime) -> Result<(), Fail> {
     let most = operand(MOST, Some(2147483647));
     assert_eq!(rt; constant_given(ADD, &[two, two]), Some(4));
     assert_eq!(rt; constant_given(ADD, &[most, two]), None);
+    assert_eq!(rt; constant_given(Operator::Subscript, &[two]), Some(2));
     assert_eq!(rt; constant_of(Operator::Absolute, &[Value::Int(2)]), None);
     assert!(rt; kind_of_value(Value::Int(2147483647)) == MOST);
     Ok(())

@@ -1,3 +1,6 @@
+//! A table with an entry for each length up to a bound: the fair lasso that was found, or that
+//! there is none. Workers fill tables of their own, which are merged.
+
 ghost use Rattle.std.specs.Prelude.{◌≡◌, ℕ, ◌-◌, ◌≤◌, Some, None, length, replicate, slice_index_or, slice_set, IfOk, ◌==◌, IsSome, MatchOption};
 ghost use Rattle.clause_core.specs.Systems.{TransitionSystem};
 ghost use Rattle.lasso_search.specs.Books.{IsAnswer, IsLength, KeepsAnswers, entry, either};

@@ -1,3 +1,7 @@
+//! The clauses of bounded model checking for fair lassos (Biere, Heljanko, Junttila, Latvala and
+//! Schuppan 2006). They speak of the first state, each step, the loop's start and end, and the
+//! fairness sets met in the loop.
+
 ghost use Rattle.std.specs.Prelude.{◌≡◌, ◌++◌, length, IfOk, OnOk};
 ghost use Rattle.clause_core.specs.Literals.{at};
 ghost use Rattle.lasso_search.specs.Unrolling.{each, beginning, ending, seeing, unseen, opening, moment, closing_at};
@@ -44,7 +48,7 @@ pub fn moment(
     Ok(all)
 }
 
-// Where the loop begins at this time, the state at which it begins is this one.
+// If the loop begins at this time, the copied loop state equals the state at this time.
 fn add_beginnings(plan: &Plan, time: usize, out: &mut Clauses) -> Result<(), AllocError>
     ensures { OnOk result (out.new ≡ out.old ++ each (beginning plan.now time) plan.now.bits) }
 {
@@ -54,7 +58,7 @@ fn add_beginnings(plan: &Plan, time: usize, out: &mut Clauses) -> Result<(), All
     Ok(())
 }
 
-// The same of one bit.
+// The clauses of that for one bit.
 fn add_beginning(plan: &Plan, time: usize, bit: usize, out: &mut Clauses) -> Result<(), AllocError>
     ensures { OnOk result (out.new ≡ out.old ++ beginning plan.now time bit) }
 {
@@ -67,7 +71,7 @@ fn add_beginning(plan: &Plan, time: usize, bit: usize, out: &mut Clauses) -> Res
     Ok(())
 }
 
-// Where the loop ends at this time, the state at which it begins is this one.
+// If the loop ends at this time, the copied loop state equals the state at this time.
 fn add_endings(plan: &Plan, time: usize, out: &mut Clauses) -> Result<(), AllocError>
     ensures { OnOk result (out.new ≡ out.old ++ each (ending plan.now time) plan.now.bits) }
 {
@@ -77,7 +81,7 @@ fn add_endings(plan: &Plan, time: usize, out: &mut Clauses) -> Result<(), AllocE
     Ok(())
 }
 
-// The same of one bit.
+// The clauses of that for one bit.
 fn add_ending(plan: &Plan, time: usize, bit: usize, out: &mut Clauses) -> Result<(), AllocError>
     ensures { OnOk result (out.new ≡ out.old ++ ending plan.now time bit) }
 {
@@ -89,7 +93,7 @@ fn add_ending(plan: &Plan, time: usize, bit: usize, out: &mut Clauses) -> Result
     Ok(())
 }
 
-// Where a set was met before the next time, it was before this one, or is at this time, in the loop.
+// A set that was met before the next time was met before this one, or is met at this time, in the loop.
 fn add_sightings(
     plan: &Plan,
     system: &System,
@@ -105,7 +109,7 @@ fn add_sightings(
     Ok(())
 }
 
-// The same of one set.
+// The clauses of that for one set.
 fn add_seeing(
     plan: &Plan,
     literal: Lit,
@@ -125,7 +129,8 @@ fn add_seeing(
     Ok(())
 }
 
-// What is assumed for a lasso of so many states.
+// The assumptions of a query for a lasso of so many states: the loop begins before its end, closes there, and meets each
+// set.
 pub fn closing(alloc: Global, plan: &Plan, states: usize) -> Result<Vec<Lit>, AllocError>
     ensures { IfOk result (λ ls. ls.items ≡ closing_at plan.now states) }
 {

@@ -1,3 +1,5 @@
+//! A lasso over bits: values for each state, and the state to which it returns after the last.
+
 ghost use Rattle.std.specs.Prelude.{◌≡◌, ◌<◌, ℕ, [], List, length, slice_index_or, IfOk};
 ghost use Rattle.clause_core.specs.declared.literal.Lit.{Lit};
 ghost use Rattle.ltl_meaning.specs.Ltl.{Ltl};
@@ -56,7 +58,7 @@ impl BitLasso {
     }
 
     /// This lasso of a monitored system, with the values of the bits of the system that is monitored: its
-    /// states, and the inputs of its steps. The only error is want of memory.
+    /// states, and the inputs of its steps. The only error is out of memory.
     pub fn own(
         &self,
         alloc: Global,

@@ -1,3 +1,6 @@
+//! Searches for fair lassos of any length with one incremental solver (Eén and Sörensson 2003). The
+//! unrolling stays loaded; what holds for one length alone is assumed.
+
 use crate::loading::Engine;
 use crate::searched::Searched;
 use crate::searching::search_in;
@@ -46,7 +49,7 @@ impl<'a> LassoSolver<'a> {
     /// For a monitored system each JUSTICE and each promise of the formula is a fairness set of its own, and
     /// is met by some state of the loop. At most one query is asked, that of this length: it costs a ticket of
     /// the purse, and each clause that the solver learns for it another, after each way out; `Spent` comes only
-    /// where the purse refused one. The only error is want of memory, which more variables than there are
+    /// where the purse refused one. The only error is out of memory, which more variables than there are
     /// numbers count as; after it the solver answers as before.
     ///
     /// Up to `n` steps are loaded, each once in its solver, which is made anew where lengths outgrow it, for

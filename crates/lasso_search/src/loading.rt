@@ -1,3 +1,5 @@
+//! Loads an unrolling into a solver step by step, and makes a new solver where variables run out.
+
 ghost use Rattle.std.specs.Prelude.{◌≡◌, ◌+◌, ◌++◌, ◌≤◌, [], IfOk, OnOk, All, Contains};
 ghost use Rattle.clause_core.specs.Literals.{Within};
 ghost use Rattle.clause_core.specs.Systems.{IsSystem};

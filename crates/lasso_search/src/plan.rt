@@ -1,3 +1,5 @@
+//! Numbers the variables of an unrolling, time after time and by kinds within each time.
+
 ghost use Rattle.std.specs.Prelude.{◌≡◌, ◌+◌, ◌++◌, map, IfOk, OnOk};
 ghost use Rattle.lasso_search.specs.Unrolling.{plan_of, stride, spot, loop_kind, place, moved, all_moved, begun, ends, seen, vars_at};
 
@@ -28,7 +30,7 @@ pub enum Turn {
     Step(usize),
 }
 
-// A sum, or want of memory where it is too large: there is no room for so many variables.
+// A sum, or out of memory where it is too large: there is no room for so many variables.
 pub fn sum(a: usize, b: usize) -> Result<usize, AllocError>
     ensures { IfOk result (λ n. n ≡ a + b) }
 {

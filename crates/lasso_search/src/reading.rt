@@ -1,3 +1,6 @@
+//! Reads the solver's answer for one length. A model gives the states of a fair lasso and the start
+//! of its loop; a refutation says that there is none.
+
 ghost use Rattle.std.specs.Prelude.{◌≡◌, false, IfOk, slice_index_or};
 ghost use Rattle.clause_core.specs.Assignments.{assignment_of};
 ghost use Rattle.lasso_search.specs.Searches.{IsStart, Reads, Tells, row_of, rows_of};
@@ -9,7 +12,7 @@ use clause_core::Bits;
 use sat_core::Answer;
 use std::alloc::{AllocError, Global};
 
-// What the solver's answer says of lassos of so many states.
+// Reads the solver's answer to the query for a lasso of so many states.
 pub fn searched(
     alloc: Global,
     plan: &Plan,

@@ -1,3 +1,5 @@
+//! The outcome of a search for a fair lasso of one length.
+
 use crate::lasso::BitLasso;
 
 /// What a search for a lasso of some length gives.

@@ -1,3 +1,6 @@
+//! One query for one length: loads the unrolling, solves it under the length's assumptions, and
+//! reads the answer.
+
 ghost use Rattle.std.specs.Prelude.{◌≡◌, ◌≤◌, IfOk};
 ghost use Rattle.lasso_search.specs.Unrolling.{plan_of};
 ghost use Rattle.lasso_search.specs.Paying.{PaysOne, IsAsked};
@@ -40,7 +43,7 @@ fn ask<Q: Purse>(
     Ok(searched)
 }
 
-// The same of the solver that is kept, which is made where there is none. Where no memory is found to load it,
+// As `ask`, with the solver that is kept; it is made where there is none. Where no memory is found to load it,
 // it is dropped.
 pub fn search_in<Q: Purse>(
     alloc: Global,

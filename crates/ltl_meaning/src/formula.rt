@@ -1,3 +1,5 @@
+//! Formulas of linear temporal logic with past, and how deep their past operators nest.
+
 ghost use Rattle.std.specs.Prelude.{◌≡◌, ◌<◌, ◌+◌, ◌*◌, ◌^◌, ◌↔◌, IsSome, IfSome};
 ghost use Rattle.ltl_meaning.specs.Temporal.{formula_of, past_depth};
 

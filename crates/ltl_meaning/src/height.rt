@@ -1,3 +1,5 @@
+//! Computes how deep past operators nest in a formula, up to a limit.
+
 ghost use Rattle.std.specs.Prelude.{◌≡◌, ◌<◌, min};
 ghost use Rattle.ltl_meaning.specs.Ltl.{past_unary, past_binary};
 ghost use Rattle.ltl_meaning.specs.Temporal.{formula_of, past_bounded, past_depth};

@@ -1,3 +1,5 @@
+//! The laws of temporal operators: excluded middle, dualities, expansions and unfoldings of bounds.
+
 ghost use Rattle.std.specs.Prelude.{◌≡◌, ◌↔◌, ℕ, Bool, true};
 ghost use Rattle.ltl_meaning.specs.Ltl.{past_height};
 ghost use Rattle.ltl_meaning.specs.Temporal.{Temporal, past_depth};

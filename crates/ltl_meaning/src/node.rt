@@ -1,3 +1,5 @@
+//! The syntax of formulas: atoms, operators, operators with bounds, and chains.
+
 ghost use Rattle.std.specs.Prelude.{◌≤◌};
 
 use sqlite_items::{Boxed, Items};

@@ -1,3 +1,5 @@
+//! Infinite words that end in a loop: the atoms that are true at each time.
+
 ghost use Rattle.std.specs.Prelude.{◌<◌, length};
 
 use sqlite_items::Items;

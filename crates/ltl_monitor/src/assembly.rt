@@ -1,3 +1,5 @@
+//! Puts the clauses of a system and those of its monitor together as one transition system.
+
 ghost use Rattle.std.specs.Prelude.{◌≡◌, ◌+◌, ◌-◌, ◌*◌, ◌++◌, ◌≤◌, IfOk, OnOk};
 ghost use Rattle.clause_core.specs.Systems.{IsSystem};
 ghost use Rattle.ltl_monitor.specs.Assembly.{layout_of, scene_of, begun, assembled};

@@ -1,3 +1,6 @@
+//! Counts signals, each of which comes once all fairness sets were met, up to a bound. A bad state
+//! is one where the count passes the bound (k-liveness, Claessen and Sörensson 2012).
+
 ghost use Rattle.std.specs.Prelude.{◌≡◌, ◌+◌, ◌++◌, ◌∷◌, [], ◌≤◌, IfOk, OnOk, length};
 ghost use Rattle.clause_core.specs.Literals.{at};
 ghost use Rattle.ltl_monitor.specs.Counted.{IsCounted};
@@ -18,7 +21,7 @@ use std::alloc::{AllocError, Global};
 /// signals. The signal is true where each set was seen or holds. A state is bad where the count is at
 /// the bound and the signal is true, and else good. So where no bad state is reached, no run has more
 /// signals than that (Claessen and Sörensson 2012). Time and memory are linear in the system and the
-/// bound. The only error is want of memory, which a number of variables past `usize::MAX` counts as.
+/// bound. The only error is out of memory, which a number of variables past `usize::MAX` counts as.
 pub fn counted(alloc: Global, monitored: &Monitored, bound: usize) -> Result<System, AllocError>
     ensures { IfOk result (λ c. IsCounted monitored.now.system bound c) }
 {

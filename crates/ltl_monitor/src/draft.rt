@@ -1,3 +1,6 @@
+//! Builds a formula's monitor from its operands up (Lichtenstein, Pnueli and Zuck 1985). Each
+//! operator adds a bit or a gate, and clauses for first states, steps and fairness sets.
+
 ghost use Rattle.std.specs.Prelude.{◌≡◌, ◌+◌, ◌-◌, ◌∷◌, ◌++◌, [], IfOk, OnOk};
 ghost use Rattle.clause_core.specs.Literals.{at};
 ghost use Rattle.ltl_meaning.specs.Ltl.{Ltl};

@@ -1,3 +1,5 @@
+//! The laws of monitors, fair lassos and counted signals.
+
 ghost use Rattle.std.specs.Prelude.{◌≡◌, ◌+◌, ◌-◌, ◌<◌, ◌↔◌, ℕ, Bool, List};
 ghost use Rattle.clause_core.specs.declared.literal.Lit.{Lit};
 ghost use Rattle.clause_core.specs.Systems.{TransitionSystem, Gives, ReachedWithin, BadBits};

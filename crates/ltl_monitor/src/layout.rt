@@ -1,3 +1,6 @@
+//! Where the variables of a monitored system lie, and where those of the system and of the monitor
+//! go.
+
 ghost use Rattle.std.specs.Prelude.{◌≡◌, ◌+◌, ◌++◌, List, map, IfOk, OnOk};
 ghost use Rattle.ltl_monitor.specs.Drafting.{place, moved, all_moved, both};
 
@@ -39,7 +42,7 @@ pub struct Both {
     pub next: Lit,
 }
 
-// A sum, or want of memory where it is too large: there is no room for so many variables.
+// A sum, or out of memory where it is too large: there is no room for so many variables.
 pub fn sum(a: usize, b: usize) -> Result<usize, AllocError>
     ensures { IfOk result (λ n. n ≡ a + b) }
 {

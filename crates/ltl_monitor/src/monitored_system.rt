@@ -1,3 +1,5 @@
+//! The transition system of a monitor beside the system that it watches.
+
 use clause_core::System;
 
 /// A system with the monitor of a formula beside it: runs on which the formula is false.

@@ -1,3 +1,6 @@
+//! Puts the monitor of a formula beside a system (Lichtenstein, Pnueli and Zuck 1985). The fair
+//! runs that it keeps are those on which the formula is false.
+
 ghost use Rattle.std.specs.Prelude.{◌≡◌, ◌↔◌, IfOk, IsTrue, length};
 ghost use Rattle.clause_core.specs.Literals.{Within};
 ghost use Rattle.clause_core.specs.Systems.{IsSystem, Gives};
@@ -23,7 +26,7 @@ use std::alloc::{AllocError, Global};
 /// each temporal operator (Lichtenstein, Pnueli and Zuck 1985), where one with bounds counts as many as its
 /// upper bound says; each Boolean operator has a gate (Tseitin 1968). The formula is taken without bounds. Time and memory are linear in the formula's size and the system's. The stack grows
 /// with the nesting of nodes, which callers keep to 2000; a chain takes none of it. The only error is
-/// want of memory, which a number of variables past `usize::MAX` counts as.
+/// out of memory, which a number of variables past `usize::MAX` counts as.
 pub fn monitored(
     alloc: Global,
     system: &System,

@@ -1,3 +1,5 @@
+//! Cuts values of the monitored system down to the bits of the system that is monitored.
+
 ghost use Rattle.std.specs.Prelude.{◌≡◌, ◌<◌, ◌-◌, ℕ, List, length, IfOk, slice_index_or};
 ghost use Rattle.clause_core.specs.declared.literal.Lit.{Lit};
 ghost use Rattle.clause_core.specs.Assignments.{assignment_of};
@@ -15,7 +17,7 @@ use std::alloc::{AllocError, Global};
 /// end of these is false.
 ///
 /// Where the values are those of a step of the monitored system, what comes are those of a step of the
-/// system, with its inputs. The only error is want of memory.
+/// system, with its inputs. The only error is out of memory.
 pub fn own_row(
     alloc: Global,
     system: &System,

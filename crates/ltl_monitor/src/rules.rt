@@ -1,3 +1,5 @@
+//! Clauses that define a literal by the values of others (Tseitin 1968).
+
 ghost use Rattle.std.specs.Prelude.{◌≡◌, ◌++◌, OnOk};
 ghost use Rattle.clause_core.specs.Literals.{negate};
 ghost use Rattle.ltl_monitor.specs.Drafting.{is_same, is_or, is_iff, is_or_and};

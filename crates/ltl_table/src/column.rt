@@ -1,3 +1,5 @@
+//! Computes the column of a formula, its truth at each time, from those of its operands.
+
 ghost use Rattle.std.specs.Prelude.{◌≡◌, ◌+◌, ◌*◌, ◌≤◌, IfOk, IsTrue, vec_len};
 ghost use Rattle.ltl_meaning.specs.Ltl.{Ltl, past_height};
 ghost use Rattle.ltl_meaning.specs.Temporal.{formula_of};

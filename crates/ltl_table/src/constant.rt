@@ -1,3 +1,5 @@
+//! The column of a constant.
+
 ghost use Rattle.std.specs.Prelude.{◌≡◌, IfOk, replicate};
 
 use std::alloc::{AllocError, Global};

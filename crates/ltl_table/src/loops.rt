@@ -1,3 +1,5 @@
+//! Columns of until and since and of their duals: backward over time, the loop twice, or forward.
+
 ghost use Rattle.std.specs.Prelude.{◌≡◌, ◌+◌, ◌-◌, ◌<◌, ◌≤◌, ℕ, length, IfOk, vec_len};
 ghost use Rattle.ltl_table.specs.Columns.{at, outset, back, looped, forth};
 

@@ -1,3 +1,5 @@
+//! The column of each operator from those of its operands.
+
 ghost use Rattle.std.specs.Prelude.{◌≡◌, ◌<◌, ℕ, length, IfOk, vec_len};
 ghost use Rattle.ltl_table.specs.Columns.{at, combine, unary_value, binary_value};
 

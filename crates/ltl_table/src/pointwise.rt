@@ -1,3 +1,5 @@
+//! Columns of Boolean operators, and of the next time and the time before.
+
 ghost use Rattle.std.specs.Prelude.{◌≡◌, ◌+◌, ◌-◌, ◌<◌, ℕ, not, length, IfOk, vec_len, if◌then◌else◌, nat_lt};
 ghost use Rattle.ltl_table.specs.Columns.{at, combine};
 

@@ -1,3 +1,6 @@
+//! How an operator's truth follows from its operands at that time and its own truth at a
+//! neighbouring one.
+
 ghost use Rattle.std.specs.Prelude.{◌≡◌};
 ghost use Rattle.ltl_table.specs.Columns.{combine, stepped, outset};
 
@@ -41,7 +44,7 @@ pub fn stepped(step: Step, left: bool, right: bool, neighbour: bool) -> bool
     }
 }
 
-// The value to begin with: nothing was found yet, or nothing was missed.
+// The initial value of the fixpoint: false for until and since (least), true for their duals (greatest).
 pub fn outset(step: Step) -> bool
     ensures { result ≡ outset step }
 {

@@ -1,3 +1,5 @@
+//! A formula's truth at every time of a word, from a table of finitely many times.
+
 ghost use Rattle.std.specs.Prelude.{◌<◌, length};
 
 use crate::column::column;

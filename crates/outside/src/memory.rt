@@ -1,4 +1,5 @@
-// A source and a sink in memory, whose calls fail where a list says so.
+//! A source and a sink in memory, whose calls fail where a list says so.
+
 ghost use Rattle.std.specs.Prelude.{◌≡◌, ◌<◌, ◌↔◌, [], length, min, Contains, Some, IfOk, IsErr, IsErrOf};
 ghost use Rattle.std.specs.Io.{ReadsAtMost, WritesAtMost};
 ghost use Rattle.std.specs.Io.KnownBytes.{ReadConsumes, WriteAppends};

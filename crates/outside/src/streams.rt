@@ -1,4 +1,5 @@
-// Standard input and output, or any reader and writer of std, as a source and a sink.
+//! Standard input and output, or any reader and writer of std, as a source and a sink.
+
 ghost use Rattle.std.specs.Prelude.{◌≡◌};
 
 use crate::{Failed, Sink, Source, Stop};

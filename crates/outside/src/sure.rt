@@ -1,4 +1,5 @@
-// A source and a sink in memory that never fail: their counts of faults are the constant 0.
+//! A source and a sink in memory that never fail: their counts of faults are the constant 0.
+
 ghost use Rattle.std.specs.Prelude.{◌≡◌, [], length, min, drop, take, ◌++◌, Some, Ok, OnOk, OnErr};
 ghost use Rattle.std.specs.Io.{ReadsAtMost, WritesAtMost};
 ghost use Rattle.std.specs.Io.KnownBytes.{ReadConsumes, WriteAppends};
@@ -91,7 +92,7 @@ impl Sink for SureSink {
 
     ghost faults = { λ _. 0 };
 
-    /// As `Sink::write` says, and more: it takes the whole piece, and its one error is want of memory.
+    /// As `Sink::write` says, and more: it takes the whole piece, and its one error is out of memory.
     fn write(&mut self, bytes: &[u8]) -> Result<usize, Stop>
         ensures bound { WritesAtMost result bytes.now }
         ensures bytes { WriteAppends (Some self.old) (Some self.new) result bytes.now }

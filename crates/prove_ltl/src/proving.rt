@@ -34,7 +34,7 @@ use std::thread::Threads;
 /// caller searches the lengths before, finishes what they leave, and makes the certificate. Where the book of a counter
 /// has to be dropped, the caller begins anew alone, with a purse of its own. It works alone too where the numbers of tickets
 /// and of workers have no room in one purse. Each worker passes the gate before each of its tasks, but the caller not before
-/// those that it finishes for others. A worker of several that is refused memory ends alone; the caller's want of memory is
+/// those that it finishes for others. A worker of several that is refused memory ends alone; that the caller is refused memory is
 /// the only error.
 pub fn prove_ltl<R: Threads + Wait + Sync, G: Gate + Sync>(
     rt: &R,

@@ -68,7 +68,7 @@ fn certify<Q: Purse>(
 /// A certificate of system `j`, of which the frames tell an invariant: of the live lemmas above its level, with this counter.
 ///
 /// The check of certificates accepted it. There is none where the purse was spent before it was made. What was asked was
-/// paid for. The only error is want of memory.
+/// paid for. The only error is out of memory.
 pub fn certificate_of<Q: Purse>(
     alloc: Global,
     frames: &Frames,

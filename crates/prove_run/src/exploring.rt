@@ -23,7 +23,7 @@ use std::sync::ledger::{Blank, Ledger, Share};
 ///
 /// The caller is the one worker, with number 0, who passes the gate before each task. Where the purse was not spent, each
 /// system has a verdict, or met the limit. What was drawn was paid for queries of the history's claims, no two of which are
-/// equal. The only error is want of memory.
+/// equal. The only error is out of memory.
 pub fn explore<'a, R: Wait, Q: Purse, G: Gate>(
     rt: &R,
     alloc: Global,

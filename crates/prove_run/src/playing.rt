@@ -162,7 +162,7 @@ fn settle<'a, L: Ledger>(
 }
 
 /// Plays the book until it is closed. A history of more than 18446744073709551615 turns has no room in memory: that is
-/// answered as want of memory.
+/// answered as out of memory.
 pub(crate) fn play<'a, L: Ledger, B: Begun, R: Wait, Q: Purse, G: Gate>(
     rt: &R,
     alloc: Global,

@@ -30,7 +30,7 @@ use std::thread::Threads;
 ///
 /// One worker is the caller, with number 0. Several have the numbers from 1 on; the caller finishes what they leave. Where
 /// their book has to be dropped, the caller begins anew alone, with a purse of its own. Each worker passes the gate before
-/// each of its tasks. A worker of several that is refused memory ends alone; the caller's want of memory is the only error.
+/// each of its tasks. A worker of several that is refused memory ends alone; that the caller is refused memory is the only error.
 pub fn prove_all<R: Threads + Wait + Sync, G: Gate + Sync>(
     rt: &R,
     alloc: Global,

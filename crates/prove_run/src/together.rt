@@ -21,7 +21,7 @@ use std::sync::Wait;
 use std::thread::Threads;
 
 /// What is known of some systems by several workers; none where their book was dropped, or where the numbers of tickets
-/// and of workers have no room in one purse. The only error is want of memory.
+/// and of workers have no room in one purse. The only error is out of memory.
 pub(crate) fn prove_together<R: Threads + Wait + Sync, G: Gate + Sync>(
     rt: &R,
     alloc: Global,

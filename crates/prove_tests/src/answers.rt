@@ -1,3 +1,5 @@
+//! Tests of IC3 on small models, by one, two and five workers, and of gates that workers pass.
+
 ghost use Rattle.std.specs.Prelude.{◌<◌};
 ghost use Rattle.frame_core.specs.Law.{AreAlike};
 

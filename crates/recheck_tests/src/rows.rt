@@ -22,12 +22,16 @@ const RANGED: &str =
 // Its first item faults where n is 2.
 const FAULTY: &str = "MODULE main\nVAR n : 0..2;\nASSIGN next(n) := n + 1;\nINVARSPEC n <= 2\n";
 
+// An element by an index that changes, and one by a constant.
+const INDEXED: &str =
+    "MODULE main\nVAR a : array -1..1 of 0..1; i : -1..1;\nASSIGN init(a[0]) := 1; next(a[0]) := a[-1];\nINVARSPEC a[i] < 2\nINVARSPEC a[0] = 1\n";
+
 const UNKNOWN: &str = "MODULE main\nINVARSPEC x\n";
 
 // A model, lines behind it, what is said, and the status.
 type Row = (&'static str, &'static str, &'static str, u8);
 
-const ROWS: [Row; 60] = [
+const ROWS: [Row; 62] = [
     (STANDING, "", "-- spec 1 INVARSPEC has nothing shown\n", 2),
     (UNASKED, "", "", 0),
     (
@@ -361,6 +365,20 @@ const ROWS: [Row; 60] = [
         FAULTY,
         "--@ spec 1\n--@ state 0: n = 2\n--@ state 1: n = 0\n",
         "-- spec 1 INVARSPEC is rejected: trace step 0\n",
+        1,
+    ),
+    // The first specification is the third item, and would fault where the index is another.
+    (
+        INDEXED,
+        "--% cert 1 spec 1 counter none\n--% part safe 0\n--% step 0\n--% end\n--@ spec 2\n--@ state 0: a[-1] = 0, a[0] = 1, a[1] = 0, i = 1\n--@ state 1: a[-1] = 1, a[0] = 0, a[1] = 1, i = -1\n",
+        "-- spec 1 INVARSPEC is rejected: part item 2\n-- spec 2 INVARSPEC is shown false\n",
+        1,
+    ),
+    // Elements stand in their order.
+    (
+        INDEXED,
+        "--@ spec 2\n--@ state 0: a[-1] = 0, a[0] = 1, a[1] = 0, i = 1\n--@ state 1: a[-1] = 1, a[1] = 1, a[0] = 0, i = -1\n",
+        "-- spec 1 INVARSPEC has nothing shown\n-- spec 2 INVARSPEC is rejected: trace values 1\n",
         1,
     ),
 ];

@@ -160,7 +160,7 @@ const CASES: [Case; 28] = [
     (
         "check",
         "MODULE main\nVAR x : boolean;\nLTLSPEC F [0, x] x\n",
-        "-- refused 201 Unexpected at 3:15: x\n",
+        "-- refused 404 NotConstant at 3:9\n",
         3,
     ),
     (

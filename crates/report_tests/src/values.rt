@@ -23,7 +23,7 @@ const MODULO: &str =
 
 const INVARIANT: &str = "-- spec 1 INVARSPEC is true\n";
 
-const CASES: [Case; 22] = [
+const CASES: [Case; 21] = [
     (
         "check",
         "MODULE main\nVAR x : boolean; y : 0..1;\nASSIGN next(y) := case x : 0; esac;\n",
@@ -135,12 +135,6 @@ const CASES: [Case; 22] = [
         "check",
         "MODULE main\nVAR x : boolean;\nLTLSPEC G (x = 3)\n",
         "-- refused 401 TypeMismatch at 3:14\n",
-        3,
-    ),
-    (
-        "check",
-        "MODULE main\nVAR a : array 0..3 of boolean;\n",
-        "-- refused 203 Unsupported at 2:9: array\n",
         3,
     ),
     // An input of a formula.

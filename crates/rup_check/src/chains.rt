@@ -1,3 +1,6 @@
+//! Whether a clause follows by its hints: each named clause is unit in turn, and the last is false
+//! (Cruz-Filipe and others 2017).
+
 ghost use Rattle.std.specs.Prelude.{◌≡◌, ℕ, ◌<◌, ◌≤◌, ◌⊎◌, [], All, length, slice_index_or, slice_index, IfSome, IsNone, IsTrue, MatchBool};
 ghost use Rattle.clause_core.specs.Literals.{Within};
 ghost use Rattle.hinted_log.specs.Hints.{FollowsBy};

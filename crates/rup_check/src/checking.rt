@@ -1,3 +1,6 @@
+//! The checker of derivations: by unit propagation (Goldberg and Novikov 2003) or by hints
+//! (Cruz-Filipe and others 2017), and hints found for them.
+
 ghost use Rattle.std.specs.Prelude.{◌≡◌, ◌<◌, ◌++◌, All, length, IfOk};
 ghost use Rattle.clause_core.specs.Literals.{Within};
 ghost use Rattle.clause_core.specs.Derivations.{AllStepsBelow, Derives};
@@ -96,7 +99,7 @@ impl Checker {
     }
 
     /// The hints by which the log's steps follow from the clauses and the units behind them: `No` exactly
-    /// where `check` says it, with the same step. More clauses than the greatest `usize` count as want of
+    /// where `check` says it, with the same step. More clauses than the greatest `usize` count as out of
     /// memory.
     pub fn hints(
         &mut self,
@@ -116,7 +119,7 @@ impl Checker {
     }
 
     /// Hints for the steps of a log that follow one after another from the clauses, whatever the last one is. Steps with a
-    /// literal and its negation are left out. More clauses than the greatest `usize` count as want of memory.
+    /// literal and its negation are left out. More clauses than the greatest `usize` count as out of memory.
     pub fn hint_steps(
         &mut self,
         alloc: Global,
@@ -139,7 +142,7 @@ impl Checker {
     }
 
     /// Hints for a log that derives the empty clause from the clauses and the units behind them. More clauses than the
-    /// greatest `usize` count as want of memory.
+    /// greatest `usize` count as out of memory.
     pub fn hint_refutation(
         &mut self,
         alloc: Global,

@@ -1,3 +1,5 @@
+//! Whether a clause follows by unit propagation from those before it (Goldberg and Novikov 2003).
+
 ghost use Rattle.std.specs.Prelude.{◌≤◌, ◌++◌, All, length, take, MatchBool};
 ghost use Rattle.clause_core.specs.Literals.{Within};
 ghost use Rattle.clause_core.specs.Propagation.{Follows};

@@ -1,3 +1,5 @@
+//! One pass of unit propagation over a list of clauses.
+
 ghost use Rattle.std.specs.Prelude.{◌≤◌, All, length, take};
 ghost use Rattle.clause_core.specs.Literals.{Within};
 ghost use Rattle.clause_core.specs.Values.{Consequent, Grows, unset};

@@ -1,3 +1,5 @@
+//! Finds hints for the steps of a derivation: the clauses that unit propagation used.
+
 ghost use Rattle.std.specs.Prelude.{◌≡◌, ◌≤◌, ◌++◌, All, length, IfOk, OnOk, IfSome, MatchBool};
 ghost use Rattle.clause_core.specs.Literals.{Within};
 ghost use Rattle.clause_core.specs.Propagation.{Follows};

@@ -1,3 +1,5 @@
+//! Checks each step of a derivation by its hints, and names the first that fails.
+
 ghost use Rattle.std.specs.Prelude.{◌++◌, All, length};
 ghost use Rattle.clause_core.specs.Literals.{Within};
 ghost use Rattle.rup_check.specs.Chains.{units_of, IsClear, HintedVerdict};

@@ -156,7 +156,7 @@ impl Reader {
 /// The formula of a text: lines that begin with `c` are comments, one that begins with `p cnf` and a number tells how
 /// many variables there are, and of the other words each is a literal, or the 0 that ends a clause.
 ///
-/// The errors: want of memory; and `InvalidData` for a word that is no number, a clause without an end, or a literal
+/// The errors: out of memory; and `InvalidData` for a word that is no number, a clause without an end, or a literal
 /// past the header's variables.
 pub fn parse(alloc: Global, text: &[u8]) -> io::Result<Formula>
     ensures { IfOk result (λ f. All (Within f.vars) f.clauses) }

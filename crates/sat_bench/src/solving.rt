@@ -54,7 +54,7 @@ fn drawn(mut purse: PlainPurse) -> u64
 /// Whether some assignment makes each clause true.
 ///
 /// A query costs a ticket, and each clause learned from a conflict another; where all are drawn the verdict may be
-/// `Unknown`. The only error is want of memory.
+/// `Unknown`. The only error is out of memory.
 pub fn solve(
     alloc: Global,
     vars: usize,

@@ -24,10 +24,10 @@ use Rattle.sat_core.proofs.Learns.{contains_map}
 
 -- a conflict with no decision
 pub refuted_root : (t : Trail) (cs : List (List Lit)) (k : ℕ) → Based t.literals.items t.reasons.items cs → k < length cs → FalseOn t.literals.items (get_or cs k []) →
-    length t.starts.items ≡ 0 → (core : List Lit) → Refutes cs core
+    length t.level_starts.items ≡ 0 → (core : List Lit) → Refutes cs core
 refuted_root t cs k based lk out none core s closed holds =
     let tr = t.literals.items in
-    let held = held_below tr t.reasons.items t.starts.items cs s (reasoned_from tr t.reasons.items cs based) t.roots closed (length tr) (omega arith)
+    let held = held_below tr t.reasons.items t.level_starts.items cs s (reasoned_from tr t.reasons.items cs based) t.roots closed (length tr) (omega arith)
     (λ i li ls. absurd (omega arith)) in
     let all : AllFalse s (get_or cs k []) = λ j d lj. let h = out j d lj in ap s (sym h.2) ∙ held h.0 h.1 in
     inl (k, get_or cs k [], lk, read_itself cs k lk, all)
@@ -39,40 +39,40 @@ refuted_core literals cs marks a core false' has has_a t closed holds =
     let all : AllFalse t (a ∷ []) = false' t closed (λ q lq m. All-contains (λ d. t d ≡ true) core (at literals q) holds (has q lq m)) in
     inr (a, All-contains (λ d. t d ≡ true) core a holds has_a, all 0 none_lit (omega arith))
 
-pub decision_decided : (literals : List Lit) (reasons starts : List ℕ) (p : ℕ) → DecisionsBegin literals reasons starts → p < length literals → reason_at literals reasons p ≡ 0 →
-    Contains (decided literals starts) (at literals p)
-decision_decided literals reasons starts p roots lp none =
-    let h = start_at starts p (roots p lp none) in
-    let has : Contains starts p = (h.0, h.1, get_or_default starts h.0 p 0 h.1 ∙ h.2) in
-    contains_map (λ s. at literals s) starts p has
+pub decision_decided : (literals : List Lit) (reasons level_starts : List ℕ) (p : ℕ) → DecisionsBegin literals reasons level_starts → p < length literals → reason_at literals reasons p ≡ 0 →
+    Contains (decided literals level_starts) (at literals p)
+decision_decided literals reasons level_starts p roots lp none =
+    let h = start_at level_starts p (roots p lp none) in
+    let has : Contains level_starts p = (h.0, h.1, get_or_default level_starts h.0 p 0 h.1 ∙ h.2) in
+    contains_map (λ s. at literals s) level_starts p has
 
 -- assumptions
 pub assumptions_first : (t : Trail) (cs : List (List Lit)) (assumptions : List Lit) → Based t.literals.items t.reasons.items cs →
-    PerLevel (Level cs assumptions) t.literals.items t.starts.items → AssumptionsFirst cs assumptions (decided t.literals.items t.starts.items)
+    PerLevel (Level cs assumptions) t.literals.items t.level_starts.items → AssumptionsFirst cs assumptions (decided t.literals.items t.level_starts.items)
 assumptions_first t cs assumptions based levels i li =
     let tr = t.literals.items in
-    let starts = t.starts.items in
-    let ls : i < length starts = omega (arith, li, decided_length tr starts) in
-    let s = get_or starts i 0 in
+    let level_starts = t.level_starts.items in
+    let ls : i < length level_starts = omega (arith, li, decided_length tr level_starts) in
+    let s = get_or level_starts i 0 in
     let le : s ≤ length tr = omega (arith, t.in_trail i ls) in
     elim (levels i ls).1 [
-      | inl h ↦ let P : Lit → Type 0 = Contains assumptions in inl (subst P (sym (decided_at tr starts i ls)) h)
+      | inl h ↦ let P : Lit → Type 0 = Contains assumptions in inl (subst P (sym (decided_at tr level_starts i ls)) h)
       | inr all ↦ inr (λ j d lj.
           let h = among_take_where tr s (get_or assumptions j d) le (all j d lj) in
-          let P : Lit → Type 0 = Reaches cs (take i (decided tr starts)) in
-          subst P h.2 (reached tr t.reasons.items starts cs (reasoned_from tr t.reasons.items cs based) t.roots t.rising i ls s le (omega arith) h.0 h.1))
+          let P : Lit → Type 0 = Reaches cs (take i (decided tr level_starts)) in
+          subst P h.2 (reached tr t.reasons.items level_starts cs (reasoned_from tr t.reasons.items cs based) t.roots t.rising i ls s le (omega arith) h.0 h.1))
     ]
 
 -- where an assumption is false, each decision is an assumption
-pub decisions_assumed : (t : Trail) (cs : List (List Lit)) (assumptions : List Lit) (a : Lit) → PerLevel (Level cs assumptions) t.literals.items t.starts.items →
-    Contains assumptions a → among t.literals.items (negate a) ≡ true → All (Contains assumptions) (decided t.literals.items t.starts.items)
+pub decisions_assumed : (t : Trail) (cs : List (List Lit)) (assumptions : List Lit) (a : Lit) → PerLevel (Level cs assumptions) t.literals.items t.level_starts.items →
+    Contains assumptions a → among t.literals.items (negate a) ≡ true → All (Contains assumptions) (decided t.literals.items t.level_starts.items)
 decisions_assumed t cs assumptions a levels has off i d li =
     let tr = t.literals.items in
-    let starts = t.starts.items in
-    let ls : i < length starts = omega (arith, li, decided_length tr starts) in
-    let s = get_or starts i 0 in
+    let level_starts = t.level_starts.items in
+    let ls : i < length level_starts = omega (arith, li, decided_length tr level_starts) in
+    let s = get_or level_starts i 0 in
     let le : s ≤ length tr = omega (arith, t.in_trail i ls) in
-    let e : get_or (decided tr starts) i d ≡ at tr s = get_or_default (decided tr starts) i d none_lit li ∙ decided_at tr starts i ls in
+    let e : get_or (decided tr level_starts) i d ≡ at tr s = get_or_default (decided tr level_starts) i d none_lit li ∙ decided_at tr level_starts i ls in
     elim (levels i ls).1 [
       | inl h ↦ let P : Lit → Type 0 = Contains assumptions in subst P (sym e) h
       | inr all ↦
@@ -80,20 +80,20 @@ decisions_assumed t cs assumptions a levels has off i d li =
           let x = among_take_where tr s a le on in
           let y = among_where tr (negate a) off in
           let lx : x.0 < length tr = omega (arith, x.1) in
-          absurd (one_side tr t.places.items a x.0 y.0 t.placed lx y.1 x.2 y.2)
+          absurd (one_side tr t.positions.items a x.0 y.0 t.placed lx y.1 x.2 y.2)
     ]
 
-pub level_after : (t : Trail) (cs cs' : List (List Lit)) (assumptions literals' : List Lit) (starts' : List ℕ) (n : ℕ) → n < length t.starts.items →
-    literals' ≡ take (get_or t.starts.items n 0) t.literals.items → starts' ≡ take n t.starts.items →
-    PerLevel (λ low _. AtRest cs' low) literals' starts' → PerLevel (Level cs assumptions) t.literals.items t.starts.items →
-    PerLevel (Level cs' assumptions) literals' starts'
-level_after t cs cs' assumptions literals' starts' n ln el es rest levels i li =
+pub level_after : (t : Trail) (cs cs' : List (List Lit)) (assumptions literals' : List Lit) (level_starts' : List ℕ) (n : ℕ) → n < length t.level_starts.items →
+    literals' ≡ take (get_or t.level_starts.items n 0) t.literals.items → level_starts' ≡ take n t.level_starts.items →
+    PerLevel (λ low _. AtRest cs' low) literals' level_starts' → PerLevel (Level cs assumptions) t.literals.items t.level_starts.items →
+    PerLevel (Level cs' assumptions) literals' level_starts'
+level_after t cs cs' assumptions literals' level_starts' n ln el es rest levels i li =
     let Q : List Lit → Lit → Type 0 = λ low l. Contains assumptions l ⊎ All (λ a. among low a ≡ true) assumptions in
-    let old : PerLevel Q t.literals.items t.starts.items = λ j lj. (levels j lj).1 in
-    let back = per_back Q t.literals.items t.starts.items n ln t.rising t.in_trail old in
-    let P : List Lit → Type 0 = λ xs. PerLevel Q xs (take n t.starts.items) in
+    let old : PerLevel Q t.literals.items t.level_starts.items = λ j lj. (levels j lj).1 in
+    let back = per_back Q t.literals.items t.level_starts.items n ln t.rising t.in_trail old in
+    let P : List Lit → Type 0 = λ xs. PerLevel Q xs (take n t.level_starts.items) in
     let R : List ℕ → Type 0 = λ xs. PerLevel Q literals' xs in
-    let new : PerLevel Q literals' starts' = subst R (sym es) (subst P (sym el) back) in
+    let new : PerLevel Q literals' level_starts' = subst R (sym es) (subst P (sym el) back) in
     (rest i li, new i li)
 
 -- the decisions, as those before the last and the last
@@ -125,10 +125,10 @@ paid_more before mid after n cs cs1 cs2 c paid drawn grown =
 pub learnt_none : (vars : ℕ) (assumptions : List Lit) (cs : List (List Lit)) → GrowsByLearning vars assumptions cs cs
 learnt_none vars assumptions cs = ([], sym (append-nil cs), λ k lk. absurd (omega (arith, lk)))
 
-pub learnt_more : (vars : ℕ) (assumptions literals : List Lit) (starts : List ℕ) (old cs cs' : List (List Lit)) (literals' : List Lit) (starts' : List ℕ) →
-    GrowsByLearning vars assumptions old cs → AssumptionsFirst cs assumptions (decided literals starts) → LearnSays vars cs literals starts cs' literals' starts' →
+pub learnt_more : (vars : ℕ) (assumptions literals : List Lit) (level_starts : List ℕ) (old cs cs' : List (List Lit)) (literals' : List Lit) (level_starts' : List ℕ) →
+    GrowsByLearning vars assumptions old cs → AssumptionsFirst cs assumptions (decided literals level_starts) → LearnSays vars cs literals level_starts cs' literals' level_starts' →
     GrowsByLearning vars assumptions old cs'
-learnt_more vars assumptions literals starts old cs cs' literals' starts' h first said =
+learnt_more vars assumptions literals level_starts old cs cs' literals' level_starts' h first said =
     let xs = h.0 in
     let c = said.0 in
     let grown : cs' ≡ old ++ (xs ++ c ∷ []) = said.1 ∙ ap (λ ys. ys ++ c ∷ []) h.1 ∙ append_assoc old xs (c ∷ []) in (
@@ -149,7 +149,7 @@ learnt_more vars assumptions literals starts old cs cs' literals' starts' h firs
                 let P : List Lit → Type 0 = λ x. IsLearned vars assumptions (old ++ take k (xs ++ c ∷ [])) x in
                 let Q : List (List Lit) → Type 0 = λ ys. IsLearned vars assumptions (old ++ ys) c in
                 let R : List (List Lit) → Type 0 = λ ys. IsLearned vars assumptions ys c in
-                let step : IsLearned vars assumptions cs c = is_learned vars assumptions cs (decided literals starts) c said.2 first said.3 in
+                let step : IsLearned vars assumptions cs c = is_learned vars assumptions cs (decided literals level_starts) c said.2 first said.3 in
                 subst P (sym e) (subst Q (sym f) (subst R h.1 step))
           ],
     )
@@ -174,24 +174,24 @@ pub value_free : (v : List ℕ) (literals : List Lit) (l : Lit) → ((m : Lit) �
     (among literals l ≡ false) × (among literals (negate l) ≡ false)
 value_free v literals l ok a b = (ok l ∙ free_by v l.var l.positive a b, ok (negate l) ∙ free_by v l.var (not l.positive) a b)
 
-pub levels_decide : (t u : Trail) (cs cs' : List (List Lit)) (assumptions : List Lit) (l : Lit) → PerLevel (Level cs assumptions) t.literals.items t.starts.items →
+pub levels_decide : (t u : Trail) (cs cs' : List (List Lit)) (assumptions : List Lit) (l : Lit) → PerLevel (Level cs assumptions) t.literals.items t.level_starts.items →
     AtRest cs t.literals.items → Contains assumptions l ⊎ All (λ a. among t.literals.items a ≡ true) assumptions →
-    u.literals.items ≡ t.literals.items ++ l ∷ [] → u.starts.items ≡ t.starts.items ++ length t.literals.items ∷ [] → cs' ≡ cs →
-    PerLevel (Level cs' assumptions) u.literals.items u.starts.items
+    u.literals.items ≡ t.literals.items ++ l ∷ [] → u.level_starts.items ≡ t.level_starts.items ++ length t.literals.items ∷ [] → cs' ≡ cs →
+    PerLevel (Level cs' assumptions) u.literals.items u.level_starts.items
 levels_decide t u cs cs' assumptions l levels rest first el es ec =
-    let h = per_decide (Level cs assumptions) t.literals.items t.starts.items l t.in_trail (rest, first) levels in
-    let P : List Lit → Type 0 = λ xs. PerLevel (Level cs assumptions) xs (t.starts.items ++ length t.literals.items ∷ []) in
+    let h = per_decide (Level cs assumptions) t.literals.items t.level_starts.items l t.in_trail (rest, first) levels in
+    let P : List Lit → Type 0 = λ xs. PerLevel (Level cs assumptions) xs (t.level_starts.items ++ length t.literals.items ∷ []) in
     let Q : List ℕ → Type 0 = λ xs. PerLevel (Level cs assumptions) u.literals.items xs in
-    let R : List (List Lit) → Type 0 = λ xs. PerLevel (Level xs assumptions) u.literals.items u.starts.items in
+    let R : List (List Lit) → Type 0 = λ xs. PerLevel (Level xs assumptions) u.literals.items u.level_starts.items in
     subst R (sym ec) (subst Q (sym es) (subst P (sym el) h))
 
-pub levels_went : (t u : Trail) (cs cs' : List (List Lit)) (assumptions : List Lit) → PerLevel (Level cs assumptions) t.literals.items t.starts.items →
-    Extends t u → cs' ≡ cs → PerLevel (Level cs' assumptions) u.literals.items u.starts.items
+pub levels_went : (t u : Trail) (cs cs' : List (List Lit)) (assumptions : List Lit) → PerLevel (Level cs assumptions) t.literals.items t.level_starts.items →
+    Extends t u → cs' ≡ cs → PerLevel (Level cs' assumptions) u.literals.items u.level_starts.items
 levels_went t u cs cs' assumptions levels w ec =
-    let h = per_went (Level cs assumptions) t.literals.items u.literals.items t.starts.items w.prefix t.in_trail levels in
+    let h = per_went (Level cs assumptions) t.literals.items u.literals.items t.level_starts.items w.prefix t.in_trail levels in
     let Q : List ℕ → Type 0 = λ xs. PerLevel (Level cs assumptions) u.literals.items xs in
-    let R : List (List Lit) → Type 0 = λ xs. PerLevel (Level xs assumptions) u.literals.items u.starts.items in
-    subst R (sym ec) (subst Q (sym w.starts) h)
+    let R : List (List Lit) → Type 0 = λ xs. PerLevel (Level xs assumptions) u.literals.items u.level_starts.items in
+    subst R (sym ec) (subst Q (sym w.level_starts) h)
 
 pub unset_one_le : (n : ℕ) → unset_one n ≤ 1
 unset_one_le n =

@@ -42,28 +42,28 @@ learned_follows literals cs k p low lk false' t all closed =
 
 pub learned_from : (t : Trail) (cs : List (List Lit)) (k p i floor : ℕ) (low : List ℕ) →
     Based t.literals.items t.reasons.items cs → k < length cs → FalseOn t.literals.items (get_or cs k []) →
-    ((i : ℕ) → i < length t.starts.items → AtRest cs (take (get_or t.starts.items i 0) t.literals.items)) →
-    length t.starts.items ≡ i + 1 → floor ≡ get_or t.starts.items i 0 →
+    ((i : ℕ) → i < length t.level_starts.items → AtRest cs (take (get_or t.level_starts.items i 0) t.literals.items)) →
+    length t.level_starts.items ≡ i + 1 → floor ≡ get_or t.level_starts.items i 0 →
     PlacesFalse t.literals.items cs p low (get_or cs k []) → floor ≤ p → p < length t.literals.items → All (λ q. q < floor) low →
-    LearnedFrom cs (decided t.literals.items t.starts.items) (learned_clause t.literals.items p low)
+    LearnedFrom cs (decided t.literals.items t.level_starts.items) (learned_clause t.literals.items p low)
 learned_from t cs k p i floor low based lk out rest ls lf false' le lp lows =
     let tr = t.literals.items in
-    let starts = t.starts.items in
-    let ds = decided tr starts in
+    let level_starts = t.level_starts.items in
+    let ds = decided tr level_starts in
     let c = learned_clause tr p low in
     let reasons = reasoned_from tr t.reasons.items cs based in
-    let li : i < length starts = omega arith in
+    let li : i < length level_starts = omega arith in
     let lfl : floor < length tr = omega (arith, lf, t.in_trail i li) in
-    let start_le : get_or starts i 0 ≤ p = omega (arith, le) in
+    let start_le : get_or level_starts i 0 ≤ p = omega (arith, le) in
     let m = negate (at tr p) in
     let all_reached : All (λ m. Reaches cs ds (negate m)) c =
     All-cons (λ m. Reaches cs ds (negate m)) m (map (λ r. negate (at tr r)) low)
-    (let P : Lit → Type 0 = Reaches cs ds in subst P (sym (negate_negate (at tr p))) (reached_all tr t.reasons.items starts cs reasons t.roots p lp))
+    (let P : Lit → Type 0 = Reaches cs ds in subst P (sym (negate_negate (at tr p))) (reached_all tr t.reasons.items level_starts cs reasons t.roots p lp))
     (All-map (λ m. Reaches cs ds (negate m)) (λ r. negate (at tr r)) low (λ j d lj.
     let q = get_or low j d in
     let lq : q < length tr = omega (arith, lows j d lj) in
     let P : Lit → Type 0 = Reaches cs ds in
-    subst P (sym (negate_negate (at tr q))) (reached_all tr t.reasons.items starts cs reasons t.roots q lq))) in
+    subst P (sym (negate_negate (at tr q))) (reached_all tr t.reasons.items level_starts cs reasons t.roots q lq))) in
     let below_reached : All (λ k. (k ≡ m → ⊥) → Reaches cs (take i ds) (negate k)) c =
     All-cons (λ k. (k ≡ m → ⊥) → Reaches cs (take i ds) (negate k)) m (map (λ r. negate (at tr r)) low)
     (λ ne. absurd (ne refl))
@@ -71,12 +71,12 @@ learned_from t cs k p i floor low based lk out rest ls lf false' le lp lows =
     let q = get_or low j d in
     let lq : q < floor = lows j d lj in
     let P : Lit → Type 0 = Reaches cs (take i ds) in
-    subst P (sym (negate_negate (at tr q))) (reached tr t.reasons.items starts cs reasons t.roots t.rising i li floor (omega arith) (omega arith) q lq))) in
-    let below = unset_below tr t.places.items starts cs i p t.placed t.rising t.in_trail li (rest i li) start_le lp in (
+    subst P (sym (negate_negate (at tr q))) (reached tr t.reasons.items level_starts cs reasons t.roots t.rising i li floor (omega arith) (omega arith) q lq))) in
+    let below = unset_below tr t.positions.items level_starts cs i p t.placed t.rising t.in_trail li (rest i li) start_le lp in (
       i,
-      omega (arith, decided_length tr starts),
-      decisions_open tr t.places.items starts cs t.placed t.rising t.in_trail rest,
-      conflicting tr t.reasons.items starts cs k reasons t.roots lk out,
+      omega (arith, decided_length tr level_starts),
+      decisions_open tr t.positions.items level_starts cs t.placed t.rising t.in_trail rest,
+      conflicting tr t.reasons.items level_starts cs k reasons t.roots lk out,
       learned_follows tr cs k p low lk false',
       all_reached,
       (
@@ -118,11 +118,11 @@ learned_settled t p floor s j low le lp lf ls lows lj sj =
     two_settled (among (take s tr)) (learned_clause tr p low) m k
     (contains_head m rest)
     (contains_tail m k rest (contains_map (λ r. negate (at tr r)) low q (Contains-get_or low j 0 lj)))
-    (not_below tr t.places.items s p (negate m) t.placed (omega arith) lp (omega arith) refl)
-    (not_below tr t.places.items s q (negate k) t.placed (omega arith) lqt (omega arith) refl)
+    (not_below tr t.positions.items s p (negate m) t.placed (omega arith) lp (omega arith) refl)
+    (not_below tr t.positions.items s q (negate k) t.placed (omega arith) lqt (omega arith) refl)
     (λ e.
     let v : (at tr p).var ≡ (at tr q).var = ap (λ (x : Lit). x.var) e in
-    let same : p ≡ q = place_same tr t.places.items p q t.placed lp lqt v in
+    let same : p ≡ q = place_same tr t.positions.items p q t.placed lp lqt v in
     omega arith)
 
 pub differ : (l m : Lit) → (l ≡ m → ⊥) → is_literal l m ≡ false
@@ -149,24 +149,24 @@ learned_watch t p floor s j low le lp lf ls lows lj sj =
     let R : Lit → Type 0 = λ x. (is_literal m x ≡ false) × (among (take s tr) (negate x) ≡ false) in
     let ne : m ≡ k → ⊥ = λ g.
     let v : (at tr p).var ≡ (at tr q).var = ap (λ (x : Lit). x.var) g in
-    let same : p ≡ q = place_same tr t.places.items p q t.placed lp lqt v in
+    let same : p ≡ q = place_same tr t.positions.items p q t.placed lp lqt v in
     omega arith in
-    let here : R k = (differ m k ne, not_below tr t.places.items s q (negate k) t.placed (omega arith) lqt (omega arith) refl) in
+    let here : R k = (differ m k ne, not_below tr t.positions.items s q (negate k) t.placed (omega arith) lqt (omega arith) refl) in
     let r : R (at c (j + 1)) = subst R (sym e) here in
-    (omega (arith, lj, length-map low f), r.0, not_below tr t.places.items s p (negate m) t.placed (omega arith) lp (omega arith) refl, r.1)
+    (omega (arith, lj, length-map low f), r.0, not_below tr t.positions.items s p (negate m) t.placed (omega arith) lp (omega arith) refl, r.1)
 
-pub watchable_after : (t : Trail) (n : ℕ) (c : List Lit) (w : ℕ) → n < length t.starts.items → WatchBelow t.literals.items t.starts.items n c w →
-    Watchable (take (get_or t.starts.items n 0) t.literals.items) (take n t.starts.items) c w
+pub watchable_after : (t : Trail) (n : ℕ) (c : List Lit) (w : ℕ) → n < length t.level_starts.items → WatchBelow t.literals.items t.level_starts.items n c w →
+    Watchable (take (get_or t.level_starts.items n 0) t.literals.items) (take n t.level_starts.items) c w
 watchable_after t n c w ln below i li =
-    let starts = t.starts.items in
+    let level_starts = t.level_starts.items in
     let literals = t.literals.items in
-    let lt : i < n = omega (arith, li, length-take-le n starts (omega arith)) in
-    let e : get_or (take n starts) i 0 ≡ get_or starts i 0 = get_or-take n starts i 0 lt in
-    let s = get_or starts i 0 in
-    let le : s ≤ get_or starts n 0 = omega (arith, t.rising i n lt ln) in
-    let b : take s (take (get_or starts n 0) literals) ≡ take s literals = take-take s (get_or starts n 0) literals le in
+    let lt : i < n = omega (arith, li, length-take-le n level_starts (omega arith)) in
+    let e : get_or (take n level_starts) i 0 ≡ get_or level_starts i 0 = get_or-take n level_starts i 0 lt in
+    let s = get_or level_starts i 0 in
+    let le : s ≤ get_or level_starts n 0 = omega (arith, t.rising i n lt ln) in
+    let b : take s (take (get_or level_starts n 0) literals) ≡ take s literals = take-take s (get_or level_starts n 0) literals le in
     let P : List Lit → Type 0 = λ x. (w < length c) × (is_literal (at c 0) (at c w) ≡ false) × (among x (negate (at c 0)) ≡ false) × (among x (negate (at c w)) ≡ false) in
-    let Q : ℕ → Type 0 = λ x. P (take x (take (get_or starts n 0) literals)) in
+    let Q : ℕ → Type 0 = λ x. P (take x (take (get_or level_starts n 0) literals)) in
     let h : Q s = subst P (sym b) (below i lt) in
     subst Q (sym e) h
 
@@ -193,21 +193,21 @@ falses_unmarked n q m =
 pub settled_open : (literals : List Lit) (cs : List (List Lit)) (k s : ℕ) → k < length cs → AtRest cs (take s literals) → AllFalse (among (take s literals)) (get_or cs k []) → ⊥
 settled_open literals cs k s lk rest all = (rest k [] lk).0 all
 
-pub rest_after : (cs : List (List Lit)) (c literals : List Lit) (starts : List ℕ) (n : ℕ) → n < length starts →
-    ((i j : ℕ) → i < j → j < length starts → get_or starts i 0 < get_or starts j 0) →
-    ((i : ℕ) → i < length starts → get_or starts i 0 < length literals) →
-    ((i : ℕ) → i < length starts → AtRest cs (take (get_or starts i 0) literals)) → SettledBelow literals starts n c →
-    PerLevel (λ low _. AtRest (cs ++ c ∷ []) low) (take (get_or starts n 0) literals) (take n starts)
-rest_after cs c literals starts n ln up ins rest below i li =
-    let lt : i < n = omega (arith, li, length-take-le n starts (omega arith)) in
-    let ls : i < length starts = omega arith in
-    let e : get_or (take n starts) i 0 ≡ get_or starts i 0 = get_or-take n starts i 0 lt in
-    let s = get_or starts i 0 in
-    let le : s ≤ get_or starts n 0 = omega (arith, up i n lt ln) in
-    let b : take s (take (get_or starts n 0) literals) ≡ take s literals = take-take s (get_or starts n 0) literals le in
+pub rest_after : (cs : List (List Lit)) (c literals : List Lit) (level_starts : List ℕ) (n : ℕ) → n < length level_starts →
+    ((i j : ℕ) → i < j → j < length level_starts → get_or level_starts i 0 < get_or level_starts j 0) →
+    ((i : ℕ) → i < length level_starts → get_or level_starts i 0 < length literals) →
+    ((i : ℕ) → i < length level_starts → AtRest cs (take (get_or level_starts i 0) literals)) → SettledBelow literals level_starts n c →
+    PerLevel (λ low _. AtRest (cs ++ c ∷ []) low) (take (get_or level_starts n 0) literals) (take n level_starts)
+rest_after cs c literals level_starts n ln up ins rest below i li =
+    let lt : i < n = omega (arith, li, length-take-le n level_starts (omega arith)) in
+    let ls : i < length level_starts = omega arith in
+    let e : get_or (take n level_starts) i 0 ≡ get_or level_starts i 0 = get_or-take n level_starts i 0 lt in
+    let s = get_or level_starts i 0 in
+    let le : s ≤ get_or level_starts n 0 = omega (arith, up i n lt ln) in
+    let b : take s (take (get_or level_starts n 0) literals) ≡ take s literals = take-take s (get_or level_starts n 0) literals le in
     let g : AtRest (cs ++ c ∷ []) (take s literals) =
     All-append (Settled (among (take s literals))) cs (c ∷ []) (rest i ls) (All-cons (Settled (among (take s literals))) c [] (below i lt) (λ k d l. absurd (omega (arith, l)))) in
     let P : List Lit → Type 0 = AtRest (cs ++ c ∷ []) in
-    let Q : ℕ → Type 0 = λ x. AtRest (cs ++ c ∷ []) (take x (take (get_or starts n 0) literals)) in
+    let Q : ℕ → Type 0 = λ x. AtRest (cs ++ c ∷ []) (take x (take (get_or level_starts n 0) literals)) in
     let h : Q s = subst P (sym b) g in
     subst Q (sym e) h

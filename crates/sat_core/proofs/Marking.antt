@@ -56,9 +56,9 @@ low_unmark v floor q low lf lv h = (
 pub low_none : (v : List Bool) (floor : ℕ) → ((q : ℕ) → Marked v q → ⊥) → LowListed v floor []
 low_none v floor none = (λ k lk m. absurd (none k m), λ k d lt. absurd (omega (arith, lt)))
 
-pub only_mark_new : (places : List ℕ) (c : List Lit) (i skip q : ℕ) (old v : List Bool) → get_or places (at c i).var 0 ≡ q → (q ≡ skip → ⊥) →
-    OnlyNew places c i skip old v → OnlyNew places c (i + 1) skip old (set v q true)
-only_mark_new places c i skip q old v e ne h k m =
+pub only_mark_new : (positions : List ℕ) (c : List Lit) (i skip q : ℕ) (old v : List Bool) → get_or positions (at c i).var 0 ≡ q → (q ≡ skip → ⊥) →
+    OnlyNew positions c i skip old v → OnlyNew positions c (i + 1) skip old (set v q true)
+only_mark_new positions c i skip q old v e ne h k m =
     elim (cases_eq k q) [
       | inl same ↦ inr (i, omega arith, e ∙ sym same, λ f. ne (sym same ∙ f))
       | inr other ↦
@@ -69,79 +69,79 @@ only_mark_new places c i skip q old v e ne h k m =
           ]
     ]
 
-pub only_mark_kept : (places : List ℕ) (c : List Lit) (i skip : ℕ) (old v : List Bool) →
-    OnlyNew places c i skip old v → OnlyNew places c (i + 1) skip old v
-only_mark_kept places c i skip old v h k m =
+pub only_mark_kept : (positions : List ℕ) (c : List Lit) (i skip : ℕ) (old v : List Bool) →
+    OnlyNew positions c i skip old v → OnlyNew positions c (i + 1) skip old v
+only_mark_kept positions c i skip old v h k m =
     elim (h k m) [
       | inl o ↦ inl o
       | inr u ↦ inr (u.0, omega (arith, u.1), u.2, u.3)
     ]
 
-pub only_mark_none : (places : List ℕ) (c : List Lit) (skip : ℕ) (v : List Bool) → OnlyNew places c 0 skip v v
-only_mark_none places c skip v k m = inl m
+pub only_mark_none : (positions : List ℕ) (c : List Lit) (skip : ℕ) (v : List Bool) → OnlyNew positions c 0 skip v v
+only_mark_none positions c skip v k m = inl m
 
 -- marks and what they make false
-pub start_false : (trail : List Lit) (places : List ℕ) (cs : List (List Lit)) (c : List Lit) (old new : List Bool) →
-    PlacesMatch trail places → FalseOn trail c → MarksAdded places c (length trail) old new → MarksFalse trail cs new c
-start_false trail places cs c old new ok out added t closed held j d lt =
+pub start_false : (trail : List Lit) (positions : List ℕ) (cs : List (List Lit)) (c : List Lit) (old new : List Bool) →
+    PlacesMatch trail positions → FalseOn trail c → MarksAdded positions c (length trail) old new → MarksFalse trail cs new c
+start_false trail positions cs c old new ok out added t closed held j d lt =
     let m = get_or c j d in
     let h = out j d lt in
-    let here : get_or places m.var 0 ≡ h.0 = ap (λ (l : Lit). get_or places l.var 0) (sym h.2) ∙ ok h.0 h.1 in
-    let other : get_or places m.var 0 ≡ length trail → ⊥ = λ e. omega (arith, h.1, here, e) in
+    let here : get_or positions m.var 0 ≡ h.0 = ap (λ (l : Lit). get_or positions l.var 0) (sym h.2) ∙ ok h.0 h.1 in
+    let other : get_or positions m.var 0 ≡ length trail → ⊥ = λ e. omega (arith, h.1, here, e) in
     let P : ℕ → Type 0 = Marked new in
     let marked : Marked new h.0 = subst P here (added.1 j d lt other) in
     ap t (sym h.2) ∙ held h.0 h.1 marked
 
-pub resolve_false : (trail : List Lit) (places : List ℕ) (cs : List (List Lit)) (c : List Lit) (p k : ℕ) (old new : List Bool) →
-    p < length trail → k < length cs → PlacesMatch trail places → Forced trail p (get_or cs k []) →
-    MarksFalse trail cs old c → MarksAdded places (get_or cs k []) p (set old p false) new → MarksFalse trail cs new c
-resolve_false trail places cs c p k old new lp lk ok forced before added t closed held =
+pub resolve_false : (trail : List Lit) (positions : List ℕ) (cs : List (List Lit)) (c : List Lit) (p k : ℕ) (old new : List Bool) →
+    p < length trail → k < length cs → PlacesMatch trail positions → Forced trail p (get_or cs k []) →
+    MarksFalse trail cs old c → MarksAdded positions (get_or cs k []) p (set old p false) new → MarksFalse trail cs new c
+resolve_false trail positions cs c p k old new lp lk ok forced before added t closed held =
     before t closed (λ q lq marked.
     elim (cases_eq q p) [
-      | inl same ↦ rw same (forced_in trail places cs t p k (set old p false) new lp lk ok forced added closed held)
+      | inl same ↦ rw same (forced_in trail positions cs t p k (set old p false) new lp lk ok forced added closed held)
       | inr ne ↦ held q lq (added.0 q (rw get_or-set_other marked))
     ])
 
-pub high_start : (trail : List Lit) (places : List ℕ) (c : List Lit) (old new : List Bool) → PlacesMatch trail places → FalseOn trail c →
-    ((q : ℕ) → Marked old q → ⊥) → OnlyNew places c (length c) (length trail) old new → NoneFrom new (length trail)
-high_start trail places c old new ok out none only q le m =
+pub high_start : (trail : List Lit) (positions : List ℕ) (c : List Lit) (old new : List Bool) → PlacesMatch trail positions → FalseOn trail c →
+    ((q : ℕ) → Marked old q → ⊥) → OnlyNew positions c (length c) (length trail) old new → NoneFrom new (length trail)
+high_start trail positions c old new ok out none only q le m =
     elim (only q m) [
       | inl o ↦ none q o
       | inr u ↦
           let h = out u.0 none_lit u.1 in
-          let here : get_or places (at c u.0).var 0 ≡ h.0 = ap (λ (l : Lit). get_or places l.var 0) (sym h.2) ∙ ok h.0 h.1 in
+          let here : get_or positions (at c u.0).var 0 ≡ h.0 = ap (λ (l : Lit). get_or positions l.var 0) (sym h.2) ∙ ok h.0 h.1 in
           omega (arith, h.1, here, u.2)
     ]
 
-pub high_same : (trail : List Lit) (places : List ℕ) (c : List Lit) (p : ℕ) (old new : List Bool) → p < length trail → p < length old →
-    PlacesMatch trail places → Forced trail p c → OnlyNew places c (length c) p (set old p false) new →
+pub high_same : (trail : List Lit) (positions : List ℕ) (c : List Lit) (p : ℕ) (old new : List Bool) → p < length trail → p < length old →
+    PlacesMatch trail positions → Forced trail p c → OnlyNew positions c (length c) p (set old p false) new →
     (q : ℕ) → p ≤ q → Marked new q → (q ≡ p → ⊥) × Marked old q
-high_same trail places c p old new lp lo ok forced only q le m =
+high_same trail positions c p old new lp lo ok forced only q le m =
     elim (only q m) [
       | inl o ↦ unmarked old p q lo o
       | inr u ↦
           let ne : at c u.0 ≡ at trail p → ⊥ = λ e.
-          let f : get_or places (at c u.0).var 0 ≡ p = ap (λ (l : Lit). get_or places l.var 0) e ∙ ok p lp in
+          let f : get_or positions (at c u.0).var 0 ≡ p = ap (λ (l : Lit). get_or positions l.var 0) e ∙ ok p lp in
           u.3 (sym u.2 ∙ f) in
           let h = forced.1 u.0 none_lit u.1 ne in
           let lq : h.0 < length trail = omega (arith, h.1) in
-          let here : get_or places (at c u.0).var 0 ≡ h.0 = ap (λ (l : Lit). get_or places l.var 0) (sym h.2) ∙ ok h.0 lq in
+          let here : get_or positions (at c u.0).var 0 ≡ h.0 = ap (λ (l : Lit). get_or positions l.var 0) (sym h.2) ∙ ok h.0 lq in
           absurd (omega (arith, h.1, here, u.2))
     ]
 
-pub high_step : (trail : List Lit) (places : List ℕ) (c : List Lit) (p : ℕ) (old new : List Bool) → p < length trail → p < length old →
-    PlacesMatch trail places → Forced trail p c →
-    NoneFrom old (p + 1) → OnlyNew places c (length c) p (set old p false) new → NoneFrom new p
-high_step trail places c p old new lp lo ok forced high only q le m =
+pub high_step : (trail : List Lit) (positions : List ℕ) (c : List Lit) (p : ℕ) (old new : List Bool) → p < length trail → p < length old →
+    PlacesMatch trail positions → Forced trail p c →
+    NoneFrom old (p + 1) → OnlyNew positions c (length c) p (set old p false) new → NoneFrom new p
+high_step trail positions c p old new lp lo ok forced high only q le m =
     elim (only q m) [
       | inl o ↦ let u = unmarked old p q lo o in high q (let ne : q ≡ p → ⊥ = u.0 in omega arith) u.1
       | inr u ↦
           let ne : at c u.0 ≡ at trail p → ⊥ = λ e.
-          let f : get_or places (at c u.0).var 0 ≡ p = ap (λ (l : Lit). get_or places l.var 0) e ∙ ok p lp in
+          let f : get_or positions (at c u.0).var 0 ≡ p = ap (λ (l : Lit). get_or positions l.var 0) e ∙ ok p lp in
           u.3 (sym u.2 ∙ f) in
           let h = forced.1 u.0 none_lit u.1 ne in
           let lq : h.0 < length trail = omega (arith, h.1) in
-          let here : get_or places (at c u.0).var 0 ≡ h.0 = ap (λ (l : Lit). get_or places l.var 0) (sym h.2) ∙ ok h.0 lq in
+          let here : get_or positions (at c u.0).var 0 ≡ h.0 = ap (λ (l : Lit). get_or positions l.var 0) (sym h.2) ∙ ok h.0 lq in
           omega (arith, h.1, here, u.2)
     ]
 
@@ -165,17 +165,17 @@ level_zero marks floor none =
     omega (arith, zero')
 
 -- a conflict has a literal of the last level
-pub open_start : (trail : List Lit) (places : List ℕ) (c : List Lit) (floor : ℕ) (old new : List Bool) → PlacesMatch trail places → FalseOn trail c →
+pub open_start : (trail : List Lit) (positions : List ℕ) (c : List Lit) (floor : ℕ) (old new : List Bool) → PlacesMatch trail positions → FalseOn trail c →
     floor ≤ length trail → length new ≡ length trail →
-    MarksAdded places c (length trail) old new → (AllFalse (among (take floor trail)) c → ⊥) → 0 < level_marks new floor
-open_start trail places c floor old new ok out lf ln added nope =
+    MarksAdded positions c (length trail) old new → (AllFalse (among (take floor trail)) c → ⊥) → 0 < level_marks new floor
+open_start trail positions c floor old new ok out lf ln added nope =
     elim (cases_lt 0 (level_marks new floor)) [
       | inl pos ↦ pos
       | inr none ↦ absurd (nope (λ j d lt.
           let m = get_or c j d in
           let h = out j d lt in
-          let here : get_or places m.var 0 ≡ h.0 = ap (λ (l : Lit). get_or places l.var 0) (sym h.2) ∙ ok h.0 h.1 in
-          let other : get_or places m.var 0 ≡ length trail → ⊥ = λ e. omega (arith, h.1, here, e) in
+          let here : get_or positions m.var 0 ≡ h.0 = ap (λ (l : Lit). get_or positions l.var 0) (sym h.2) ∙ ok h.0 h.1 in
+          let other : get_or positions m.var 0 ≡ length trail → ⊥ = λ e. omega (arith, h.1, here, e) in
           let P : ℕ → Type 0 = Marked new in
           let marked : Marked new h.0 = subst P here (added.1 j d lt other) in
           elim (cases_lt h.0 floor) [
@@ -185,18 +185,18 @@ open_start trail places c floor old new ok out lf ln added nope =
     ]
 
 -- a position of the last level with another marked one below it is no decision
-pub not_decision : (trail : List Lit) (reasons starts : List ℕ) (floor p i : ℕ) (marks : List Bool) → DecisionsBegin trail reasons starts → StartsRise starts →
-    length starts ≡ i + 1 → floor ≡ get_or starts i 0 → floor ≤ p → p < length trail → p < length marks → Marked marks p → NoneFrom marks (p + 1) →
+pub not_decision : (trail : List Lit) (reasons level_starts : List ℕ) (floor p i : ℕ) (marks : List Bool) → DecisionsBegin trail reasons level_starts → StartsRise level_starts →
+    length level_starts ≡ i + 1 → floor ≡ get_or level_starts i 0 → floor ≤ p → p < length trail → p < length marks → Marked marks p → NoneFrom marks (p + 1) →
     (level_marks marks floor ≡ 1 → ⊥) → 0 < reason_at trail reasons p
-not_decision trail reasons starts floor p i marks roots up ls lf le lp lm m high two =
+not_decision trail reasons level_starts floor p i marks roots up ls lf le lp lm m high two =
     elim (cases_eq (reason_at trail reasons p) 0) [
       | inr some ↦ omega arith
       | inl none ↦
-          let h = start_at starts p (roots p lp none) in
+          let h = start_at level_starts p (roots p lp none) in
           let low : p ≤ floor = elim (cases_lt h.0 i) [
             | inl l ↦ omega (arith, up h.0 i l (omega arith), h.2)
             | inr g ↦ let same : h.0 ≡ i = omega (arith, h.1) in
-                let e : get_or starts h.0 0 ≡ get_or starts i 0 = rw same refl in omega (arith, e, h.2)
+                let e : get_or level_starts h.0 0 ≡ get_or level_starts i 0 = rw same refl in omega (arith, e, h.2)
           ] in
           let w = set marks p false in
           let zero' : level_marks w floor ≡ 0 = level_zero w floor (λ q lq mq.
@@ -207,32 +207,32 @@ not_decision trail reasons starts floor p i marks roots up ls lf le lp lm m high
           absurd (two (omega (arith, e, f, zero')))
     ]
 
-pub placed_start : (trail : List Lit) (places : List ℕ) (c : List Lit) (n vars : ℕ) → PlacesMatch trail places → All (λ l. l.var < vars) trail → FalseOn trail c →
-    n ≡ length trail → length places ≡ vars →
-    All (λ m. (m.var < length places) × ((get_or places m.var 0 < n) ⊎ (get_or places m.var 0 ≡ length trail))) c
-placed_start trail places c n vars ok within out ln lp j d lt =
+pub placed_start : (trail : List Lit) (positions : List ℕ) (c : List Lit) (n vars : ℕ) → PlacesMatch trail positions → All (λ l. l.var < vars) trail → FalseOn trail c →
+    n ≡ length trail → length positions ≡ vars →
+    All (λ m. (m.var < length positions) × ((get_or positions m.var 0 < n) ⊎ (get_or positions m.var 0 ≡ length trail))) c
+placed_start trail positions c n vars ok within out ln lp j d lt =
     let m = get_or c j d in
     let h = out j d lt in
-    let here : get_or places m.var 0 ≡ h.0 = ap (λ (l : Lit). get_or places l.var 0) (sym h.2) ∙ ok h.0 h.1 in
+    let here : get_or positions m.var 0 ≡ h.0 = ap (λ (l : Lit). get_or positions l.var 0) (sym h.2) ∙ ok h.0 h.1 in
     let v : (at trail h.0).var ≡ m.var = ap (λ (l : Lit). l.var) h.2 in
     (omega (arith, within h.0 none_lit h.1, v), inl (omega (arith, here, h.1)))
 
-pub placed_reason : (trail : List Lit) (places : List ℕ) (c : List Lit) (p n vars : ℕ) → PlacesMatch trail places → All (λ l. l.var < vars) trail → p < length trail →
-    Forced trail p c → n ≡ length trail → length places ≡ vars →
-    All (λ m. (m.var < length places) × ((get_or places m.var 0 < n) ⊎ (get_or places m.var 0 ≡ p))) c
-placed_reason trail places c p n vars ok within lp forced ln lpl j d lt =
+pub placed_reason : (trail : List Lit) (positions : List ℕ) (c : List Lit) (p n vars : ℕ) → PlacesMatch trail positions → All (λ l. l.var < vars) trail → p < length trail →
+    Forced trail p c → n ≡ length trail → length positions ≡ vars →
+    All (λ m. (m.var < length positions) × ((get_or positions m.var 0 < n) ⊎ (get_or positions m.var 0 ≡ p))) c
+placed_reason trail positions c p n vars ok within lp forced ln lpl j d lt =
     let m = get_or c j d in
     elim (cases_Bool (is_literal m (at trail p))) [
       | inl on ↦
           let same : m ≡ at trail p = lit_is_same m (at trail p) on in
           let v : m.var ≡ (at trail p).var = ap (λ (l : Lit). l.var) same in
-          let here : get_or places m.var 0 ≡ p = ap (λ (l : Lit). get_or places l.var 0) same ∙ ok p lp in
+          let here : get_or positions m.var 0 ≡ p = ap (λ (l : Lit). get_or positions l.var 0) same ∙ ok p lp in
           (omega (arith, within p none_lit lp, v), inr here)
       | inr off ↦
           let ne : m ≡ at trail p → ⊥ = λ e. both_ways _ off (rw e (lit_is_itself (at trail p))) in
           let h = forced.1 j d lt ne in
           let lq : h.0 < length trail = omega (arith, h.1) in
-          let here : get_or places m.var 0 ≡ h.0 = ap (λ (l : Lit). get_or places l.var 0) (sym h.2) ∙ ok h.0 lq in
+          let here : get_or positions m.var 0 ≡ h.0 = ap (λ (l : Lit). get_or positions l.var 0) (sym h.2) ∙ ok h.0 lq in
           let v : (at trail h.0).var ≡ m.var = ap (λ (l : Lit). l.var) h.2 in
           (omega (arith, within h.0 none_lit lq, v), inl (omega (arith, here, h.1)))
     ]

@@ -23,24 +23,24 @@ why_read t u x y p e rx ry lp =
     let Q : Trail → Type 0 = λ w. y ≡ reason_at w.literals.items w.reasons.items p in
     subst Q e f
 
-pub floor_read : (x t : Trail) (n floor : ℕ) → x ≡ t → n ≡ vec_len x.starts → floor ≡ get_or x.starts.items (n - 1) floor → 0 < length t.starts.items →
-    floor ≡ get_or t.starts.items (length t.starts.items - 1) 0
+pub floor_read : (x t : Trail) (n floor : ℕ) → x ≡ t → n ≡ vec_len x.level_starts → floor ≡ get_or x.level_starts.items (n - 1) floor → 0 < length t.level_starts.items →
+    floor ≡ get_or t.level_starts.items (length t.level_starts.items - 1) 0
 floor_read x t n floor e en r pos =
-    let P : Trail → Type 0 = λ w. 0 < length w.starts.items in
-    let px : 0 < length x.starts.items = subst P (sym e) pos in
-    let nx : n ≡ length x.starts.items = omega (arith, en, x.starts.ok.0) in
-    let a : floor ≡ get_or x.starts.items (n - 1) 0 = get_or_read_under x.starts.items (n - 1) (length x.starts.items) floor 0 r (omega arith) refl in
-    let b : floor ≡ get_or x.starts.items (length x.starts.items - 1) 0 = a ∙ ap (λ m. get_or x.starts.items (m - 1) 0) nx in
-    let Q : Trail → Type 0 = λ w. floor ≡ get_or w.starts.items (length w.starts.items - 1) 0 in
+    let P : Trail → Type 0 = λ w. 0 < length w.level_starts.items in
+    let px : 0 < length x.level_starts.items = subst P (sym e) pos in
+    let nx : n ≡ length x.level_starts.items = omega (arith, en, x.level_starts.ok.0) in
+    let a : floor ≡ get_or x.level_starts.items (n - 1) 0 = get_or_read_under x.level_starts.items (n - 1) (length x.level_starts.items) floor 0 r (omega arith) refl in
+    let b : floor ≡ get_or x.level_starts.items (length x.level_starts.items - 1) 0 = a ∙ ap (λ m. get_or x.level_starts.items (m - 1) 0) nx in
+    let Q : Trail → Type 0 = λ w. floor ≡ get_or w.level_starts.items (length w.level_starts.items - 1) 0 in
     subst Q e b
 
 pub reason_of : (t : Trail) (cs : List (List Lit)) (w p i floor : ℕ) (v : List Bool) → Based t.literals.items t.reasons.items cs →
-    w ≡ reason_at t.literals.items t.reasons.items p → length t.starts.items ≡ i + 1 → floor ≡ get_or t.starts.items i 0 → floor ≤ p →
+    w ≡ reason_at t.literals.items t.reasons.items p → length t.level_starts.items ≡ i + 1 → floor ≡ get_or t.level_starts.items i 0 → floor ≤ p →
     p < length t.literals.items → length v ≡ length t.literals.items → Marked v p → NoneFrom v (p + 1) → (level_marks v floor ≡ 1 → ⊥) →
     (0 < w) × (w - 1 < length cs) × Forced t.literals.items p (get_or cs (w - 1) [])
 reason_of t cs w p i floor v based e ls lf le lp lv m high two =
     let pos : 0 < reason_at t.literals.items t.reasons.items p =
-    not_decision t.literals.items t.reasons.items t.starts.items floor p i v t.roots t.rising ls lf le lp (omega arith) m high two in
+    not_decision t.literals.items t.reasons.items t.level_starts.items floor p i v t.roots t.rising ls lf le lp (omega arith) m high two in
     let h = reasoned_from t.literals.items t.reasons.items cs based p lp pos in
     let P : ℕ → Type 0 = λ n. Forced t.literals.items p (get_or cs (n - 1) []) in
     (omega arith, omega (arith, h.0), subst P (sym e) h.1)

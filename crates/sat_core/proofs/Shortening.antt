@@ -20,21 +20,21 @@ use Rattle.sat_core.proofs.Marked.{marked_set}
 
 -- another literal of the clause that forced the literal at q stands before q, negated
 pub before : (t : Trail) (q j : ℕ) (d : Lit) (xs : List Lit) → q < length t.literals.items → Forced t.literals.items q xs → j < length xs →
-    (get_or t.places.items (get_or xs j d).var 0 ≡ q → ⊥) →
-    (get_or t.places.items (get_or xs j d).var 0 < q) × (at t.literals.items (get_or t.places.items (get_or xs j d).var 0) ≡ negate (get_or xs j d))
+    (get_or t.positions.items (get_or xs j d).var 0 ≡ q → ⊥) →
+    (get_or t.positions.items (get_or xs j d).var 0 < q) × (at t.literals.items (get_or t.positions.items (get_or xs j d).var 0) ≡ negate (get_or xs j d))
 before t q j d xs lq forced lj ne =
     let m = get_or xs j d in
-    let apart : m ≡ at t.literals.items q → ⊥ = λ e. ne (ap (λ (l : Lit). get_or t.places.items l.var 0) e ∙ t.placed q lq) in
+    let apart : m ≡ at t.literals.items q → ⊥ = λ e. ne (ap (λ (l : Lit). get_or t.positions.items l.var 0) e ∙ t.placed q lq) in
     let h = forced.1 j d lj apart in
     let lh : h.0 < length t.literals.items = omega (arith, h.1) in
-    let here : get_or t.places.items m.var 0 ≡ h.0 = ap (λ (l : Lit). get_or t.places.items l.var 0) (sym h.2) ∙ t.placed h.0 lh in
+    let here : get_or t.positions.items m.var 0 ≡ h.0 = ap (λ (l : Lit). get_or t.positions.items l.var 0) (sym h.2) ∙ t.placed h.0 lh in
     (omega (arith, here, h.1), ap (at t.literals.items) here ∙ h.2)
 
 -- what is read at a literal of the reason of the literal at q
 pub reason_step : (x t : Trail) (cs : List (List Lit)) (w q j r : ℕ) (d : Lit) (xs : List Lit) → x ≡ t → Based t.literals.items t.reasons.items cs →
     All (Within (length t.values.items)) cs → w ≡ reason_at t.literals.items t.reasons.items q → (w ≡ 0 → ⊥) → q < length t.literals.items →
-    xs ≡ get_or cs (w - 1) [] → j < length xs → r ≡ get_or x.places.items (get_or xs j d).var r →
-    (r ≡ get_or x.places.items (get_or xs j d).var 0) × ((r ≡ q → ⊥) → r < q)
+    xs ≡ get_or cs (w - 1) [] → j < length xs → r ≡ get_or x.positions.items (get_or xs j d).var r →
+    (r ≡ get_or x.positions.items (get_or xs j d).var 0) × ((r ≡ q → ⊥) → r < q)
 reason_step x t cs w q j r d xs same based within ew nw lq ex lj er =
     let h = reason_plain t cs w q based ew lq nw in
     let F : List Lit → Type 0 = Forced t.literals.items q in
@@ -42,10 +42,10 @@ reason_step x t cs w q j r d xs same based within ew nw lq ex lj er =
     let W : List Lit → Type 0 = Within (length t.values.items) in
     let in_range : W xs = subst W (sym ex) (within (w - 1) [] h.0) in
     let m = get_or xs j d in
-    let lx : length x.places.items ≡ length t.places.items = ap (λ (y : Trail). length y.places.items) same in
-    let lm : m.var < length x.places.items = omega (arith, in_range j d lj, t.places_len, lx) in
-    let read : r ≡ get_or x.places.items m.var 0 = get_or_read_under x.places.items m.var (length x.places.items) r 0 er lm refl in
-    let read' : r ≡ get_or t.places.items m.var 0 = read ∙ ap (λ (y : Trail). get_or y.places.items m.var 0) same in
+    let lx : length x.positions.items ≡ length t.positions.items = ap (λ (y : Trail). length y.positions.items) same in
+    let lm : m.var < length x.positions.items = omega (arith, in_range j d lj, t.places_len, lx) in
+    let read : r ≡ get_or x.positions.items m.var 0 = get_or_read_under x.positions.items m.var (length x.positions.items) r 0 er lm refl in
+    let read' : r ≡ get_or t.positions.items m.var 0 = read ∙ ap (λ (y : Trail). get_or y.positions.items m.var 0) same in
     (read, λ ne. let b = before t q j d xs lq forced lj (λ e. ne (read' ∙ e)) in omega (arith, b.0, read'))
 
 pub implied_more : (t : Trail) (cs : List (List Lit)) (first q : ℕ) (old new : List Bool) → ((r : ℕ) → Marked old r → Marked new r) →
@@ -83,13 +83,13 @@ marks_set t cs first r v lt here =
 
 -- what stands before all decisions, each closed set holds
 pub first_held : (t : Trail) (cs : List (List Lit)) (s : Lit → Bool) (first : ℕ) → Based t.literals.items t.reasons.items cs → Closed s cs →
-    0 < length t.starts.items → first ≡ get_or t.starts.items 0 0 → (q : ℕ) → q < first → s (at t.literals.items q) ≡ true
+    0 < length t.level_starts.items → first ≡ get_or t.level_starts.items 0 0 → (q : ℕ) → q < first → s (at t.literals.items q) ≡ true
 first_held t cs s first based closed some ef q lq =
     let le : first ≤ length t.literals.items = omega (arith, ef, t.in_trail 0 some) in
-    held_below t.literals.items t.reasons.items t.starts.items cs s (reasoned_from t.literals.items t.reasons.items cs based) t.roots closed first le
+    held_below t.literals.items t.reasons.items t.level_starts.items cs s (reasoned_from t.literals.items t.reasons.items cs based) t.roots closed first le
     (λ i li ls.
     elim (cases_eq i 0) [
-      | inl same ↦ let e : get_or t.starts.items i 0 ≡ get_or t.starts.items 0 0 = rw same refl in absurd (omega (arith, e, ef, ls))
+      | inl same ↦ let e : get_or t.level_starts.items i 0 ≡ get_or t.level_starts.items 0 0 = rw same refl in absurd (omega (arith, e, ef, ls))
       | inr ne ↦ absurd (omega (arith, t.rising 0 i (omega arith) li, ef, ls))
     ])
     q lq
@@ -120,8 +120,8 @@ implied_held t cs s marks final first floor p low kept based closed start len on
                 let xs = get_or cs (reason_at tr t.reasons.items n - 1) [] in
                 let u = r.1.1 j d lj ne in
                 let lu : u.0 < length tr = omega (arith, u.1) in
-                let here : get_or t.places.items (get_or xs j d).var 0 ≡ u.0 = ap (λ (l : Lit). get_or t.places.items l.var 0) (sym u.2) ∙ t.placed u.0 lu in
-                let other : get_or t.places.items (get_or xs j d).var 0 ≡ n → ⊥ = λ e. omega (arith, u.1, here, e) in
+                let here : get_or t.positions.items (get_or xs j d).var 0 ≡ u.0 = ap (λ (l : Lit). get_or t.positions.items l.var 0) (sym u.2) ∙ t.placed u.0 lu in
+                let other : get_or t.positions.items (get_or xs j d).var 0 ≡ n → ⊥ = λ e. omega (arith, u.1, here, e) in
                 let P : ℕ → Type 0 = Marked final in
                 let marked : P u.0 = subst P here (h.1 j d lj other) in
                 ap s (sym u.2) ∙ below u.0 u.1 (new u.0 marked),
@@ -147,7 +147,7 @@ implied_held t cs s marks final first floor p low kept based closed start len on
     ]
 
 pub kept_recover : (t : Trail) (cs : List (List Lit)) (marks final : List Bool) (first floor p : ℕ) (low kept : List ℕ) →
-    Based t.literals.items t.reasons.items cs → 0 < length t.starts.items → first ≡ get_or t.starts.items 0 0 →
+    Based t.literals.items t.reasons.items cs → 0 < length t.level_starts.items → first ≡ get_or t.level_starts.items 0 0 →
     length marks ≡ length t.literals.items → OnlyMark marks floor p → LowListed marks floor low → MarksImplied t cs first marks final →
     All (λ q. Contains kept q ⊎ Implied t cs final first q) low → Recovers t.literals.items cs marks p kept
 kept_recover t cs marks final first floor p low kept based some ef len only lows new left s closed hp held q lq m =

@@ -8,9 +8,9 @@ Marked marks q = slice_index_or marks q false ≡ true
 
 -- what was marked still is, and so is the place of each literal of the clause, but p
 abbrev pub MarksAdded : List ℕ → List Lit → ℕ → List Bool → List Bool → Type 0
-MarksAdded places c p old new =
+MarksAdded positions c p old new =
     ((q : ℕ) → Marked old q → Marked new q)
-    × All (λ m. (slice_index places m.var ≡ p → ⊥) → Marked new (slice_index places m.var)) c
+    × All (λ m. (slice_index positions m.var ≡ p → ⊥) → Marked new (slice_index positions m.var)) c
 
 -- 1 for a mark, 0 for none
 abbrev pub one : Bool → ℕ

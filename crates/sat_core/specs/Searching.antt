@@ -13,7 +13,7 @@ use Rattle.sat_core.specs.Paying.{LearnedInTurn}
 
 -- the decisions of the trail
 abbrev pub decided : List Lit → List ℕ → List Lit
-decided literals starts = map (λ s. at literals s) starts
+decided literals level_starts = map (λ s. at literals s) level_starts
 
 -- the clause was learned from the conflict of these decisions
 abbrev pub LearnedFrom : List (List Lit) → List Lit → List Lit → Type 0
@@ -35,7 +35,7 @@ GrowsByLearning vars assumptions old new =
 
 -- Q holds of each level: of the literals before its decision, and the decision
 abbrev pub PerLevel : (List Lit → Lit → Type 0) → List Lit → List ℕ → Type 0
-PerLevel Q literals starts = (i : ℕ) → i < length starts → Q (take (slice_index starts i) literals) (at literals (slice_index starts i))
+PerLevel Q literals level_starts = (i : ℕ) → i < length level_starts → Q (take (slice_index level_starts i) literals) (at literals (slice_index level_starts i))
 
 -- what holds of each level: nothing was left to do before its decision, which is an assumption or came after all
 -- assumptions
@@ -65,7 +65,7 @@ abbrev pub Implied : Trail → List (List Lit) → List Bool → ℕ → ℕ →
 Implied t cs marks first q =
     (q < first)
     ⊎ ((0 < reason_at t.literals.items t.reasons.items q)
-    × All (λ m. (slice_index t.places.items m.var ≡ q → ⊥) → Marked marks (slice_index t.places.items m.var))
+    × All (λ m. (slice_index t.positions.items m.var ≡ q → ⊥) → Marked marks (slice_index t.positions.items m.var))
     (slice_index_or cs (reason_at t.literals.items t.reasons.items q - 1) []))
 
 -- what was marked still is, and what is newly marked is implied by what is marked
@@ -80,8 +80,8 @@ LowListed marks floor low =
 
 -- what is newly marked is the place of one of the clause's first n literals
 abbrev pub OnlyNew : List ℕ → List Lit → ℕ → ℕ → List Bool → List Bool → Type 0
-OnlyNew places c n skip old new =
-    (q : ℕ) → Marked new q → Marked old q ⊎ ((j : ℕ) × (j < n) × (slice_index places (at c j).var ≡ q) × (q ≡ skip → ⊥))
+OnlyNew positions c n skip old new =
+    (q : ℕ) → Marked new q → Marked old q ⊎ ((j : ℕ) × (j < n) × (slice_index positions (at c j).var ≡ q) × (q ≡ skip → ⊥))
 
 -- no place from n on is marked
 abbrev pub NoneFrom : List Bool → ℕ → Type 0
@@ -97,29 +97,29 @@ Refutes cs core = (t : Lit → Bool) → Closed t cs → Holds t core → HasCon
 
 -- what one step of learning does to clauses, trail and levels
 abbrev pub LearnSays : ℕ → List (List Lit) → List Lit → List ℕ → List (List Lit) → List Lit → List ℕ → Type 0
-LearnSays vars cs literals starts cs' literals' starts' =
+LearnSays vars cs literals level_starts cs' literals' level_starts' =
     (c : List Lit)
     × (cs' ≡ cs ++ c ∷ [])
     × Within vars c
-    × LearnedFrom cs (decided literals starts) c
+    × LearnedFrom cs (decided literals level_starts) c
     × ((n : ℕ)
-    × (n < length starts)
-    × (literals' ≡ take (slice_index starts n) literals)
-    × (starts' ≡ take n starts)
-    × PerLevel (λ low _. AtRest cs' low) literals' starts')
+    × (n < length level_starts)
+    × (literals' ≡ take (slice_index level_starts n) literals)
+    × (level_starts' ≡ take n level_starts)
+    × PerLevel (λ low _. AtRest cs' low) literals' level_starts')
 
 -- before each decision below level n the clause is settled
 abbrev pub SettledBelow : List Lit → List ℕ → ℕ → List Lit → Type 0
-SettledBelow literals starts n c = (i : ℕ) → i < n → Settled (among (take (slice_index starts i) literals)) c
+SettledBelow literals level_starts n c = (i : ℕ) → i < n → Settled (among (take (slice_index level_starts i) literals)) c
 
 -- before no decision below level n the clause's first literal or that at w is false, and the two differ
 abbrev pub WatchBelow : List Lit → List ℕ → ℕ → List Lit → ℕ → Type 0
-WatchBelow literals starts n c w =
+WatchBelow literals level_starts n c w =
     (i : ℕ) → i < n →
     (w < length c)
     × (is_literal (at c 0) (at c w) ≡ false)
-    × (among (take (slice_index starts i) literals) (negate (at c 0)) ≡ false)
-    × (among (take (slice_index starts i) literals) (negate (at c w)) ≡ false)
+    × (among (take (slice_index level_starts i) literals) (negate (at c 0)) ≡ false)
+    × (among (take (slice_index level_starts i) literals) (negate (at c w)) ≡ false)
 
 -- each variable has a value
 abbrev pub AllSet : ℕ → List Lit → Type 0

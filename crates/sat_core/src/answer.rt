@@ -1,3 +1,5 @@
+//! The answer to a query: a model, a core of the assumptions, or a spent purse.
+
 use clause_core::{Bits, Lit};
 
 /// What a query is answered.

@@ -1,3 +1,6 @@
+//! Clause learning: the clause of the first unique implication point, and the level to jump back to
+//! (Marques-Silva and Sakallah 1999).
+
 ghost use Rattle.std.specs.Prelude.{◌+◌, ◌≡◌, ◌<◌, ◌≤◌, ◌^◌, ℕ, IfOk, OnErr, OnOk, length, All, slice_index};
 ghost use Rattle.clause_core.specs.Literals.{Within};
 ghost use Rattle.sat_prop.specs.Trails.{AtRest};
@@ -11,12 +14,12 @@ use clause_core::Lit;
 use sat_prop::Propagator;
 use std::alloc::{AllocError, Global};
 
-// A learned clause, how many levels stay, and where its second watch is.
+// A learned clause, the decision level to jump back to, and the place of its second watch.
 #[derive(Drop)]
-pub struct Lesson {
+pub struct LearnedClause {
     pub clause: Vec<Lit>,
-    pub level: usize,
-    pub second: usize,
+    pub backjump_level: usize,
+    pub second_watch: usize,
 }
 
 fn clause_of(
@@ -37,7 +40,7 @@ fn clause_of(
     Ok(c)
 }
 
-// Where the greatest position stands.
+// The index of the greatest trail position.
 fn greatest(low: &[usize]) -> usize
     ensures low { 0 < length low.now → result < length low.now }
     ensures fits { result + 1 < 2 ^ 64 }
@@ -55,75 +58,75 @@ fn greatest(low: &[usize]) -> usize
 }
 
 // The number of levels that start at or before the position.
-fn jump_level(starts: &[usize], low: &[usize], best: usize, stay: bool) -> usize
-    requires { 0 < length starts.now }
-    ensures below { result < length starts.now }
-    ensures seen { (i : ℕ) → i < result → (best < length low.now) × (slice_index starts.now i ≤ slice_index low.now best) }
+fn jump_level(level_starts: &[usize], low: &[usize], best: usize, stay: bool) -> usize
+    requires { 0 < length level_starts.now }
+    ensures below { result < length level_starts.now }
+    ensures seen { (i : ℕ) → i < result → (best < length low.now) × (slice_index level_starts.now i ≤ slice_index low.now best) }
 {
     if !stay || best >= low.len() {
         return 0;
     }
-    for i in 0..starts.len() - 1 {
-        if starts[i] > low[best] {
+    for i in 0..level_starts.len() - 1 {
+        if level_starts[i] > low[best] {
             return i;
         }
     }
-    starts.len() - 1
+    level_starts.len() - 1
 }
 
-// What a conflict teaches.
+// Analyses a conflict: returns the first-UIP clause and the level to jump back to.
 pub fn analyze<P: Propagator>(
     alloc: Global,
     inner: &P,
     k: usize,
     order: &mut Order,
-) -> Result<Lesson, AllocError>
+) -> Result<LearnedClause, AllocError>
     requires conflict { FalseClause (P.clauses inner.now) (P.trail inner.now) k }
-    requires level { 0 < length (P.trail inner.now).starts.items }
-    requires rest { PerLevel (λ low _. AtRest (P.clauses inner.now) low) (P.trail inner.now).literals.items (P.trail inner.now).starts.items }
+    requires level { 0 < length (P.trail inner.now).level_starts.items }
+    requires rest { PerLevel (λ low _. AtRest (P.clauses inner.now) low) (P.trail inner.now).literals.items (P.trail inner.now).level_starts.items }
     ensures within { IfOk result (λ x. Within (length (P.trail inner.now).values.items) x.clause.items) }
-    ensures learned { IfOk result (λ x. LearnedFrom (P.clauses inner.now) (decided (P.trail inner.now).literals.items (P.trail inner.now).starts.items) x.clause.items) }
-    ensures level_in { IfOk result (λ x. x.level < length (P.trail inner.now).starts.items) }
-    ensures watch { IfOk result (λ x. WatchBelow (P.trail inner.now).literals.items (P.trail inner.now).starts.items x.level x.clause.items x.second) }
-    ensures settled { IfOk result (λ x. SettledBelow (P.trail inner.now).literals.items (P.trail inner.now).starts.items x.level x.clause.items) }
+    ensures learned { IfOk result (λ x. LearnedFrom (P.clauses inner.now) (decided (P.trail inner.now).literals.items (P.trail inner.now).level_starts.items) x.clause.items) }
+    ensures level_in { IfOk result (λ x. x.backjump_level < length (P.trail inner.now).level_starts.items) }
+    ensures watch { IfOk result (λ x. WatchBelow (P.trail inner.now).literals.items (P.trail inner.now).level_starts.items x.backjump_level x.clause.items x.second_watch) }
+    ensures settled { IfOk result (λ x. SettledBelow (P.trail inner.now).literals.items (P.trail inner.now).level_starts.items x.backjump_level x.clause.items) }
 {
     let trail = inner.assignment();
-    let floor = trail.starts[trail.starts.len() - 1];
+    let floor = trail.level_starts[trail.level_starts.len() - 1];
     let mut marks = vec![in alloc; false; trail.literals.len()]?;
     let mut low = Vec::new(alloc);
     let p = resolve(inner, inner.clause(k), floor, &mut marks, &mut low, order)?;
-    // The oldest literals stand first in the learned clause, where propagation looks first.
+    // Literals that were set first come first in the learned clause, where propagation looks first.
     low.sort_unstable();
     let kept = shorten(alloc, inner, p, floor, &mut marks, &low)?;
     let clause = clause_of(alloc, &trail.literals, p, &kept)?;
     let best = greatest(&kept);
-    let level = jump_level(&trail.starts, &kept, best, !order.restarts());
-    Ok(Lesson {
+    let backjump_level = jump_level(&trail.level_starts, &kept, best, !order.restarts());
+    Ok(LearnedClause {
         clause,
-        level,
-        second: best + 1,
+        backjump_level,
+        second_watch: best + 1,
     })
 }
 
-// Goes back as far as a lesson says, and adds its clause.
+// Jumps back to the backjump level and adds its learned clause.
 pub fn follow<P: Propagator>(
     inner: &mut P,
     order: &mut Order,
-    lesson: &Lesson,
+    learned: &LearnedClause,
 ) -> Result<(), AllocError>
-    requires within { Within (length (P.trail inner.old).values.items) lesson.now.clause.items }
-    requires learned { LearnedFrom (P.clauses inner.old) (decided (P.trail inner.old).literals.items (P.trail inner.old).starts.items) lesson.now.clause.items }
-    requires level_in { lesson.now.level < length (P.trail inner.old).starts.items }
-    requires watch { WatchBelow (P.trail inner.old).literals.items (P.trail inner.old).starts.items lesson.now.level lesson.now.clause.items lesson.now.second }
-    requires settled { SettledBelow (P.trail inner.old).literals.items (P.trail inner.old).starts.items lesson.now.level lesson.now.clause.items }
-    requires rest { PerLevel (λ low _. AtRest (P.clauses inner.old) low) (P.trail inner.old).literals.items (P.trail inner.old).starts.items }
-    ensures done { OnOk result (LearnSays (length (P.trail inner.old).values.items) (P.clauses inner.old) (P.trail inner.old).literals.items (P.trail inner.old).starts.items (P.clauses inner.new) (P.trail inner.new).literals.items (P.trail inner.new).starts.items) }
+    requires within { Within (length (P.trail inner.old).values.items) learned.now.clause.items }
+    requires learned { LearnedFrom (P.clauses inner.old) (decided (P.trail inner.old).literals.items (P.trail inner.old).level_starts.items) learned.now.clause.items }
+    requires level_in { learned.now.backjump_level < length (P.trail inner.old).level_starts.items }
+    requires watch { WatchBelow (P.trail inner.old).literals.items (P.trail inner.old).level_starts.items learned.now.backjump_level learned.now.clause.items learned.now.second_watch }
+    requires settled { SettledBelow (P.trail inner.old).literals.items (P.trail inner.old).level_starts.items learned.now.backjump_level learned.now.clause.items }
+    requires rest { PerLevel (λ low _. AtRest (P.clauses inner.old) low) (P.trail inner.old).literals.items (P.trail inner.old).level_starts.items }
+    ensures done { OnOk result (LearnSays (length (P.trail inner.old).values.items) (P.clauses inner.old) (P.trail inner.old).literals.items (P.trail inner.old).level_starts.items (P.clauses inner.new) (P.trail inner.new).literals.items (P.trail inner.new).level_starts.items) }
     ensures failed { OnErr result (P.clauses inner.new ≡ P.clauses inner.old) }
     ensures vars { length (P.trail inner.new).values.items ≡ length (P.trail inner.old).values.items }
 {
-    order.keep(inner.assignment(), lesson.level)?;
-    inner.undo(lesson.level);
-    inner.learn(&lesson.clause, lesson.second)?;
+    order.keep(inner.assignment(), learned.backjump_level)?;
+    inner.undo(learned.backjump_level);
+    inner.learn(&learned.clause, learned.second_watch)?;
     order.decay();
     Ok(())
 }

@@ -1,3 +1,6 @@
+//! Conflict analysis: resolves a conflict with the reasons of its literals, back to the first
+//! unique implication point (Marques-Silva and Sakallah 1999).
+
 ghost use Rattle.std.specs.Prelude.{◌+◌, ◌-◌, ◌⊎◌, [], ◌≡◌, ◌<◌, ℕ, IfOk, length, take, All, slice_index};
 ghost use Rattle.sat_core.specs.Positions.{MarksAdded, level_marks, Marked, OnlyMark};
 ghost use Rattle.clause_core.specs.Propagation.{AllFalse};
@@ -9,26 +12,26 @@ use clause_core::Lit;
 use sat_prop::Propagator;
 use std::alloc::AllocError;
 
-// Marks the positions of the clause's variables, but that at `skip`; those below floor it lists.
-// How many of the others were not marked before.
+// Marks the trail positions of the clause's variables, except `skip`. Lists the new ones below `floor`, where the conflict
+// level begins, and returns how many new ones are at it or above.
 pub fn mark(
     c: &[Lit],
     skip: usize,
-    places: &[usize],
+    positions: &[usize],
     marks: &mut [bool],
     floor: usize,
     low: &mut Vec<usize>,
 ) -> Result<usize, AllocError>
-    requires placed { All (λ m. (m.var < length places.now) × (slice_index places.now m.var < length marks.old ⊎ slice_index places.now m.var ≡ skip)) c.now }
+    requires placed { All (λ m. (m.var < length positions.now) × (slice_index positions.now m.var < length marks.old ⊎ slice_index positions.now m.var ≡ skip)) c.now }
     requires low { LowListed marks.old floor low.old.items }
-    ensures added { IfOk result (λ _. MarksAdded places.now c.now skip marks.old marks.new) }
+    ensures added { IfOk result (λ _. MarksAdded positions.now c.now skip marks.old marks.new) }
     ensures counted { IfOk result (λ n. level_marks marks.new floor ≡ level_marks marks.old floor + n) }
-    ensures only { IfOk result (λ _. OnlyNew places.now c.now (length c.now) skip marks.old marks.new) }
+    ensures only { IfOk result (λ _. OnlyNew positions.now c.now (length c.now) skip marks.old marks.new) }
     ensures low { IfOk result (λ _. LowListed marks.new floor low.new.items) }
 {
     let mut more: usize = 0;
     for x in c {
-        let q = places[x.var];
+        let q = positions[x.var];
         if q != skip && !marks[q] {
             marks[q] = true;
             if q >= floor {
@@ -41,8 +44,8 @@ pub fn mark(
     Ok(more)
 }
 
-// Resolves a clause that is false on the trail back to the last position of the trail at which one literal
-// of its level is left; `low` lists the others.
+// Resolves a conflict clause with reasons until one literal of the conflict level is left, the first unique implication
+// point. Returns its trail position; `low` lists the positions of the other literals.
 pub fn resolve<P: Propagator>(
     inner: &P,
     start: &[Lit],
@@ -55,8 +58,8 @@ pub fn resolve<P: Propagator>(
     requires marks_len { length marks.old ≡ length (P.trail inner.now).literals.items }
     requires marks_none { (q : ℕ) → Marked marks.old q → ⊥ }
     requires low_none { low.old.items ≡ [] }
-    requires level { 0 < length (P.trail inner.now).starts.items }
-    requires floor { floor ≡ slice_index (P.trail inner.now).starts.items (length (P.trail inner.now).starts.items - 1) }
+    requires level { 0 < length (P.trail inner.now).level_starts.items }
+    requires floor { floor ≡ slice_index (P.trail inner.now).level_starts.items (length (P.trail inner.now).level_starts.items - 1) }
     requires open { AllFalse (among (take floor (P.trail inner.now).literals.items)) start.now → ⊥ }
     ensures marks { IfOk result (λ _. MarksFalse (P.trail inner.now).literals.items (P.clauses inner.now) marks.new start.now) }
     ensures only { IfOk result (λ p. OnlyMark marks.new floor p) }
@@ -65,7 +68,7 @@ pub fn resolve<P: Propagator>(
 {
     let trail = inner.assignment();
     let n = trail.literals.len();
-    let mut open = mark(start, n, &trail.places, marks, floor, low)?;
+    let mut open = mark(start, n, &trail.positions, marks, floor, low)?;
     for p in (floor..n).rev() {
         if marks[p] {
             if open == 1 {
@@ -75,8 +78,8 @@ pub fn resolve<P: Propagator>(
             open -= 1;
             let reasons = trail.reasons[trail.literals[p].var];
             let c = inner.clause(reasons - 1);
-            order.bump_new(c, p, &trail.places, marks);
-            let more = mark(c, p, &trail.places, marks, floor, low)?;
+            order.bump_new(c, p, &trail.positions, marks);
+            let more = mark(c, p, &trail.positions, marks, floor, low)?;
             open += more;
         }
     }

@@ -1,3 +1,5 @@
+//! The decision heuristics: variable activities (VSIDS), saved signs and restarts.
+
 use clause_core::Lit;
 use sat_prop::Trail;
 use std::alloc::{AllocError, Global};
@@ -246,22 +248,22 @@ impl Order {
 
     // Makes those of a clause's variables more active whose places are not marked, but that at `skip`: the ones that
     // this conflict has not met before.
-    pub fn bump_new(&mut self, c: &[Lit], skip: usize, places: &[usize], marks: &[bool]) {
+    pub fn bump_new(&mut self, c: &[Lit], skip: usize, positions: &[usize], marks: &[bool]) {
         for x in c {
-            let q = entry(places, x.var);
+            let q = entry(positions, x.var);
             if q != skip && q < marks.len() && !marks[q] {
                 self.bump(x.var);
             }
         }
     }
 
-    // The steps grow, so that what was bumped long ago counts less.
+    // Decay: later bumps add more, so that earlier conflicts count less.
     pub fn decay(&mut self) {
         let more = self.step / 40;
         self.step = self.step.wrapping_add(more).wrapping_add(1);
     }
 
-    // Whether this conflict goes back to before all decisions.
+    // Whether the search restarts after this conflict.
     pub fn restarts(&mut self) -> bool {
         if self.left == 0 {
             self.round = self.round.wrapping_add(1);
@@ -286,8 +288,8 @@ impl Order {
     // into the heap.
     pub fn keep(&mut self, trail: &Trail, level: usize) -> Result<(), AllocError> {
         self.passed = 0;
-        if level < trail.starts.len() {
-            for p in trail.starts[level]..trail.literals.len() {
+        if level < trail.level_starts.len() {
+            for p in trail.level_starts[level]..trail.literals.len() {
                 let l = trail.literals[p];
                 if l.var < self.phase.len() && !is_on(&self.is_last, l.var) {
                     self.phase[l.var] = l.positive;

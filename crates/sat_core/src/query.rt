@@ -1,3 +1,6 @@
+//! One query: it pays a ticket, searches, and gives the model, or the core with the log that
+//! derives it.
+
 ghost use Rattle.std.specs.Prelude.{◌≡◌, ◌≤◌, ◌-◌, ◌+◌, List, [], ◌∷◌, ◌++◌, false, IfOk, OnOk, OnErr, length, map, eqb, slice_index_or};
 ghost use Rattle.clause_core.specs.declared.literal.Lit.{Lit};
 ghost use Rattle.clause_core.specs.Literals.{Within};
@@ -98,7 +101,7 @@ pub fn log_of<P: Propagator>(alloc: Global, inner: &P, marks: &[bool]) -> Result
     Ok(log)
 }
 
-// The search, and what it means for the clauses that were given and those that were learned.
+// Runs the search; its contract tells given clauses from learned ones.
 fn run<P: Propagator, Q: Purse>(
     alloc: Global,
     inner: &mut P,

@@ -1,3 +1,6 @@
+//! The search: propagate, decide, learn from each conflict and jump back, with restarts (Eén and
+//! Sörensson 2003).
+
 ghost use Rattle.std.specs.Prelude.{Bool, ◌⊎◌, [], ◌≡◌, ◌<◌, ℕ, true, IfOk, OnOk, MatchOption, List, length, take, All, Contains, slice_index};
 ghost use Rattle.clause_core.specs.declared.literal.Lit.{Lit};
 ghost use Rattle.clause_core.specs.Literals.{Within, negate, at};
@@ -15,14 +18,14 @@ use effort_purse::{Draw, Purse};
 use sat_prop::{Propagator, Trail};
 use std::alloc::{AllocError, Global};
 
-// What the assumptions ask for.
+// What the assumptions require next.
 #[derive(Clone, Copy, Drop)]
 pub enum Next {
-    // Nothing more: each is true.
+    // Nothing: all assumptions are true.
     AllTrue,
-    // This one is unset.
+    // This assumption is unset, and is to be decided.
     Decide(Lit),
-    // This one is false.
+    // This assumption is false.
     Fails(Lit),
 }
 
@@ -36,9 +39,9 @@ pub struct Seen {
 // How a search ends.
 #[derive(Drop)]
 pub enum Outcome {
-    // All is set, and nothing is left to do.
+    // Every variable is set, without a conflict: a model.
     Sat,
-    // The clauses and this part of the assumptions propagate to a conflict.
+    // Unit propagation refutes the clauses with this part of the assumptions: a core.
     Unsat(Vec<Lit>),
     Spent { drawn: u64, budget: u64 },
 }
@@ -67,7 +70,7 @@ fn next_of(trail: &Trail, assumptions: &[Lit], seen: &mut Seen) -> Next
     Next::AllTrue
 }
 
-// What is still seen of the assumptions after the trail went back: all that was, or nothing.
+// What is still known of the assumptions after a backjump: all that was, or nothing.
 fn still_seen(trail: &Trail, seen: Seen) -> Seen
     ensures { (before assumptions : List Lit) (n : ℕ) → trail.now.literals.items ≡ take n before → IsSeen before assumptions seen → IsSeen trail.now.literals.items assumptions result }
 {
@@ -111,7 +114,7 @@ fn pick(order: &mut Order, trail: &Trail) -> Option<usize>
     free_var(trail)
 }
 
-// Resolves a clause that is false on the trail back to decisions, which go to the core.
+// Resolves a clause that is false on the trail with reasons until decisions alone are left, which go to the core.
 fn trace<P: Propagator>(
     inner: &P,
     start: &[Lit],
@@ -126,11 +129,11 @@ fn trace<P: Propagator>(
     ensures marks { IfOk result (λ _. MarksFalse (P.trail inner.now).literals.items (P.clauses inner.now) marks.new start.now) }
     ensures done { IfOk result (λ _. (q : ℕ) → Marked marks.new q → Contains core.new.items (at (P.trail inner.now).literals.items q)) }
     ensures kept { IfOk result (λ _. (x : Lit) → Contains core.old.items x → Contains core.new.items x) }
-    ensures parts { IfOk result (λ _. All (λ x. Contains core.old.items x ⊎ Contains (decided (P.trail inner.now).literals.items (P.trail inner.now).starts.items) x) core.new.items) }
+    ensures parts { IfOk result (λ _. All (λ x. Contains core.old.items x ⊎ Contains (decided (P.trail inner.now).literals.items (P.trail inner.now).level_starts.items) x) core.new.items) }
 {
     let trail = inner.assignment();
     let n = trail.literals.len();
-    let _ = mark(start, n, &trail.places, marks, 0, low)?;
+    let _ = mark(start, n, &trail.positions, marks, 0, low)?;
     for p in (0..n).rev() {
         if marks[p] {
             let reasons = trail.reasons[trail.literals[p].var];
@@ -139,18 +142,18 @@ fn trace<P: Propagator>(
             } else {
                 marks[p] = false;
                 let c = inner.clause(reasons - 1);
-                let _ = mark(c, p, &trail.places, marks, 0, low)?;
+                let _ = mark(c, p, &trail.positions, marks, 0, low)?;
             }
         }
     }
     Ok(())
 }
 
-// The assumptions that propagate to make this one false, and it.
+// The core for a false assumption: that one, and the assumptions whose propagation makes it false.
 fn core_of<P: Propagator>(alloc: Global, inner: &P, a: Lit) -> Result<Vec<Lit>, AllocError>
     requires off { among (P.trail inner.now).literals.items (negate a) ≡ true }
     ensures refuted { IfOk result (λ core. Refutes (P.clauses inner.now) core.items) }
-    ensures parts { IfOk result (λ core. All (λ l. (a ≡ l) ⊎ Contains (decided (P.trail inner.now).literals.items (P.trail inner.now).starts.items) l) core.items) }
+    ensures parts { IfOk result (λ core. All (λ l. (a ≡ l) ⊎ Contains (decided (P.trail inner.now).literals.items (P.trail inner.now).level_starts.items) l) core.items) }
 {
     let n = inner.assignment().literals.len();
     let mut low = Vec::new(alloc);
@@ -161,20 +164,20 @@ fn core_of<P: Propagator>(alloc: Global, inner: &P, a: Lit) -> Result<Vec<Lit>, 
     Ok(core)
 }
 
-// Goes back to before all decisions.
+// Restarts: undoes all decisions.
 pub fn restart<P: Propagator>(inner: &mut P, order: &mut Order) -> Result<(), AllocError>
     ensures clauses { P.clauses inner.new ≡ P.clauses inner.old }
-    ensures starts { OnOk result (length (P.trail inner.new).starts.items ≡ 0) }
+    ensures level_starts { OnOk result (length (P.trail inner.new).level_starts.items ≡ 0) }
     ensures vars { length (P.trail inner.new).values.items ≡ length (P.trail inner.old).values.items }
 {
-    if inner.assignment().starts.len() > 0 {
+    if inner.assignment().level_starts.len() > 0 {
         order.keep(inner.assignment(), 0)?;
         inner.undo(0);
     }
     Ok(())
 }
 
-// What is to be done where nothing is left to propagate.
+// After propagation without a conflict: decides an assumption or a variable, or ends the search.
 fn choose<P: Propagator>(
     alloc: Global,
     inner: &mut P,
@@ -186,10 +189,10 @@ fn choose<P: Propagator>(
     requires seen { IsSeen (P.trail inner.old).literals.items assumptions.now seen.old }
     requires rest { AtRest (P.clauses inner.old) (P.trail inner.old).literals.items }
     requires rested { P.rested inner.old }
-    requires levels { PerLevel (Level (P.clauses inner.old) assumptions.now) (P.trail inner.old).literals.items (P.trail inner.old).starts.items }
+    requires levels { PerLevel (Level (P.clauses inner.old) assumptions.now) (P.trail inner.old).literals.items (P.trail inner.old).level_starts.items }
     ensures clauses { P.clauses inner.new ≡ P.clauses inner.old }
     ensures vars { length (P.trail inner.new).values.items ≡ length (P.trail inner.old).values.items }
-    ensures levels { IfOk result (λ _. PerLevel (Level (P.clauses inner.new) assumptions.now) (P.trail inner.new).literals.items (P.trail inner.new).starts.items) }
+    ensures levels { IfOk result (λ _. PerLevel (Level (P.clauses inner.new) assumptions.now) (P.trail inner.new).literals.items (P.trail inner.new).level_starts.items) }
     ensures seen { IfOk result (λ _. IsSeen (P.trail inner.new).literals.items assumptions.now seen.new) }
     ensures says { IfOk result (λ o. MatchOption o (unset (P.trail inner.new).values.items < unset (P.trail inner.old).values.items) (λ e. (budget : ℕ) (over : Bool) → OutcomeSays (length (P.trail inner.old).values.items) assumptions.now budget over (P.clauses inner.new) (P.trail inner.new).literals.items e)) }
 {
@@ -210,9 +213,9 @@ fn choose<P: Propagator>(
     }
 }
 
-// Decides and propagates, learns from each conflict and goes back, until all is set, or an assumption is
-// false, or a conflict comes with no decision. A clause is paid for once it is known from its conflict, and before it is
-// kept; after want of memory the last one may not be.
+// Decides and propagates, learns from each conflict and jumps back. It ends when all variables are set, an assumption is
+// false, or a conflict comes without a decision. A clause is paid for once it is known from its conflict, and before it is
+// kept; if memory runs out, the last one may not be.
 pub fn search<P: Propagator, Q: Purse>(
     alloc: Global,
     inner: &mut P,
@@ -236,15 +239,15 @@ pub fn search<P: Propagator, Q: Purse>(
     'search: loop {
         match inner.propagate()? {
             Some(k) => {
-                if inner.assignment().starts.len() == 0 {
+                if inner.assignment().level_starts.len() == 0 {
                     return Ok(Outcome::Unsat(Vec::new(alloc)));
                 }
                 order.bump_all(inner.clause(k));
-                let lesson = analyze(alloc, inner, k, order)?;
+                let learned = analyze(alloc, inner, k, order)?;
                 if let Draw::Spent { drawn, budget } = purse.draw() {
                     return Ok(Outcome::Spent { drawn, budget });
                 }
-                follow(inner, order, &lesson)?;
+                follow(inner, order, &learned)?;
                 seen = still_seen(inner.assignment(), seen);
             }
             None => {

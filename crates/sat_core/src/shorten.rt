@@ -1,3 +1,5 @@
+//! Minimises a learned clause: drops literals that the others imply (Sörensson and Biere 2009).
+
 ghost use Rattle.std.specs.Prelude.{◌≡◌, ◌<◌, IfOk, IsTrue, length, All, slice_index};
 ghost use Rattle.sat_core.specs.Positions.{OnlyMark};
 ghost use Rattle.sat_core.specs.Searching.{Implied, LowListed, MarksImplied, Recovers};
@@ -5,7 +7,7 @@ ghost use Rattle.sat_core.specs.Searching.{Implied, LowListed, MarksImplied, Rec
 use sat_prop::Propagator;
 use std::alloc::{AllocError, Global};
 
-// How many reasons are followed, one from another.
+// The greatest depth to which reasons are followed.
 const DEPTH: usize = 32;
 
 // Whether the literal at q is implied by marked ones: it stands before all decisions, or a clause forced it whose
@@ -31,7 +33,7 @@ fn is_implied<P: Propagator>(
         return false;
     }
     for x in inner.clause(reason - 1) {
-        let r = trail.places[x.var];
+        let r = trail.positions[x.var];
         if r != q && !marks[r] {
             if !is_implied(inner, marks, first, r, depth - 1) {
                 return false;
@@ -42,7 +44,7 @@ fn is_implied<P: Propagator>(
     true
 }
 
-// The places of low whose literals are not implied by the others and by that at p (Sörensson, Biere 2009).
+// The positions in `low` whose literals the others and the literal at p do not imply (Sörensson, Biere 2009).
 pub fn shorten<P: Propagator>(
     alloc: Global,
     inner: &P,
@@ -51,7 +53,7 @@ pub fn shorten<P: Propagator>(
     marks: &mut [bool],
     low: &[usize],
 ) -> Result<Vec<usize>, AllocError>
-    requires level { 0 < length (P.trail inner.now).starts.items }
+    requires level { 0 < length (P.trail inner.now).level_starts.items }
     requires floor_in { floor < length (P.trail inner.now).literals.items }
     requires marks_len { length marks.old ≡ length (P.trail inner.now).literals.items }
     requires only { OnlyMark marks.old floor p }
@@ -59,7 +61,7 @@ pub fn shorten<P: Propagator>(
     ensures below { IfOk result (λ kept. All (λ q. q < floor) kept.items) }
     ensures recovers { IfOk result (λ kept. Recovers (P.trail inner.now).literals.items (P.clauses inner.now) marks.old p kept.items) }
 {
-    let first = inner.assignment().starts[0];
+    let first = inner.assignment().level_starts[0];
     let mut kept = Vec::new(alloc);
     'low: for x in low {
         if !is_implied(inner, marks, first, *x, DEPTH) {

@@ -1,3 +1,6 @@
+//! A solver with conflict-driven clause learning that answers queries under assumptions (Eén and
+//! Sörensson 2003).
+
 ghost use Rattle.std.specs.Prelude.{◌≡◌, ◌-◌, ◌++◌, [], ◌∷◌, IfOk, OnOk, OnErr, All, length};
 ghost use Rattle.clause_core.specs.Literals.{Within};
 ghost use Rattle.sat_core.specs.Queries.{State, Learns, IsSound, AnswerSays, IsPaid, log_of};
@@ -12,7 +15,7 @@ use sat_prop::Propagator;
 use std::alloc::{AllocError, Global};
 use std::marker::Model;
 
-/// Clauses, and what was learned of them: it answers whether an assignment makes them true.
+/// Clauses, given and learned: it answers whether an assignment satisfies them.
 ///
 /// It learns a clause from each conflict, at the first unique implication point, and goes back as far as
 /// that clause allows (Marques-Silva, Sakallah 1996; Moskewicz and others 2001). Contracts see the number
@@ -20,7 +23,7 @@ use std::marker::Model;
 #[derive(Drop)]
 pub struct Solver<P: Propagator + Drop> {
     inner: P,
-    // Which of the clauses were given; those past the end were learned.
+    // For each clause whether it was given; clauses past the end were learned.
     marks: Vec<bool>,
     // How many were given.
     given: usize,
@@ -41,7 +44,7 @@ impl<P: Propagator + Drop> Model for Solver<P> {
 
 impl<P: Propagator + Drop> Solver<P> {
     /// A solver over `vars` variables, with no clauses. Where so many variables can't be numbered, it
-    /// answers want of memory.
+    /// reports out of memory.
     pub fn new(alloc: Global, vars: usize) -> Result<Solver<P>, AllocError>
         ensures { IfOk result (λ s. s ≡ record { vars = vars; given = []; learned = [] }) }
     {
@@ -78,7 +81,7 @@ impl<P: Propagator + Drop> Solver<P> {
         self.inner.assignment().values.as_slice().len()
     }
 
-    /// Adds a clause. After want of memory all is as before.
+    /// Adds a clause. If memory runs out, all is as before.
     pub fn add(&mut self, c: &Clause) -> Result<(), AllocError>
         requires { Within self.old.vars c.now }
         ensures done { OnOk result (self.new ≡ record self.old { given = self.old.given ++ c.now ∷ [] }) }
@@ -87,7 +90,7 @@ impl<P: Propagator + Drop> Solver<P> {
         self.push(c.as_slice())
     }
 
-    /// Adds the clause of these literals. After want of memory all is as before.
+    /// Adds the clause of these literals. If memory runs out, all is as before.
     pub fn push(&mut self, c: &[Lit]) -> Result<(), AllocError>
         requires { Within self.old.vars c.now }
         ensures done { OnOk result (self.new ≡ record self.old { given = self.old.given ++ c.now ∷ [] }) }
@@ -136,9 +139,9 @@ impl<P: Propagator + Drop> Solver<P> {
     /// Whether the clauses and the assumptions can all be true.
     ///
     /// It draws one ticket for the query and one for each clause that it learns; `Spent` comes only where the
-    /// purse refused one. After each answer, and after want of memory too, the given clauses are as before
+    /// purse refused one. After each answer, and if memory runs out too, the given clauses are as before
     /// and the learned ones follow from them; and the tickets that were drawn are those of at most one query. A clause is
-    /// paid for when it is known from its conflict: after want of memory the last one may not be kept.
+    /// paid for when it is known from its conflict: if memory runs out, the last one may not be kept.
     pub fn solve<Q: Purse>(
         &mut self,
         alloc: Global,

@@ -17,7 +17,7 @@ use Rattle.sat_prop.proofs.Covering.{uncovered_before}
 use Rattle.sat_prop.proofs.Queues.{take_in}
 use Rattle.sat_prop.proofs.Watching.{watch_grows, list_at}
 use Rattle.sat_prop.proofs.Visits.{cell_in, cell_now, listed_push}
-use Rattle.sat_prop.specs.declared.lists.Entry.{Entry}
+use Rattle.sat_prop.specs.declared.lists.Watcher.{Watcher}
 use Rattle.sat_prop.specs.Entries.{AllEntries, fits, listed_with, numbers, numbers_of}
 use Rattle.sat_prop.proofs.Listing.{entries_both, entries_more, fits_new, length_both, numbers_push}
 
@@ -64,13 +64,13 @@ listed_new lists n k lt =
     let Q : List ℕ → Type 0 = λ v. list_any (λ y. eqb y k) v ≡ true in
     subst Q (sym (cell_now lists n (xs ++ k ∷ []) lt)) (list_at (xs ++ k ∷ []) k (length xs) (omega (arith, length-append xs (k ∷ []))) (get_or-append_seam xs k [] 0))
 
-pub listed_both : (lists new : List (List Entry)) (h : Watches) (k : ℕ) → cell h.a < length lists → cell h.b < length lists → new ≡ listed_with lists h k →
+pub listed_both : (lists new : List (List Watcher)) (h : Watches) (k : ℕ) → cell h.a < length lists → cell h.b < length lists → new ≡ listed_with lists h k →
     ListsMore (numbers_of lists) (numbers_of new) × (Listed (numbers_of new) (cell h.a) k × Listed (numbers_of new) (cell h.b) k)
 listed_both lists new h k la lb same =
     let a = cell h.a in
     let b = cell h.b in
-    let one : Entry = record { clause = k; other = h.b } in
-    let two : Entry = record { clause = k; other = h.a } in
+    let one : Watcher = record { clause = k; blocker = h.b } in
+    let two : Watcher = record { clause = k; blocker = h.a } in
     let first = set lists a (get_or lists a [] ++ one ∷ []) in
     let N = numbers_of lists in
     let M = numbers_of first in
@@ -85,30 +85,30 @@ listed_both lists new h k la lb same =
     (λ n j l. on n j (up n j l), (on a k (subst P (sym em) (listed_new N a k na)), subst Q (sym en) (listed_new M b k mb)))
 
 -- the lists after a clause was put where it is to be found
-pub enlisted : (lists new : List (List Entry)) (short : List ℕ) (h : Watches) (k : ℕ) → (is_literal h.a h.b ≡ false → cell h.a < length lists) → (is_literal h.a h.b ≡ false → cell h.b < length lists) →
+pub enlisted : (lists new : List (List Watcher)) (short : List ℕ) (h : Watches) (k : ℕ) → (is_literal h.a h.b ≡ false → cell h.a < length lists) → (is_literal h.a h.b ≡ false → cell h.b < length lists) →
     (is_literal h.a h.b ≡ true → new ≡ lists) → (HasTwo h → new ≡ listed_with lists h k) → (is_literal h.a h.b ≡ true → InShort short k) →
     ListsMore (numbers_of lists) (numbers_of new) × Enlisted (numbers_of new) short h k
 enlisted lists new short h k la lb same both in_short = (
   elim (cases_Bool (is_literal h.a h.b)) [
-    | inl on ↦ λ n j l. let P : List (List Entry) → Type 0 = λ v. Listed (numbers_of v) n j in subst P (sym (same on)) l
+    | inl on ↦ λ n j l. let P : List (List Watcher) → Type 0 = λ v. Listed (numbers_of v) n j in subst P (sym (same on)) l
     | inr off ↦ (listed_both lists new h k (la off) (lb off) (both off)).0
   ],
   (λ off. (listed_both lists new h k (la off) (lb off) (both off)).1, in_short),
 )
 
 -- the entries after a clause was put where it is to be found
-pub entries_new : (cs : List (List Lit)) (c : List Lit) (lists new : List (List Entry)) (h : Watches) → (is_literal h.a h.b ≡ false → cell h.a < length lists) → (is_literal h.a h.b ≡ false → cell h.b < length lists) →
+pub entries_new : (cs : List (List Lit)) (c : List Lit) (lists new : List (List Watcher)) (h : Watches) → (is_literal h.a h.b ≡ false → cell h.a < length lists) → (is_literal h.a h.b ≡ false → cell h.b < length lists) →
     (is_literal h.a h.b ≡ true → new ≡ lists) → (HasTwo h → new ≡ listed_with lists h (length cs)) → (HasTwo h → WatchesIn h c) → AllEntries (fits cs) lists →
     AllEntries (fits (cs ++ c ∷ [])) new
 entries_new cs c lists new h la lb same both two fit =
     let more : AllEntries (fits (cs ++ c ∷ [])) lists = entries_more cs (c ∷ []) lists fit in
-    let P : List (List Entry) → Type 0 = AllEntries (fits (cs ++ c ∷ [])) in
+    let P : List (List Watcher) → Type 0 = AllEntries (fits (cs ++ c ∷ [])) in
     elim (cases_Bool (is_literal h.a h.b)) [
       | inl on ↦ subst P (sym (same on)) more
       | inr off ↦ entries_both (fits (cs ++ c ∷ [])) lists new h (length cs) (la off) (lb off) (both off) more (fits_new cs c h.b (two off).1) (fits_new cs c h.a (two off).0)
     ]
 
-pub enlisted_length : (lists new : List (List Entry)) (h : Watches) (k : ℕ) → (is_literal h.a h.b ≡ true → new ≡ lists) → (HasTwo h → new ≡ listed_with lists h k) → length new ≡ length lists
+pub enlisted_length : (lists new : List (List Watcher)) (h : Watches) (k : ℕ) → (is_literal h.a h.b ≡ true → new ≡ lists) → (HasTwo h → new ≡ listed_with lists h k) → length new ≡ length lists
 enlisted_length lists new h k same both =
     elim (cases_Bool (is_literal h.a h.b)) [
       | inl on ↦ ap length (same on)
@@ -116,8 +116,8 @@ enlisted_length lists new h k same both =
     ]
 
 -- what was put into the lists is taken out again
-pub delisted : (lists mid last : List (List Entry)) (h : Watches) (k : ℕ) → (is_literal h.a h.b ≡ true → mid ≡ lists) → (HasTwo h → mid ≡ listed_with lists h k) →
-    (is_literal h.a h.b ≡ true → last ≡ mid) → (HasTwo h → (before : List (List Entry)) (j : ℕ) → length before ≡ length mid → mid ≡ listed_with before h j → last ≡ before) → last ≡ lists
+pub delisted : (lists mid last : List (List Watcher)) (h : Watches) (k : ℕ) → (is_literal h.a h.b ≡ true → mid ≡ lists) → (HasTwo h → mid ≡ listed_with lists h k) →
+    (is_literal h.a h.b ≡ true → last ≡ mid) → (HasTwo h → (before : List (List Watcher)) (j : ℕ) → length before ≡ length mid → mid ≡ listed_with before h j → last ≡ before) → last ≡ lists
 delisted lists mid last h k same both kept back =
     elim (cases_Bool (is_literal h.a h.b)) [
       | inl on ↦ kept on ∙ same on
@@ -137,10 +137,10 @@ pub watch_new : (cs : List (List Lit)) (watches : List Watches) (c : List Lit) (
 watch_new cs watches c h s u len fa fb old =
     per_new (λ k x y. HasTwo x → Guarded s u x y) cs watches c h len old (λ two. (λ on. absurd (both_ways _ (fa two) on), λ on. absurd (both_ways _ (fb two) on)))
 
-pub levels_new : (cs : List (List Lit)) (watches : List Watches) (c : List Lit) (w : ℕ) (h : Watches) (literals : List Lit) (starts : List ℕ) → length watches ≡ length cs → WatchesSay c w h →
-    Watchable literals starts c w → LevelsGuarded cs watches literals starts → LevelsGuarded (cs ++ c ∷ []) (watches ++ h ∷ []) literals starts
-levels_new cs watches c w h literals starts len said can old i li =
-    let s = take (get_or starts i 0) literals in
+pub levels_new : (cs : List (List Lit)) (watches : List Watches) (c : List Lit) (w : ℕ) (h : Watches) (literals : List Lit) (level_starts : List ℕ) → length watches ≡ length cs → WatchesSay c w h →
+    Watchable literals level_starts c w → LevelsGuarded cs watches literals level_starts → LevelsGuarded (cs ++ c ∷ []) (watches ++ h ∷ []) literals level_starts
+levels_new cs watches c w h literals level_starts len said can old i li =
+    let s = take (get_or level_starts i 0) literals in
     let f = can i li in
     let o = old i li in
     let e = said.2 f.0 f.1 in
@@ -155,12 +155,12 @@ levels_new cs watches c w h literals starts len said can old i li =
     )
 
 -- a literal that stands negated at its place is not false before it
-pub not_before : (t : Trail) (l : Lit) (n : ℕ) → n ≤ length t.literals.items → n ≤ get_or t.places.items l.var 0 → among (take n t.literals.items) (negate l) ≡ false
+pub not_before : (t : Trail) (l : Lit) (n : ℕ) → n ≤ length t.literals.items → n ≤ get_or t.positions.items l.var 0 → among (take n t.literals.items) (negate l) ≡ false
 not_before t l n le below =
     elim (cases_Bool (among (take n t.literals.items) (negate l))) [
       | inl on ↦
           let h = among_take_where t.literals.items n (negate l) le on in
-          let here : get_or t.places.items l.var 0 ≡ h.0 = ap (λ (m : Lit). get_or t.places.items m.var 0) (sym h.2) ∙ t.placed h.0 (omega (arith, h.1, le)) in
+          let here : get_or t.positions.items l.var 0 ≡ h.0 = ap (λ (m : Lit). get_or t.positions.items m.var 0) (sym h.2) ∙ t.placed h.0 (omega (arith, h.1, le)) in
           absurd (omega (arith, h.1, here, below))
       | inr off ↦ off
     ]
@@ -193,24 +193,24 @@ queue_less cs watches tr m n le ln ok k lk two =
 
 -- a decision: what was at rest is a boundary
 pub levels_decide : (cs : List (List Lit)) (watches : List Watches) (t : Trail) (l : Lit) → AllGuarded cs watches t.literals.items t.literals.items → ShortTrue cs watches t.literals.items →
-    LevelsGuarded cs watches t.literals.items t.starts.items → LevelsGuarded cs watches (t.literals.items ++ l ∷ []) (t.starts.items ++ length t.literals.items ∷ [])
+    LevelsGuarded cs watches t.literals.items t.level_starts.items → LevelsGuarded cs watches (t.literals.items ++ l ∷ []) (t.level_starts.items ++ length t.literals.items ∷ [])
 levels_decide cs watches t l watch short levels i li =
     let literals = t.literals.items in
-    let starts = t.starts.items in
+    let level_starts = t.level_starts.items in
     let n = length literals in
     let Q : List Lit → Type 0 = λ x. AllGuarded cs watches x x × ShortTrue cs watches x in
     let R : ℕ → Type 0 = λ s. Q (take s (literals ++ l ∷ [])) in
-    elim (cases_lt i (length starts)) [
+    elim (cases_lt i (length level_starts)) [
       | inl lt ↦
-          let s = get_or starts i 0 in
+          let s = get_or level_starts i 0 in
           let le : s ≤ length literals = omega (arith, t.in_trail i lt) in
-          let e : get_or (starts ++ n ∷ []) i 0 ≡ s = get_or_append_left starts (n ∷ []) 0 i lt in
+          let e : get_or (level_starts ++ n ∷ []) i 0 ≡ s = get_or_append_left level_starts (n ∷ []) 0 i lt in
           let f : take s (literals ++ l ∷ []) ≡ take s literals = take-append-le s literals (l ∷ []) le in
           let here : R s = subst Q (sym f) (levels i lt) in
           subst R (sym e) here
       | inr ge ↦
-          let last : i ≡ length starts = omega (arith, li, ge, length-append starts (n ∷ [])) in
-          let e : get_or (starts ++ n ∷ []) i 0 ≡ n = rw last (get_or-append_seam starts n [] 0) in
+          let last : i ≡ length level_starts = omega (arith, li, ge, length-append level_starts (n ∷ [])) in
+          let e : get_or (level_starts ++ n ∷ []) i 0 ≡ n = rw last (get_or-append_seam level_starts n [] 0) in
           let f : take n (literals ++ l ∷ []) ≡ literals = take-append-le n literals (l ∷ []) (omega arith) ∙ take_all n literals (omega arith) in
           let now : Q literals = (watch, short) in
           let here : R n = subst Q (sym f) now in
@@ -218,15 +218,15 @@ levels_decide cs watches t l watch short levels i li =
     ]
 
 -- going back to before the decision of a level
-pub levels_back : (cs : List (List Lit)) (watches : List Watches) (t : Trail) (k : ℕ) → k < length t.starts.items → LevelsGuarded cs watches t.literals.items t.starts.items →
-    LevelsGuarded cs watches (take (get_or t.starts.items k 0) t.literals.items) (take k t.starts.items)
+pub levels_back : (cs : List (List Lit)) (watches : List Watches) (t : Trail) (k : ℕ) → k < length t.level_starts.items → LevelsGuarded cs watches t.literals.items t.level_starts.items →
+    LevelsGuarded cs watches (take (get_or t.level_starts.items k 0) t.literals.items) (take k t.level_starts.items)
 levels_back cs watches t k lk levels i li =
     let literals = t.literals.items in
-    let starts = t.starts.items in
-    let b = get_or starts k 0 in
-    let lik : i < k = omega (arith, li, length-take k starts) in
-    let s = get_or starts i 0 in
-    let e : get_or (take k starts) i 0 ≡ s = get_or-take k starts i 0 lik in
+    let level_starts = t.level_starts.items in
+    let b = get_or level_starts k 0 in
+    let lik : i < k = omega (arith, li, length-take k level_starts) in
+    let s = get_or level_starts i 0 in
+    let e : get_or (take k level_starts) i 0 ≡ s = get_or-take k level_starts i 0 lik in
     let lt : s < b = t.rising i k lik lk in
     let f : take s (take b literals) ≡ take s literals = take-take s b literals (omega (arith, lt)) in
     let Q : List Lit → Type 0 = λ x. AllGuarded cs watches x x × ShortTrue cs watches x in
@@ -234,8 +234,8 @@ levels_back cs watches t k lk levels i li =
     let here : R s = subst Q (sym f) (levels i (omega (arith, lik, lk))) in
     subst R (sym e) here
 
-pub queue_back : (cs : List (List Lit)) (watches : List Watches) (t : Trail) (k : ℕ) → k < length t.starts.items → LevelsGuarded cs watches t.literals.items t.starts.items →
-    (literals' : List Lit) → literals' ≡ take (get_or t.starts.items k 0) t.literals.items → (n : ℕ) → n ≡ length literals' → AllGuarded cs watches (take n literals') literals'
+pub queue_back : (cs : List (List Lit)) (watches : List Watches) (t : Trail) (k : ℕ) → k < length t.level_starts.items → LevelsGuarded cs watches t.literals.items t.level_starts.items →
+    (literals' : List Lit) → literals' ≡ take (get_or t.level_starts.items k 0) t.literals.items → (n : ℕ) → n ≡ length literals' → AllGuarded cs watches (take n literals') literals'
 queue_back cs watches t k lk levels literals' e n en =
     let Q : List Lit → Type 0 = λ x. AllGuarded cs watches x x in
     let here : Q literals' = subst Q (sym e) (levels k lk).0 in

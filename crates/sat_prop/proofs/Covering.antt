@@ -180,10 +180,10 @@ retired_true cs old new u r ok k =
     per_retired cs old new (λ j h. j < length cs → is_literal h.a h.b ≡ true → is_covered cs j ≡ false → TrueIn u (get_or cs j [])) r
     (λ j h _ on lj _ off. absurd (both_ways _ off on)) ok k
 
-pub retired_levels : (cs old new : List (List Lit)) (literals : List Lit) (starts : List ℕ) → Retired cs old new → LevelsGuarded cs (pairs old) literals starts →
-    LevelsGuarded cs (pairs new) literals starts
-retired_levels cs old new literals starts r ok i li =
-    let low = take (get_or starts i 0) literals in
+pub retired_levels : (cs old new : List (List Lit)) (literals : List Lit) (level_starts : List ℕ) → Retired cs old new → LevelsGuarded cs (pairs old) literals level_starts →
+    LevelsGuarded cs (pairs new) literals level_starts
+retired_levels cs old new literals level_starts r ok i li =
+    let low = take (get_or level_starts i 0) literals in
     let o = ok i li in
     (retired_guarded cs old new low low r o.0, retired_true cs old new low r o.1)
 

@@ -59,18 +59,18 @@ small_ok_heads cs h h' short two_kept s k lk e off = s k lk (small_back h h' k t
 
 -- the clauses stay guarded before each decision
 pub levels_kept : (cs : List (List Lit)) (h h' : List Watches) (t t' : Trail) → Extends t t' → Kept cs h h' t.literals.items → KeepsTwo h h' →
-    LevelsGuarded cs h t.literals.items t.starts.items → LevelsGuarded cs h' t'.literals.items t'.starts.items
+    LevelsGuarded cs h t.literals.items t.level_starts.items → LevelsGuarded cs h' t'.literals.items t'.level_starts.items
 levels_kept cs h h' t t' w kept two_kept levels =
     let P : List ℕ → Type 0 = λ xs. LevelsGuarded cs h' t'.literals.items xs in
-    let here : P t.starts.items = λ i li.
-    let s = get_or t.starts.items i 0 in
+    let here : P t.level_starts.items = λ i li.
+    let s = get_or t.level_starts.items i 0 in
     let le : s ≤ length t.literals.items = omega (arith, t.in_trail i li) in
     let low = take s t.literals.items in
     let old = levels i li in
     let Q : List Lit → Type 0 = λ x. AllGuarded cs h' x x × ShortTrue cs h' x in
     let now : Q low = (kept low low (λ l on. take_in t.literals.items s l le on) old.0, small_true_heads cs h h' low two_kept old.1) in
     subst Q (sym (prefix_take t t' s w le)) now in
-    subst P (sym w.starts) here
+    subst P (sym w.level_starts) here
 
 -- a clause of one literal that is settled has it
 pub one_at : (c : List Lit) (j : ℕ) → HasOneLiteral c → j < length c → at c j ≡ at c 0
@@ -91,7 +91,7 @@ went_at old new q w lt = sym (at_take new.literals.items (length old.literals.it
 pub all_apart : (t : Trail) → (l : Lit) → among t.literals.items l ≡ true → among t.literals.items (negate l) ≡ true → ⊥
 all_apart t l a b =
     let P : List Lit → Type 0 = λ x. among x l ≡ true → among x (negate l) ≡ true → ⊥ in
-    subst P (take_all (length t.literals.items) t.literals.items (omega arith)) (λ x y. among_one_side t.literals.items t.places.items (length t.literals.items) l t.placed (omega arith) x y) a b
+    subst P (take_all (length t.literals.items) t.literals.items (omega arith)) (λ x y. among_one_side t.literals.items t.positions.items (length t.literals.items) l t.placed (omega arith) x y) a b
 
 pub small_done : (cs : List (List Lit)) (watches : List Watches) (short : List ℕ) (u : List Lit) → ShortListed cs watches short →
     ((j : ℕ) → j < length short → ShortDone cs u (get_or short j 0)) → ShortTrue cs watches u
@@ -101,10 +101,10 @@ small_done cs watches short u ok done k lk e off =
     let P : ℕ → Type 0 = ShortDone cs u in
     subst P w.2 (done w.0 w.1) lk f.0
 
-pub small_level : (cs : List (List Lit)) (watches : List Watches) (t : Trail) → (length t.starts.items ≡ 0 → ⊥) → LevelsGuarded cs watches t.literals.items t.starts.items → ShortTrue cs watches t.literals.items
+pub small_level : (cs : List (List Lit)) (watches : List Watches) (t : Trail) → (length t.level_starts.items ≡ 0 → ⊥) → LevelsGuarded cs watches t.literals.items t.level_starts.items → ShortTrue cs watches t.literals.items
 small_level cs watches t some levels =
-    let l0 : 0 < length t.starts.items = omega (arith, some) in
-    let s = get_or t.starts.items 0 0 in
+    let l0 : 0 < length t.level_starts.items = omega (arith, some) in
+    let s = get_or t.level_starts.items 0 0 in
     let le : s ≤ length t.literals.items = omega (arith, t.in_trail 0 l0) in
     small_grows cs watches (take s t.literals.items) t.literals.items (λ l on. take_in t.literals.items s l le on) (levels 0 l0).1
 
@@ -113,7 +113,7 @@ pub queue_went : (cs : List (List Lit)) (h : List Watches) (t t' : Trail) (n : �
 queue_went cs h t t' n le w ok = queue_kept cs h h t t' n le w (λ s u part old. old) ok
 
 pub levels_went : (cs : List (List Lit)) (h : List Watches) (t t' : Trail) → Extends t t' →
-    LevelsGuarded cs h t.literals.items t.starts.items → LevelsGuarded cs h t'.literals.items t'.starts.items
+    LevelsGuarded cs h t.literals.items t.level_starts.items → LevelsGuarded cs h t'.literals.items t'.level_starts.items
 levels_went cs h t t' w levels = levels_kept cs h h t t' w (λ s u part old. old) (λ k big. big) levels
 
 -- all is at rest

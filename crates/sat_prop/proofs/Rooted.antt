@@ -13,70 +13,70 @@ use Rattle.sat_prop.proofs.Visits.{went_grows}
 use Rattle.sat_prop.proofs.Queues.{prefix_take}
 
 -- with no decision it is the whole trail
-pub root_whole : (literals : List Lit) (starts : List ℕ) → length starts ≡ 0 → root literals starts ≡ literals
-root_whole literals starts none =
-    ap (λ n. take n literals) (get_or_past starts 0 (length literals) (omega (arith, none))) ∙ take_all (length literals) literals (omega arith)
+pub root_whole : (literals : List Lit) (level_starts : List ℕ) → length level_starts ≡ 0 → root literals level_starts ≡ literals
+root_whole literals level_starts none =
+    ap (λ n. take n literals) (get_or_past level_starts 0 (length literals) (omega (arith, none))) ∙ take_all (length literals) literals (omega arith)
 
 -- else what stands before the first decision
-pub root_first : (literals : List Lit) (starts : List ℕ) → 0 < length starts → root literals starts ≡ take (get_or starts 0 0) literals
-root_first literals starts some = ap (λ n. take n literals) (get_or_default starts 0 (length literals) 0 some)
+pub root_first : (literals : List Lit) (level_starts : List ℕ) → 0 < length level_starts → root literals level_starts ≡ take (get_or level_starts 0 0) literals
+root_first literals level_starts some = ap (λ n. take n literals) (get_or_default level_starts 0 (length literals) 0 some)
 
-pub root_went : (t t' : Trail) → Extends t t' → (l : Lit) → among (root t.literals.items t.starts.items) l ≡ true → among (root t'.literals.items t'.starts.items) l ≡ true
+pub root_went : (t t' : Trail) → Extends t t' → (l : Lit) → among (root t.literals.items t.level_starts.items) l ≡ true → among (root t'.literals.items t'.level_starts.items) l ≡ true
 root_went t t' w l on =
     let tr = t.literals.items in
     let tr' = t'.literals.items in
     let P : List ℕ → Type 0 = λ xs. among (root tr' xs) l ≡ true in
-    subst P (sym w.starts) (elim (cases_lt 0 (length t.starts.items)) [
+    subst P (sym w.level_starts) (elim (cases_lt 0 (length t.level_starts.items)) [
       | inl some ↦
-          let s = get_or t.starts.items 0 0 in
+          let s = get_or t.level_starts.items 0 0 in
           let le : s ≤ length tr = omega (arith, t.in_trail 0 some) in
-          let e : root tr' t.starts.items ≡ root tr t.starts.items = root_first tr' t.starts.items some ∙ prefix_take t t' s w le ∙ sym (root_first tr t.starts.items some) in
+          let e : root tr' t.level_starts.items ≡ root tr t.level_starts.items = root_first tr' t.level_starts.items some ∙ prefix_take t t' s w le ∙ sym (root_first tr t.level_starts.items some) in
           ap (λ xs. among xs l) e ∙ on
       | inr none ↦
-          let z : length t.starts.items ≡ 0 = omega (arith, none) in
-          let here : among tr l ≡ true = ap (λ xs. among xs l) (sym (root_whole tr t.starts.items z)) ∙ on in
-          ap (λ xs. among xs l) (root_whole tr' t.starts.items z) ∙ went_grows t t' w l here
+          let z : length t.level_starts.items ≡ 0 = omega (arith, none) in
+          let here : among tr l ≡ true = ap (λ xs. among xs l) (sym (root_whole tr t.level_starts.items z)) ∙ on in
+          ap (λ xs. among xs l) (root_whole tr' t.level_starts.items z) ∙ went_grows t t' w l here
     ])
 
-first_pushed : (starts : List ℕ) (n : ℕ) → length starts ≡ 0 → get_or (starts ++ n ∷ []) 0 0 ≡ n
+first_pushed : (level_starts : List ℕ) (n : ℕ) → length level_starts ≡ 0 → get_or (level_starts ++ n ∷ []) 0 0 ≡ n
 first_pushed [] n e = refl
-first_pushed (s ∷ starts) n e = absurd (omega (arith, e))
+first_pushed (s ∷ level_starts) n e = absurd (omega (arith, e))
 
-pub root_decide : (t : Trail) (l : Lit) → root (t.literals.items ++ l ∷ []) (t.starts.items ++ length t.literals.items ∷ []) ≡ root t.literals.items t.starts.items
+pub root_decide : (t : Trail) (l : Lit) → root (t.literals.items ++ l ∷ []) (t.level_starts.items ++ length t.literals.items ∷ []) ≡ root t.literals.items t.level_starts.items
 root_decide t l =
     let tr = t.literals.items in
-    let starts = t.starts.items in
-    let more = starts ++ length tr ∷ [] in
-    let some : 0 < length more = omega (arith, length-append starts (length tr ∷ [])) in
-    elim (cases_lt 0 (length starts)) [
+    let level_starts = t.level_starts.items in
+    let more = level_starts ++ length tr ∷ [] in
+    let some : 0 < length more = omega (arith, length-append level_starts (length tr ∷ [])) in
+    elim (cases_lt 0 (length level_starts)) [
       | inl has ↦
-          let s = get_or starts 0 0 in
+          let s = get_or level_starts 0 0 in
           let le : s ≤ length tr = omega (arith, t.in_trail 0 has) in
-          root_first (tr ++ l ∷ []) more some ∙ ap (λ n. take n (tr ++ l ∷ [])) (get_or_append_left starts (length tr ∷ []) 0 0 has) ∙ take-append-le s tr (l ∷ []) le
-          ∙ sym (root_first tr starts has)
+          root_first (tr ++ l ∷ []) more some ∙ ap (λ n. take n (tr ++ l ∷ [])) (get_or_append_left level_starts (length tr ∷ []) 0 0 has) ∙ take-append-le s tr (l ∷ []) le
+          ∙ sym (root_first tr level_starts has)
       | inr none ↦
-          let z : length starts ≡ 0 = omega (arith, none) in
-          root_first (tr ++ l ∷ []) more some ∙ ap (λ n. take n (tr ++ l ∷ [])) (first_pushed starts (length tr) z) ∙ take-append-le (length tr) tr (l ∷ []) (omega arith)
-          ∙ take_all (length tr) tr (omega arith) ∙ sym (root_whole tr starts z)
+          let z : length level_starts ≡ 0 = omega (arith, none) in
+          root_first (tr ++ l ∷ []) more some ∙ ap (λ n. take n (tr ++ l ∷ [])) (first_pushed level_starts (length tr) z) ∙ take-append-le (length tr) tr (l ∷ []) (omega arith)
+          ∙ take_all (length tr) tr (omega arith) ∙ sym (root_whole tr level_starts z)
     ]
 
-pub root_undo : (t : Trail) (level : ℕ) → level < length t.starts.items →
-    root (take (get_or t.starts.items level 0) t.literals.items) (take level t.starts.items) ≡ root t.literals.items t.starts.items
+pub root_undo : (t : Trail) (level : ℕ) → level < length t.level_starts.items →
+    root (take (get_or t.level_starts.items level 0) t.literals.items) (take level t.level_starts.items) ≡ root t.literals.items t.level_starts.items
 root_undo t level lt =
     let tr = t.literals.items in
-    let starts = t.starts.items in
-    let n = get_or starts level 0 in
-    let has : 0 < length starts = omega (arith, lt) in
-    let len : length (take level starts) ≡ level = length-take-le level starts (omega (arith, lt)) in
+    let level_starts = t.level_starts.items in
+    let n = get_or level_starts level 0 in
+    let has : 0 < length level_starts = omega (arith, lt) in
+    let len : length (take level level_starts) ≡ level = length-take-le level level_starts (omega (arith, lt)) in
     elim (cases_eq level 0) [
       | inl zero ↦
-          root_whole (take n tr) (take level starts) (omega (arith, len, zero)) ∙ ap (λ k. take (get_or starts k 0) tr) zero ∙ sym (root_first tr starts has)
+          root_whole (take n tr) (take level level_starts) (omega (arith, len, zero)) ∙ ap (λ k. take (get_or level_starts k 0) tr) zero ∙ sym (root_first tr level_starts has)
       | inr ne ↦
           let up : 0 < level = omega (arith, ne) in
-          let s = get_or starts 0 0 in
+          let s = get_or level_starts 0 0 in
           let below : s < n = t.rising 0 level up lt in
-          root_first (take n tr) (take level starts) (omega (arith, len, up)) ∙ ap (λ k. take k (take n tr)) (get_or-take level starts 0 0 up)
-          ∙ take-take s n tr (omega (arith, below)) ∙ sym (root_first tr starts has)
+          root_first (take n tr) (take level level_starts) (omega (arith, len, up)) ∙ ap (λ k. take k (take n tr)) (get_or-take level level_starts 0 0 up)
+          ∙ take-take s n tr (omega (arith, below)) ∙ sym (root_first tr level_starts has)
     ]
 
 -- more literals are true
@@ -119,33 +119,33 @@ swept_same cs cs' short short' n u same e h =
     subst P (append-nil cs ∙ sym same) (swept_added cs [] short short' n u e h)
 
 -- a decision, and what is taken back
-pub swept_decide : (cs : List (List Lit)) (short : List ℕ) (n : ℕ) (t : Trail) (l : Lit) (literals : List Lit) (starts : List ℕ) →
-    literals ≡ t.literals.items ++ l ∷ [] → starts ≡ t.starts.items ++ length t.literals.items ∷ [] →
-    ShortSwept cs short n (root t.literals.items t.starts.items) → ShortSwept cs short n (root literals starts)
-swept_decide cs short n t l literals starts el es h =
+pub swept_decide : (cs : List (List Lit)) (short : List ℕ) (n : ℕ) (t : Trail) (l : Lit) (literals : List Lit) (level_starts : List ℕ) →
+    literals ≡ t.literals.items ++ l ∷ [] → level_starts ≡ t.level_starts.items ++ length t.literals.items ∷ [] →
+    ShortSwept cs short n (root t.literals.items t.level_starts.items) → ShortSwept cs short n (root literals level_starts)
+swept_decide cs short n t l literals level_starts el es h =
     let P : List Lit → Type 0 = ShortSwept cs short n in
-    subst P (sym (ap (λ xs. root xs starts) el ∙ ap (λ ys. root (t.literals.items ++ l ∷ []) ys) es ∙ root_decide t l)) h
+    subst P (sym (ap (λ xs. root xs level_starts) el ∙ ap (λ ys. root (t.literals.items ++ l ∷ []) ys) es ∙ root_decide t l)) h
 
-pub swept_undo : (cs : List (List Lit)) (short : List ℕ) (n : ℕ) (t : Trail) (level : ℕ) (literals : List Lit) (starts : List ℕ) → level < length t.starts.items →
-    literals ≡ take (get_or t.starts.items level 0) t.literals.items → starts ≡ take level t.starts.items →
-    ShortSwept cs short n (root t.literals.items t.starts.items) → ShortSwept cs short n (root literals starts)
-swept_undo cs short n t level literals starts lt el es h =
+pub swept_undo : (cs : List (List Lit)) (short : List ℕ) (n : ℕ) (t : Trail) (level : ℕ) (literals : List Lit) (level_starts : List ℕ) → level < length t.level_starts.items →
+    literals ≡ take (get_or t.level_starts.items level 0) t.literals.items → level_starts ≡ take level t.level_starts.items →
+    ShortSwept cs short n (root t.literals.items t.level_starts.items) → ShortSwept cs short n (root literals level_starts)
+swept_undo cs short n t level literals level_starts lt el es h =
     let P : List Lit → Type 0 = ShortSwept cs short n in
-    subst P (sym (ap (λ xs. root xs starts) el ∙ ap (λ ys. root (take (get_or t.starts.items level 0) t.literals.items) ys) es ∙ root_undo t level lt)) h
+    subst P (sym (ap (λ xs. root xs level_starts) el ∙ ap (λ ys. root (take (get_or t.level_starts.items level 0) t.literals.items) ys) es ∙ root_undo t level lt)) h
 
 pub swept_went : (cs : List (List Lit)) (short : List ℕ) (n : ℕ) (t t' : Trail) → Extends t t' →
-    ShortSwept cs short n (root t.literals.items t.starts.items) → ShortSwept cs short n (root t'.literals.items t'.starts.items)
+    ShortSwept cs short n (root t.literals.items t.level_starts.items) → ShortSwept cs short n (root t'.literals.items t'.level_starts.items)
 swept_went cs short n t t' w h =
-    swept_grows cs short n (root t.literals.items t.starts.items) (root t'.literals.items t'.starts.items) (λ l on. root_went t t' w l on) h
+    swept_grows cs short n (root t.literals.items t.level_starts.items) (root t'.literals.items t'.level_starts.items) (λ l on. root_went t t' w l on) h
 
 -- the trail without a decision
-pub swept_bare : (cs : List (List Lit)) (short : List ℕ) (n : ℕ) (literals : List Lit) (starts : List ℕ) → length starts ≡ 0 →
-    ShortSwept cs short n (root literals starts) → ShortSwept cs short n literals
-swept_bare cs short n literals starts none h = let P : List Lit → Type 0 = ShortSwept cs short n in subst P (root_whole literals starts none) h
+pub swept_bare : (cs : List (List Lit)) (short : List ℕ) (n : ℕ) (literals : List Lit) (level_starts : List ℕ) → length level_starts ≡ 0 →
+    ShortSwept cs short n (root literals level_starts) → ShortSwept cs short n literals
+swept_bare cs short n literals level_starts none h = let P : List Lit → Type 0 = ShortSwept cs short n in subst P (root_whole literals level_starts none) h
 
-pub swept_rooted : (cs : List (List Lit)) (short : List ℕ) (n : ℕ) (literals : List Lit) (starts : List ℕ) → length starts ≡ 0 →
-    ShortSwept cs short n literals → ShortSwept cs short n (root literals starts)
-swept_rooted cs short n literals starts none h = let P : List Lit → Type 0 = ShortSwept cs short n in subst P (sym (root_whole literals starts none)) h
+pub swept_rooted : (cs : List (List Lit)) (short : List ℕ) (n : ℕ) (literals : List Lit) (level_starts : List ℕ) → length level_starts ≡ 0 →
+    ShortSwept cs short n literals → ShortSwept cs short n (root literals level_starts)
+swept_rooted cs short n literals level_starts none h = let P : List Lit → Type 0 = ShortSwept cs short n in subst P (sym (root_whole literals level_starts none)) h
 
 -- one place more, or not
 pub swept_step : (cs : List (List Lit)) (short : List ℕ) (n m j : ℕ) (t t' : Trail) → Extends t t' → j < length short →

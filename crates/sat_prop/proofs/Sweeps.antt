@@ -72,7 +72,7 @@ prefix_push old tr l e =
     take-append-le (length old) tr (l ∷ []) le ∙ e
 
 pub went_none : (t : Trail) → Extends t t
-went_none t = record { prefix = take_all (length t.literals.items) t.literals.items (omega arith); starts = refl; vars = refl; fewer = omega arith; count = refl }
+went_none t = record { prefix = take_all (length t.literals.items) t.literals.items (omega arith); level_starts = refl; vars = refl; fewer = omega arith; count = refl }
 
 pub unset_drop : (v : List ℕ) (l : Lit) → l.var < length v → holds v l ≡ false → holds v (negate l) ≡ false →
     unset (set v l.var (code l.positive)) + 1 ≡ unset v
@@ -86,8 +86,8 @@ unset_drop v l lt e f =
 
 pub went_push : (old t new : Trail) (l : Lit) → Extends old t → l.var < length t.values.items → holds t.values.items l ≡ false → holds t.values.items (negate l) ≡ false →
     new.literals.items ≡ t.literals.items ++ l ∷ [] → new.values.items ≡ set t.values.items l.var (code l.positive) →
-    new.starts.items ≡ t.starts.items → Extends old new × (unset new.values.items < unset old.values.items)
-went_push old t new l w lt a b literals values starts =
+    new.level_starts.items ≡ t.level_starts.items → Extends old new × (unset new.values.items < unset old.values.items)
+went_push old t new l w lt a b literals values level_starts =
     let less : unset (set t.values.items l.var (code l.positive)) < unset t.values.items = unset_less t.values.items l lt a b in
     let P : List ℕ → Type 0 = λ v. unset v < unset t.values.items in
     let less' : unset new.values.items < unset t.values.items = subst P (sym values) less in
@@ -97,7 +97,7 @@ went_push old t new l w lt a b literals values starts =
     let S : List ℕ → Type 0 = λ v. length (t.literals.items ++ l ∷ []) + unset v ≡ length old.literals.items + unset old.values.items in (
       record {
         prefix = subst Q (sym literals) (prefix_push old.literals.items t.literals.items l w.prefix);
-        starts = starts ∙ w.starts;
+        level_starts = level_starts ∙ w.level_starts;
         vars = ap length values ∙ length-set _ _ _ ∙ w.vars;
         fewer = omega (arith, less', w.fewer);
         count = subst R (sym literals) (subst S (sym values) (omega (arith, w.count, drop, length-append t.literals.items (l ∷ []))));
@@ -117,7 +117,7 @@ went_on a b c f g =
     let le : length a.literals.items ≤ length b.literals.items = omega (arith, ap length f.prefix, length-take (length a.literals.items) b.literals.items) in
     record {
       prefix = prefix_on a.literals.items b.literals.items c.literals.items f.prefix g.prefix;
-      starts = g.starts ∙ f.starts;
+      level_starts = g.level_starts ∙ f.level_starts;
       vars = g.vars ∙ f.vars;
       fewer = omega (arith, f.fewer, g.fewer);
       count = g.count ∙ f.count;

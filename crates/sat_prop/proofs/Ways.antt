@@ -53,32 +53,32 @@ among_take_where tr n l le e =
     let lt : h.0 < n = omega (arith, h.1, length-take-le n tr le) in
     (h.0, lt, sym (at_take tr n h.0 lt) ∙ h.2)
 
-pub place_same : (tr : List Lit) (places : List ℕ) (q r : ℕ) → PlacesMatch tr places → q < length tr → r < length tr →
+pub place_same : (tr : List Lit) (positions : List ℕ) (q r : ℕ) → PlacesMatch tr positions → q < length tr → r < length tr →
     (at tr q).var ≡ (at tr r).var → q ≡ r
-place_same tr places q r ok lq lr e = sym (ok q lq) ∙ ap (λ v. get_or places v 0) e ∙ ok r lr
+place_same tr positions q r ok lq lr e = sym (ok q lq) ∙ ap (λ v. get_or positions v 0) e ∙ ok r lr
 
 pub flip_not_same : (x : Bool) → x ≡ not x → ⊥
 flip_not_same true e = cc
 flip_not_same false e = cc
 
 -- no literal stands on the trail beside its negation
-pub one_side : (tr : List Lit) (places : List ℕ) (l : Lit) (q r : ℕ) → PlacesMatch tr places → q < length tr → r < length tr →
+pub one_side : (tr : List Lit) (positions : List ℕ) (l : Lit) (q r : ℕ) → PlacesMatch tr positions → q < length tr → r < length tr →
     at tr q ≡ l → at tr r ≡ negate l → ⊥
-one_side tr places l q r ok lq lr e f =
+one_side tr positions l q r ok lq lr e f =
     let v : (at tr q).var ≡ (at tr r).var = ap (λ (x : Lit). x.var) e ∙ sym (ap (λ (x : Lit). x.var) f) in
-    let same : q ≡ r = place_same tr places q r ok lq lr v in
+    let same : q ≡ r = place_same tr positions q r ok lq lr v in
     let P : ℕ → Type 0 = λ x. at tr x ≡ negate l in
     let g : l ≡ negate l = sym e ∙ subst P (sym same) f in
     flip_not_same l.positive (ap (λ (x : Lit). x.positive) g)
 
-pub among_one_side : (tr : List Lit) (places : List ℕ) (n : ℕ) (l : Lit) → PlacesMatch tr places → n ≤ length tr →
+pub among_one_side : (tr : List Lit) (positions : List ℕ) (n : ℕ) (l : Lit) → PlacesMatch tr positions → n ≤ length tr →
     among (take n tr) l ≡ true → among (take n tr) (negate l) ≡ true → ⊥
-among_one_side tr places n l ok le e f =
+among_one_side tr positions n l ok le e f =
     let a = among_take_where tr n l le e in
     let b = among_take_where tr n (negate l) le f in
     let la : a.0 < length tr = omega (arith, a.1) in
     let lb : b.0 < length tr = omega (arith, b.1) in
-    one_side tr places l a.0 b.0 ok la lb a.2 b.2
+    one_side tr positions l a.0 b.0 ok la lb a.2 b.2
 
 -- one more literal
 pub among_push : (tr : List Lit) (l m : Lit) → among (tr ++ l ∷ []) m ≡ (among tr m || (is_literal m l || false))
@@ -153,9 +153,9 @@ pub fresh : (v : List ℕ) (tr : List Lit) (l : Lit) (q : ℕ) → ValuesMatch v
 fresh v tr l q ok a b lt e =
     both_ways (holds v (at tr q)) (holds_off v l (at tr q) e a b) (sym (ok (at tr q)) ∙ among_at tr q lt)
 
-pub place_push : (v places : List ℕ) (tr : List Lit) (l : Lit) → l.var < length places → ValuesMatch v tr →
-    holds v l ≡ false → holds v (negate l) ≡ false → PlacesMatch tr places → PlacesMatch (tr ++ l ∷ []) (set places l.var (length tr))
-place_push v places tr l lp vals a b ok q lq =
+pub place_push : (v positions : List ℕ) (tr : List Lit) (l : Lit) → l.var < length positions → ValuesMatch v tr →
+    holds v l ≡ false → holds v (negate l) ≡ false → PlacesMatch tr positions → PlacesMatch (tr ++ l ∷ []) (set positions l.var (length tr))
+place_push v positions tr l lp vals a b ok q lq =
     elim (cases_lt q (length tr)) [
       | inl lt ↦
           let e : at (tr ++ l ∷ []) q ≡ at tr q = at_low tr l q lt in
@@ -164,7 +164,7 @@ place_push v places tr l lp vals a b ok q lq =
       | inr ge ↦
           let last : q ≡ length tr = omega (arith, lq, length-append tr (l ∷ [])) in
           let e : at (tr ++ l ∷ []) q ≡ l = rw last (at_end tr l) in
-          rw (e, last) (get_or-set_same places l.var (length tr) 0 lp)
+          rw (e, last) (get_or-set_same positions l.var (length tr) 0 lp)
     ]
 
 pub why_kept : (v reasons : List ℕ) (tr : List Lit) (l : Lit) (n p : ℕ) → ValuesMatch v tr →
@@ -247,9 +247,9 @@ reasoned_more reasons tr cs bs ok p lp pos =
     (omega (arith, h.0, length-append cs bs), rw e h.1)
 
 -- one literal fewer
-pub values_pop : (v places : List ℕ) (tr : List Lit) (p : ℕ) → p < length tr → PlacesMatch tr places → (at tr p).var < length v →
+pub values_pop : (v positions : List ℕ) (tr : List Lit) (p : ℕ) → p < length tr → PlacesMatch tr positions → (at tr p).var < length v →
     ValuesMatch v (take (p + 1) tr) → ValuesMatch (set v (at tr p).var 0) (take p tr)
-values_pop v places tr p lt ok in_v vals m =
+values_pop v positions tr p lt ok in_v vals m =
     let l = at tr p in
     let le : p ≤ length tr = omega arith in
     elim (cases_eq m.var l.var) [
@@ -260,7 +260,7 @@ values_pop v places tr p lt ok in_v vals m =
                 let h = among_take_where tr p m le on in
                 let lh : h.0 < length tr = omega (arith, h.1) in
                 let e : (at tr h.0).var ≡ (at tr p).var = ap (λ (y : Lit). y.var) h.2 ∙ same in
-                absurd (omega (arith, h.1, place_same tr places h.0 p ok lh lt e))
+                absurd (omega (arith, h.1, place_same tr positions h.0 p ok lh lt e))
             | inr off ↦ off
           ] in
           let z : get_or (set v l.var 0) m.var 0 ≡ 0 = rw same (get_or-set_same v l.var 0 0 in_v) in
@@ -276,48 +276,48 @@ values_pop v places tr p lt ok in_v vals m =
           sym w ∙ vals m ∙ sym u
     ]
 
-pub place_take : (tr : List Lit) (places : List ℕ) (n : ℕ) → n ≤ length tr → PlacesMatch tr places → PlacesMatch (take n tr) places
-place_take tr places n le ok q lq =
+pub place_take : (tr : List Lit) (positions : List ℕ) (n : ℕ) → n ≤ length tr → PlacesMatch tr positions → PlacesMatch (take n tr) positions
+place_take tr positions n le ok q lq =
     let lt : q < n = omega (arith, lq, length-take-le n tr le) in
     let lt' : q < length tr = omega arith in
     let e : at (take n tr) q ≡ at tr q = at_take tr n q lt in
     rw e (ok q lt')
 
-pub starts_take : (starts : List ℕ) (tr : List Lit) (k : ℕ) → k < length starts → StartsRise starts → StartsIn starts tr →
-    StartsIn (take k starts) (take (get_or starts k 0) tr)
-starts_take starts tr k lk up ins i li =
-    let n = get_or starts k 0 in
+pub starts_take : (level_starts : List ℕ) (tr : List Lit) (k : ℕ) → k < length level_starts → StartsRise level_starts → StartsIn level_starts tr →
+    StartsIn (take k level_starts) (take (get_or level_starts k 0) tr)
+starts_take level_starts tr k lk up ins i li =
+    let n = get_or level_starts k 0 in
     let le : n ≤ length tr = omega (arith, ins k lk) in
-    let lt : i < k = omega (arith, li, length-take-le k starts (omega arith)) in
-    let e : get_or (take k starts) i 0 ≡ get_or starts i 0 = get_or-take k starts i 0 lt in
+    let lt : i < k = omega (arith, li, length-take-le k level_starts (omega arith)) in
+    let e : get_or (take k level_starts) i 0 ≡ get_or level_starts i 0 = get_or-take k level_starts i 0 lt in
     omega (arith, e, up i k lt lk, length-take-le n tr le)
 
-pub up_take : (starts : List ℕ) (k : ℕ) → k ≤ length starts → StartsRise starts → StartsRise (take k starts)
-up_take starts k le up i j lij lj =
-    let lt : j < k = omega (arith, lj, length-take-le k starts le) in
+pub up_take : (level_starts : List ℕ) (k : ℕ) → k ≤ length level_starts → StartsRise level_starts → StartsRise (take k level_starts)
+up_take level_starts k le up i j lij lj =
+    let lt : j < k = omega (arith, lj, length-take-le k level_starts le) in
     let lt' : i < k = omega arith in
-    let e : get_or (take k starts) i 0 ≡ get_or starts i 0 = get_or-take k starts i 0 lt' in
-    let f : get_or (take k starts) j 0 ≡ get_or starts j 0 = get_or-take k starts j 0 lt in
+    let e : get_or (take k level_starts) i 0 ≡ get_or level_starts i 0 = get_or-take k level_starts i 0 lt' in
+    let f : get_or (take k level_starts) j 0 ≡ get_or level_starts j 0 = get_or-take k level_starts j 0 lt in
     omega (arith, e, f, up i j lij (omega arith))
 
-pub start_at : (starts : List ℕ) (p : ℕ) → list_any (λ s. eqb s p) starts ≡ true → (i : ℕ) × (i < length starts) × (get_or starts i 0 ≡ p)
-start_at starts p e =
-    let h = Any-from_list_any (λ s. eqb s p) starts e in
-    (h.0, h.2, get_or_default starts h.0 0 h.1 h.2 ∙ h.3 ∙ eqb-true _ _ h.4)
+pub start_at : (level_starts : List ℕ) (p : ℕ) → list_any (λ s. eqb s p) level_starts ≡ true → (i : ℕ) × (i < length level_starts) × (get_or level_starts i 0 ≡ p)
+start_at level_starts p e =
+    let h = Any-from_list_any (λ s. eqb s p) level_starts e in
+    (h.0, h.2, get_or_default level_starts h.0 0 h.1 h.2 ∙ h.3 ∙ eqb-true _ _ h.4)
 
-pub start_here : (starts : List ℕ) (i p : ℕ) → i < length starts → get_or starts i 0 ≡ p → list_any (λ s. eqb s p) starts ≡ true
-start_here starts i p lt e = list_any_at (λ s. eqb s p) starts i 0 lt (eq-eqb _ _ e)
+pub start_here : (level_starts : List ℕ) (i p : ℕ) → i < length level_starts → get_or level_starts i 0 ≡ p → list_any (λ s. eqb s p) level_starts ≡ true
+start_here level_starts i p lt e = list_any_at (λ s. eqb s p) level_starts i 0 lt (eq-eqb _ _ e)
 
-pub roots_take : (starts reasons : List ℕ) (tr : List Lit) (k : ℕ) → k < length starts → StartsRise starts → StartsIn starts tr →
-    DecisionsBegin tr reasons starts → DecisionsBegin (take (get_or starts k 0) tr) reasons (take k starts)
-roots_take starts reasons tr k lk up ins roots p lp e =
-    let n = get_or starts k 0 in
+pub roots_take : (level_starts reasons : List ℕ) (tr : List Lit) (k : ℕ) → k < length level_starts → StartsRise level_starts → StartsIn level_starts tr →
+    DecisionsBegin tr reasons level_starts → DecisionsBegin (take (get_or level_starts k 0) tr) reasons (take k level_starts)
+roots_take level_starts reasons tr k lk up ins roots p lp e =
+    let n = get_or level_starts k 0 in
     let le : n ≤ length tr = omega (arith, ins k lk) in
     let lt : p < n = omega (arith, lp, length-take-le n tr le) in
     let lt' : p < length tr = omega arith in
     let same : at (take n tr) p ≡ at tr p = at_take tr n p lt in
     let ew : reason_at (take n tr) reasons p ≡ reason_at tr reasons p = ap (λ (x : Lit). get_or reasons x.var 0) same in
-    let h = start_at starts p (roots p lt' (sym ew ∙ e)) in
+    let h = start_at level_starts p (roots p lt' (sym ew ∙ e)) in
     let li : h.0 < k = elim (cases_lt h.0 k) [
       | inl l ↦ l
       | inr g ↦ elim (cases_eq h.0 k) [
@@ -325,18 +325,18 @@ roots_take starts reasons tr k lk up ins roots p lp e =
         | inr ne ↦ absurd (omega (arith, up k h.0 (omega arith) h.1, h.2))
       ]
     ] in
-    let ls : h.0 < length (take k starts) = omega (arith, length-take-le k starts (omega arith)) in
-    start_here (take k starts) h.0 p ls (get_or-take k starts h.0 0 li ∙ h.2)
+    let ls : h.0 < length (take k level_starts) = omega (arith, length-take-le k level_starts (omega arith)) in
+    start_here (take k level_starts) h.0 p ls (get_or-take k level_starts h.0 0 li ∙ h.2)
 
 pub within_take : (vars : ℕ) (tr : List Lit) (n : ℕ) → Within vars tr → Within vars (take n tr)
 within_take vars tr n h = All-take (λ l. l.var < vars) n tr h
 
-pub in_push : (starts : List ℕ) (tr : List Lit) (l : Lit) → StartsIn starts tr → StartsIn starts (tr ++ l ∷ [])
-in_push starts tr l ins i li = omega (arith, ins i li, length-append tr (l ∷ []))
+pub in_push : (level_starts : List ℕ) (tr : List Lit) (l : Lit) → StartsIn level_starts tr → StartsIn level_starts (tr ++ l ∷ [])
+in_push level_starts tr l ins i li = omega (arith, ins i li, length-append tr (l ∷ []))
 
-pub roots_push : (v starts reasons : List ℕ) (tr : List Lit) (l : Lit) (n : ℕ) → l.var < length reasons → ValuesMatch v tr → holds v l ≡ false → holds v (negate l) ≡ false →
-    0 < n → DecisionsBegin tr reasons starts → DecisionsBegin (tr ++ l ∷ []) (set reasons l.var n) starts
-roots_push v starts reasons tr l n lw vals a b pos roots p lp e =
+pub roots_push : (v level_starts reasons : List ℕ) (tr : List Lit) (l : Lit) (n : ℕ) → l.var < length reasons → ValuesMatch v tr → holds v l ≡ false → holds v (negate l) ≡ false →
+    0 < n → DecisionsBegin tr reasons level_starts → DecisionsBegin (tr ++ l ∷ []) (set reasons l.var n) level_starts
+roots_push v level_starts reasons tr l n lw vals a b pos roots p lp e =
     elim (cases_lt p (length tr)) [
       | inl lt ↦ roots p lt (sym (why_kept v reasons tr l n p vals a b lt) ∙ e)
       | inr ge ↦
@@ -348,45 +348,45 @@ roots_push v starts reasons tr l n lw vals a b pos roots p lp e =
     ]
 
 -- a decision
-pub up_push : (starts : List ℕ) (tr : List Lit) → StartsRise starts → StartsIn starts tr → StartsRise (starts ++ length tr ∷ [])
-up_push starts tr up ins i j lij lj =
-    let li : i < length starts = omega (arith, lj, length-append starts (length tr ∷ [])) in
-    let e : get_or (starts ++ length tr ∷ []) i 0 ≡ get_or starts i 0 = get_or_append_left starts (length tr ∷ []) 0 i li in
-    elim (cases_lt j (length starts)) [
+pub up_push : (level_starts : List ℕ) (tr : List Lit) → StartsRise level_starts → StartsIn level_starts tr → StartsRise (level_starts ++ length tr ∷ [])
+up_push level_starts tr up ins i j lij lj =
+    let li : i < length level_starts = omega (arith, lj, length-append level_starts (length tr ∷ [])) in
+    let e : get_or (level_starts ++ length tr ∷ []) i 0 ≡ get_or level_starts i 0 = get_or_append_left level_starts (length tr ∷ []) 0 i li in
+    elim (cases_lt j (length level_starts)) [
       | inl lt ↦
-          let f : get_or (starts ++ length tr ∷ []) j 0 ≡ get_or starts j 0 = get_or_append_left starts (length tr ∷ []) 0 j lt in
+          let f : get_or (level_starts ++ length tr ∷ []) j 0 ≡ get_or level_starts j 0 = get_or_append_left level_starts (length tr ∷ []) 0 j lt in
           omega (arith, e, f, up i j lij lt)
       | inr ge ↦
-          let last : j ≡ length starts = omega (arith, lj, length-append starts (length tr ∷ [])) in
-          let f : get_or (starts ++ length tr ∷ []) j 0 ≡ length tr = rw last (get_or-append_seam starts (length tr) [] 0) in
+          let last : j ≡ length level_starts = omega (arith, lj, length-append level_starts (length tr ∷ [])) in
+          let f : get_or (level_starts ++ length tr ∷ []) j 0 ≡ length tr = rw last (get_or-append_seam level_starts (length tr) [] 0) in
           omega (arith, e, f, ins i li)
     ]
 
-pub in_decide : (starts : List ℕ) (tr : List Lit) (l : Lit) → StartsIn starts tr → StartsIn (starts ++ length tr ∷ []) (tr ++ l ∷ [])
-in_decide starts tr l ins i li =
+pub in_decide : (level_starts : List ℕ) (tr : List Lit) (l : Lit) → StartsIn level_starts tr → StartsIn (level_starts ++ length tr ∷ []) (tr ++ l ∷ [])
+in_decide level_starts tr l ins i li =
     let more : length (tr ++ l ∷ []) ≡ length tr + 1 = length-append tr (l ∷ []) in
-    elim (cases_lt i (length starts)) [
+    elim (cases_lt i (length level_starts)) [
       | inl lt ↦
-          let f : get_or (starts ++ length tr ∷ []) i 0 ≡ get_or starts i 0 = get_or_append_left starts (length tr ∷ []) 0 i lt in
+          let f : get_or (level_starts ++ length tr ∷ []) i 0 ≡ get_or level_starts i 0 = get_or_append_left level_starts (length tr ∷ []) 0 i lt in
           omega (arith, f, more, ins i lt)
       | inr ge ↦
-          let last : i ≡ length starts = omega (arith, li, length-append starts (length tr ∷ [])) in
-          let f : get_or (starts ++ length tr ∷ []) i 0 ≡ length tr = rw last (get_or-append_seam starts (length tr) [] 0) in
+          let last : i ≡ length level_starts = omega (arith, li, length-append level_starts (length tr ∷ [])) in
+          let f : get_or (level_starts ++ length tr ∷ []) i 0 ≡ length tr = rw last (get_or-append_seam level_starts (length tr) [] 0) in
           omega (arith, f, more)
     ]
 
-pub roots_decide : (v starts reasons : List ℕ) (tr : List Lit) (l : Lit) → ValuesMatch v tr → holds v l ≡ false → holds v (negate l) ≡ false →
-    DecisionsBegin tr reasons starts → DecisionsBegin (tr ++ l ∷ []) (set reasons l.var 0) (starts ++ length tr ∷ [])
-roots_decide v starts reasons tr l vals a b roots p lp e =
+pub roots_decide : (v level_starts reasons : List ℕ) (tr : List Lit) (l : Lit) → ValuesMatch v tr → holds v l ≡ false → holds v (negate l) ≡ false →
+    DecisionsBegin tr reasons level_starts → DecisionsBegin (tr ++ l ∷ []) (set reasons l.var 0) (level_starts ++ length tr ∷ [])
+roots_decide v level_starts reasons tr l vals a b roots p lp e =
     elim (cases_lt p (length tr)) [
       | inl lt ↦
-          let h = start_at starts p (roots p lt (sym (why_kept v reasons tr l 0 p vals a b lt) ∙ e)) in
-          start_here (starts ++ length tr ∷ []) h.0 p (omega (arith, h.1, length-append starts (length tr ∷ [])))
-          (get_or_append_left starts (length tr ∷ []) 0 h.0 h.1 ∙ h.2)
+          let h = start_at level_starts p (roots p lt (sym (why_kept v reasons tr l 0 p vals a b lt) ∙ e)) in
+          start_here (level_starts ++ length tr ∷ []) h.0 p (omega (arith, h.1, length-append level_starts (length tr ∷ [])))
+          (get_or_append_left level_starts (length tr ∷ []) 0 h.0 h.1 ∙ h.2)
       | inr ge ↦
           let last : p ≡ length tr = omega (arith, lp, length-append tr (l ∷ [])) in
-          start_here (starts ++ length tr ∷ []) (length starts) p (omega (arith, length-append starts (length tr ∷ [])))
-          (get_or-append_seam starts (length tr) [] 0 ∙ sym last)
+          start_here (level_starts ++ length tr ∷ []) (length level_starts) p (omega (arith, length-append level_starts (length tr ∷ [])))
+          (get_or-append_seam level_starts (length tr) [] 0 ∙ sym last)
     ]
 
 pub within_push : (vars : ℕ) (tr : List Lit) (l : Lit) → l.var < vars → Within vars tr → Within vars (tr ++ l ∷ [])

@@ -11,7 +11,7 @@ use Rattle.sat_prop.specs.Trails.{among, AtRest, FalseOn}
 -- from one trail to a later one of the same level: nothing but more literals, and one value set for each of them
 pub record Extends (old new : Trail) : Type 0 where
   pub prefix : take (length old.literals.items) new.literals.items ≡ old.literals.items
-  pub starts : new.starts.items ≡ old.starts.items
+  pub level_starts : new.level_starts.items ≡ old.level_starts.items
   pub vars : length new.values.items ≡ length old.values.items
   pub fewer : unset new.values.items ≤ unset old.values.items
   pub count : length new.literals.items + unset new.values.items ≡ length old.literals.items + unset old.values.items

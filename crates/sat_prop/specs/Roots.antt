@@ -5,7 +5,7 @@ use Rattle.sat_prop.specs.Watches.{ShortDone}
 
 -- the literals before all decisions
 abbrev pub root : List Lit → List ℕ → List Lit
-root literals starts = take (slice_index_or starts 0 (length literals)) literals
+root literals level_starts = take (slice_index_or level_starts 0 (length literals)) literals
 
 -- the first n numbers of the list of short clauses are those of clauses, and each of these that has no two different
 -- literals has one that is true in u

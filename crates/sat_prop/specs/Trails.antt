@@ -24,19 +24,19 @@ reason_at literals reasons p = slice_index reasons (at literals p).var
 
 -- the decisions stand in the order of their levels
 abbrev pub StartsRise : List ℕ → Type 0
-StartsRise starts = (i j : ℕ) → i < j → j < length starts → slice_index starts i < slice_index starts j
+StartsRise level_starts = (i j : ℕ) → i < j → j < length level_starts → slice_index level_starts i < slice_index level_starts j
 
 -- each level begins inside the trail
 abbrev pub StartsIn : List ℕ → List Lit → Type 0
-StartsIn starts literals = (i : ℕ) → i < length starts → slice_index starts i < length literals
+StartsIn level_starts literals = (i : ℕ) → i < length level_starts → slice_index level_starts i < length literals
 
 -- each literal that no clause forced begins a level
 abbrev pub DecisionsBegin : List Lit → List ℕ → List ℕ → Type 0
-DecisionsBegin literals reasons starts = (p : ℕ) → p < length literals → reason_at literals reasons p ≡ 0 → list_any (λ s. eqb s p) starts ≡ true
+DecisionsBegin literals reasons level_starts = (p : ℕ) → p < length literals → reason_at literals reasons p ≡ 0 → list_any (λ s. eqb s p) level_starts ≡ true
 
 -- each variable of the trail has the place of its literal
 abbrev pub PlacesMatch : List Lit → List ℕ → Type 0
-PlacesMatch trail places = (q : ℕ) → q < length trail → slice_index places (at trail q).var ≡ q
+PlacesMatch trail positions = (q : ℕ) → q < length trail → slice_index positions (at trail q).var ≡ q
 
 -- the clause forced the literal at p: it has it, and its other literals were false before p
 abbrev pub Forced : List Lit → ℕ → List Lit → Type 0

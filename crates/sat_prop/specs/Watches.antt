@@ -115,19 +115,19 @@ ShortDone cs u k = k < length cs → HasOneLiteral (slice_index_or cs k []) → 
 
 -- before each decision the clauses are guarded, and the short ones true
 abbrev pub LevelsGuarded : List (List Lit) → List Watches → List Lit → List ℕ → Type 0
-LevelsGuarded cs watches literals starts =
-    (i : ℕ) → i < length starts →
-    AllGuarded cs watches (take (slice_index starts i) literals) (take (slice_index starts i) literals)
-    × ShortTrue cs watches (take (slice_index starts i) literals)
+LevelsGuarded cs watches literals level_starts =
+    (i : ℕ) → i < length level_starts →
+    AllGuarded cs watches (take (slice_index level_starts i) literals) (take (slice_index level_starts i) literals)
+    × ShortTrue cs watches (take (slice_index level_starts i) literals)
 
 -- before no decision the clause's first literal or that at w is false, and the two differ
 abbrev pub Watchable : List Lit → List ℕ → List Lit → ℕ → Type 0
-Watchable literals starts c w =
-    (i : ℕ) → i < length starts →
+Watchable literals level_starts c w =
+    (i : ℕ) → i < length level_starts →
     (w < length c)
     × (is_literal (at c 0) (at c w) ≡ false)
-    × (among (take (slice_index starts i) literals) (negate (at c 0)) ≡ false)
-    × (among (take (slice_index starts i) literals) (negate (at c w)) ≡ false)
+    × (among (take (slice_index level_starts i) literals) (negate (at c 0)) ≡ false)
+    × (among (take (slice_index level_starts i) literals) (negate (at c w)) ≡ false)
 
 -- the watches that a new clause gets: the first literal and that at w where these differ, else two that differ,
 -- if any do

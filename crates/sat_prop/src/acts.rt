@@ -1,3 +1,6 @@
+//! What the solver does to clauses and trail under watches: add or learn a clause, decide, and
+//! undo.
+
 ghost use Rattle.std.specs.Prelude.{◌+◌, ◌-◌, ◌*◌, ◌^◌, [], ◌∷◌, ◌≡◌, ◌<◌, ◌≤◌, ℕ, ◌++◌, true, false, IfOk, OnOk, OnErr, length, take, All, List, slice_set, slice_index, slice_index_or};
 ghost use Rattle.clause_core.specs.Literals.{Within, negate};
 ghost use Rattle.clause_core.specs.Values.{holds, unset};
@@ -16,7 +19,7 @@ use crate::watch::Watches;
 use clause_core::{Clauses, Lit, is_false};
 use std::alloc::AllocError;
 
-// The last place up to n before which the literal is not false.
+// The greatest trail position up to n before which the literal is not false.
 fn open_until(trail: &Trail, l: Lit, n: usize) -> usize
     requires in_range { l.var < length trail.now.values.items }
     requires low { n ≤ length trail.now.literals.items }
@@ -24,7 +27,7 @@ fn open_until(trail: &Trail, l: Lit, n: usize) -> usize
     ensures open { among (take result trail.now.literals.items) (negate l) ≡ false }
 {
     if is_false(&trail.values, l) {
-        let q = trail.places[l.var];
+        let q = trail.positions[l.var];
         if q < n {
             return q;
         }
@@ -32,8 +35,8 @@ fn open_until(trail: &Trail, l: Lit, n: usize) -> usize
     n
 }
 
-// Where a literal of the clause stands that is not false and differs from its first one, 0 if none does: with it as the
-// second watch little is to be looked at again.
+// The place in the clause of a second watch: a literal that is not false and differs from the first, or else 0. With such
+// a watch few watch lists are visited again.
 pub fn open_place(trail: &Trail, c: &[Lit]) -> usize {
     for j in 1..c.len() {
         let l = c[j];
@@ -44,7 +47,7 @@ pub fn open_place(trail: &Trail, c: &[Lit]) -> usize {
     0
 }
 
-// The last place up to n before which no watch is false, where there are two.
+// The greatest trail position up to n before which neither watch is false, if the two differ.
 fn head_for(trail: &Trail, h: Watches, n: usize) -> usize
     requires a_in { HasTwo h → h.a.var < length trail.now.values.items }
     requires b_in { HasTwo h → h.b.var < length trail.now.values.items }
@@ -60,8 +63,8 @@ fn head_for(trail: &Trail, h: Watches, n: usize) -> usize
     open_until(trail, h.b, m)
 }
 
-// Adds a clause whose watches are its first literal and that at w. The queue begins
-// again where one of these is false.
+// Adds a clause that watches its first literal and that at w. The head of the queue moves back to where one of these
+// became false.
 pub fn add_on(
     clauses: &mut Clauses,
     trail: &Trail,
@@ -74,7 +77,7 @@ pub fn add_on(
     w: usize,
 ) -> Result<(), AllocError>
     requires within { Within (length trail.now.values.items) c.now }
-    requires watch { Watchable trail.now.literals.items trail.now.starts.items c.now w }
+    requires watch { Watchable trail.now.literals.items trail.now.level_starts.items c.now w }
     requires based_in { Based trail.now.literals.items trail.now.reasons.items clauses.old }
     requires within_in { All (Within (length trail.now.values.items)) clauses.old }
     requires room { 2 * length trail.now.values.items < 2 ^ 32 }
@@ -85,10 +88,10 @@ pub fn add_on(
     requires cells { length lists.old ≡ 2 * length trail.now.values.items }
     requires fit { AllEntries (fits clauses.old) lists.old }
     requires short_listed { ShortListed clauses.old (pairs rows.old) short.old.items }
-    requires swept { ShortSwept clauses.old short.old.items swept (root trail.now.literals.items trail.now.starts.items) }
+    requires swept { ShortSwept clauses.old short.old.items swept (root trail.now.literals.items trail.now.level_starts.items) }
     requires low { head.old ≤ length trail.now.literals.items }
     requires queue { AllGuarded clauses.old (pairs rows.old) (take head.old trail.now.literals.items) trail.now.literals.items }
-    requires levels { LevelsGuarded clauses.old (pairs rows.old) trail.now.literals.items trail.now.starts.items }
+    requires levels { LevelsGuarded clauses.old (pairs rows.old) trail.now.literals.items trail.now.level_starts.items }
     ensures based_in { Based trail.now.literals.items trail.now.reasons.items clauses.new }
     ensures within_in { All (Within (length trail.now.values.items)) clauses.new }
     ensures rows_len { length rows.new ≡ length clauses.new }
@@ -98,10 +101,10 @@ pub fn add_on(
     ensures cells { length lists.new ≡ 2 * length trail.now.values.items }
     ensures fit { AllEntries (fits clauses.new) lists.new }
     ensures short_listed { ShortListed clauses.new (pairs rows.new) short.new.items }
-    ensures swept { ShortSwept clauses.new short.new.items swept (root trail.now.literals.items trail.now.starts.items) }
+    ensures swept { ShortSwept clauses.new short.new.items swept (root trail.now.literals.items trail.now.level_starts.items) }
     ensures low { head.new ≤ length trail.now.literals.items }
     ensures queue { AllGuarded clauses.new (pairs rows.new) (take head.new trail.now.literals.items) trail.now.literals.items }
-    ensures levels { LevelsGuarded clauses.new (pairs rows.new) trail.now.literals.items trail.now.starts.items }
+    ensures levels { LevelsGuarded clauses.new (pairs rows.new) trail.now.literals.items trail.now.level_starts.items }
     ensures done { OnOk result (clauses.new ≡ clauses.old ++ c.now ∷ []) }
     ensures failed { OnErr result (clauses.new ≡ clauses.old) }
 {
@@ -112,8 +115,8 @@ pub fn add_on(
     Ok(())
 }
 
-// Adds a clause as `add_on` does, and empties the rows of the recent clauses that it covers: what is at rest
-// with it is so with those.
+// Adds a clause as `add_on` does, and empties the rows of the recent clauses that it covers: once nothing is to be
+// propagated by it, nothing is by those.
 pub fn learn_on(
     clauses: &mut Clauses,
     trail: &Trail,
@@ -127,7 +130,7 @@ pub fn learn_on(
     w: usize,
 ) -> Result<(), AllocError>
     requires within { Within (length trail.now.values.items) c.now }
-    requires watch { Watchable trail.now.literals.items trail.now.starts.items c.now w }
+    requires watch { Watchable trail.now.literals.items trail.now.level_starts.items c.now w }
     requires based_in { Based trail.now.literals.items trail.now.reasons.items clauses.old }
     requires within_in { All (Within (length trail.now.values.items)) clauses.old }
     requires room { 2 * length trail.now.values.items < 2 ^ 32 }
@@ -138,10 +141,10 @@ pub fn learn_on(
     requires cells { length lists.old ≡ 2 * length trail.now.values.items }
     requires fit { AllEntries (fits clauses.old) lists.old }
     requires short_listed { ShortListed clauses.old (pairs rows.old) short.old.items }
-    requires swept { ShortSwept clauses.old short.old.items swept (root trail.now.literals.items trail.now.starts.items) }
+    requires swept { ShortSwept clauses.old short.old.items swept (root trail.now.literals.items trail.now.level_starts.items) }
     requires low { head.old ≤ length trail.now.literals.items }
     requires queue { AllGuarded clauses.old (pairs rows.old) (take head.old trail.now.literals.items) trail.now.literals.items }
-    requires levels { LevelsGuarded clauses.old (pairs rows.old) trail.now.literals.items trail.now.starts.items }
+    requires levels { LevelsGuarded clauses.old (pairs rows.old) trail.now.literals.items trail.now.level_starts.items }
     ensures based_in { Based trail.now.literals.items trail.now.reasons.items clauses.new }
     ensures within_in { All (Within (length trail.now.values.items)) clauses.new }
     ensures rows_len { length rows.new ≡ length clauses.new }
@@ -151,10 +154,10 @@ pub fn learn_on(
     ensures cells { length lists.new ≡ 2 * length trail.now.values.items }
     ensures fit { AllEntries (fits clauses.new) lists.new }
     ensures short_listed { ShortListed clauses.new (pairs rows.new) short.new.items }
-    ensures swept { ShortSwept clauses.new short.new.items swept (root trail.now.literals.items trail.now.starts.items) }
+    ensures swept { ShortSwept clauses.new short.new.items swept (root trail.now.literals.items trail.now.level_starts.items) }
     ensures low { head.new ≤ length trail.now.literals.items }
     ensures queue { AllGuarded clauses.new (pairs rows.new) (take head.new trail.now.literals.items) trail.now.literals.items }
-    ensures levels { LevelsGuarded clauses.new (pairs rows.new) trail.now.literals.items trail.now.starts.items }
+    ensures levels { LevelsGuarded clauses.new (pairs rows.new) trail.now.literals.items trail.now.level_starts.items }
     ensures done { OnOk result (clauses.new ≡ clauses.old ++ c.now ∷ []) }
     ensures failed { OnErr result (clauses.new ≡ clauses.old) }
 {
@@ -180,16 +183,16 @@ pub fn decide_on(
     requires rested { head ≡ length trail.old.literals.items }
     requires rested_short { ShortTrue clauses.now (pairs rows.now) trail.old.literals.items }
     requires based_in { Based trail.old.literals.items trail.old.reasons.items clauses.now }
-    requires swept { ShortSwept clauses.now short.now swept (root trail.old.literals.items trail.old.starts.items) }
+    requires swept { ShortSwept clauses.now short.now swept (root trail.old.literals.items trail.old.level_starts.items) }
     requires queue { AllGuarded clauses.now (pairs rows.now) (take head trail.old.literals.items) trail.old.literals.items }
-    requires levels { LevelsGuarded clauses.now (pairs rows.now) trail.old.literals.items trail.old.starts.items }
+    requires levels { LevelsGuarded clauses.now (pairs rows.now) trail.old.literals.items trail.old.level_starts.items }
     ensures based_in { Based trail.new.literals.items trail.new.reasons.items clauses.now }
-    ensures swept { ShortSwept clauses.now short.now swept (root trail.new.literals.items trail.new.starts.items) }
+    ensures swept { ShortSwept clauses.now short.now swept (root trail.new.literals.items trail.new.level_starts.items) }
     ensures low { head ≤ length trail.new.literals.items }
     ensures queue { AllGuarded clauses.now (pairs rows.now) (take head trail.new.literals.items) trail.new.literals.items }
-    ensures levels { LevelsGuarded clauses.now (pairs rows.now) trail.new.literals.items trail.new.starts.items }
+    ensures levels { LevelsGuarded clauses.now (pairs rows.now) trail.new.literals.items trail.new.level_starts.items }
     ensures literals { OnOk result (trail.new.literals.items ≡ trail.old.literals.items ++ l ∷ []) }
-    ensures starts { OnOk result (trail.new.starts.items ≡ trail.old.starts.items ++ length trail.old.literals.items ∷ []) }
+    ensures level_starts { OnOk result (trail.new.level_starts.items ≡ trail.old.level_starts.items ++ length trail.old.literals.items ∷ []) }
     ensures fewer { OnOk result (unset trail.new.values.items < unset trail.old.values.items) }
     ensures vars { length trail.new.values.items ≡ length trail.old.values.items }
 {
@@ -197,7 +200,7 @@ pub fn decide_on(
     Ok(())
 }
 
-// Takes back decision number `level` and all after it: what is left is at rest.
+// Undoes decision number `level` and all after it. Nothing is to be propagated on what is left.
 pub fn undo_on(
     clauses: &Clauses,
     rows: &Rows,
@@ -207,17 +210,17 @@ pub fn undo_on(
     trail: &mut Trail,
     level: usize,
 )
-    requires level { level < length trail.old.starts.items }
+    requires level { level < length trail.old.level_starts.items }
     requires based_in { Based trail.old.literals.items trail.old.reasons.items clauses.now }
-    requires swept { ShortSwept clauses.now short.now swept (root trail.old.literals.items trail.old.starts.items) }
-    requires levels { LevelsGuarded clauses.now (pairs rows.now) trail.old.literals.items trail.old.starts.items }
+    requires swept { ShortSwept clauses.now short.now swept (root trail.old.literals.items trail.old.level_starts.items) }
+    requires levels { LevelsGuarded clauses.now (pairs rows.now) trail.old.literals.items trail.old.level_starts.items }
     ensures based_in { Based trail.new.literals.items trail.new.reasons.items clauses.now }
-    ensures swept { ShortSwept clauses.now short.now swept (root trail.new.literals.items trail.new.starts.items) }
+    ensures swept { ShortSwept clauses.now short.now swept (root trail.new.literals.items trail.new.level_starts.items) }
     ensures low { head.new ≤ length trail.new.literals.items }
     ensures queue { AllGuarded clauses.now (pairs rows.now) (take head.new trail.new.literals.items) trail.new.literals.items }
-    ensures levels { LevelsGuarded clauses.now (pairs rows.now) trail.new.literals.items trail.new.starts.items }
-    ensures literals { trail.new.literals.items ≡ take (slice_index trail.old.starts.items level) trail.old.literals.items }
-    ensures starts { trail.new.starts.items ≡ take level trail.old.starts.items }
+    ensures levels { LevelsGuarded clauses.now (pairs rows.now) trail.new.literals.items trail.new.level_starts.items }
+    ensures literals { trail.new.literals.items ≡ take (slice_index trail.old.level_starts.items level) trail.old.literals.items }
+    ensures level_starts { trail.new.level_starts.items ≡ take level trail.old.level_starts.items }
     ensures vars { length trail.new.values.items ≡ length trail.old.values.items }
 {
     trail.undo(level);

@@ -1,12 +1,14 @@
+//! Adds a clause: chooses its two watched literals and puts it into their watch lists.
+
 ghost use Rattle.std.specs.Prelude.{◌+◌, ◌-◌, ◌*◌, ◌^◌, [], ◌∷◌, ◌≡◌, ◌<◌, ◌≤◌, ℕ, ◌++◌, true, false, IfOk, OnOk, OnErr, length, take, All, List, slice_set, slice_index, slice_index_or, MatchOption};
 ghost use Rattle.clause_core.specs.Literals.{Within, negate};
 ghost use Rattle.sat_prop.specs.Entries.{AllEntries, fits, listed_with, numbers_of};
-ghost use Rattle.sat_prop.specs.declared.lists.Entry.{Entry};
+ghost use Rattle.sat_prop.specs.declared.lists.Watcher.{Watcher};
 ghost use Rattle.sat_prop.specs.Packing.{RowsMatch, pairs, row_of};
 ghost use Rattle.sat_prop.specs.Watches.{AllWatchesIn, WatchesIn, AllListed, ShortListed, WatchesSay, ShortMore, InShort, HasTwo, HasOneLiteral, cell};
 ghost use Rattle.sat_prop.specs.Trails.{is_literal};
 
-use crate::lists::{Entry, WatchLists};
+use crate::lists::{WatchLists, Watcher};
 use crate::rows::Rows;
 use crate::watch::{Watches, cell_of};
 use clause_core::{Clauses, Lit};
@@ -42,7 +44,7 @@ fn pair_of(c: &[Lit]) -> Watches
     Watches { a: none, b: none }
 }
 
-// Puts clause k into the lists of its two watches. After want of memory these are as before.
+// Puts clause k into the lists of its two watches. If memory runs out, these are as before.
 fn list_both(lists: &mut WatchLists, h: Watches, k: usize) -> Result<(), AllocError>
     requires a_in { 2 * h.a.var + 1 < 2 ^ 64 }
     requires b_in { 2 * h.b.var + 1 < 2 ^ 64 }
@@ -55,13 +57,13 @@ fn list_both(lists: &mut WatchLists, h: Watches, k: usize) -> Result<(), AllocEr
     ensures failed { OnErr result (lists.new ≡ lists.old) }
 {
     let a = cell_of(h.a);
-    let first = Entry {
+    let first = Watcher {
         clause: k,
-        other: h.b,
+        blocker: h.b,
     };
-    let second = Entry {
+    let second = Watcher {
         clause: k,
-        other: h.a,
+        blocker: h.a,
     };
     lists.push(a, first)?;
     if let Err(e) = lists.push(cell_of(h.b), second) {
@@ -77,13 +79,13 @@ fn unlist_both(lists: &mut WatchLists, h: Watches)
     requires b_in { 2 * h.b.var + 1 < 2 ^ 64 }
     requires a_cell { cell h.a < length lists.old }
     requires b_cell { cell h.b < length lists.old }
-    ensures { (before : List (List Entry)) (k : ℕ) → length before ≡ length lists.old → lists.old ≡ listed_with before h k → lists.new ≡ before }
+    ensures { (before : List (List Watcher)) (k : ℕ) → length before ≡ length lists.old → lists.old ≡ listed_with before h k → lists.new ≡ before }
 {
     lists.pop(cell_of(h.b));
     lists.pop(cell_of(h.a));
 }
 
-// Notes where clause k is to be found. After want of memory the lists are as before.
+// Notes where clause k is to be found. If memory runs out, the lists are as before.
 fn enlist(
     lists: &mut WatchLists,
     short: &mut Vec<usize>,
@@ -119,7 +121,7 @@ fn delist(lists: &mut WatchLists, h: Watches)
     requires a_cell { is_literal h.a h.b ≡ false → cell h.a < length lists.old }
     requires b_cell { is_literal h.a h.b ≡ false → cell h.b < length lists.old }
     ensures same { is_literal h.a h.b ≡ true → lists.new ≡ lists.old }
-    ensures undone { HasTwo h → (before : List (List Entry)) (k : ℕ) → length before ≡ length lists.old → lists.old ≡ listed_with before h k → lists.new ≡ before }
+    ensures undone { HasTwo h → (before : List (List Watcher)) (k : ℕ) → length before ≡ length lists.old → lists.old ≡ listed_with before h k → lists.new ≡ before }
 {
     if !h.a.is_same(h.b) {
         unlist_both(lists, h);

@@ -1,3 +1,6 @@
+//! Backward subsumption: a learned clause that a later one covers needs no watches (Eén and Biere
+//! 2005).
+
 ghost use Rattle.std.specs.Prelude.{◌≡◌, ◌<◌, [], MatchBool, length, slice_index_or, slice_set};
 ghost use Rattle.sat_prop.specs.Trails.{among};
 ghost use Rattle.sat_prop.specs.Covers.{covers, Retired};
@@ -6,7 +9,7 @@ use crate::rows::Rows;
 use clause_core::{Clauses, Lit};
 use std::alloc::{AllocError, Global};
 
-// How many of the clauses learned last are tried, at the least; at the most they are twice as many.
+// How many of the clauses learned last are tried: at least this many, and at most twice as many.
 const WINDOW: usize = 500;
 
 // A clause that a later one may cover: its number, how many literals it has (0 for one that was retired), and bits
@@ -24,7 +27,7 @@ pub struct Recent {
     candidates: Vec<Candidate>,
 }
 
-// One bit for each literal; that of two may be the same.
+// A signature: one bit for each literal, which two literals may share.
 fn bits_of(c: &[Lit]) -> u64 {
     let mut bits: u64 = 0;
     for x in c {

@@ -1,8 +1,11 @@
+//! Watch lists: for each literal the clauses that watch it (Moskewicz and others 2001). An entry
+//! also holds another literal of its clause, whose truth saves a look at the clause.
+
 ghost use Rattle.std.specs.Prelude.{◌+◌, ◌-◌, ◌*◌, ◌^◌, [], ◌∷◌, ◌≡◌, ◌<◌, ◌≤◌, ℕ, ◌++◌, Bool, true, IfOk, OnOk, OnErr, length, List, take, drop, slice_set, slice_index_or, MatchOption};
 ghost use Rattle.sat_prop.specs.Entries.{AllEntries};
 ghost use Rattle.sat_prop.specs.Slots.{entries_of, entry_of};
 ghost use Rattle.sat_prop.specs.Watches.{cell};
-ghost use Rattle.sat_prop.specs.declared.lists.Entry.{Entry};
+ghost use Rattle.sat_prop.specs.declared.lists.Watcher.{Watcher};
 
 use crate::words::word_of;
 use clause_core::Lit;
@@ -13,43 +16,43 @@ use std::mem::replace;
 // The number of a clause that watches a literal, and another literal of it: where that one is true, nothing is to
 // be done at the clause, and it need not be looked up.
 #[derive(Clone, Copy, Drop)]
-pub struct Entry {
+pub struct Watcher {
     pub clause: usize,
-    pub other: Lit,
+    pub blocker: Lit,
 }
 
-// An entry as it is kept, in few bytes.
+// An entry as it is stored, in few bytes.
 #[derive(Clone, Copy, Drop)]
-pub struct Slot {
+pub struct PackedWatcher {
     pub clause: u32,
-    pub other: u32,
+    pub blocker: u32,
 }
 
 // For each literal the list of the clauses that watch it.
 #[derive(Drop)]
 pub struct WatchLists {
-    cells: Vec<Vec<Slot>>,
+    cells: Vec<Vec<PackedWatcher>>,
 }
 
 impl Model for WatchLists {
     ghost use Rattle.std.specs.Prelude.{List, map};
-    ghost use Rattle.sat_prop.specs.declared.lists.Entry.{Entry};
+    ghost use Rattle.sat_prop.specs.declared.lists.Watcher.{Watcher};
     ghost use Rattle.sat_prop.specs.Slots.{entries_of};
 
-    ghost Value = { List (List Entry) };
+    ghost Value = { List (List Watcher) };
 
     ghost view = { λ s. map (λ v. entries_of v.items) s.cells.items };
 }
 
 // The bytes of an entry.
-fn slot_of(e: Entry) -> Slot
+fn slot_of(e: Watcher) -> PackedWatcher
     requires clause { e.clause < 2 ^ 32 }
-    requires other { cell e.other < 2 ^ 32 }
+    requires other { cell e.blocker < 2 ^ 32 }
     ensures { entry_of result ≡ e }
 {
-    Slot {
+    PackedWatcher {
         clause: e.clause as u32,
-        other: word_of(e.other),
+        blocker: word_of(e.blocker),
     }
 }
 
@@ -57,7 +60,7 @@ impl WatchLists {
     // So many empty lists.
     pub fn new(alloc: Global, n: usize) -> Result<WatchLists, AllocError>
         ensures len { IfOk result (λ s. length s ≡ n) }
-        ensures empty { IfOk result (λ s. (p : Entry → Bool) → AllEntries p s) }
+        ensures empty { IfOk result (λ s. (p : Watcher → Bool) → AllEntries p s) }
     {
         let mut cells = Vec::new(alloc);
         for _ in 0..n {
@@ -67,10 +70,10 @@ impl WatchLists {
     }
 
     // Puts an entry at the end of list number c.
-    pub fn push(&mut self, c: usize, e: Entry) -> Result<(), AllocError>
+    pub fn push(&mut self, c: usize, e: Watcher) -> Result<(), AllocError>
         requires cell { c < length self.old }
         requires clause { e.clause < 2 ^ 32 }
-        requires other { cell e.other < 2 ^ 32 }
+        requires other { cell e.blocker < 2 ^ 32 }
         ensures done { OnOk result (self.new ≡ slice_set self.old c (slice_index_or self.old c [] ++ e ∷ [])) }
         ensures failed { OnErr result (self.new ≡ self.old) }
     {
@@ -88,7 +91,7 @@ impl WatchLists {
     }
 
     // Takes list number c out, and leaves an empty one.
-    pub fn take(&mut self, c: usize) -> Vec<Slot>
+    pub fn take(&mut self, c: usize) -> Vec<PackedWatcher>
         requires { c < length self.old }
         ensures list { entries_of result.items ≡ slice_index_or self.old c [] }
         ensures others { self.new ≡ slice_set self.old c [] }
@@ -98,7 +101,7 @@ impl WatchLists {
     }
 
     // Puts this in place of list number c.
-    pub fn put_back(&mut self, c: usize, slots: Vec<Slot>)
+    pub fn put_back(&mut self, c: usize, slots: Vec<PackedWatcher>)
         requires { c < length self.old }
         ensures { self.new ≡ slice_set self.old c (entries_of slots.items) }
     {
@@ -110,7 +113,7 @@ impl WatchLists {
 // front: below `kept` they stay, and from `read` on they are still to be read.
 #[derive(Drop)]
 pub struct Sieve {
-    slots: Vec<Slot>,
+    slots: Vec<PackedWatcher>,
     kept: usize,
     read: usize,
 }
@@ -129,7 +132,7 @@ impl Model for Sieve {
 
 impl Sieve {
     // All of the list is still to be read.
-    pub fn new(slots: Vec<Slot>) -> Sieve
+    pub fn new(slots: Vec<PackedWatcher>) -> Sieve
         ensures kept { result.kept ≡ [] }
         ensures rest { result.rest ≡ entries_of slots.items }
     {
@@ -141,7 +144,7 @@ impl Sieve {
     }
 
     // The entry that is read next.
-    pub fn front(&self) -> Option<Slot>
+    pub fn front(&self) -> Option<PackedWatcher>
         ensures { MatchOption result (self.now.rest ≡ []) (λ s. self.now.rest ≡ entry_of s ∷ drop 1 self.now.rest) }
     {
         if self.read < self.slots.as_slice().len() {
@@ -161,7 +164,7 @@ impl Sieve {
     }
 
     // Puts this in place of the entry that is read next, and goes on to the one after it.
-    pub fn keep(&mut self, slot: Slot)
+    pub fn keep(&mut self, slot: PackedWatcher)
         requires { 0 < length self.old.rest }
         ensures kept { self.new.kept ≡ self.old.kept ++ entry_of slot ∷ [] }
         ensures rest { self.new.rest ≡ drop 1 self.old.rest }
@@ -172,7 +175,7 @@ impl Sieve {
     }
 
     // The list of what stays, and what was not read.
-    pub fn into_slots(self) -> Vec<Slot>
+    pub fn into_slots(self) -> Vec<PackedWatcher>
         ensures { entries_of result.items ≡ self.kept ++ self.rest }
     {
         let Sieve {

@@ -1,3 +1,5 @@
+//! What a solver needs of clauses, trail and unit propagation, as a trait.
+
 ghost use Rattle.std.specs.Prelude.{◌≡◌, ◌<◌, ℕ, [], ◌∷◌, ◌++◌, true, false, IfOk, OnOk, OnErr, length, take, All, List, slice_index, slice_index_or, MatchOption};
 ghost use Rattle.clause_core.specs.declared.literal.Lit.{Lit};
 ghost use Rattle.clause_core.specs.Literals.{Within, negate};
@@ -25,12 +27,12 @@ pub trait Propagator {
     ghost rested: { Self → Type 0 };
 
     /// No clauses over `vars` variables, and nothing set. Where so many variables can't be numbered, it
-    /// answers want of memory.
+    /// reports out of memory.
     fn new(alloc: Global, vars: usize) -> Result<Self, AllocError>
         ensures clauses { IfOk result (λ p. clauses p ≡ []) }
         ensures vars { IfOk result (λ p. length (trail p).values.items ≡ vars) }
         ensures literals { IfOk result (λ p. (trail p).literals.items ≡ []) }
-        ensures starts { IfOk result (λ p. (trail p).starts.items ≡ []) };
+        ensures level_starts { IfOk result (λ p. (trail p).level_starts.items ≡ []) };
 
     /// The trail.
     fn assignment(&self) -> &Trail
@@ -45,26 +47,26 @@ pub trait Propagator {
         requires { k < length (clauses self.now) }
         ensures { result.now ≡ slice_index_or (clauses self.now) k [] };
 
-    /// Adds a clause while no decision stands. After want of memory the clauses are as before.
+    /// Adds a clause while no decision stands. If memory runs out, the clauses are as before.
     fn add(&mut self, c: &[Lit]) -> Result<(), AllocError>
         requires within { Within (length (trail self.old).values.items) c.now }
-        requires bare { length (trail self.old).starts.items ≡ 0 }
+        requires bare { length (trail self.old).level_starts.items ≡ 0 }
         ensures done { OnOk result (clauses self.new ≡ clauses self.old ++ c.now ∷ []) }
         ensures failed { OnErr result (clauses self.new ≡ clauses self.old) }
         ensures literals { (trail self.new).literals.items ≡ (trail self.old).literals.items }
-        ensures starts { (trail self.new).starts.items ≡ (trail self.old).starts.items }
+        ensures level_starts { (trail self.new).level_starts.items ≡ (trail self.old).level_starts.items }
         ensures vars { length (trail self.new).values.items ≡ length (trail self.old).values.items };
 
     /// Adds a learned clause while decisions may stand. Before each decision that stands, neither its
-    /// first literal nor that at `second` was false, and the two differ. After want of memory the clauses
+    /// first literal nor that at `second` was false, and the two differ. If memory runs out, the clauses
     /// are as before.
     fn learn(&mut self, c: &[Lit], second: usize) -> Result<(), AllocError>
         requires within { Within (length (trail self.old).values.items) c.now }
-        requires watch { Watchable (trail self.old).literals.items (trail self.old).starts.items c.now second }
+        requires watch { Watchable (trail self.old).literals.items (trail self.old).level_starts.items c.now second }
         ensures done { OnOk result (clauses self.new ≡ clauses self.old ++ c.now ∷ []) }
         ensures failed { OnErr result (clauses self.new ≡ clauses self.old) }
         ensures literals { (trail self.new).literals.items ≡ (trail self.old).literals.items }
-        ensures starts { (trail self.new).starts.items ≡ (trail self.old).starts.items }
+        ensures level_starts { (trail self.new).level_starts.items ≡ (trail self.old).level_starts.items }
         ensures vars { length (trail self.new).values.items ≡ length (trail self.old).values.items };
 
     /// Sets a literal that is unset, as a decision, where the trail is at rest.
@@ -75,22 +77,22 @@ pub trait Propagator {
         requires rested { rested self.old }
         ensures clauses_kept { clauses self.new ≡ clauses self.old }
         ensures literals { OnOk result ((trail self.new).literals.items ≡ (trail self.old).literals.items ++ l ∷ []) }
-        ensures starts { OnOk result ((trail self.new).starts.items ≡ (trail self.old).starts.items ++ length (trail self.old).literals.items ∷ []) }
+        ensures level_starts { OnOk result ((trail self.new).level_starts.items ≡ (trail self.old).level_starts.items ++ length (trail self.old).literals.items ∷ []) }
         ensures fewer { OnOk result (unset (trail self.new).values.items < unset (trail self.old).values.items) }
         ensures vars { length (trail self.new).values.items ≡ length (trail self.old).values.items };
 
     /// Takes back decision number `level`, counted from 0, and all that came after it; what stood before it
     /// stays.
     fn undo(&mut self, level: usize)
-        requires { level < length (trail self.old).starts.items }
+        requires { level < length (trail self.old).level_starts.items }
         ensures clauses_kept { clauses self.new ≡ clauses self.old }
-        ensures literals { (trail self.new).literals.items ≡ take (slice_index (trail self.old).starts.items level) (trail self.old).literals.items }
-        ensures starts { (trail self.new).starts.items ≡ take level (trail self.old).starts.items }
+        ensures literals { (trail self.new).literals.items ≡ take (slice_index (trail self.old).level_starts.items level) (trail self.old).literals.items }
+        ensures level_starts { (trail self.new).level_starts.items ≡ take level (trail self.old).level_starts.items }
         ensures vars { length (trail self.new).values.items ≡ length (trail self.old).values.items };
 
-    /// Does unit propagation until a clause is false, whose number it answers, or no clause is false and
-    /// each unit one's literal is set: then it answers `None`, and the trail is at rest. What stood on the
-    /// trail stays, after want of memory too.
+    /// Does unit propagation. Answers the number of a false clause (a conflict), or `None` once no clause is
+    /// false and each unit clause's literal is set; then the trail is at rest. What stood on the trail stays,
+    /// also if memory runs out.
     fn propagate(&mut self) -> Result<Option<usize>, AllocError>
         ensures clauses_kept { clauses self.new ≡ clauses self.old }
         ensures extends { Extends (trail self.old) (trail self.new) }

@@ -1,3 +1,6 @@
+//! The propagation queue: literals of the trail whose watch lists are still to be visited, and unit
+//! clauses.
+
 ghost use Rattle.std.specs.Prelude.{◌+◌, ◌-◌, ◌*◌, ◌^◌, [], ◌∷◌, ◌≡◌, ◌<◌, ◌≤◌, ℕ, ◌++◌, true, false, IfOk, length, take, All, List, slice_set, slice_index, slice_index_or, MatchOption, ◌⊎◌};
 ghost use Rattle.clause_core.specs.declared.literal.Lit.{Lit};
 ghost use Rattle.clause_core.specs.Literals.{Within, negate};
@@ -58,7 +61,8 @@ pub fn run_queue(
     Ok(None)
 }
 
-// One place more was swept, if all before it were and a clause has the number that stands there.
+// The number of entries that were swept, after entry j with clause k: one more, if all before it were swept and k is the
+// number of a clause.
 fn swept_to(swept: usize, j: usize, k: usize, clauses: usize) -> usize
     requires { j + 1 < 2 ^ 64 }
     ensures { (result ≡ swept) ⊎ ((swept ≡ j) × (k < clauses) × (result ≡ j + 1)) }
@@ -70,7 +74,7 @@ fn swept_to(swept: usize, j: usize, k: usize, clauses: usize) -> usize
     }
 }
 
-// Sets what clauses of one literal force, from number `swept` of their list on, before which all was done.
+// Propagates unit clauses: those of their list from entry `swept` on, as the others were propagated before.
 pub fn sweep_short(
     clauses: &Clauses,
     trail: &mut Trail,

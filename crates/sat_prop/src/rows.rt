@@ -1,3 +1,6 @@
+//! The clauses as propagation reads them: rows of literals in one buffer, the two watched ones
+//! first.
+
 ghost use Rattle.std.specs.Prelude.{◌+◌, ◌-◌, ◌*◌, ◌^◌, [], ◌∷◌, ◌≡◌, ◌<◌, ◌≤◌, ℕ, ◌++◌, IfOk, OnOk, OnErr, length, take, map, All, List, slice_set, slice_index_or};
 ghost use Rattle.std.specs.List.{filter};
 ghost use Rattle.clause_core.specs.Literals.{at};
@@ -38,7 +41,7 @@ impl Model for Rows {
     ghost invariant = { λ s. SpansIn s.words.items s.spans.items × SpansApart s.spans.items };
 }
 
-// Writes the words of a clause's row behind the others. After want of memory some of them may stand there.
+// Writes the words of a clause's row behind the others. If memory runs out, some of them may stand there.
 fn write_row(words: &mut Vec<u32>, h: Watches, c: &[Lit]) -> Result<(), AllocError>
     requires a_in { cell h.a < 2 ^ 32 }
     requires b_in { cell h.b < 2 ^ 32 }
@@ -112,7 +115,7 @@ impl Rows {
         self.put(k, 1, other);
     }
 
-    // Adds the row of a clause. After want of memory the rows are as before; words past 2^32 count as that.
+    // Adds the row of a clause. If memory runs out, the rows are as before; words past 2^32 count as that.
     pub fn push(&mut self, h: Watches, c: &[Lit]) -> Result<(), AllocError>
         requires a_in { cell h.a < 2 ^ 32 }
         requires b_in { cell h.b < 2 ^ 32 }

@@ -1,3 +1,5 @@
+//! Unit propagation that looks at every clause, with which tests compare the watched one.
+
 ghost use Rattle.std.specs.Prelude.{[], All, length};
 ghost use Rattle.clause_core.specs.Literals.{Within};
 ghost use Rattle.sat_prop.specs.Trails.{Based};

@@ -1,3 +1,5 @@
+//! Unit propagation until a conflict or until nothing is left: unit clauses first, then the queue.
+
 ghost use Rattle.std.specs.Prelude.{◌+◌, ◌-◌, ◌*◌, ◌^◌, [], ◌∷◌, ◌≡◌, ◌<◌, ◌≤◌, ℕ, ◌++◌, true, false, IfOk, length, take, All, List, slice_set, slice_index, slice_index_or, MatchOption};
 ghost use Rattle.clause_core.specs.Literals.{Within, negate};
 ghost use Rattle.sat_prop.specs.Trails.{Based, AtRest, among};
@@ -14,7 +16,7 @@ use crate::trail::Trail;
 use clause_core::Clauses;
 use std::alloc::AllocError;
 
-// The clauses of one literal; above level 0 they are true already.
+// Propagates unit clauses. Once there is a decision they are true already.
 fn settle_short(
     clauses: &Clauses,
     trail: &mut Trail,
@@ -25,14 +27,14 @@ fn settle_short(
     requires within { All (Within (length trail.old.values.items)) clauses.now }
     requires based { Based trail.old.literals.items trail.old.reasons.items clauses.now }
     requires short_listed { ShortListed clauses.now (pairs rows.now) short.now }
-    requires levels { LevelsGuarded clauses.now (pairs rows.now) trail.old.literals.items trail.old.starts.items }
-    requires swept { ShortSwept clauses.now short.now swept.old (root trail.old.literals.items trail.old.starts.items) }
+    requires levels { LevelsGuarded clauses.now (pairs rows.now) trail.old.literals.items trail.old.level_starts.items }
+    requires swept { ShortSwept clauses.now short.now swept.old (root trail.old.literals.items trail.old.level_starts.items) }
     ensures based { Based trail.new.literals.items trail.new.reasons.items clauses.now }
     ensures extends { Extends trail.old trail.new }
-    ensures swept { ShortSwept clauses.now short.now swept.new (root trail.new.literals.items trail.new.starts.items) }
+    ensures swept { ShortSwept clauses.now short.now swept.new (root trail.new.literals.items trail.new.level_starts.items) }
     ensures says { IfOk result (λ o. MatchOption o (ShortTrue clauses.now (pairs rows.now) trail.new.literals.items) (FalseClause clauses.now trail.new)) }
 {
-    if trail.starts.len() == 0 {
+    if trail.level_starts.len() == 0 {
         match sweep_short(clauses, trail, short, swept)? {
             Some(k) => Ok(Some(k)),
             None => Ok(None),
@@ -42,7 +44,7 @@ fn settle_short(
     }
 }
 
-// Propagates until nothing is left to set.
+// Does unit propagation until a conflict, or until nothing is left to set.
 pub fn settle(
     clauses: &Clauses,
     trail: &mut Trail,
@@ -64,8 +66,8 @@ pub fn settle(
     requires short_listed { ShortListed clauses.now (pairs rows.old) short.now }
     requires low { head.old ≤ length trail.old.literals.items }
     requires queue { AllGuarded clauses.now (pairs rows.old) (take head.old trail.old.literals.items) trail.old.literals.items }
-    requires levels { LevelsGuarded clauses.now (pairs rows.old) trail.old.literals.items trail.old.starts.items }
-    requires swept { ShortSwept clauses.now short.now swept.old (root trail.old.literals.items trail.old.starts.items) }
+    requires levels { LevelsGuarded clauses.now (pairs rows.old) trail.old.literals.items trail.old.level_starts.items }
+    requires swept { ShortSwept clauses.now short.now swept.old (root trail.old.literals.items trail.old.level_starts.items) }
     ensures based { Based trail.new.literals.items trail.new.reasons.items clauses.now }
     ensures extends { Extends trail.old trail.new }
     ensures rows_len { length rows.new ≡ length clauses.now }
@@ -77,8 +79,8 @@ pub fn settle(
     ensures short_listed { ShortListed clauses.now (pairs rows.new) short.now }
     ensures low { head.new ≤ length trail.new.literals.items }
     ensures queue { AllGuarded clauses.now (pairs rows.new) (take head.new trail.new.literals.items) trail.new.literals.items }
-    ensures levels { LevelsGuarded clauses.now (pairs rows.new) trail.new.literals.items trail.new.starts.items }
-    ensures swept { ShortSwept clauses.now short.now swept.new (root trail.new.literals.items trail.new.starts.items) }
+    ensures levels { LevelsGuarded clauses.now (pairs rows.new) trail.new.literals.items trail.new.level_starts.items }
+    ensures swept { ShortSwept clauses.now short.now swept.new (root trail.new.literals.items trail.new.level_starts.items) }
     ensures says { IfOk result (λ o. MatchOption o (AtRest clauses.now trail.new.literals.items × ((head.new ≡ length trail.new.literals.items) × ShortTrue clauses.now (pairs rows.new) trail.new.literals.items)) (FalseClause clauses.now trail.new)) }
 {
     match settle_short(clauses, trail, rows, short, swept)? {

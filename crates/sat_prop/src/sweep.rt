@@ -1,3 +1,5 @@
+//! Unit propagation by passes over all clauses.
+
 ghost use Rattle.std.specs.Prelude.{◌+◌, ◌-◌, ◌*◌, ◌^◌, [], ◌∷◌, ◌≡◌, ◌<◌, ◌≤◌, ℕ, ◌++◌, true, false, IfOk, OnOk, OnErr, length, take, All, List, slice_set, slice_index, MatchBool, MatchOption};
 ghost use Rattle.clause_core.specs.Values.{holds, code, unset};
 ghost use Rattle.clause_core.specs.Literals.{negate, Within, at};
@@ -42,7 +44,7 @@ fn sweep(clauses: &Clauses, trail: &mut Trail) -> Result<Swept, AllocError>
     }
 }
 
-// Passes until nothing is left to set.
+// Passes over the clauses until one is false or nothing is left to set.
 pub fn sweep_all(clauses: &Clauses, trail: &mut Trail) -> Result<Option<usize>, AllocError>
     requires within { All (Within (length trail.old.values.items)) clauses.now }
     requires based { Based trail.old.literals.items trail.old.reasons.items clauses.now }

@@ -1,3 +1,6 @@
+//! The trail: the literals that are set, in order, with their reasons and decision levels (Eén and
+//! Sörensson 2003).
+
 ghost use Rattle.std.specs.Prelude.{◌+◌, ◌-◌, ◌*◌, ◌^◌, [], ◌∷◌, ◌≡◌, ◌<◌, ◌≤◌, ℕ, ◌++◌, true, false, IfOk, OnOk, OnErr, length, take, All, List, slice_set, slice_index, MatchBool};
 ghost use Rattle.clause_core.specs.declared.literal.Lit.{Lit};
 ghost use Rattle.clause_core.specs.Values.{holds, code, unset};
@@ -17,22 +20,22 @@ pub struct Trail {
     /// The value of each variable: 0 for unset, 1 for true, 2 for false.
     pub values: Vec<u8>,
     /// Where the literal of each variable that is set stands among the literals.
-    pub places: Vec<usize>,
+    pub positions: Vec<usize>,
     /// Why the literal of each variable that is set stands there: 0 for a decision, else one more than the
     /// number of the clause that forced it.
     pub reasons: Vec<usize>,
     /// The literals that are set true.
     pub literals: Vec<Lit>,
     /// Where each decision stands among the literals.
-    pub starts: Vec<usize>,
+    pub level_starts: Vec<usize>,
     pub ghost values_ok: { ValuesMatch values.items literals.items },
-    pub ghost placed: { PlacesMatch literals.items places.items },
+    pub ghost placed: { PlacesMatch literals.items positions.items },
     pub ghost within: { Within (length values.items) literals.items },
-    pub ghost places_len: { length places.items ≡ length values.items },
+    pub ghost places_len: { length positions.items ≡ length values.items },
     pub ghost reasons_len: { length reasons.items ≡ length values.items },
-    pub ghost rising: { StartsRise starts.items },
-    pub ghost in_trail: { StartsIn starts.items literals.items },
-    pub ghost roots: { DecisionsBegin literals.items reasons.items starts.items },
+    pub ghost rising: { StartsRise level_starts.items },
+    pub ghost in_trail: { StartsIn level_starts.items literals.items },
+    pub ghost roots: { DecisionsBegin literals.items reasons.items level_starts.items },
 }
 
 impl Trail {
@@ -40,22 +43,22 @@ impl Trail {
     pub(crate) fn new(alloc: Global, vars: usize) -> Result<Trail, AllocError>
         ensures vars { IfOk result (λ t. length t.values.items ≡ vars) }
         ensures literals { IfOk result (λ t. t.literals.items ≡ []) }
-        ensures starts { IfOk result (λ t. t.starts.items ≡ []) }
+        ensures level_starts { IfOk result (λ t. t.level_starts.items ≡ []) }
     {
         let values = vec![in alloc; 0; vars]?;
-        let places = vec![in alloc; 0; vars]?;
+        let positions = vec![in alloc; 0; vars]?;
         let reasons = vec![in alloc; 0; vars]?;
         Ok(Trail {
             values,
-            places,
+            positions,
             reasons,
             literals: Vec::new(alloc),
-            starts: Vec::new(alloc),
+            level_starts: Vec::new(alloc),
         })
     }
 
-    /// Sets a literal that a clause forces; `reason` is one more than the clause's number. After want of
-    /// memory the trail is as before.
+    /// Sets a literal that a clause forces; `reason` is one more than the clause's number. If memory runs out,
+    /// the trail is as before.
     pub(crate) fn imply(&mut self, l: Lit, reason: usize) -> Result<(), AllocError>
         requires in_range { l.var < length self.old.values.items }
         requires off { holds self.old.values.items l ≡ false }
@@ -67,17 +70,17 @@ impl Trail {
         ensures literals_kept { OnErr result (self.new.literals.items ≡ self.old.literals.items) }
         ensures reasons_kept { OnErr result (self.new.reasons.items ≡ self.old.reasons.items) }
         ensures values_kept { OnErr result (self.new.values.items ≡ self.old.values.items) }
-        ensures starts { self.new.starts.items ≡ self.old.starts.items }
+        ensures level_starts { self.new.level_starts.items ≡ self.old.level_starts.items }
     {
         let n = self.literals.len();
         self.literals.push(l)?;
         self.values[l.var] = if l.positive { 1 } else { 2 };
-        self.places[l.var] = n;
+        self.positions[l.var] = n;
         self.reasons[l.var] = reason;
         Ok(())
     }
 
-    /// Sets a literal as a decision. After want of memory the trail is as before.
+    /// Sets a literal as a decision. If memory runs out, the trail is as before.
     pub(crate) fn decide(&mut self, l: Lit) -> Result<(), AllocError>
         requires in_range { l.var < length self.old.values.items }
         requires off { holds self.old.values.items l ≡ false }
@@ -85,45 +88,45 @@ impl Trail {
         ensures literals { OnOk result (self.new.literals.items ≡ self.old.literals.items ++ l ∷ []) }
         ensures reasons { OnOk result (self.new.reasons.items ≡ slice_set self.old.reasons.items l.var 0) }
         ensures values { OnOk result (self.new.values.items ≡ slice_set self.old.values.items l.var (code l.positive)) }
-        ensures starts { OnOk result (self.new.starts.items ≡ self.old.starts.items ++ length self.old.literals.items ∷ []) }
+        ensures level_starts { OnOk result (self.new.level_starts.items ≡ self.old.level_starts.items ++ length self.old.literals.items ∷ []) }
         ensures literals_kept { OnErr result (self.new.literals.items ≡ self.old.literals.items) }
         ensures reasons_kept { OnErr result (self.new.reasons.items ≡ self.old.reasons.items) }
         ensures values_kept { OnErr result (self.new.values.items ≡ self.old.values.items) }
-        ensures starts_kept { OnErr result (self.new.starts.items ≡ self.old.starts.items) }
+        ensures starts_kept { OnErr result (self.new.level_starts.items ≡ self.old.level_starts.items) }
         ensures based { (cs : List (List Lit)) → Based self.old.literals.items self.old.reasons.items cs → Based self.new.literals.items self.new.reasons.items cs }
     {
         let n = self.literals.len();
-        let n_starts = self.starts.len();
-        self.starts.push(n)?;
+        let n_starts = self.level_starts.len();
+        self.level_starts.push(n)?;
         if let Err(e) = self.literals.push(l) {
-            self.starts.truncate(n_starts);
+            self.level_starts.truncate(n_starts);
             return Err(e.into());
         }
         self.values[l.var] = if l.positive { 1 } else { 2 };
-        self.places[l.var] = n;
+        self.positions[l.var] = n;
         self.reasons[l.var] = 0;
         Ok(())
     }
 
     /// Takes back decision number `level` and all that came after it.
     pub(crate) fn undo(&mut self, level: usize)
-        requires { level < length self.old.starts.items }
-        ensures literals { self.new.literals.items ≡ take (slice_index self.old.starts.items level) self.old.literals.items }
-        ensures starts { self.new.starts.items ≡ take level self.old.starts.items }
+        requires { level < length self.old.level_starts.items }
+        ensures literals { self.new.literals.items ≡ take (slice_index self.old.level_starts.items level) self.old.literals.items }
+        ensures level_starts { self.new.level_starts.items ≡ take level self.old.level_starts.items }
         ensures reasons { self.new.reasons.items ≡ self.old.reasons.items }
         ensures vars { length self.new.values.items ≡ length self.old.values.items }
     {
-        let n = self.starts[level];
-        clear_from(&mut self.values, &self.literals, &self.places, n);
+        let n = self.level_starts[level];
+        clear_from(&mut self.values, &self.literals, &self.positions, n);
         self.literals.truncate(n);
-        self.starts.truncate(level);
+        self.level_starts.truncate(level);
     }
 }
 
 // Clears the values of the literals from n on.
-fn clear_from(values: &mut Vec<u8>, literals: &[Lit], places: &[usize], n: usize)
+fn clear_from(values: &mut Vec<u8>, literals: &[Lit], positions: &[usize], n: usize)
     requires low { n ≤ length literals.now }
-    requires placed { PlacesMatch literals.now places.now }
+    requires placed { PlacesMatch literals.now positions.now }
     requires within { Within (length values.old.items) literals.now }
     requires values { ValuesMatch values.old.items literals.now }
     ensures values { ValuesMatch values.new.items (take n literals.now) }

@@ -1,3 +1,6 @@
+//! Visits the clauses that watch a literal that became false (Moskewicz and others 2001). Each
+//! finds another watch, forces a literal, or is a conflict.
+
 ghost use Rattle.std.specs.Prelude.{◌+◌, ◌-◌, ◌*◌, ◌^◌, [], ◌∷◌, ◌≡◌, ◌<◌, ◌≤◌, ℕ, ◌++◌, true, false, IfOk, length, take, All, List, slice_set, slice_index, slice_index_or, MatchOption};
 ghost use Rattle.clause_core.specs.declared.literal.Lit.{Lit};
 ghost use Rattle.clause_core.specs.Literals.{Within, negate};
@@ -8,7 +11,7 @@ ghost use Rattle.sat_prop.specs.Sifted.{put_back};
 ghost use Rattle.sat_prop.specs.Packing.{RowsMatch, pairs};
 ghost use Rattle.sat_prop.specs.Watches.{AllWatchesIn, AllListed, Kept, DoneWith, KeepsTwo};
 
-use crate::lists::{Entry, Sieve, Slot, WatchLists};
+use crate::lists::{PackedWatcher, Sieve, WatchLists, Watcher};
 use crate::rows::Rows;
 use crate::trail::Trail;
 use crate::watch::{Finding, cell_of, look_at, other_of};
@@ -16,7 +19,7 @@ use crate::words::{literal, word_of};
 use clause_core::{Clauses, Lit, is_set};
 use std::alloc::AllocError;
 
-// Visits the clauses of what is left of the list of f, which became false.
+// Visits the clauses still to be read in the watch list of f, a literal that became false.
 fn visit_entries(
     clauses: &Clauses,
     trail: &mut Trail,
@@ -51,7 +54,7 @@ fn visit_entries(
 {
     let fallen = word_of(f);
     'visit: while let Some(slot) = sieve.front() {
-        if is_set(&trail.values, literal(slot.other)) {
+        if is_set(&trail.values, literal(slot.blocker)) {
             sieve.keep(slot);
             continue;
         }
@@ -61,14 +64,20 @@ fn visit_entries(
             continue;
         };
         let other = literal(word);
-        let seen = Slot {
+        let seen = PackedWatcher {
             clause: slot.clause,
-            other: word,
+            blocker: word,
         };
         match look_at(&trail.values, rows.get(k), other) {
             Finding::Hit => sieve.keep(seen),
             Finding::Move(g, j) => {
-                lists.push(cell_of(g), Entry { clause: k, other })?;
+                lists.push(
+                    cell_of(g),
+                    Watcher {
+                        clause: k,
+                        blocker: other,
+                    },
+                )?;
                 rows.rewatch(k, j, other, f);
                 sieve.skip();
             }
@@ -82,7 +91,7 @@ fn visit_entries(
     Ok(None)
 }
 
-// Visits each clause that watches f, which became false.
+// Visits each clause that watches f, a literal that became false.
 pub fn visit_list(
     clauses: &Clauses,
     trail: &mut Trail,

@@ -1,3 +1,5 @@
+//! The two watched literals of a clause, and what is to be done when one becomes false.
+
 ghost use Rattle.std.specs.Prelude.{◌+◌, ◌-◌, ◌*◌, ◌^◌, [], ◌∷◌, ◌≡◌, ◌<◌, ◌≤◌, ℕ, ◌++◌, true, false, IfOk, OnOk, OnErr, length, take, All, List, Contains, map, ⊤, slice_set, slice_index_or, MatchOption, ◌⊎◌};
 ghost use Rattle.clause_core.specs.Values.{holds};
 ghost use Rattle.clause_core.specs.Literals.{Within, negate};
@@ -15,7 +17,7 @@ pub struct Watches {
     pub b: Lit,
 }
 
-// What is to be done at a clause one of whose watches became false.
+// What is to be done at a clause when one of its watches became false.
 #[derive(Clone, Copy, Drop)]
 pub enum Finding {
     // Nothing: the other watch is true.

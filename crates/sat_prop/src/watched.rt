@@ -1,3 +1,5 @@
+//! Unit propagation with two watched literals for each clause (Moskewicz and others 2001).
+
 ghost use Rattle.std.specs.Prelude.{◌+◌, ◌-◌, ◌*◌, ◌^◌, [], ◌∷◌, ◌≡◌, ◌<◌, ◌≤◌, ℕ, ◌++◌, true, false, IfOk, OnOk, OnErr, length, take, All, List, slice_index, slice_index_or, MatchOption};
 ghost use Rattle.clause_core.specs.Literals.{Within};
 ghost use Rattle.sat_prop.specs.Trails.{Based};
@@ -40,10 +42,10 @@ pub struct Watched {
     ghost cells: { length lists ≡ 2 * length trail.values.items },
     ghost fit: { AllEntries (fits clauses) lists },
     ghost short_listed: { ShortListed clauses (pairs rows) short.items },
-    ghost swept_in: { ShortSwept clauses short.items swept (root trail.literals.items trail.starts.items) },
+    ghost swept_in: { ShortSwept clauses short.items swept (root trail.literals.items trail.level_starts.items) },
     ghost low: { head ≤ length trail.literals.items },
     ghost queue: { AllGuarded clauses (pairs rows) (take head trail.literals.items) trail.literals.items },
-    ghost levels: { LevelsGuarded clauses (pairs rows) trail.literals.items trail.starts.items },
+    ghost levels: { LevelsGuarded clauses (pairs rows) trail.literals.items trail.level_starts.items },
 }
 
 impl Propagator for Watched {

@@ -1,3 +1,5 @@
+//! Literals as words of 32 bits.
+
 ghost use Rattle.std.specs.Prelude.{◌≡◌, ◌<◌, ◌^◌};
 ghost use Rattle.sat_prop.specs.Watches.{cell};
 ghost use Rattle.sat_prop.specs.Words.{literal_of};

@@ -1,3 +1,5 @@
+//! A beginning of the history that a thread knows, and how it is extended by one atomic step.
+
 ghost use Rattle.std.specs.Prelude.{◌≡◌, ◌+◌, ◌++◌, ◌∷◌, ◌<◌, ◌^◌, true, [], length, MatchBool};
 ghost use mathlib.Core.List.{IsPrefix};
 

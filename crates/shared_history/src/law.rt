@@ -1,4 +1,5 @@
-// The rule of the word, and what its steps tell.
+//! The rule of the shared word: it is the number of entries, and a step adds one.
+
 use logbook::{Gain, Plain, Play, Rule};
 
 /// The rule: the word is the number of entries.
@@ -22,7 +23,7 @@ impl<E> Rule<E, u64> for Law {
     ghost moves = { λ ask before after answer. Unit {0} };
 }
 
-// callers trade nothing
+// callers gain nothing from a step
 pub struct Nothing;
 
 impl<E> Gain<E, u64> for Nothing {

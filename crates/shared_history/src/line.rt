@@ -1,3 +1,5 @@
+//! A history without entries, the name that it gets, and the shared word that counts its entries.
+
 ghost use Rattle.std.specs.Prelude.{◌≡◌, []};
 ghost use Rattle.shared_history.specs.Rules.{head_of};
 

@@ -20,9 +20,9 @@ use Rattle.smv_tree.specs.declared.refusal.TextStop.TheVariants.{NoMemory, Refus
 use Rattle.smv_tree.specs.declared.tree.Program.{Program}
 use Rattle.smv_front.specs.Sources.{IsModel, IsSourceStop}
 use Rattle.smv_resolve.specs.declared.item.Item.{Item}
-use Rattle.smv_resolve.specs.Items.{ResolvedItem, items_of}
-use Rattle.smv_scope.specs.Slots.{slots_of}
-use Rattle.smv_declared.specs.Types.{types_of}
+use Rattle.smv_resolve.specs.Items.{ResolvedItem}
+use Rattle.smv_layout.specs.Layout.{items_of}
+use Rattle.smv_slots.specs.Slots.{slots_of, types_of}
 use Rattle.smv_meaning.specs.Faults.{IsFaultFree, item_fault}
 use Rattle.smv_meaning.specs.Runs.{is_claim, specifications_of}
 use Rattle.bit_faults.specs.Questions.{judged_items}

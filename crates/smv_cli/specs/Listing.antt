@@ -10,14 +10,15 @@ use Rattle.smv_tree.specs.declared.tree.VariableKind.TheVariants as sort
 use Rattle.smv_tree.specs.Texts.{kind_text, line_end, place_text}
 use Rattle.smv_resolve.specs.declared.item.ItemKind.{ItemKind}
 use Rattle.smv_resolve.specs.declared.item.ItemKind.TheVariants as item
-use Rattle.smv_scope.specs.declared.slot.Slot.{Slot}
+use Rattle.smv_slots.specs.declared.slot.Slot.{Slot}
 use Rattle.smv_scope.specs.Enumerated.{symbols_of}
-use Rattle.smv_declared.specs.Types.{types_of}
 use Rattle.value_types.specs.declared.value_type.ValueType.{ValueType}
 use Rattle.value_types.specs.Shown.{type_text}
-use Rattle.smv_resolve.specs.Items.{ResolvedItem, items_of}
-use Rattle.smv_scope.specs.Paths.{path_of, shown_path, slot_name}
-use Rattle.smv_scope.specs.Slots.{slots_of}
+use Rattle.smv_resolve.specs.Items.{ResolvedItem}
+use Rattle.smv_layout.specs.Layout.{items_of}
+use Rattle.smv_scope.specs.Paths.{path_of, shown_path}
+use Rattle.smv_slots.specs.Names.{slot_name}
+use Rattle.smv_slots.specs.Slots.{slots_of, types_of}
 use Rattle.smv_meaning.specs.Runs.{is_claim}
 
 abbrev pub sort_text : VariableKind → List ℕ

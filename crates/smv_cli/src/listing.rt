@@ -5,9 +5,11 @@ ghost use Rattle.std.specs.Fmt.{decimal};
 ghost use Rattle.std.specs.Option.{option_copied};
 ghost use Rattle.smv_resolve.specs.declared.item.ItemKind.TheVariants as item;
 ghost use Rattle.smv_resolve.specs.declared.node.Node.{Node};
-ghost use Rattle.smv_resolve.specs.Items.{ResolvedItem, item_by, items_of};
-ghost use Rattle.smv_scope.specs.Paths.{path_of, shown_path, slot_name};
-ghost use Rattle.smv_scope.specs.Slots.{slots_of};
+ghost use Rattle.smv_resolve.specs.Items.{ResolvedItem, item_by};
+ghost use Rattle.smv_layout.specs.Layout.{items_of};
+ghost use Rattle.smv_scope.specs.Paths.{path_of, shown_path};
+ghost use Rattle.smv_slots.specs.Names.{slot_name};
+ghost use Rattle.smv_slots.specs.Slots.{slots_of};
 ghost use Rattle.smv_tree.specs.Texts.{line_end, place_text};
 ghost use Rattle.smv_meaning.specs.Runs.{is_claim};
 ghost use Rattle.smv_cli.specs.Listing.{declared_text, item_kind_text, item_line, items_text, listing_text, slot_line, slots_text, sort_text, summary_text};
@@ -15,7 +17,8 @@ ghost use Rattle.smv_cli.specs.Listing.{declared_text, item_kind_text, item_line
 use plain_text::Text;
 use smv_meaning::{Typed, is_claim};
 use smv_resolve::{Item, ItemKind};
-use smv_scope::{Scope, Slot, path_of, slot_name};
+use smv_scope::{Scope, path_of};
+use smv_slots::{Slot, slot_name};
 use smv_tree::{AssignmentKind, ConstraintKind, Place, SpecificationKind, VariableKind};
 use std::alloc::{AllocError, Global};
 use std::fmt;
@@ -150,7 +153,7 @@ pub(crate) fn sum_up(typed: &Typed) -> Summary
     ensures { codes "-- model slots " ++ decimal result.slots ++ codes " items " ++ decimal result.items ++ line_end ≡ summary_text typed.now.scope.program }
 {
     Summary {
-        slots: typed.scope.slots.len(),
+        slots: typed.slots.len(),
         items: count_listed(typed.items.as_slice()),
     }
 }
@@ -173,7 +176,7 @@ pub(crate) fn listing(alloc: Global, typed: &Typed) -> Result<Vec<u8>, AllocErro
     ensures { IfOk result (λ text. text.items ≡ listing_text typed.now.scope.program) }
 {
     let mut text = Vec::new(alloc);
-    push_slots(alloc, &mut text, typed, typed.scope.slots.as_slice())?;
+    push_slots(alloc, &mut text, typed, typed.slots.as_slice())?;
     push_items(alloc, &mut text, typed, typed.items.as_slice())?;
     Ok(text)
 }
@@ -202,7 +205,7 @@ fn push_slot(
 ) -> Result<(), AllocError>
     ensures { OnOk result (text.new.items ≡ text.old.items ++ slot_line typed.now.scope.program number slot.now) }
 {
-    let name = slot_name(alloc, &typed.scope, slot)?;
+    let name = slot_name(alloc, &typed.scope, typed.variables.as_slice(), slot)?;
     let names = typed.scope.symbol_names.as_slice();
     let declared = declared_text(alloc, names, typed.types.get(slot.declared))?;
     let line = SlotLine {

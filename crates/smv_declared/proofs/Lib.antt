@@ -1,5 +1,7 @@
 pub mod Places
 pub mod Kept
-pub mod Counted
+pub mod Building
+pub mod Sizes
+pub mod Joined
 pub mod Found
 pub mod Adding

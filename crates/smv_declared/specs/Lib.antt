@@ -1,4 +1,6 @@
 pub mod Constants
 pub mod Types
 pub mod Refusals
+pub mod Limits
+pub mod Tally
 pub mod Seen

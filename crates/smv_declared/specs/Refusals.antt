@@ -1,5 +1,5 @@
 -- The rules of declared types: an own choice of this project.
-use Rattle.std.specs.Prelude.{ℕ, ◌+◌, if◌then◌else◌, List, [], ◌∷◌, ◌++◌, Option, None, Some, ℤ, int_lt}
+use Rattle.std.specs.Prelude.{ℕ, ◌+◌, if◌then◌else◌, List, [], ◌∷◌, ◌++◌, map, Option, None, Some, ℤ, int_lt}
 use Rattle.std.specs.Fmt.{signed_decimal}
 use Rattle.std.specs.List.{list_any}
 use Rattle.smv_value.specs.declared.operator.Operator.{Operator}
@@ -9,6 +9,7 @@ use Rattle.smv_tree.specs.declared.refusal.Refusal.{Refusal}
 use Rattle.smv_tree.specs.declared.refusal.Rule.TheVariants as rule
 use Rattle.smv_tree.specs.declared.tree.Program.{Program}
 use Rattle.smv_tree.specs.declared.tree.Section.{Section}
+use Rattle.smv_tree.specs.declared.tree.Dimension.{Dimension}
 use Rattle.smv_tree.specs.declared.tree.Expr.{Expr, Expr-F, fold-Expr}
 use Rattle.smv_tree.specs.declared.tree.TypeExpr.{TypeExpr}
 use Rattle.smv_tree.specs.declared.tree.TypeExpr.TheVariants as written
@@ -25,6 +26,9 @@ use Rattle.smv_resolve.specs.Resolved.{place_of_start}
 use Rattle.smv_verdicts.specs.Verdicts.{detailed, first_of, or_else, plain}
 use Rattle.smv_declared.specs.declared.constant.Constant.{Constant}
 use Rattle.smv_declared.specs.declared.constant.Constant.TheVariants.{NotConstant, Beyond, Integer}
+use Rattle.smv_declared.specs.declared.limits.Limits.{Limits}
+use Rattle.smv_declared.specs.declared.limits.ElementLimits.{ElementLimits}
+use Rattle.smv_declared.specs.declared.limits.ElementLimits.TheVariants as limit
 use Rattle.smv_declared.specs.Types.{bound_of, element_of}
 
 -- that of the last link's operator, where there is a link
@@ -44,10 +48,11 @@ place_of_node (Expr-F.Chain first links) = last_place first links
 unfoldable pub place_of : Expr → Place
 place_of e = fold-Expr Place place_of_node e
 
--- an instance that `VAR` does not declare
-abbrev pub instance_refusal : Place → VariableKind → Option Refusal
-instance_refusal place sort.State = None
-instance_refusal place other = Some (plain rule.TypeMismatch place)
+-- an instance that `VAR` does not declare, or an array of instances: at the module's name
+abbrev pub instance_refusal : VariableKind → List Dimension → TypeExpr → Option Refusal
+instance_refusal sort.State [] (written.Instance place name given) = None
+instance_refusal kind dimensions (written.Instance place name given) = Some (plain rule.TypeMismatch place)
+instance_refusal kind dimensions other = None
 
 abbrev pub no_constant : Place → Constant → Option Refusal
 no_constant place NotConstant = Some (plain rule.NotConstant place)
@@ -69,13 +74,26 @@ too_wide place NotConstant = None
 too_wide place Beyond = Some (plain rule.IntWidth place)
 too_wide place (Integer z) = if is_int z then None else Some (plain rule.IntWidth place)
 
-abbrev pub width_refusal : Place → Constant → Option Refusal
-width_refusal place width = or_else (no_constant place width) (no_width place width)
+-- the limits of a range or of a dimension, which are declared so
+abbrev pub limits_by : Program → ℕ → Expr → Expr → Limits
+limits_by p at low high = record { low_place = place_of low; low = bound_of p at low; high_place = place_of high; high = bound_of p at high }
 
-abbrev pub range_refusal : Place → Constant → Place → Constant → Option Refusal
-range_refusal low_place low high_place high =
-    or_else (no_constant low_place low)
-    (or_else (no_constant high_place high) (or_else (empty_range low_place low high) (or_else (too_wide low_place low) (too_wide high_place high))))
+abbrev pub dimension_limits : Program → ℕ → Dimension → Limits
+dimension_limits p at d = limits_by p at d.low d.high
+
+abbrev pub element_limits : Program → ℕ → TypeExpr → ElementLimits
+element_limits p at (written.Word place signed width) = limit.Width (place_of width) (bound_of p at width)
+element_limits p at (written.Range place low high) = limit.Range (limits_by p at low high)
+element_limits p at other = limit.Absent
+
+abbrev pub no_constants : Limits → Option Refusal
+no_constants x = or_else (no_constant x.low_place x.low) (no_constant x.high_place x.high)
+
+abbrev pub empty_limits : Limits → Option Refusal
+empty_limits x = empty_range x.low_place x.low x.high
+
+abbrev pub wide_limits : Limits → Option Refusal
+wide_limits x = or_else (too_wide x.low_place x.low) (too_wide x.high_place x.high)
 
 -- the first element that is one of those before it
 abbrev pub repeated : (WrittenElement → Element) → List Element → List WrittenElement → Option Refusal
@@ -93,19 +111,46 @@ wide_number place (Some z) = if is_int z then None else Some (plain rule.IntWidt
 abbrev pub wide_element : WrittenElement → Option Refusal
 wide_element x = wide_number x.place x.number
 
-abbrev pub elements_refusal : (WrittenElement → Element) → List WrittenElement → Option Refusal
-elements_refusal element xs = or_else (repeated element [] xs) (first_of wide_element xs)
+-- the rules of an element's limits
+
+abbrev pub no_constant_of : ElementLimits → Option Refusal
+no_constant_of (limit.Width place width) = no_constant place width
+no_constant_of (limit.Range x) = no_constants x
+no_constant_of limit.Absent = None
+
+abbrev pub empty_of : ElementLimits → Option Refusal
+empty_of (limit.Range x) = empty_limits x
+empty_of other = None
+
+abbrev pub no_width_of : ElementLimits → Option Refusal
+no_width_of (limit.Width place width) = no_width place width
+no_width_of other = None
+
+abbrev pub wide_of : ElementLimits → Option Refusal
+wide_of (limit.Range x) = wide_limits x
+wide_of other = None
+
+abbrev pub written_elements : TypeExpr → List WrittenElement
+written_elements (written.Enumeration place elements) = elements
+written_elements other = []
+
+-- The rules of a type, in their order. Of each, dimensions come from the outermost, and the element last.
+abbrev pub limits_refusal : Program → List Limits → ElementLimits → List WrittenElement → Option Refusal
+limits_refusal p dimensions element elements =
+    or_else (or_else (first_of no_constants dimensions) (no_constant_of element))
+    (or_else (or_else (first_of empty_limits dimensions) (empty_of element))
+    (or_else (no_width_of element)
+    (or_else (repeated (element_of p) [] elements)
+    (or_else (first_of wide_limits dimensions) (or_else (wide_of element) (first_of wide_element elements))))))
 
 -- the first rule that a declaration of an instance breaks
-abbrev pub type_refusal : Program → ℕ → VariableKind → TypeExpr → Option Refusal
-type_refusal p at kind (written.Boolean place) = None
-type_refusal p at kind (written.Word place signed width) = width_refusal (place_of width) (bound_of p at width)
-type_refusal p at kind (written.Range place low high) = range_refusal (place_of low) (bound_of p at low) (place_of high) (bound_of p at high)
-type_refusal p at kind (written.Enumeration place elements) = elements_refusal (element_of p) elements
-type_refusal p at kind (written.Instance place name given) = instance_refusal place kind
+abbrev pub variable_refusal : Program → ℕ → VariableKind → Variable → Option Refusal
+variable_refusal p at kind v =
+    or_else (instance_refusal kind v.dimensions v.declared)
+    (limits_refusal p (map (dimension_limits p at) v.dimensions) (element_limits p at v.declared) (written_elements v.declared))
 
 abbrev pub types_refusal_in : Program → ℕ → Section → Option Refusal
-types_refusal_in p at section = first_of (λ (x : VariableKind × Variable). type_refusal p at x.0 x.1.declared) (variables_in section)
+types_refusal_in p at section = first_of (λ (x : VariableKind × Variable). variable_refusal p at x.0 x.1) (variables_in section)
 
 -- the first one of these instances, the first of which has number n
 abbrev pub types_refusal_below : Program → ℕ → List Instance → Option Refusal

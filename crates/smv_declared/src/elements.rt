@@ -1,10 +1,10 @@
 //! The elements of enumerations.
 
-ghost use Rattle.std.specs.Prelude.{◌≡◌, ◌||◌, false, map, not, None, IfOk, OnOk};
-ghost use Rattle.smv_verdicts.specs.Verdicts.{Judges};
+ghost use Rattle.std.specs.Prelude.{◌≡◌, ◌||◌, [], false, map, not, None, IfOk, OnOk};
+ghost use Rattle.smv_verdicts.specs.Verdicts.{Judges, first_of};
 ghost use Rattle.value_types.specs.declared.value_type.Element.{Element};
 ghost use Rattle.value_types.specs.Types.{element_value, is_element};
-ghost use Rattle.smv_declared.specs.Refusals.{elements_refusal, wide_element};
+ghost use Rattle.smv_declared.specs.Refusals.{repeated, wide_element};
 ghost use Rattle.smv_declared.specs.Seen.{has_seen};
 ghost use Rattle.smv_declared.specs.Types.{element_by, element_of};
 
@@ -30,8 +30,9 @@ pub(crate) fn elements_of(
     scope: &Scope,
     written: &[WrittenElement],
 ) -> Result<Items<Element>, TextStop>
-    ensures judged { Judges result (elements_refusal (element_of scope.now.program) written.now) }
+    ensures judged { Judges result (repeated (element_of scope.now.program) [] written.now) }
     ensures elements { IfOk result (λ elements. elements ≡ map (element_of scope.now.program) written.now) }
+    ensures narrow { IfOk result (λ elements. first_of wide_element written.now ≡ None) }
 {
     let mut seen = no_elements(alloc);
     let mut elements = Items::new(alloc);

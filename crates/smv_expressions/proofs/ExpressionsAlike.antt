@@ -14,9 +14,9 @@ use Rattle.smv_phrases.specs.Lists.{listed}
 use Rattle.smv_phrases.proofs.OfLists.{then_alike, second_alike, first_alike, behind_alike, behind_only_alike, listed_alike}
 use Rattle.smv_expressions.specs.declared.ranks.Rank.{Rank}
 use Rattle.smv_expressions.specs.declared.ranks.Rank.TheVariants as rank
-use Rattle.smv_expressions.specs.Operators.{operator_form, is_function, names_function}
-use Rattle.smv_expressions.specs.Tokens.{is_truth, is_step_operator, is_timed_operator, begins_primary, begins_denied, begins_expression, begins_limit, begins_operand, goes_on_primary, goes_on_selected, goes_on_relation, goes_on_disjunction, goes_on_conditional, goes_on_equivalence, goes_on_expression, goes_on_limit, goes_on_operand, is_value_operator}
-use Rattle.smv_expressions.specs.Expressions.{Denied, Link, Phrases, link, links, chain, beside, alone, chained, truth_of, word_of, integers, parenthesised, members, branch, turns, cases, arguments, members_of, function_or_name, next_or_call, compound, primary, selection, selected, inverted, concatenation, negated, negation, product, sum, shifted, union, membership, bounds, denied, compared, tails, temporal, timed, connection, conjunction, disjunction, choices, conditional, equivalence, implication, placed_integer, placed_name, limit_start, limit_negation, limit_product, limit, limited, known, over, is_zero, beyond, phrases, under, expression_within, limit_within, limit_start_within, limited_within, index_within}
+use Rattle.smv_expressions.specs.Operators.{operator_form, is_function, names_function, is_step_operator, is_timed_operator}
+use Rattle.smv_expressions.specs.Tokens.{is_truth, begins_primary, begins_denied, begins_expression, begins_limit, begins_operand, goes_on_primary, goes_on_selected, goes_on_relation, goes_on_disjunction, goes_on_conditional, goes_on_equivalence, goes_on_expression, goes_on_limit, goes_on_operand, is_value_operator}
+use Rattle.smv_expressions.specs.Expressions.{Denied, Link, Phrases, link, links, chain, beside, alone, chained, truth_of, word_of, integers, parenthesised, members, branch, turns, cases, arguments, members_of, function_or_name, next_or_call, compound, primary, selection, selected, inverted, concatenation, negated, negation, product, sum, shifted, union, membership, bounds_end, bounds, denied, compared, tails, temporal, timed, connection, conjunction, disjunction, choices, conditional, equivalence, implication, placed_integer, placed_name, limit_start, limit_negation, limit_product, limit, limited, known, over, is_zero, beyond, phrases, under, expression_within, limit_within, limit_start_within, limited_within, index_within}
 
 pub record AllAlike (q r : Phrases) : Type 0 where
   pub expression : Alike q.expression r.expression
@@ -201,9 +201,19 @@ module _ (closed : Bool) (q r : Phrases) (h : closed ≡ false → AllAlike q r)
         first = λ t. refl;
       })) (λ t. refl)
 
+  bounds_alike : Alike (bounds closed (known q)) (bounds closed (known r))
+  unfolding bounds
+  bounds_alike = to_alike _ (opened closed (is_kind kind.LeftBracket) (bounds_end (known q).limit) (bounds_end (known r).limit) inside)
+    where
+      inside : closed ≡ false → (ts : List Token) → (bounds_end (known q).limit).parse ts ≡ (bounds_end (known r).limit).parse ts
+      inside unlocked =
+          let limit = named_alike begins_limit goes_on_limit (h unlocked).limit in
+          let second = first_alike _ _ _ _ limit (same_form (just kind.RightBracket)) (λ t. refl) in
+          (then_alike _ _ _ _ limit (behind_only_alike (is_kind kind.Comma) _ _ second) (λ t. refl)).parse
+
   timed_alike : Alike (timed closed (known q)) (timed closed (known r))
-  unfolding timed
-  timed_alike = record { parse = then_reads _ _ _ _ (same_form (maybe (bounds closed))) (named_alike begins_expression goes_on_relation temporal_alike); first = λ t. refl }
+  unfolding timed bounds
+  timed_alike = then_alike _ _ _ _ (maybe_alike _ _ bounds_alike) (named_alike begins_expression goes_on_relation temporal_alike) (λ t. refl)
 
   connection_alike : Alike (connection closed (known q)) (connection closed (known r))
   unfolding connection
@@ -287,7 +297,7 @@ unfolding phrases
 phrases_alike zero past past' = over_alike true (beyond past) (beyond past') (λ unlocked. absurd cc)
 phrases_alike (suc room) past past' = over_alike false (phrases past (suc room)) (phrases past' (suc room)) (λ unlocked. phrases_alike room past past')
 
-under_alike : (past room : ℕ) → is_zero room ≡ false → AllAlike (phrases 0 room) (phrases past room)
+pub under_alike : (past room : ℕ) → is_zero room ≡ false → AllAlike (phrases 0 room) (phrases past room)
 under_alike past zero unlocked = absurd cc
 under_alike past (suc room) unlocked = phrases_alike room 0 past
 

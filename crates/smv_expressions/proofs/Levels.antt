@@ -13,7 +13,7 @@ use Rattle.smv_phrases.specs.Names.{just, opening}
 use Rattle.smv_phrases.specs.Lists.{listed}
 use Rattle.smv_phrases.proofs.OfNames.{begins_same}
 use Rattle.smv_expressions.specs.declared.ranks.Rank.TheVariants as rank
-use Rattle.smv_expressions.specs.Expressions.{turns, inverted, negation, denied, temporal, timed, conditional, equivalence, implication, implication_of, limit, limit_negation, is_zero, phrases, under, expression_within, limit_within}
+use Rattle.smv_expressions.specs.Expressions.{turns, bounds_end, inverted, negation, denied, temporal, timed, conditional, equivalence, implication, implication_of, limit, limit_negation, is_zero, phrases, under, expression_within, limit_within}
 use Rattle.smv_expressions.specs.Ranks.{operand_within, phrase_within}
 
 pub bind_bind : {A B C : Type 0} (r : Read Token A) (f : A × List Token → Read Token B) (g : B × List Token → Read Token C) → ((r >>= f) >>= g) ≡ (r >>= λ x. f x >>= g)
@@ -108,6 +108,11 @@ pub under_limit_negation : (room : ℕ) (ts : List Token) → 0 < room → (limi
 unfolding phrases
 under_limit_negation zero ts h = absurd (omega arith)
 under_limit_negation (suc n) ts h = let m : suc n - 1 ≡ n = omega arith in rw m refl
+
+pub under_bounds_end : (room : ℕ) (ts : List Token) → 0 < room → (bounds_end (limit_within 0 (room - 1))).parse ts ≡ (bounds_end (under 0 room).limit).parse ts
+unfolding limit_within phrases
+under_bounds_end zero ts h = absurd (omega arith)
+under_bounds_end (suc n) ts h = let m : suc n - 1 ≡ n = omega arith in rw m refl
 
 -- a limit is a phrase of its rank
 pub limit_reads : (room : ℕ) (ts : List Token) → (phrase_within rank.LimitSum room).parse ts ≡ (limit_within 0 room).parse ts

@@ -27,8 +27,8 @@ use Rattle.smv_phrases.proofs.OfNames.{just_lawful, opening_lawful, name_from_la
 use Rattle.smv_phrases.proofs.OfLists.{second_lawful, first_lawful, listed_lawful}
 use Rattle.smv_expressions.specs.declared.ranks.Rank.{Rank}
 use Rattle.smv_expressions.specs.declared.ranks.Rank.TheVariants as rank
-use Rattle.smv_expressions.specs.Operators.{is_operator, operator_form, is_function, names_function}
-use Rattle.smv_expressions.specs.Tokens.{is_truth, is_step_operator, is_timed_operator, begins_primary, begins_inverted, begins_negation, begins_denied, begins_expression, begins_timed, begins_limit_start, begins_limit, begins_operand, goes_on_primary, goes_on_selected, goes_on_concatenation, goes_on_product, goes_on_sum, goes_on_shift, goes_on_union, goes_on_membership, goes_on_relation, goes_on_connection, goes_on_conjunction, goes_on_disjunction, goes_on_conditional, goes_on_equivalence, goes_on_expression, goes_on_limit_negation, goes_on_limit_product, goes_on_limit, goes_on_operand, is_value_operator}
+use Rattle.smv_expressions.specs.Operators.{is_operator, operator_form, is_function, names_function, is_step_operator, is_timed_operator}
+use Rattle.smv_expressions.specs.Tokens.{is_truth, begins_primary, begins_inverted, begins_negation, begins_denied, begins_expression, begins_timed, begins_limit_start, begins_limit, begins_operand, goes_on_primary, goes_on_selected, goes_on_concatenation, goes_on_product, goes_on_sum, goes_on_shift, goes_on_union, goes_on_membership, goes_on_relation, goes_on_connection, goes_on_conjunction, goes_on_disjunction, goes_on_conditional, goes_on_equivalence, goes_on_expression, goes_on_limit_negation, goes_on_limit_product, goes_on_limit, goes_on_operand, is_value_operator}
 use Rattle.smv_expressions.specs.Expressions.{Denied, Link, Phrases, Named, Selection, link, links, chain, beside, alone, chained, integer_of, integers, parenthesised, members, branch, turns, cases, arguments, members_of, function_or_name, next_or_call, compound, primary, selection, selected, inverted, concatenation, negated, negation, product, sum, shifted, union, membership, bounds, denied_again, stepped, timed_of, denied, compared, tails, temporal, timed, connection, conjunction, disjunction, choices, conditional, equivalence, implication, limit_start, limit_negation, limit_product, limit, limited, known, deepest, over, is_zero, beyond, phrases, under, expression_within, limit_within, limit_start_within, limited_within, index_within}
 use Rattle.smv_expressions.proofs.Reaching.{Deep, more_of, head_nothing, then_reach, to_reach, or_left, or_right}
 
@@ -112,13 +112,6 @@ pub record Keeps (p : Phrases) : Type 0 where
   pub timed : Lawful (known p).timed
   pub limit : Lawful (known p).limit
   pub limit_negation : Lawful (known p).limit_negation
-
-bounds_lawful : (closed : Bool) → Lawful (bounds closed)
-unfolding bounds
-bounds_lawful closed =
-    let closing = to_lawful _ _ (then_lawful _ _ (just_lawful kind.Integer refl) (just_lawful kind.RightBracket refl) (λ t e. refl)) in
-    let behind = to_lawful _ _ (then_lawful _ _ (just_lawful kind.Comma refl) closing (λ t e. refl)) in
-    to_lawful _ _ (to_lawful _ _ (then_lawful _ _ (opening_lawful closed kind.LeftBracket refl) (then_lawful _ _ (just_lawful kind.Integer refl) behind (λ t e. refl)) (λ t e. refl)))
 
 integers_lawful : Lawful integers
 unfolding integers
@@ -428,10 +421,17 @@ module _ (closed : Bool) (q : Phrases) (l : Keeps q) where
     full = refl;
   }
 
+  bounds_lawful : Lawful (bounds closed p)
+  unfolding bounds
+  bounds_lawful =
+      let closing = first_lawful _ _ l.limit (just_lawful kind.RightBracket refl) (apart _ _ (λ t. refl) (λ t. refl) refl) in
+      let behind = second_lawful _ _ (just_lawful kind.Comma refl) closing (λ t e. refl) in
+      to_lawful _ _ (then_lawful _ _ (opening_lawful closed kind.LeftBracket refl) (then_lawful _ _ l.limit behind (apart _ _ (λ t. refl) (λ t. refl) refl)) (λ t e. refl))
+
   pub timed_fine : Fine begins_timed goes_on_relation (timed closed p)
   unfolding timed bounds
   timed_fine = record {
-    lawful = then_lawful _ _ (maybe_lawful _ (bounds_lawful closed) refl) (named_lawful temporal_fine) (apart _ _ (λ t. refl) (λ t. refl) refl);
+    lawful = then_lawful _ _ (maybe_lawful _ bounds_lawful refl) (named_lawful temporal_fine) (apart _ _ (λ t. refl) (λ t. refl) refl);
     first = within _ _ (λ t. refl) (λ t. refl) refl;
     more = within _ _ (λ t. refl) (λ t. refl) refl;
     full = refl;

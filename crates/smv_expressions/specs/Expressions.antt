@@ -1,6 +1,6 @@
 -- The expressions of the language (NuSMV 2.6 User Manual, 2.2), and the limits of its types. The levels of precedence are an own
 -- choice of this project.
-use Rattle.std.specs.Prelude.{ℕ, zero, suc, Bool, true, false, List, [], ◌∷◌, Option, None, Some}
+use Rattle.std.specs.Prelude.{ℕ, zero, suc, Bool, true, false, List, [], ◌∷◌, Option, None, Some, unwrap_or}
 use Rattle.std.specs.List.{flat_map}
 use Rattle.phrase_forms.specs.Forms.{Form, token, or, maybe, many, to, named, ◌⨾◌, ◌▹◌, ◌◃◌}
 use Rattle.phrase_forms.specs.Depending.{pure, after}
@@ -15,6 +15,7 @@ use Rattle.smv_value.specs.declared.operator.Temporal.{Temporal}
 use Rattle.smv_value.specs.declared.operator.Temporal.TheVariants as tense
 use Rattle.smv_value.specs.declared.operator.Bounded.{Bounded}
 use Rattle.smv_value.specs.declared.operator.Bounded.TheVariants as bounded
+use Rattle.smv_value.specs.declared.value.FaultRule.TheVariants as rule
 use Rattle.smv_value.specs.declared.value.Value.TheVariants as value
 use Rattle.smv_tree.specs.declared.tree.Expr.{Expr}
 use Rattle.smv_tree.specs.declared.tree.Expr.TheVariants as expr
@@ -25,15 +26,19 @@ use Rattle.smv_tree.specs.Kinds.{is_kind}
 use Rattle.smv_phrases.specs.declared.names.NameStart.TheVariants as may
 use Rattle.smv_phrases.specs.Names.{just, opening, identifier_of, member, name_from, place_of}
 use Rattle.smv_phrases.specs.Lists.{listed}
-use Rattle.smv_phrases.specs.Numbers.{number_of, integer_value, word_value}
+use Rattle.smv_phrases.specs.Numbers.{integer_value, word_value}
 use Rattle.smv_expressions.specs.declared.ranks.Rank.{Rank}
 use Rattle.smv_expressions.specs.declared.ranks.Rank.TheVariants as rank
-use Rattle.smv_expressions.specs.Operators.{found, operator_form, function_of, is_function, named_function, names_function}
-use Rattle.smv_expressions.specs.Tokens.{is_truth, is_step_operator, is_timed_operator, begins_primary, begins_inverted, begins_negation, begins_denied, begins_expression, begins_timed, begins_limit, begins_operand, goes_on_primary, goes_on_selected, goes_on_concatenation, goes_on_relation, goes_on_disjunction, goes_on_conditional, goes_on_equivalence, goes_on_expression, goes_on_limit_negation, goes_on_limit, goes_on_operand, is_value_operator}
+use Rattle.smv_expressions.specs.Operators.{found, operator_form, function_of, is_function, named_function, names_function, step_operator, is_step_operator, timed_operator, is_timed_operator, unbounded}
+use Rattle.smv_expressions.specs.Tokens.{is_truth, begins_primary, begins_inverted, begins_negation, begins_denied, begins_expression, begins_timed, begins_limit, begins_operand, goes_on_primary, goes_on_selected, goes_on_concatenation, goes_on_relation, goes_on_disjunction, goes_on_conditional, goes_on_equivalence, goes_on_expression, goes_on_limit_negation, goes_on_limit, goes_on_operand, is_value_operator}
+
+-- the bounds of a temporal operator
+abbrev pub Bounds : Type 0
+Bounds = Expr × Expr
 
 -- the bounds of a temporal operator, if it has some, and its operand
 abbrev pub Timed : Type 0
-Timed = Option (ℕ × ℕ) × Expr
+Timed = Option Bounds × Expr
 
 -- an operand of a temporal operator as far as it may be denied, and whether it begins with a temporal operator itself
 abbrev pub Denied : Type 0
@@ -147,7 +152,7 @@ abbrev pub cases : Bool → Form Token Expr → Form Token (Token × List Expr)
 cases closed e = opening closed kind.Case ⨾ turns e ◃ just kind.Esac
 
 abbrev pub case_of : Token × List Expr → Expr
-case_of x = over_all x.0.place operator.Choice x.1
+case_of x = over_all x.0.place (operator.Choice rule.CaseOpen) x.1
 
 -- "(", expressions with commas between them, and ")"
 abbrev pub arguments : Bool → Form Token Expr → Form Token (List Expr)
@@ -249,41 +254,38 @@ membership closed under = chain rank.Membership (union closed under)
 
 -- Temporal operators.
 
--- "[" integer "," integer "]"
-unfoldable pub bounds : Bool → Form Token (ℕ × ℕ)
-bounds closed =
-    to (λ x. (number_of x.0, number_of x.1)) (opening closed kind.LeftBracket ▹ just kind.Integer ⨾ just kind.Comma ▹ just kind.Integer ◃ just kind.RightBracket)
+-- limit "," limit "]"
+abbrev pub bounds_end : Form Token Expr → Form Token Bounds
+bounds_end limit = limit ⨾ just kind.Comma ▹ limit ◃ just kind.RightBracket
 
-abbrev pub step_operator : TokenKind → Temporal
-step_operator kind.NextTime = tense.Next
-step_operator kind.PreviousTime = tense.Previously
-step_operator other = tense.WeaklyPreviously
+-- each bound stands in the brackets as in parentheses
+abbrev pub bounds_of : Token × Bounds → Bounds
+bounds_of x = (group_of (x.0, x.1.0), group_of (x.0, x.1.1))
 
-abbrev pub timed_operator : TokenKind → Temporal
-timed_operator kind.Finally = tense.Finally
-timed_operator kind.Globally = tense.Globally
-timed_operator kind.Once = tense.Once
-timed_operator other = tense.Historically
-
-abbrev pub bounded_operator : TokenKind → Bounded
-bounded_operator kind.Finally = bounded.Finally
-bounded_operator kind.Globally = bounded.Globally
-bounded_operator kind.Once = bounded.Once
-bounded_operator other = bounded.Historically
+-- "[" limit "," limit "]"
+unfoldable pub bounds : Bool → Phrases → Form Token Bounds
+bounds closed under = to bounds_of (opening closed kind.LeftBracket ⨾ bounds_end under.limit)
 
 -- a temporal operator over its operand, with bounds or without
-abbrev pub timed_by : TokenKind → Option (ℕ × ℕ) → Operator
-timed_by k None = operator.Temporal (timed_operator k)
-timed_by k (Some x) = operator.Bounded (bounded_operator k) x.0 x.1
+abbrev pub timed_by : Place → Bounded → Timed → Expr
+timed_by place o (None, e) = below place (operator.Temporal (unbounded o)) e
+timed_by place o (Some x, e) = over_all place (operator.Window o) (x.0 ∷ x.1 ∷ e ∷ [])
+
+-- the operators that are found; none is looked for where none is found
+abbrev pub stepping : TokenKind → Temporal
+stepping k = unwrap_or (step_operator k) tense.Next
+
+abbrev pub timing : TokenKind → Bounded
+timing k = unwrap_or (timed_operator k) bounded.Finally
 
 abbrev pub denied_again : Token × Denied → Denied
 denied_again x = (x.1.0, not_of (x.0, x.1.1))
 
 abbrev pub stepped : Token × Expr → Denied
-stepped x = (true, below x.0.place (operator.Temporal (step_operator x.0.kind)) x.1)
+stepped x = (true, below x.0.place (operator.Temporal (stepping x.0.kind)) x.1)
 
 abbrev pub timed_of : Token × Timed → Denied
-timed_of x = (true, below x.0.place (timed_by x.0.kind x.1.0) x.1.1)
+timed_of x = (true, timed_by x.0.place (timing x.0.kind) x.1)
 
 -- "!" and what it denies, a temporal operator and its operand, or a primary expression and what is selected of it
 unfoldable pub denied : Bool → Phrases → Form Token Denied
@@ -316,7 +318,7 @@ temporal closed under =
 
 -- bounds and an operand, or an operand
 unfoldable pub timed : Bool → Phrases → Form Token Timed
-timed closed under = maybe (bounds closed) ⨾ named begins_expression goes_on_relation (temporal closed under)
+timed closed under = maybe (bounds closed under) ⨾ named begins_expression goes_on_relation (temporal closed under)
 
 unfoldable pub connection : Bool → Phrases → Form Token Expr
 connection closed under = chain rank.Connection (temporal closed under)
@@ -330,7 +332,7 @@ disjunction closed under = chain rank.Disjunction (conjunction closed under)
 -- Expressions.
 
 abbrev pub chosen_by : Expr → Token × (Expr × Expr) → Expr
-chosen_by condition x = expr.Apply x.0.place operator.Choice (condition ∷ []) (x.1.0 ∷ x.1.1 ∷ [])
+chosen_by condition x = expr.Apply x.0.place (operator.Choice rule.CaseOpen) (condition ∷ []) (x.1.0 ∷ x.1.1 ∷ [])
 
 abbrev pub conditional_of : Expr × Option (Token × (Expr × Expr)) → Expr
 conditional_of (e, None) = e

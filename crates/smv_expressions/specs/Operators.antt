@@ -13,7 +13,10 @@ use Rattle.smv_value.specs.declared.operator.Order.TheVariants as order
 use Rattle.smv_value.specs.declared.operator.Arithmetic.TheVariants as arithmetic
 use Rattle.smv_value.specs.declared.operator.Division.TheVariants as division
 use Rattle.smv_value.specs.declared.operator.Shift.TheVariants as shift
+use Rattle.smv_value.specs.declared.operator.Temporal.{Temporal}
 use Rattle.smv_value.specs.declared.operator.Temporal.TheVariants as tense
+use Rattle.smv_value.specs.declared.operator.Bounded.{Bounded}
+use Rattle.smv_value.specs.declared.operator.Bounded.TheVariants as bounded
 use Rattle.smv_expressions.specs.declared.ranks.Rank.{Rank}
 use Rattle.smv_expressions.specs.declared.ranks.Rank.TheVariants as rank
 
@@ -128,3 +131,30 @@ named_function other = None
 
 abbrev pub names_function : Token → Bool
 names_function t = is_some (named_function t.kind)
+
+-- the temporal operators with one operand (manual 2.4.3): those that have no bounds, and those that may have some
+abbrev pub step_operator : TokenKind → Option Temporal
+step_operator kind.NextTime = Some tense.Next
+step_operator kind.PreviousTime = Some tense.Previously
+step_operator kind.WeakPreviousTime = Some tense.WeaklyPreviously
+step_operator other = None
+
+abbrev pub is_step_operator : Token → Bool
+is_step_operator t = is_some (step_operator t.kind)
+
+abbrev pub timed_operator : TokenKind → Option Bounded
+timed_operator kind.Finally = Some bounded.Finally
+timed_operator kind.Globally = Some bounded.Globally
+timed_operator kind.Once = Some bounded.Once
+timed_operator kind.Historically = Some bounded.Historically
+timed_operator other = None
+
+abbrev pub is_timed_operator : Token → Bool
+is_timed_operator t = is_some (timed_operator t.kind)
+
+-- the same without bounds
+abbrev pub unbounded : Bounded → Temporal
+unbounded bounded.Finally = tense.Finally
+unbounded bounded.Globally = tense.Globally
+unbounded bounded.Once = tense.Once
+unbounded bounded.Historically = tense.Historically

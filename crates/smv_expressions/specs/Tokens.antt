@@ -6,18 +6,11 @@ use Rattle.smv_tree.specs.Kinds.{is_kind}
 use Rattle.smv_phrases.specs.Names.{begins_name}
 use Rattle.smv_expressions.specs.declared.ranks.Rank.{Rank}
 use Rattle.smv_expressions.specs.declared.ranks.Rank.TheVariants as rank
-use Rattle.smv_expressions.specs.Operators.{is_operator, is_function}
+use Rattle.smv_expressions.specs.Operators.{is_operator, is_function, is_step_operator, is_timed_operator}
 
 -- TRUE or FALSE
 abbrev pub is_truth : Token → Bool
 is_truth t = is_kind kind.True t || is_kind kind.False t
-
--- the temporal operators with one operand (manual 2.4.3): those that have no bounds, and those that may have some
-abbrev pub is_step_operator : Token → Bool
-is_step_operator t = is_kind kind.NextTime t || is_kind kind.PreviousTime t || is_kind kind.WeakPreviousTime t
-
-abbrev pub is_timed_operator : Token → Bool
-is_timed_operator t = is_kind kind.Finally t || is_kind kind.Globally t || is_kind kind.Once t || is_kind kind.Historically t
 
 abbrev pub begins_literal : Token → Bool
 begins_literal t = is_truth t || is_kind kind.Integer t || is_kind kind.WordConstant t

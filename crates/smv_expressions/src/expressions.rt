@@ -8,16 +8,14 @@ ghost use Rattle.smv_phrases.specs.declared.names.NameStart.TheVariants as may;
 ghost use Rattle.smv_phrases.specs.Names.{just, name_from, opening};
 ghost use Rattle.smv_phrases.specs.Lists.{further, listed};
 ghost use Rattle.smv_phrases.specs.Reading.{Gives};
-ghost use Rattle.smv_expressions.specs.Operators.{is_function};
-ghost use Rattle.smv_expressions.specs.Tokens.{is_step_operator, is_timed_operator};
-ghost use Rattle.smv_expressions.specs.Expressions.{Link, integers, parenthesised, group_of, members, set_of, branch, turns, cases, case_of, arguments, call_of, function_or_name, next_or_call, compound, primary, selection, selected_by, selected, inverted, negated, negation, denied_again, stepped, timed_of, denied, chained, compared, temporal, timed, choices, chosen_by, conditional, placed_minus, placed_group, limit_start, limit_negation, limited, is_zero, under, expression_within, limit_within, limit_start_within, limited_within, index_within};
+ghost use Rattle.smv_expressions.specs.Operators.{is_function, is_step_operator, is_timed_operator};
+ghost use Rattle.smv_expressions.specs.Expressions.{Link, integers, parenthesised, group_of, members, set_of, branch, turns, cases, case_of, arguments, call_of, function_or_name, next_or_call, compound, primary, selection, selected_by, selected, inverted, negated, negation, bounds_end, bounds, denied_again, stepped, timed_of, denied, chained, compared, temporal, timed, choices, chosen_by, conditional, placed_minus, placed_group, limit_start, limit_negation, limited, is_zero, under, expression_within, limit_within, limit_start_within, limited_within, index_within};
 ghost use Rattle.smv_expressions.specs.Ranks.{operand_within, link_within, links_within, phrase_within};
 
 use crate::nodes::{Link, chain_of, one, over_all, selected_by, two};
 use crate::ranks::Rank;
 use crate::temporal::{
-    below, is_step_operator, is_timed_operator, maybe_bounds, step_operator, step_token, timed_by,
-    timed_token,
+    below, is_step_operator, is_timed_operator, step_token, stepping, timed_by, timed_token, timing,
 };
 use crate::tokens::{
     begins_limit_start, expression_begins, function_of, function_token, integer_of, is_function,
@@ -28,12 +26,12 @@ use smv_phrases::{
     NameStart, Stop, begins, identifier_of, is_kind, just, name_from, opening, place_of,
 };
 use smv_tree::{Expr, Name, Place, Start, Token, TokenKind};
-use smv_value::{Logic, Operator, Temporal};
+use smv_value::{FaultRule, Logic, Operator};
 use sqlite_items::{Boxed, Items};
 use std::alloc::Global;
 
 /// Whether no level may be opened.
-fn is_closed(room: usize) -> bool
+pub fn is_closed(room: usize) -> bool
     ensures { result ≡ is_zero room }
 {
     room == 0
@@ -189,7 +187,8 @@ fn case<'a>(
     let (case, tokens) = opening(is_closed(room), TokenKind::Case, tokens)?;
     let (all, tokens) = turns(alloc, room - 1, tokens)?;
     let (_, tokens) = just(TokenKind::Esac, tokens)?;
-    Ok((over_all(alloc, case.place, Operator::Choice, all), tokens))
+    let operator = Operator::Choice(FaultRule::CaseOpen);
+    Ok((over_all(alloc, case.place, operator, all), tokens))
 }
 
 /// What a function is given: `(`, expressions with commas between them, and `)`.
@@ -450,7 +449,7 @@ fn stepped<'a>(
 {
     let (first, tokens) = step_token(is_closed(room), tokens)?;
     let (inner, tokens) = temporal(alloc, room - 1, tokens)?;
-    let operator = Operator::Temporal(step_operator(first.kind));
+    let operator = Operator::Temporal(stepping(first.kind));
     let whole = below(alloc, first.place, operator, inner)?;
     Ok(((true, whole), tokens))
 }
@@ -467,7 +466,7 @@ fn timed_of<'a>(
 {
     let (first, tokens) = timed_token(is_closed(room), tokens)?;
     let ((bounds, inner), tokens) = timed(alloc, room - 1, tokens)?;
-    let whole = below(alloc, first.place, timed_by(first.kind, bounds), inner)?;
+    let whole = timed_by(alloc, first.place, timing(first.kind), bounds, inner)?;
     Ok(((true, whole), tokens))
 }
 
@@ -541,6 +540,58 @@ fn temporal<'a>(
     compared(alloc, room, first, tokens)
 }
 
+/// Limit `,` limit `]`
+#[cycle(expressions)]
+fn bounds_end<'a>(
+    alloc: Global,
+    room: usize,
+    tokens: &'a [Token],
+) -> Result<((Expr, Expr), &'a [Token]), Stop<'a>>
+    ensures { Gives (λ x. ((x.0.0, x.0.1), x.1.now)) result ((bounds_end (limit_within 0 room)).parse tokens.now) }
+{
+    let (low, tokens) = limit(alloc, room, tokens)?;
+    let (_, tokens) = just(TokenKind::Comma, tokens)?;
+    let (high, tokens) = limit(alloc, room, tokens)?;
+    let (_, tokens) = just(TokenKind::RightBracket, tokens)?;
+    Ok(((low, high), tokens))
+}
+
+/// `[` limit `,` limit `]`
+#[cycle(expressions)]
+#[tactic(auto, using(crate::proofs::Levels::under_bounds_end), unfolding(crate::specs::Expressions::bounds))]
+fn bounds<'a>(
+    alloc: Global,
+    room: usize,
+    tokens: &'a [Token],
+) -> Result<((Expr, Expr), &'a [Token]), Stop<'a>>
+    ensures { Gives (λ x. ((x.0.0, x.0.1), x.1.now)) result ((bounds (is_zero room) (under 0 room)).parse tokens.now) }
+{
+    let (bracket, tokens) = opening(is_closed(room), TokenKind::LeftBracket, tokens)?;
+    let ((low, high), tokens) = bounds_end(alloc, room - 1, tokens)?;
+    let low = Boxed::new(alloc, low)?;
+    let high = Boxed::new(alloc, high)?;
+    let low = Expr::Group(bracket.place, low);
+    let high = Expr::Group(bracket.place, high);
+    Ok(((low, high), tokens))
+}
+
+/// Bounds, or nothing.
+#[cycle(expressions)]
+#[tactic(auto, unfolding(crate::specs::Expressions::bounds))]
+fn maybe_bounds<'a>(
+    alloc: Global,
+    room: usize,
+    tokens: &'a [Token],
+) -> Result<(Option<(Expr, Expr)>, &'a [Token]), Stop<'a>>
+    ensures { Gives (λ x. (x.0, x.1.now)) result ((maybe (bounds (is_zero room) (under 0 room))).parse tokens.now) }
+{
+    if !begins(TokenKind::LeftBracket, tokens) {
+        return Ok((None, tokens));
+    }
+    let (bounds, tokens) = bounds(alloc, room, tokens)?;
+    Ok((Some(bounds), tokens))
+}
+
 /// Bounds, if there are some, and an operand.
 #[cycle(expressions)]
 #[tactic(auto, unfolding(crate::specs::Expressions::timed))]
@@ -548,10 +599,10 @@ fn timed<'a>(
     alloc: Global,
     room: usize,
     tokens: &'a [Token],
-) -> Result<((Option<(u32, u32)>, Expr), &'a [Token]), Stop<'a>>
+) -> Result<((Option<(Expr, Expr)>, Expr), &'a [Token]), Stop<'a>>
     ensures { Gives (λ x. ((x.0.0, x.0.1), x.1.now)) result ((timed (is_zero room) (under 0 room)).parse tokens.now) }
 {
-    let (bounds, tokens) = maybe_bounds(is_closed(room), tokens)?;
+    let (bounds, tokens) = maybe_bounds(alloc, room, tokens)?;
     let (operand, tokens) = temporal(alloc, room, tokens)?;
     Ok(((bounds, operand), tokens))
 }
@@ -669,7 +720,8 @@ fn chosen<'a>(
     let ((question, first, second), tokens) = choices(alloc, room, tokens)?;
     let beside = one(alloc, condition)?;
     let below = two(alloc, first, second)?;
-    let chosen = Expr::Apply(question.place, Operator::Choice, beside, below);
+    let operator = Operator::Choice(FaultRule::CaseOpen);
+    let chosen = Expr::Apply(question.place, operator, beside, below);
     Ok((chosen, tokens))
 }
 

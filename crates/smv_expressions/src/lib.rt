@@ -1,4 +1,4 @@
-//! Expressions, and the limits of types: from tokens to their trees (NuSMV 2.6 User Manual, 2.2).
+//! Expressions, and the limits of types and of temporal operators: from tokens to their trees (NuSMV 2.6 User Manual, 2.2).
 #![tactic(auto)]
 
 mod expressions;
@@ -7,5 +7,5 @@ mod ranks;
 mod temporal;
 mod tokens;
 
-pub use expressions::{expression, indexed, limit, limit_start, limited, listed};
+pub use expressions::{expression, indexed, is_closed, limit, limit_start, limited, listed};
 pub use tokens::{begins_expression, goes_on_limit, names_function};

@@ -41,6 +41,8 @@ pub found_so : (slots : ℕ) (nodes : List Node) (k : ℕ) (x : Node) → slice_
 found_so slots nodes k (node.Slot place n) is = slot_found slots nodes k place n is
 found_so slots nodes k (node.Named place naming.Given a) is =
     named_found slots nodes k a (slice_get_within nodes k (node.Named place naming.Given a) is) (slot_of_node slots nodes k (node.Named place naming.Given a) is)
+found_so slots nodes k (node.Named place naming.Element a) is =
+    named_found slots nodes k a (slice_get_within nodes k (node.Named place naming.Element a) is) (slot_of_node slots nodes k (node.Named place naming.Element a) is)
 found_so slots nodes k (node.Operand a) is = named_found slots nodes k a (slice_get_within nodes k (node.Operand a) is) (slot_of_node slots nodes k (node.Operand a) is)
 found_so slots nodes k (node.Constant place b) is = slot_of_node slots nodes k (node.Constant place b) is
 found_so slots nodes k (node.Whole place i) is = slot_of_node slots nodes k (node.Whole place i) is

@@ -11,9 +11,10 @@ use Rattle.smv_resolve.specs.declared.node.Naming.TheVariants as naming
 use Rattle.smv_resolve.specs.declared.node.Node.{Node}
 use Rattle.smv_resolve.specs.declared.item.ItemKind.{ItemKind}
 use Rattle.smv_resolve.specs.declared.item.ItemKind.TheVariants as item
-use Rattle.smv_resolve.specs.Items.{ResolvedItem, items_of}
+use Rattle.smv_resolve.specs.Items.{ResolvedItem}
+use Rattle.smv_layout.specs.Layout.{items_of}
 use Rattle.smv_resolve.specs.Resolved.{Resolved}
-use Rattle.smv_scope.specs.Slots.{slots_of}
+use Rattle.smv_slots.specs.Slots.{slots_of}
 use Rattle.smv_flat.specs.Assignments.{SlotAssignment, assigned_slot, assigning, assignment_in, assignment_of, assignments_of, target_slot}
 use Rattle.smv_flat.specs.declared.assigned.Assigned.{Assigned}
 use Rattle.smv_flat.specs.Graph.{assigned_by}
@@ -25,6 +26,7 @@ found_within slots (Resolved.Slot place n) =
     cond_both (nat_lt n slots) (Some n) None (λ o. IfSome o (λ m. m < slots)) (λ t. ltb-true n slots t) (λ f. tt)
 found_within slots (Resolved.Whole place i) = tt
 found_within slots (Resolved.Named place naming.Given r) = found_within slots r
+found_within slots (Resolved.Named place naming.Element r) = found_within slots r
 found_within slots (Resolved.Named place naming.Defined r) = tt
 found_within slots (Resolved.Next place r) = tt
 found_within slots (Resolved.Apply place o rs) = tt

@@ -14,12 +14,13 @@ use Rattle.smv_tree.specs.declared.tree.AssignmentKind.TheVariants as side
 use Rattle.smv_tree.specs.Places.{start}
 use Rattle.smv_resolve.specs.declared.item.ItemKind.{ItemKind}
 use Rattle.smv_resolve.specs.declared.item.ItemKind.TheVariants as item
-use Rattle.smv_scope.specs.declared.slot.Slot.{Slot}
-use Rattle.smv_resolve.specs.Items.{ResolvedItem, items_of}
-use Rattle.smv_scope.specs.Paths.{slot_name}
+use Rattle.smv_slots.specs.declared.slot.Slot.{Slot}
+use Rattle.smv_resolve.specs.Items.{ResolvedItem}
+use Rattle.smv_layout.specs.Layout.{items_of}
+use Rattle.smv_slots.specs.Names.{slot_name}
 use Rattle.smv_resolve.specs.declared.node.Naming.TheVariants as naming
 use Rattle.smv_resolve.specs.Resolved.{Operands, Resolved}
-use Rattle.smv_scope.specs.Slots.{slots_of}
+use Rattle.smv_slots.specs.Slots.{slots_of}
 use Rattle.smv_flat.specs.declared.time.Time.{Time}
 use Rattle.smv_flat.specs.declared.time.Time.TheVariants as when
 
@@ -30,12 +31,13 @@ pub record SlotAssignment : Type 0 where
   pub place : Place
   pub value : Resolved
 
--- the slot that an expression is, itself or as what a parameter was given; there are so many slots
+-- the slot that an expression is: itself, as what a parameter was given, or as an element; there are so many slots
 abbrev pub assigned_slot : ℕ → Resolved → Option ℕ
 assigned_slot slots (Resolved.Constant place b) = None
 assigned_slot slots (Resolved.Slot place n) = if nat_lt n slots then Some n else None
 assigned_slot slots (Resolved.Whole place i) = None
 assigned_slot slots (Resolved.Named place naming.Given r) = assigned_slot slots r
+assigned_slot slots (Resolved.Named place naming.Element r) = assigned_slot slots r
 assigned_slot slots (Resolved.Named place naming.Defined r) = None
 assigned_slot slots (Resolved.Next place r) = None
 assigned_slot slots (Resolved.Apply place o rs) = None

@@ -20,6 +20,7 @@ assigned_by nodes a = record { slot = a.slot; kind = a.kind; place = a.place; va
 abbrev pub found_in : ℕ → ℕ → Node → Found
 found_in slots k (node.Slot place n) = if nat_lt n slots then found.Slot n else found.Nothing
 found_in slots k (node.Named place naming.Given a) = if nat_lt a k then found.Below a else found.Nothing
+found_in slots k (node.Named place naming.Element a) = if nat_lt a k then found.Below a else found.Nothing
 found_in slots k (node.Operand a) = if nat_lt a k then found.Below a else found.Nothing
 found_in slots k other = found.Nothing
 

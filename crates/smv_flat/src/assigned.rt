@@ -37,7 +37,7 @@ pub enum Found {
 pub fn assignments_of(alloc: Global, typed: &Typed) -> Result<Vec<Assigned>, AllocError>
     ensures { IfOk result (λ all. map (assigned_by typed.now.nodes) all.items ≡ assignments_of typed.now.scope.program) }
 {
-    let slots = typed.scope.slots.len();
+    let slots = typed.slots.len();
     let nodes = typed.nodes.as_slice();
     let mut all = Vec::new(alloc);
     for item in typed.items.as_slice() {
@@ -79,7 +79,7 @@ fn target_slot(slots: usize, nodes: &[Node], target: Option<usize>) -> Option<us
     }
 }
 
-// The slot that a node is, itself or as what a parameter was given.
+// The slot that a node is: itself, as what a parameter was given, or as an element.
 fn assigned_slot(slots: usize, nodes: &[Node], k: usize) -> Option<usize>
     ensures { result ≡ assigned_slot slots (part_of nodes.now k) }
 {
@@ -109,7 +109,9 @@ fn found_in(slots: usize, k: usize, node: Node) -> Found
 {
     match node {
         Node::Slot(_, n) if n < slots => Found::Slot(n),
-        Node::Named(_, Naming::Given, a) | Node::Operand(a) if a < k => Found::Below(a),
+        Node::Named(_, Naming::Given | Naming::Element, a) | Node::Operand(a) if a < k => {
+            Found::Below(a)
+        }
         _ => Found::Nothing,
     }
 }

@@ -21,7 +21,7 @@ pub struct Flat {
 }
 
 /// A program that is assignable (NuSMV 2.6 User Manual, 2.3.8, ASSIGN Constraint; the order of the rules is an own choice of
-/// this project).
+/// this project). Each element of an array counts as a variable; an index that is no constant reads all of them.
 ///
 /// # Errors
 ///

@@ -12,7 +12,6 @@ use crate::time::{Time, gives};
 use digraph::least_round;
 use plain_text::Text;
 use smv_meaning::Typed;
-use smv_scope::Scope;
 use smv_tree::{Place, Refusal, Rule, TextStop};
 use sqlite_items::Items;
 use std::alloc::{AllocError, Global};
@@ -31,7 +30,7 @@ pub fn refuse_cycle(
     ensures right { OnOk result (Acyclic (dependencies typed.now.scope.program time)) }
     ensures refused { IfErr result (IsCycleStop typed.now.scope.program time) }
 {
-    let slots = typed.scope.slots.len();
+    let slots = typed.slots.len();
     let nodes = typed.nodes.as_slice();
     if slots >= MOST || nodes.len() >= MOST {
         return Err(TextStop::NoMemory);
@@ -72,7 +71,7 @@ fn cycle_refusal(
     ensures { IfOk result (λ r. r ≡ cycle_refusal typed.now.scope.program time round.now) }
 {
     let first = round.first().copied().unwrap_or(0);
-    let path = path_text(alloc, &typed.scope, round)?;
+    let path = path_text(alloc, typed, round)?;
     Ok(Refusal {
         rule: Rule::AssignCycle,
         place: place_of_assignment(typed, time, first, all),
@@ -93,17 +92,17 @@ fn place_of_assignment(typed: &Typed, time: Time, x: usize, all: &[Assigned]) ->
 }
 
 // A cycle as it is printed: it ends with its first slot again.
-fn path_text(alloc: Global, scope: &Scope, round: &[usize]) -> Result<Text, AllocError>
-    ensures { IfOk result (λ t. t ≡ path_text scope.now.program round.now) }
+fn path_text(alloc: Global, typed: &Typed, round: &[usize]) -> Result<Text, AllocError>
+    ensures { IfOk result (λ t. t ≡ path_text typed.now.scope.program round.now) }
 {
     let mut path = String::new(alloc);
     for n in round {
-        let name = name_of_slot(alloc, scope, *n)?;
+        let name = name_of_slot(alloc, typed, *n)?;
         path.push_str(name.as_str())?;
         path.push_str(", ")?;
     }
     if let Some(first) = round.first() {
-        let name = name_of_slot(alloc, scope, *first)?;
+        let name = name_of_slot(alloc, typed, *first)?;
         path.push_str(name.as_str())?;
     }
     Text::from_str(alloc, path.as_str())

@@ -24,7 +24,7 @@ pub fn refuse_twice(alloc: Global, typed: &Typed, all: &[Assigned]) -> Result<()
     ensures right { OnOk result (assigned_twice typed.now.scope.program ≡ None) }
     ensures refused { IfErr result (IsTwiceStop typed.now.scope.program) }
 {
-    let mut taken = free_slots(alloc, typed.scope.slots.len())?;
+    let mut taken = free_slots(alloc, typed.slots.len())?;
     for a in all {
         if is_taken(taken[a.slot], a.kind) {
             return Err(TextStop::Refused(twice_refusal(alloc, typed, *a)?));
@@ -37,7 +37,7 @@ pub fn refuse_twice(alloc: Global, typed: &Typed, all: &[Assigned]) -> Result<()
 fn twice_refusal(alloc: Global, typed: &Typed, a: Assigned) -> Result<Refusal, AllocError>
     ensures { IfOk result (λ r. r ≡ twice_refusal typed.now.scope.program (assigned_by typed.now.nodes a)) }
 {
-    let name = name_of_slot(alloc, &typed.scope, a.slot)?;
+    let name = name_of_slot(alloc, typed, a.slot)?;
     Ok(Refusal {
         rule: Rule::AssignedTwice,
         place: a.place,

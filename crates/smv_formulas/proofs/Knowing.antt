@@ -8,7 +8,7 @@ use Rattle.smv_value.specs.declared.value.Value.TheVariants as value
 use Rattle.smv_value.specs.declared.operator.Operator.{Operator}
 use Rattle.smv_value.specs.declared.operator.Operator.TheVariants as operator
 use Rattle.smv_value.specs.declared.operator.Logic.{Logic}
-use Rattle.smv_scope.specs.declared.slot.Slot.{Slot}
+use Rattle.smv_slots.specs.declared.slot.Slot.{Slot}
 use Rattle.smv_resolve.specs.Resolved.{Resolved, Operands, operands_of, part_at}
 use Rattle.value_sets.specs.Members.{only}
 use Rattle.smv_value.specs.Results.{result_of}
@@ -105,6 +105,7 @@ module _ (slots : List Slot) (s u : List Value) where
         over_both place o rs (eqb-true (operand_count rs) 2 both.0) (known_parts rs t both.1 k)
     known_part (Resolved.Apply place (operator.Temporal o) rs) t f k = absurd (let no : ⊥ = cc in no)
     known_part (Resolved.Apply place (operator.Bounded o low high) rs) t f k = absurd (let no : ⊥ = cc in no)
+    known_part (Resolved.Apply place (operator.Window o) rs) t f k = absurd (let no : ⊥ = cc in no)
     known_part (Resolved.Apply place other rs) t f k = k
     known_part Resolved.Stuck t f k = absurd (let no : ⊥ = cc in no)
 
@@ -160,6 +161,7 @@ module _ (slots : List Slot) (s u : List Value) where
   none_sound (operator.Logic o) a b h = absurd (let no : ⊥ = cc in no)
   none_sound (operator.Temporal o) a b h = absurd (let no : ⊥ = cc in no)
   none_sound (operator.Bounded o low high) a b h = absurd (let no : ⊥ = cc in no)
+  none_sound (operator.Window o) a b h = absurd (let no : ⊥ = cc in no)
   none_sound other a b h = tt
 
   sound_case : (o : Operator) (place : Place) (rs : List Resolved) (over : Bool) → is_over_formulas o ≡ over

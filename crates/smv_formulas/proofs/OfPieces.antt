@@ -11,7 +11,7 @@ use Rattle.smv_resolve.proofs.Parts.{before_long}
 use Rattle.std.specs.List.{list_all}
 use Rattle.std.proofs.lemmas.List.Folds.{list_all-map}
 use Rattle.smv_value.specs.declared.value.Value.{Value}
-use Rattle.smv_scope.specs.declared.slot.Slot.{Slot}
+use Rattle.smv_slots.specs.declared.slot.Slot.{Slot}
 use Rattle.smv_resolve.specs.declared.node.Naming.{Naming}
 use Rattle.smv_meaning.specs.Formulas.{has_temporal, is_known}
 use Rattle.smv_meaning.specs.Values.{outcome}

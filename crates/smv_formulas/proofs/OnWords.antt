@@ -7,8 +7,8 @@ use Rattle.smv_tree.specs.declared.tree.Program.{Program}
 use Rattle.smv_value.specs.declared.value.Value.TheVariants as value
 use Rattle.std.proofs.lemmas.List.{map-append, take_more}
 use Rattle.smv_value.specs.declared.value.Value.{Value}
-use Rattle.smv_scope.specs.declared.slot.Slot.{Slot}
-use Rattle.smv_scope.specs.Slots.{slots_of}
+use Rattle.smv_slots.specs.declared.slot.Slot.{Slot}
+use Rattle.smv_slots.specs.Slots.{slots_of}
 use Rattle.smv_resolve.specs.declared.node.Node.{Node}
 use Rattle.smv_resolve.specs.Resolved.{Resolved, part_at, part_of, parts_of}
 use Rattle.smv_meaning.specs.declared.outcome.Outcome.{Outcome}

@@ -1,7 +1,7 @@
 //! The words of lassos.
 
 ghost use Rattle.std.specs.Prelude.{◌≡◌, ◌<◌, length, map, IfOk};
-ghost use Rattle.smv_scope.specs.Slots.{slots_of};
+ghost use Rattle.smv_slots.specs.Slots.{slots_of};
 ghost use Rattle.smv_meaning.specs.Lassos.{Lasso};
 ghost use Rattle.smv_meaning.specs.Runs.{is_true};
 ghost use Rattle.smv_meaning.specs.Tables.{outcome_at};

@@ -21,7 +21,7 @@ use Rattle.smv_kinds.specs.declared.kind.Operand.{Operand}
 use Rattle.smv_kinds.specs.declared.kind.KindRule.{KindRule}
 use Rattle.smv_kinds.specs.declared.kind.KindRule.TheVariants as rule
 use Rattle.smv_kinds.specs.Intervals.{interval}
-use Rattle.smv_kinds.specs.Kinds.{Given, bits_from, boolean_if, concatenated, constant_within, constant_word, constant_word_of, counted, extended_by, given, integers, integers_among, integers_in, integers_of, inverted, is_amount, is_boolean, is_integer, is_ordered, is_set, is_within, kind_if, logical, mismatch, of_integer, of_integers, of_interval, of_intervals, of_number, of_numbers, of_word, resized_to, selected, shifted, size, to_boolean, to_word, with_amount, with_sign, word_in}
+use Rattle.smv_kinds.specs.Kinds.{Given, bits_from, boolean_if, concatenated, constant_within, constant_word, constant_word_of, counted, extended_by, given, integers, integers_among, integers_in, integers_of, inverted, is_amount, is_boolean, is_integer, is_ordered, is_set, is_within, kind_if, logical, mismatch, of_integer, of_integers, of_interval, of_intervals, of_number, of_numbers, of_word, resized_to, selected, shifted, size, subscript, to_boolean, to_word, with_amount, with_sign, word_in}
 use Rattle.smv_kind_laws.specs.Values.{AreOperands, IsOperand, is_among, is_element, is_in, is_in_some, is_of_kind}
 use Rattle.smv_kind_laws.proofs.Between.{Between, between_from, between_test, within}
 
@@ -260,6 +260,20 @@ of_integer_fits f g bounds x k v h e =
     let a = integer_value x c.0 v c.1 h in
     at_one (λ (u : Value). Fits k (of_integer_value g u)) v (value.Int a.0) a.1
     (interval_fits (f c.0) (g a.0) k (bounds c.0 a.0 (between_from c.0.low c.0.high a.0 a.2)) c.2)
+
+-- an index is its own value
+index_fits : (x : Kind) (v : Value) (z : ℤ) → v ≡ value.Int z → IsTrue (is_value v) → IsTrue (is_among x v) → Fits x (of_integer_value (λ a. a) v)
+index_fits x v z e =
+    at_one (λ (u : Value). IsTrue (is_value u) → IsTrue (is_among x u) → Fits x (of_integer_value (λ a. a) u)) v (value.Int z) e
+    (λ h l. fits_if (is_int z) x (value.Int z) h l)
+
+pub subscript_fits : (x k : Kind) (v : Value) → IsTrue (is_of_kind x v) → given (subscript x) ≡ Ok k → Fits k (of_integer_value (λ a. a) v)
+subscript_fits x k v h e =
+    let is = kind_if_is (is_integer x) x k e in
+    let i = some_of (integers_of x) is.0 in
+    let p = and_parts (is_value v) (is_among x v) h in
+    let a = integer_value x i.0 v i.1 p.1 in
+    fits_as x k (of_integer_value (λ a. a) v) is.1 (index_fits x v a.0 a.1 p.0 p.1)
 
 integer_number_fits : (f : Interval → Interval) (g : ℤ → ℤ) → Bounds f g → (x k : Kind) (v : Value) → IsTrue (is_among x v) →
     of_integer f x ≡ Ok k → Fits k (of_number_value g v)

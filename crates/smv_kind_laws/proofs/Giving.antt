@@ -15,13 +15,12 @@ use Rattle.smv_value.specs.declared.value.FaultRule.{FaultRule}
 use Rattle.smv_value.specs.Results.{divided, fault_if, fault_of, is_value, is_zero, result_of, same, sum_of, unless, value_of}
 use Rattle.smv_value.specs.Results.{constant_word as constant_value, extended as extended_value, inverted as inverted_value, joined as joined_value, logical as logical_value, of_integer as of_integer_value, of_integers as of_integers_value, of_number as of_number_value, of_numbers as of_numbers_value, one as one_value, ordered as ordered_value, resized as resized_value, selected as selected_value, shifted as shifted_value, size as size_of_value, three as three_values, to_boolean as to_boolean_value, to_word as to_word_value, two as two_values, with_sign as value_with_sign}
 use Rattle.smv_kinds.specs.declared.kind.Kind.{Kind}
-use Rattle.smv_kinds.specs.declared.kind.ArrayKind.{ArrayKind}
 use Rattle.smv_kinds.specs.declared.kind.Operand.{Operand}
 use Rattle.smv_kinds.specs.Intervals.{absolute_interval, corners, division_interval, opposite_interval, spanned, sum_interval}
-use Rattle.smv_kinds.specs.Kinds.{Given, boolean_if, concatenated, constant_word, extended_by, fit, given, inverted, is_ordered, kind_given, logical, of_integer, of_integers, of_number, of_numbers, one, resized_to, selected, shifted, size, three_told, to_boolean, to_word, two, two_told, with_amount, with_sign}
+use Rattle.smv_kinds.specs.Kinds.{Given, boolean_if, concatenated, constant_word, extended_by, fit, given, inverted, is_ordered, kind_given, logical, of_integer, of_integers, of_number, of_numbers, one, resized_to, selected, shifted, size, subscript, three_told, to_boolean, to_word, two, two_told, with_amount, with_sign}
 use Rattle.smv_kind_laws.specs.Values.{AreOperands, Gives, IsOperand, gives_value, is_among}
 use Rattle.smv_kind_laws.proofs.Between.{Between, absolute_within, added, greater, greatest, least, lesser, multiplied, quotient_within, remainder_within, subtracted, turned}
-use Rattle.smv_kind_laws.proofs.Fitting.{Bounds, BoundsDivision, BoundsTwo, Fits, among, boolean_fits, concatenated_fits, constant_word_fits, counted_fits, divided_fits, extended_fits, inverted_fits, logical_fits, mismatched, of_integer_fits, of_integers_fits, of_number_fits, of_numbers_fits, ordered_fits, resized_fits, selected_fits, shifted_fits, size_fits, to_boolean_fits, to_word_fits, with_sign_fits}
+use Rattle.smv_kind_laws.proofs.Fitting.{Bounds, BoundsDivision, BoundsTwo, Fits, among, boolean_fits, concatenated_fits, constant_word_fits, counted_fits, divided_fits, extended_fits, inverted_fits, logical_fits, mismatched, of_integer_fits, of_integers_fits, of_number_fits, of_numbers_fits, ordered_fits, resized_fits, selected_fits, shifted_fits, size_fits, subscript_fits, to_boolean_fits, to_word_fits, with_sign_fits}
 use Rattle.smv_kind_laws.proofs.Kept.{IsKept, value_kept}
 
 -- intervals
@@ -60,6 +59,14 @@ one_fits f g each (x ∷ []) [] k h e = absurd h
 one_fits f g each (x ∷ []) (v ∷ []) k h e = each x.kind k v (among x.kind v h.0.kind) e
 one_fits f g each (x ∷ []) (v ∷ w ∷ vs) k h e = absurd h.1
 one_fits f g each (x ∷ y ∷ xs) vs k h e = absurd (mismatched k e)
+
+index_fits : (xs : List Operand) (vs : List Value) (k : Kind) → AreOperands xs vs → one (λ i. given (subscript i)) xs ≡ Ok k →
+    Fits k (one_value (of_integer_value (λ a. a)) vs)
+index_fits [] vs k h e = absurd (mismatched k e)
+index_fits (x ∷ []) [] k h e = absurd h
+index_fits (x ∷ []) (v ∷ []) k h e = subscript_fits x.kind k v h.0.kind e
+index_fits (x ∷ []) (v ∷ w ∷ vs) k h e = absurd h.1
+index_fits (x ∷ y ∷ xs) vs k h e = absurd (mismatched k e)
 
 two_told_fits : (f : Operand → Operand → Given) (g : Value → Value → Option Value) →
     ((x y : Operand) (k : Kind) (v w : Value) → IsOperand x v → IsOperand y w → f x y ≡ Ok k → Fits k (g v w)) →
@@ -115,46 +122,49 @@ division_fits o (x ∷ y ∷ z ∷ xs) vs k h e n = absurd (mismatched k e)
 
 -- the table
 
-fits : (arrays : List ArrayKind) (o : Operator) (xs : List Operand) (vs : List Value) (k : Kind) → IsTrue (gives_value o) → AreOperands xs vs →
-    kind_given arrays o xs ≡ Ok k → fault_of o vs ≡ None → Fits k (value_of o vs)
-fits arrays operator.Not xs vs k g h e n = one_fits (λ a. given (inverted a)) inverted_value inverted_fits xs vs k h e
-fits arrays (operator.Logic o) xs vs k g h e n = two_fits (λ a b. given (logical a b)) (logical_value o) (logical_fits o) xs vs k h e
-fits arrays operator.Equal xs vs k g h e n =
+fits : (o : Operator) (xs : List Operand) (vs : List Value) (k : Kind) → IsTrue (gives_value o) → AreOperands xs vs →
+    kind_given o xs ≡ Ok k → fault_of o vs ≡ None → Fits k (value_of o vs)
+fits operator.Not xs vs k g h e n = one_fits (λ a. given (inverted a)) inverted_value inverted_fits xs vs k h e
+fits (operator.Logic o) xs vs k g h e n = two_fits (λ a b. given (logical a b)) (logical_value o) (logical_fits o) xs vs k h e
+fits operator.Equal xs vs k g h e n =
     two_fits (λ a b. given (boolean_if (fit a b))) (λ a b. Some (value.Bool (same a b))) (λ x y k v w m l d. boolean_fits (fit x y) k (same v w) d) xs vs k h e
-fits arrays operator.NotEqual xs vs k g h e n =
+fits operator.NotEqual xs vs k g h e n =
     two_fits (λ a b. given (boolean_if (fit a b))) (λ a b. Some (value.Bool (not (same a b)))) (λ x y k v w m l d. boolean_fits (fit x y) k (not (same v w)) d) xs vs k h e
-fits arrays (operator.Order o) xs vs k g h e n = two_fits (λ a b. given (boolean_if (is_ordered a b))) (ordered_value o) (ordered_fits o) xs vs k h e
-fits arrays operator.Negate xs vs k g h e n = one_fits (of_number opposite_interval) (of_number_value neg_ℤ) (of_number_fits opposite_interval neg_ℤ opposite_bounds) xs vs k h e
-fits arrays (operator.Arithmetic o) xs vs k g h e n =
+fits (operator.Order o) xs vs k g h e n = two_fits (λ a b. given (boolean_if (is_ordered a b))) (ordered_value o) (ordered_fits o) xs vs k h e
+fits operator.Negate xs vs k g h e n = one_fits (of_number opposite_interval) (of_number_value neg_ℤ) (of_number_fits opposite_interval neg_ℤ opposite_bounds) xs vs k h e
+fits (operator.Arithmetic o) xs vs k g h e n =
     two_fits (of_numbers (sum_interval o)) (of_numbers_value (sum_of o)) (of_numbers_fits (sum_interval o) (sum_of o) (sum_bounds o)) xs vs k h e
-fits arrays (operator.Division o) xs vs k g h e n = division_fits o xs vs k h e n
-fits arrays operator.Absolute xs vs k g h e n =
+fits (operator.Division o) xs vs k g h e n = division_fits o xs vs k h e n
+fits operator.Absolute xs vs k g h e n =
     one_fits (of_integer absolute_interval) (of_integer_value (λ a. pos (unsigned_abs a))) (of_integer_fits absolute_interval (λ a. pos (unsigned_abs a)) absolute_bounds) xs vs k h e
-fits arrays operator.Maximum xs vs k g h e n =
+fits operator.Maximum xs vs k g h e n =
     two_fits (of_integers (corners int_max)) (of_integers_value int_max) (of_integers_fits (corners int_max) int_max greatest_bounds) xs vs k h e
-fits arrays operator.Minimum xs vs k g h e n =
+fits operator.Minimum xs vs k g h e n =
     two_fits (of_integers (corners int_min)) (of_integers_value int_min) (of_integers_fits (corners int_min) int_min least_bounds) xs vs k h e
-fits arrays operator.Count xs vs k g h e n = counted_fits xs vs k h e
-fits arrays (operator.Shift o) xs vs k g h e n = two_fits (λ a b. given (shifted a b)) (shifted_value o) (shifted_fits o) xs vs k h e
-fits arrays operator.Join xs vs k g h e n = two_fits concatenated joined_value concatenated_fits xs vs k h e
-fits arrays operator.Select xs vs k g h e n = three_told_fits selected selected_value selected_fits xs vs k h e
-fits arrays operator.Index xs vs k g h e n = absurd (false≢true g)
-fits arrays operator.Members xs vs k g h e n = absurd (false≢true g)
-fits arrays operator.Union xs vs k g h e n = absurd (false≢true g)
-fits arrays operator.Range xs vs k g h e n = absurd (false≢true g)
-fits arrays operator.In xs vs k g h e n = absurd (false≢true g)
-fits arrays operator.Choice xs vs k g h e n = absurd (false≢true g)
-fits arrays operator.ToWord xs vs k g h e n = one_fits (λ a. given (to_word a)) to_word_value to_word_fits xs vs k h e
-fits arrays operator.ToBoolean xs vs k g h e n = one_fits (λ a. given (to_boolean a)) to_boolean_value to_boolean_fits xs vs k h e
-fits arrays operator.Signed xs vs k g h e n = one_fits (λ a. given (with_sign true a)) (value_with_sign true) (with_sign_fits true) xs vs k h e
-fits arrays operator.Unsigned xs vs k g h e n = one_fits (λ a. given (with_sign false a)) (value_with_sign false) (with_sign_fits false) xs vs k h e
-fits arrays operator.Extend xs vs k g h e n = two_told_fits (with_amount extended_by) extended_value extended_fits xs vs k h e
-fits arrays operator.Resize xs vs k g h e n = two_told_fits (with_amount resized_to) resized_value resized_fits xs vs k h e
-fits arrays operator.Size xs vs k g h e n = one_fits size size_of_value size_fits xs vs k h e
-fits arrays operator.UnsignedConstant xs vs k g h e n = two_told_fits (constant_word false) (constant_value false) (constant_word_fits false) xs vs k h e
-fits arrays operator.SignedConstant xs vs k g h e n = two_told_fits (constant_word true) (constant_value true) (constant_word_fits true) xs vs k h e
-fits arrays (operator.Temporal o) xs vs k g h e n = absurd (false≢true g)
-fits arrays (operator.Bounded o low high) xs vs k g h e n = absurd (false≢true g)
+fits operator.Count xs vs k g h e n = counted_fits xs vs k h e
+fits (operator.Shift o) xs vs k g h e n = two_fits (λ a b. given (shifted a b)) (shifted_value o) (shifted_fits o) xs vs k h e
+fits operator.Join xs vs k g h e n = two_fits concatenated joined_value concatenated_fits xs vs k h e
+fits operator.Select xs vs k g h e n = three_told_fits selected selected_value selected_fits xs vs k h e
+fits operator.Index xs vs k g h e n = absurd (false≢true g)
+fits operator.WholeArray xs vs k g h e n = absurd (false≢true g)
+fits operator.Subscript xs vs k g h e n = index_fits xs vs k h e
+fits operator.Members xs vs k g h e n = absurd (false≢true g)
+fits operator.Union xs vs k g h e n = absurd (false≢true g)
+fits operator.Range xs vs k g h e n = absurd (false≢true g)
+fits operator.In xs vs k g h e n = absurd (false≢true g)
+fits (operator.Choice r) xs vs k g h e n = absurd (false≢true g)
+fits operator.ToWord xs vs k g h e n = one_fits (λ a. given (to_word a)) to_word_value to_word_fits xs vs k h e
+fits operator.ToBoolean xs vs k g h e n = one_fits (λ a. given (to_boolean a)) to_boolean_value to_boolean_fits xs vs k h e
+fits operator.Signed xs vs k g h e n = one_fits (λ a. given (with_sign true a)) (value_with_sign true) (with_sign_fits true) xs vs k h e
+fits operator.Unsigned xs vs k g h e n = one_fits (λ a. given (with_sign false a)) (value_with_sign false) (with_sign_fits false) xs vs k h e
+fits operator.Extend xs vs k g h e n = two_told_fits (with_amount extended_by) extended_value extended_fits xs vs k h e
+fits operator.Resize xs vs k g h e n = two_told_fits (with_amount resized_to) resized_value resized_fits xs vs k h e
+fits operator.Size xs vs k g h e n = one_fits size size_of_value size_fits xs vs k h e
+fits operator.UnsignedConstant xs vs k g h e n = two_told_fits (constant_word false) (constant_value false) (constant_word_fits false) xs vs k h e
+fits operator.SignedConstant xs vs k g h e n = two_told_fits (constant_word true) (constant_value true) (constant_word_fits true) xs vs k h e
+fits (operator.Temporal o) xs vs k g h e n = absurd (false≢true g)
+fits (operator.Bounded o low high) xs vs k g h e n = absurd (false≢true g)
+fits (operator.Window o) xs vs k g h e n = absurd (false≢true g)
 
 all_values : (xs : List Operand) (vs : List Value) → AreOperands xs vs → list_all is_value vs ≡ true
 all_values [] [] h = refl
@@ -168,8 +178,8 @@ gives_from true None (Some v) k e p h = and_from (is_value v) (is_among k v) p (
 gives_from true (Some f) x k e p h = tt
 gives_from false f x k e p h = absurd (false≢true e)
 
-pub values_given : (arrays : List ArrayKind) (o : Operator) (xs : List Operand) (vs : List Value) (k : Kind) → IsTrue (gives_value o) → AreOperands xs vs →
-    kind_given arrays o xs ≡ Ok k → Gives k (result_of o vs)
-values_given arrays o xs vs k g h e =
+pub values_given : (o : Operator) (xs : List Operand) (vs : List Value) (k : Kind) → IsTrue (gives_value o) → AreOperands xs vs →
+    kind_given o xs ≡ Ok k → Gives k (result_of o vs)
+values_given o xs vs k g h e =
     let all = all_values xs vs h in
-    gives_from (list_all is_value vs) (fault_of o vs) (value_of o vs) k all (value_kept o vs all) (λ n. fits arrays o xs vs k g h e n)
+    gives_from (list_all is_value vs) (fault_of o vs) (value_of o vs) k all (value_kept o vs all) (λ n. fits o xs vs k g h e n)

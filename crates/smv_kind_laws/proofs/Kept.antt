@@ -275,11 +275,13 @@ value_kept (operator.Shift o) vs e = two_kept (shifted o) (shifted_kept o) vs e
 value_kept operator.Join vs e = two_kept joined joined_kept vs e
 value_kept operator.Select vs e = three_kept selected selected_kept vs e
 value_kept operator.Index vs e = tt
+value_kept operator.WholeArray vs e = tt
+value_kept operator.Subscript vs e = one_kept (of_integer (λ a. a)) (of_integer_kept (λ a. a)) vs e
 value_kept operator.Members vs e = tt
 value_kept operator.Union vs e = tt
 value_kept operator.Range vs e = tt
 value_kept operator.In vs e = tt
-value_kept operator.Choice vs e = tt
+value_kept (operator.Choice r) vs e = tt
 value_kept operator.ToWord vs e = one_kept to_word to_word_kept vs e
 value_kept operator.ToBoolean vs e = one_kept to_boolean to_boolean_kept vs e
 value_kept operator.Signed vs e = one_kept (with_sign true) (with_sign_kept true) vs e
@@ -291,6 +293,7 @@ value_kept operator.UnsignedConstant vs e = two_kept (constant_word false) (cons
 value_kept operator.SignedConstant vs e = two_kept (constant_word true) (constant_word_kept true) vs e
 value_kept (operator.Temporal o) vs e = tt
 value_kept (operator.Bounded o low high) vs e = tt
+value_kept (operator.Window o) vs e = tt
 
 from_result : (b : Bool) (f : Option FaultRule) (x : Option Value) (v : Value) → (b ≡ true → IsKept x) → cond b (unless f x) (Ok None) ≡ Ok (Some v) → IsTrue (is_value v)
 from_result true None None v h e = absurd (let l : Ok None ≡ Ok (Some v) = e in cc)

@@ -118,7 +118,7 @@ holds_set (kind.DiscreteSet d) v h = h
 holds_set x v h = tt
 
 holds_branch : (x : Kind) (v : Value) → Holds x v → Holds (branch x) v
-holds_branch (kind.Array n) v h = tt
+holds_branch kind.Array v h = tt
 holds_branch kind.Instance v h = tt
 holds_branch x v h = h
 

@@ -1,6 +1,6 @@
--- Constants are the values of their expressions, and what the table gives of formulas and elements.
-use Rattle.std.proofs.Common.{◌≡◌, ℕ, IsTrue, Bool, true, false, ◌&&◌, cond, Option, None, Some, Ok, Err, List, [], ◌∷◌, ℤ, refl, sym, ap, ◌∙◌, subst}
-use Rattle.std.specs.Prelude.{Result, slice_get}
+-- Constants are the values of their expressions, and what the table gives of formulas and arrays.
+use Rattle.std.proofs.Common.{◌≡◌, ℕ, IsTrue, Bool, true, false, ◌&&◌, cond, Option, None, Some, Ok, Err, List, [], ◌∷◌, ℤ, refl, sym, ap, ◌∙◌}
+use Rattle.std.specs.Prelude.{Result}
 use Rattle.std.proofs.lemmas.Bool.{and_from, false≢true}
 use Rattle.smv_value.specs.declared.operator.Operator.{Operator}
 use Rattle.smv_value.specs.declared.value.Value.{Value}
@@ -9,11 +9,10 @@ use Rattle.smv_value.specs.declared.value.FaultRule.{FaultRule}
 use Rattle.smv_value.specs.Results.{is_int, is_value, result_of}
 use Rattle.smv_kinds.specs.declared.kind.Kind.{Kind}
 use Rattle.smv_kinds.specs.declared.kind.Kind.TheVariants as kind
-use Rattle.smv_kinds.specs.declared.kind.ArrayKind.{ArrayKind}
 use Rattle.smv_kinds.specs.declared.kind.Operand.{Operand}
 use Rattle.smv_kinds.specs.Constants.{are_integers, constant_given, constant_of, constant_of_one, constant_of_two, integer_in, is_constant, value_in}
 use Rattle.smv_kinds.specs.Intervals.{interval}
-use Rattle.smv_kinds.specs.Kinds.{boolean_if, booleans, element_of, given, indexed, integers, is_integer, kind_if, kind_of_value, next_kind, takes, two}
+use Rattle.smv_kinds.specs.Kinds.{boolean_if, booleans, given, indexed, integers, is_integer, kind_if, kind_of_value, next_kind, takes, two, whole_array}
 use Rattle.smv_kind_laws.specs.Values.{AreOperands, IsOperand, is_among, is_of_kind}
 use Rattle.smv_kind_laws.proofs.Between.{between_test}
 use Rattle.smv_kind_laws.proofs.Fitting.{answer_is, alike_self, itself, kind_if_is, mismatched}
@@ -77,7 +76,7 @@ among_own (value.Word s w a) h = alike_self s w
 pub value_has_kind : (v : Value) → IsTrue (is_value v) → IsTrue (is_of_kind (kind_of_value v) v)
 value_has_kind v h = and_from (is_value v) (is_among (kind_of_value v) v) h (among_own v h)
 
--- formulas and elements
+-- formulas and arrays
 
 pub sought_is_boolean : (xs : List Operand) (k : Kind) → two (λ a b. given (boolean_if (takes a b))) xs ≡ Ok k → k ≡ kind.Boolean
 sought_is_boolean [] k e = absurd (mismatched k e)
@@ -88,10 +87,19 @@ sought_is_boolean (x ∷ y ∷ z ∷ xs) k e = absurd (mismatched k e)
 pub formula_is_boolean : (count : ℕ) (xs : List Operand) (k : Kind) → given (booleans count xs) ≡ Ok k → k ≡ kind.Boolean
 formula_is_boolean count xs k e = sym (kind_if_is _ kind.Boolean k e).1
 
-pub element_is_given : (arrays : List ArrayKind) (x i : Operand) (n : ℕ) (k : Kind) → x.kind ≡ kind.Array n → given (indexed arrays x.kind i.kind) ≡ Ok k → element_of (slice_get arrays n) ≡ k
-element_is_given arrays x i n k e h =
-    let P : Kind → Type 0 = λ j. given (indexed arrays j i.kind) ≡ Ok k in
-    (kind_if_is (is_integer i.kind) (element_of (slice_get arrays n)) k (subst P e h)).1
+indexed_kind : (a i k : Kind) → given (indexed a i) ≡ Ok k → k ≡ kind.Array
+indexed_kind kind.Array i k e = sym (kind_if_is (is_integer i) kind.Array k e).1
+indexed_kind a i k e = absurd (mismatched k e)
+
+pub indexed_is_array : (xs : List Operand) (k : Kind) → two (λ a i. given (indexed a i)) xs ≡ Ok k → k ≡ kind.Array
+indexed_is_array [] k e = absurd (mismatched k e)
+indexed_is_array (x ∷ []) k e = absurd (mismatched k e)
+indexed_is_array (x ∷ i ∷ []) k e = indexed_kind x.kind i.kind k e
+indexed_is_array (x ∷ i ∷ z ∷ xs) k e = absurd (mismatched k e)
+
+pub whole_is_array : (xs : List Operand) (k : Kind) → whole_array xs ≡ Ok k → k ≡ kind.Array
+whole_is_array [] k e = sym (answer_is kind.Array k e)
+whole_is_array (x ∷ xs) k e = absurd (mismatched k e)
 
 pub next_is_same : (j k : Kind) → next_kind j ≡ Ok k → j ≡ k
 next_is_same kind.Boolean k e = answer_is kind.Boolean k e

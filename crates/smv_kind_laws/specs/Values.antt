@@ -56,13 +56,15 @@ Gives k (Ok (Some v)) = IsTrue (is_of_kind k v)
 -- the operators that give one value of one value each
 abbrev pub gives_value : Operator → Bool
 gives_value operator.Index = false
+gives_value operator.WholeArray = false
 gives_value operator.Members = false
 gives_value operator.Union = false
 gives_value operator.Range = false
 gives_value operator.In = false
-gives_value operator.Choice = false
+gives_value (operator.Choice f) = false
 gives_value (operator.Temporal o) = false
 gives_value (operator.Bounded o low high) = false
+gives_value (operator.Window o) = false
 gives_value other = true
 
 -- each value of each operand's kind is of this kind

@@ -1,41 +1,42 @@
 //! Laws of the table: what operators give is of the kinds that it gives.
 
-ghost use Rattle.std.specs.Prelude.{◌≡◌, ◌∷◌, ◌≤ℤ◌, IsTrue, List, Ok, Some, ℕ, ℤ, [], slice_get};
+ghost use Rattle.std.specs.Prelude.{◌≡◌, ◌∷◌, ◌≤ℤ◌, IsTrue, List, Ok, Some, ℤ, []};
 ghost use Rattle.smv_value.specs.declared.operator.Operator.{Operator};
 ghost use Rattle.smv_value.specs.declared.operator.Operator.TheVariants as operator;
 ghost use Rattle.smv_value.specs.declared.operator.Temporal.{Temporal};
+ghost use Rattle.smv_value.specs.declared.value.FaultRule.{FaultRule};
 ghost use Rattle.smv_value.specs.declared.value.Value.{Value};
 ghost use Rattle.smv_value.specs.declared.value.Value.TheVariants as value;
 ghost use Rattle.smv_value.specs.Results.{is_value, result_of};
-ghost use Rattle.smv_kinds.specs.declared.kind.ArrayKind.{ArrayKind};
 ghost use Rattle.smv_kinds.specs.declared.kind.Kind.{Kind};
 ghost use Rattle.smv_kinds.specs.declared.kind.Kind.TheVariants as kind;
 ghost use Rattle.smv_kinds.specs.declared.kind.Operand.{Operand};
 ghost use Rattle.smv_kinds.specs.Constants.{constant_given, constant_of};
-ghost use Rattle.smv_kinds.specs.Kinds.{element_of, kind_given, kind_of_value, next_kind, takes};
+ghost use Rattle.smv_kinds.specs.Kinds.{kind_given, kind_of_value, next_kind, takes};
 ghost use Rattle.smv_kind_laws.specs.Values.{AreOperands, Gives, HasAll, branches, gives_value, is_like, is_of_kind};
 
 /// Where the table gives a kind, the operator gives a value of this kind or a fault, of any values of the operands' kinds. So an
 /// integer that it gives is within the kind's interval. It does nothing: its contract is the law.
 pub fn kinds_have_values()
-    ensures { (arrays : List ArrayKind) (o : Operator) (xs : List Operand) (vs : List Value) (k : Kind) → IsTrue (gives_value o) → AreOperands xs vs → kind_given arrays o xs ≡ Ok k → Gives k (result_of o vs) }
+    ensures { (o : Operator) (xs : List Operand) (vs : List Value) (k : Kind) → IsTrue (gives_value o) → AreOperands xs vs → kind_given o xs ≡ Ok k → Gives k (result_of o vs) }
 {}
 
 /// A set's kind has the values of each operand, a range's those between its ends, and a choice's those of each branch. It does
 /// nothing: its contract is the law.
 pub fn kinds_have_members()
-    ensures members { (arrays : List ArrayKind) (xs : List Operand) (k : Kind) → kind_given arrays operator.Members xs ≡ Ok k → HasAll k xs }
-    ensures union { (arrays : List ArrayKind) (xs : List Operand) (k : Kind) → kind_given arrays operator.Union xs ≡ Ok k → HasAll k xs }
-    ensures range { (arrays : List ArrayKind) (x y : Operand) (k : Kind) (a b z : ℤ) → kind_given arrays operator.Range (x ∷ y ∷ []) ≡ Ok k → IsTrue (is_of_kind x.kind (value.Int a)) → IsTrue (is_of_kind y.kind (value.Int b)) → a ≤ℤ z → z ≤ℤ b → IsTrue (is_of_kind k (value.Int z)) }
-    ensures choice { (arrays : List ArrayKind) (xs : List Operand) (k : Kind) → kind_given arrays operator.Choice xs ≡ Ok k → HasAll k (branches xs) }
+    ensures members { (xs : List Operand) (k : Kind) → kind_given operator.Members xs ≡ Ok k → HasAll k xs }
+    ensures union { (xs : List Operand) (k : Kind) → kind_given operator.Union xs ≡ Ok k → HasAll k xs }
+    ensures range { (x y : Operand) (k : Kind) (a b z : ℤ) → kind_given operator.Range (x ∷ y ∷ []) ≡ Ok k → IsTrue (is_of_kind x.kind (value.Int a)) → IsTrue (is_of_kind y.kind (value.Int b)) → a ≤ℤ z → z ≤ℤ b → IsTrue (is_of_kind k (value.Int z)) }
+    ensures choice { (f : FaultRule) (xs : List Operand) (k : Kind) → kind_given (operator.Choice f) xs ≡ Ok k → HasAll k (branches xs) }
 {}
 
-/// What operators give that give neither a number nor a set: `in` and temporal operators a boolean, an index the array's element, and
-/// `next` what it is of. It does nothing: its contract is the law.
+/// What operators give that give neither a number nor a set: `in` and temporal operators a boolean, an array that names
+/// no element an array, and `next` what it is of. It does nothing: its contract is the law.
 pub fn kinds_of_formulas()
-    ensures sought { (arrays : List ArrayKind) (xs : List Operand) (k : Kind) → kind_given arrays operator.In xs ≡ Ok k → k ≡ kind.Boolean }
-    ensures temporal { (arrays : List ArrayKind) (o : Temporal) (xs : List Operand) (k : Kind) → kind_given arrays (operator.Temporal o) xs ≡ Ok k → k ≡ kind.Boolean }
-    ensures element { (arrays : List ArrayKind) (x i : Operand) (n : ℕ) (k : Kind) → x.kind ≡ kind.Array n → kind_given arrays operator.Index (x ∷ i ∷ []) ≡ Ok k → element_of (slice_get arrays n) ≡ k }
+    ensures sought { (xs : List Operand) (k : Kind) → kind_given operator.In xs ≡ Ok k → k ≡ kind.Boolean }
+    ensures temporal { (o : Temporal) (xs : List Operand) (k : Kind) → kind_given (operator.Temporal o) xs ≡ Ok k → k ≡ kind.Boolean }
+    ensures whole { (xs : List Operand) (k : Kind) → kind_given operator.WholeArray xs ≡ Ok k → k ≡ kind.Array }
+    ensures indexed { (xs : List Operand) (k : Kind) → kind_given operator.Index xs ≡ Ok k → k ≡ kind.Array }
     ensures next { (j k : Kind) → next_kind j ≡ Ok k → j ≡ k }
 {}
 

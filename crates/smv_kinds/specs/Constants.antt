@@ -1,4 +1,4 @@
--- Constants: integers of literals by `-`, `+`, `*`, `/` and `mod`, without a fault. An own choice of this project.
+-- Constants: integers of literals by `-`, `+`, `*`, `/` and `mod`, without a fault, also as an index. An own choice of this project.
 use Rattle.std.specs.Prelude.{Bool, true, false, ◌&&◌, if◌then◌else◌, List, [], ◌∷◌, Option, None, Some, Result, Ok, Err, ℤ}
 use Rattle.smv_value.specs.declared.operator.Operator.{Operator}
 use Rattle.smv_value.specs.declared.operator.Operator.TheVariants as operator
@@ -13,6 +13,7 @@ abbrev pub is_constant : Operator → Bool
 is_constant operator.Negate = true
 is_constant (operator.Arithmetic o) = true
 is_constant (operator.Division o) = true
+is_constant operator.Subscript = true
 is_constant other = false
 
 -- one integer, or two

@@ -2,7 +2,6 @@
 use Rattle.std.specs.Prelude.{ℕ, ◌==◌, Bool, true, false, not, ◌&&◌, ◌||◌, if◌then◌else◌, List, Err}
 use Rattle.smv_value.specs.declared.operator.Operator.{Operator}
 use Rattle.smv_value.specs.declared.operator.Operator.TheVariants as operator
-use Rattle.smv_kinds.specs.declared.kind.ArrayKind.{ArrayKind}
 use Rattle.smv_kinds.specs.declared.kind.Operand.{Operand}
 use Rattle.smv_kinds.specs.declared.kind.KindRule.TheVariants as rule
 use Rattle.smv_kinds.specs.Kinds.{Given, kind_given}
@@ -20,5 +19,5 @@ takes_sets operator.In k sets = sets || (k == 1)
 takes_sets other k sets = sets
 
 -- the kind where sets may stand, or may not
-abbrev pub kind_in_context : Bool → List ArrayKind → Operator → List Operand → Given
-kind_in_context sets arrays o xs = if not sets && makes_set o then Err rule.SetHere else kind_given arrays o xs
+abbrev pub kind_in_context : Bool → Operator → List Operand → Given
+kind_in_context sets o xs = if not sets && makes_set o then Err rule.SetHere else kind_given o xs

@@ -1,5 +1,5 @@
 -- The kind that each operator gives of its operands' kinds, or the first rule that they break (NuSMV 2.6 User Manual, 2.1 and 2.2).
-use Rattle.std.specs.Prelude.{ℕ, ◌+◌, ◌-◌, ◌^◌, ◌==◌, nat_le, Bool, true, false, not, ◌&&◌, ◌||◌, if◌then◌else◌, List, [], ◌∷◌, length, Option, None, Some, is_some, Result, Ok, Err, slice_get, ℤ, pos, neg_ℤ, int_le, int_lt}
+use Rattle.std.specs.Prelude.{ℕ, ◌+◌, ◌-◌, ◌^◌, ◌==◌, nat_le, Bool, true, false, not, ◌&&◌, ◌||◌, if◌then◌else◌, List, [], ◌∷◌, length, Option, None, Some, is_some, Result, Ok, Err, ℤ, pos, neg_ℤ, int_le, int_lt}
 use Rattle.std.specs.Int.{int_max, int_min}
 use Rattle.std.specs.List.{list_all, fold}
 use Rattle.smv_value.specs.declared.operator.Temporal.{Temporal}
@@ -13,7 +13,6 @@ use Rattle.smv_kinds.specs.declared.kind.Interval.{Interval}
 use Rattle.smv_kinds.specs.declared.kind.Discrete.{Discrete}
 use Rattle.smv_kinds.specs.declared.kind.Kind.{Kind}
 use Rattle.smv_kinds.specs.declared.kind.Kind.TheVariants as kind
-use Rattle.smv_kinds.specs.declared.kind.ArrayKind.{ArrayKind}
 use Rattle.smv_kinds.specs.declared.kind.Operand.{Operand}
 use Rattle.smv_kinds.specs.declared.kind.KindRule.{KindRule}
 use Rattle.smv_kinds.specs.declared.kind.KindRule.TheVariants as rule
@@ -249,26 +248,18 @@ selected a h l = of_word (λ s w. if is_set h.kind || is_set l.kind then mismatc
 
 -- arrays
 
-abbrev pub element_of : Option ArrayKind → Kind
-element_of None = kind.Nothing
-element_of (Some a) = a.element
+-- An array has no value: an expression names an element of it by as many indices as it has dimensions.
+abbrev pub whole_array : List Operand → Given
+whole_array [] = Ok kind.Array
+whole_array xs = mismatch
 
-abbrev pub indexed : List ArrayKind → Kind → Kind → Kind
-indexed arrays (kind.Array n) i = kind_if (is_integer i) (element_of (slice_get arrays n))
-indexed arrays a i = kind.Nothing
+-- an array under an index that names no element yet
+abbrev pub indexed : Kind → Kind → Kind
+indexed kind.Array i = kind_if (is_integer i) kind.Array
+indexed a i = kind.Nothing
 
--- the element of an array that is assigned: its index is a constant and within the array
-abbrev pub element_at : Option ArrayKind → Option ℤ → Given
-element_at None i = mismatch
-element_at (Some a) None = Err rule.NotConstant
-element_at (Some a) (Some i) = if int_le a.low i && int_le i a.high then given a.element else Err rule.BadSelection
-
-abbrev pub assigned_by : List ArrayKind → Kind → Option ℤ → Given
-assigned_by arrays (kind.Array n) i = element_at (slice_get arrays n) i
-assigned_by arrays other i = mismatch
-
-abbrev pub assigned_element : List ArrayKind → Operand → Operand → Given
-assigned_element arrays a i = if is_integer i.kind then assigned_by arrays a.kind i.constant else mismatch
+abbrev pub subscript : Kind → Kind
+subscript i = kind_if (is_integer i) i
 
 -- sets and branches
 
@@ -285,7 +276,7 @@ ranged a b = range_of (integers_of a) (integers_of b)
 
 -- a branch has values
 abbrev pub branch : Kind → Kind
-branch (kind.Array n) = kind.Nothing
+branch kind.Array = kind.Nothing
 branch kind.Instance = kind.Nothing
 branch k = k
 
@@ -320,6 +311,11 @@ abbrev pub bounded_by : ℕ → ℕ → Given → Given
 bounded_by low high (Err r) = Err r
 bounded_by low high (Ok k) = if nat_le low high && nat_le high greatest_bound then Ok k else Err rule.BadBound
 
+-- bounds that are no constants, or negative, or of more than 32 bits
+abbrev pub window : Option ℤ → Option ℤ → Given
+window (Some low) (Some high) = Err rule.BadBound
+window low high = Err rule.NotConstant
+
 -- how many operands
 
 abbrev pub one : (Kind → Given) → List Operand → Given
@@ -338,40 +334,43 @@ abbrev pub three_told : (Operand → Operand → Operand → Given) → List Ope
 three_told f (x ∷ y ∷ z ∷ []) = f x y z
 three_told f other = mismatch
 
--- The table: the kind of an operator over operands, or the first rule that they break. `arrays` has the arrays by number.
-abbrev pub kind_given : List ArrayKind → Operator → List Operand → Given
-kind_given arrays operator.Not = one (λ a. given (inverted a))
-kind_given arrays (operator.Logic o) = two (λ a b. given (logical a b))
-kind_given arrays operator.Equal = two (λ a b. given (boolean_if (fit a b)))
-kind_given arrays operator.NotEqual = two (λ a b. given (boolean_if (fit a b)))
-kind_given arrays (operator.Order o) = two (λ a b. given (boolean_if (is_ordered a b)))
-kind_given arrays operator.Negate = one (of_number opposite_interval)
-kind_given arrays (operator.Arithmetic o) = two (of_numbers (sum_interval o))
-kind_given arrays (operator.Division o) = two (of_numbers (division_interval o))
-kind_given arrays operator.Absolute = one (of_integer absolute_interval)
-kind_given arrays operator.Maximum = two (of_integers (corners int_max))
-kind_given arrays operator.Minimum = two (of_integers (corners int_min))
-kind_given arrays operator.Count = counted
-kind_given arrays (operator.Shift o) = two (λ a b. given (shifted a b))
-kind_given arrays operator.Join = two concatenated
-kind_given arrays operator.Select = three_told selected
-kind_given arrays operator.Index = two (λ a i. given (indexed arrays a i))
-kind_given arrays operator.Members = λ xs. given (members xs)
-kind_given arrays operator.Union = two (λ a b. given (joined (set_of a) (set_of b)))
-kind_given arrays operator.Range = two (λ a b. given (ranged a b))
-kind_given arrays operator.In = two (λ a b. given (boolean_if (takes a b)))
-kind_given arrays operator.Choice = λ xs. given (chosen xs)
-kind_given arrays operator.ToWord = one (λ a. given (to_word a))
-kind_given arrays operator.ToBoolean = one (λ a. given (to_boolean a))
-kind_given arrays operator.Signed = one (λ a. given (with_sign true a))
-kind_given arrays operator.Unsigned = one (λ a. given (with_sign false a))
-kind_given arrays operator.Extend = two_told (with_amount extended_by)
-kind_given arrays operator.Resize = two_told (with_amount resized_to)
-kind_given arrays operator.Size = one size
-kind_given arrays operator.UnsignedConstant = two_told (constant_word false)
-kind_given arrays operator.SignedConstant = two_told (constant_word true)
-kind_given arrays (operator.Temporal o) = λ xs. given (booleans (operands_of_temporal o) xs)
-kind_given arrays (operator.Bounded o low high) = λ xs. bounded_by low high (given (booleans 1 xs))
+-- The table: the kind of an operator over operands, or the first rule that they break.
+abbrev pub kind_given : Operator → List Operand → Given
+kind_given operator.Not = one (λ a. given (inverted a))
+kind_given (operator.Logic o) = two (λ a b. given (logical a b))
+kind_given operator.Equal = two (λ a b. given (boolean_if (fit a b)))
+kind_given operator.NotEqual = two (λ a b. given (boolean_if (fit a b)))
+kind_given (operator.Order o) = two (λ a b. given (boolean_if (is_ordered a b)))
+kind_given operator.Negate = one (of_number opposite_interval)
+kind_given (operator.Arithmetic o) = two (of_numbers (sum_interval o))
+kind_given (operator.Division o) = two (of_numbers (division_interval o))
+kind_given operator.Absolute = one (of_integer absolute_interval)
+kind_given operator.Maximum = two (of_integers (corners int_max))
+kind_given operator.Minimum = two (of_integers (corners int_min))
+kind_given operator.Count = counted
+kind_given (operator.Shift o) = two (λ a b. given (shifted a b))
+kind_given operator.Join = two concatenated
+kind_given operator.Select = three_told selected
+kind_given operator.Index = two (λ a i. given (indexed a i))
+kind_given operator.WholeArray = whole_array
+kind_given operator.Subscript = one (λ i. given (subscript i))
+kind_given operator.Members = λ xs. given (members xs)
+kind_given operator.Union = two (λ a b. given (joined (set_of a) (set_of b)))
+kind_given operator.Range = two (λ a b. given (ranged a b))
+kind_given operator.In = two (λ a b. given (boolean_if (takes a b)))
+kind_given (operator.Choice r) = λ xs. given (chosen xs)
+kind_given operator.ToWord = one (λ a. given (to_word a))
+kind_given operator.ToBoolean = one (λ a. given (to_boolean a))
+kind_given operator.Signed = one (λ a. given (with_sign true a))
+kind_given operator.Unsigned = one (λ a. given (with_sign false a))
+kind_given operator.Extend = two_told (with_amount extended_by)
+kind_given operator.Resize = two_told (with_amount resized_to)
+kind_given operator.Size = one size
+kind_given operator.UnsignedConstant = two_told (constant_word false)
+kind_given operator.SignedConstant = two_told (constant_word true)
+kind_given (operator.Temporal o) = λ xs. given (booleans (operands_of_temporal o) xs)
+kind_given (operator.Bounded o low high) = λ xs. bounded_by low high (given (booleans 1 xs))
+kind_given (operator.Window o) = three_told (λ (low high x : Operand). window low.constant high.constant)
 
 -- `next` of a value has its kind
 abbrev pub next_kind : Kind → Given

@@ -3,23 +3,22 @@
 ghost use Rattle.std.specs.Prelude.{◌≡◌};
 ghost use Rattle.smv_kinds.specs.Contexts.{kind_in_context, makes_set, takes_sets};
 
-use crate::{ArrayKind, Kind, KindRule, Operand, kind_given};
+use crate::{Kind, KindRule, Operand, kind_given};
 use smv_value::Operator;
 
 /// The kind that an operator gives of operands of these kinds, where a set may stand or not. The error is the first rule that is
 /// broken: that a set stands where none may, or what `kind_given` says.
 pub fn kind_in_context(
     sets: bool,
-    arrays: &[ArrayKind],
     operator: Operator,
     operands: &[Operand],
 ) -> Result<Kind, KindRule>
-    ensures { result ≡ kind_in_context sets arrays.now operator operands.now }
+    ensures { result ≡ kind_in_context sets operator operands.now }
 {
     if !sets && makes_set(operator) {
         Err(KindRule::SetHere)
     } else {
-        kind_given(arrays, operator, operands)
+        kind_given(operator, operands)
     }
 }
 

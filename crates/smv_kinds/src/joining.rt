@@ -26,7 +26,7 @@ pub fn given(kind: Kind) -> Result<Kind, KindRule>
         | Kind::Discrete(_)
         | Kind::BooleanSet
         | Kind::DiscreteSet(_)
-        | Kind::Array(_)
+        | Kind::Array
         | Kind::Instance => Ok(kind),
     }
 }

@@ -29,19 +29,11 @@ pub enum Kind {
     BooleanSet,
     /// A set of integers and symbols.
     DiscreteSet(Discrete),
-    /// The array of this number in a table of array kinds.
-    Array(usize),
+    /// An array, or a part of one: what has elements and no value.
+    Array,
     Instance,
     /// The kind of what has none.
     Nothing,
-}
-
-/// An array: its indices from `low` to `high`, and the kind of each element.
-#[derive(Clone, Copy, Debug)]
-pub struct ArrayKind {
-    pub low: i32,
-    pub high: i32,
-    pub element: Kind,
 }
 
 /// What an operator is told of an operand: its kind, and its value where it is a constant integer.
@@ -66,7 +58,7 @@ pub enum KindRule {
     BadSelection,
     /// Integers pass 32 bits.
     IntWidth,
-    /// The bounds of a temporal operator are out of order or too large.
+    /// The bounds of a temporal operator are out of order, negative or too large.
     BadBound,
 }
 

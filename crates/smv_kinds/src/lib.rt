@@ -15,5 +15,5 @@ mod words;
 pub use constants::{constant_given, constant_of};
 pub use context::{kind_in_context, takes_sets};
 pub use joining::takes;
-pub use kind::{ArrayKind, Discrete, Interval, Kind, KindRule, Operand, kind_of_value};
-pub use table::{assigned_element, kind_given, next_kind};
+pub use kind::{Discrete, Interval, Kind, KindRule, Operand, kind_of_value};
+pub use table::{kind_given, next_kind};

@@ -1,13 +1,13 @@
 //! Sets, branches and arrays.
 
-ghost use Rattle.std.specs.Prelude.{◌≡◌, Some, slice_get};
+ghost use Rattle.std.specs.Prelude.{◌≡◌};
 ghost use Rattle.std.specs.List.{fold};
 ghost use Rattle.smv_kinds.specs.declared.kind.Operand.{Operand};
-ghost use Rattle.smv_kinds.specs.Kinds.{assigned_by, branch, chosen, chosen_after, element_at, element_of, indexed, joined, members, ranged, set_of};
+ghost use Rattle.smv_kinds.specs.Kinds.{branch, chosen, chosen_after, indexed, joined, members, ranged, set_of, subscript, whole_array};
 
 use crate::intervals::hull;
-use crate::joining::{given, integers_of, is_boolean, is_integer, joined, kind_if, set_of};
-use crate::{ArrayKind, Discrete, Kind, KindRule, Operand};
+use crate::joining::{integers_of, is_boolean, is_integer, joined, kind_if, set_of};
+use crate::{Discrete, Kind, KindRule, Operand};
 
 // `{a, b}`
 pub fn members(operands: &[Operand]) -> Kind
@@ -42,7 +42,7 @@ pub fn ranged(a: Kind, b: Kind) -> Kind
     }
 }
 
-// `case`, and `? :`
+// `case`, `? :`, and an element of an array
 pub fn chosen(operands: &[Operand]) -> Kind
     ensures { result ≡ chosen operands.now }
 {
@@ -61,7 +61,7 @@ fn branch(kind: Kind) -> Kind
     ensures { result ≡ branch kind }
 {
     match kind {
-        Kind::Array(_) => Kind::Nothing,
+        Kind::Array => Kind::Nothing,
         Kind::Instance => Kind::Nothing,
         _ => kind,
     }
@@ -86,47 +86,29 @@ fn chosen_after(first: Kind, operands: &[Operand]) -> Kind
     }
 }
 
-// `a[i]`
-pub fn indexed(arrays: &[ArrayKind], a: Kind, i: Kind) -> Kind
-    ensures { result ≡ indexed arrays.now a i }
+// An array without an index.
+pub fn whole_array(operands: &[Operand]) -> Result<Kind, KindRule>
+    ensures { result ≡ whole_array operands.now }
 {
-    match a {
-        Kind::Array(n) => kind_if(is_integer(i), element_of(arrays, n)),
-        _ => Kind::Nothing,
-    }
-}
-
-fn element_of(arrays: &[ArrayKind], number: usize) -> Kind
-    ensures { result ≡ element_of (slice_get arrays.now number) }
-{
-    match arrays.get(number) {
-        None => Kind::Nothing,
-        Some(array) => array.element,
-    }
-}
-
-// The element that is assigned.
-pub fn assigned_by(arrays: &[ArrayKind], a: Kind, i: Option<i64>) -> Result<Kind, KindRule>
-    ensures { result ≡ assigned_by arrays.now a i }
-{
-    match a {
-        Kind::Array(n) => match arrays.get(n) {
-            None => Err(KindRule::TypeMismatch),
-            Some(array) => element_at(*array, i),
-        },
+    match operands {
+        [] => Ok(Kind::Array),
         _ => Err(KindRule::TypeMismatch),
     }
 }
 
-fn element_at(array: ArrayKind, i: Option<i64>) -> Result<Kind, KindRule>
-    ensures { result ≡ element_at (Some array) i }
+// `a[i]`, as it is written
+pub fn indexed(a: Kind, i: Kind) -> Kind
+    ensures { result ≡ indexed a i }
 {
-    match i {
-        None => Err(KindRule::NotConstant),
-        Some(i) => if i64::from(array.low) <= i && i <= i64::from(array.high) {
-            given(array.element)
-        } else {
-            Err(KindRule::BadSelection)
-        },
+    match a {
+        Kind::Array => kind_if(is_integer(i), Kind::Array),
+        _ => Kind::Nothing,
     }
+}
+
+// An index.
+pub fn subscript(i: Kind) -> Kind
+    ensures { result ≡ subscript i }
+{
+    kind_if(is_integer(i), i)
 }

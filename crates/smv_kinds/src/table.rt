@@ -1,32 +1,28 @@
 //! The table: the kind of each operator over operands.
 
 ghost use Rattle.std.specs.Prelude.{◌≡◌};
-ghost use Rattle.smv_kinds.specs.Kinds.{assigned_element, bounded_by, given, booleans, kind_given, next_kind};
+ghost use Rattle.smv_kinds.specs.Kinds.{bounded_by, given, booleans, kind_given, next_kind, window};
 
-use crate::joining::{boolean_if, fit, given, is_integer, joined, set_of, takes};
+use crate::joining::{boolean_if, fit, given, joined, set_of, takes};
 use crate::numbers::{
     absolute, booleans, counted, divided, greatest, inverted, is_ordered, least, logical, negated,
     operands_of_temporal, summed,
 };
-use crate::sets::{assigned_by, chosen, indexed, members, ranged};
+use crate::sets::{chosen, indexed, members, ranged, subscript, whole_array};
 use crate::words::{
     concatenated, constant_word, extended, resized, selected, shifted, size, to_boolean, to_word,
     with_sign,
 };
-use crate::{ArrayKind, Kind, KindRule, Operand};
+use crate::{Kind, KindRule, Operand};
 use smv_value::Operator;
 
 /// The bounds of a temporal operator are no greater.
 const GREATEST_BOUND: u32 = 255;
 
-/// The kind that an operator gives of operands of these kinds. `arrays` has the arrays by number. The error is the first rule that
-/// the operands break. Linear in the number of operands.
-pub fn kind_given(
-    arrays: &[ArrayKind],
-    operator: Operator,
-    operands: &[Operand],
-) -> Result<Kind, KindRule>
-    ensures { result ≡ kind_given arrays.now operator operands.now }
+/// The kind that an operator gives of operands of these kinds. The error is the first rule that the operands break. Linear in the
+/// number of operands.
+pub fn kind_given(operator: Operator, operands: &[Operand]) -> Result<Kind, KindRule>
+    ensures { result ≡ kind_given operator operands.now }
 {
     match operator {
         Operator::Not => match operands {
@@ -87,7 +83,12 @@ pub fn kind_given(
             _ => Err(KindRule::TypeMismatch),
         },
         Operator::Index => match operands {
-            [a, i] => given(indexed(arrays, a.kind, i.kind)),
+            [a, i] => given(indexed(a.kind, i.kind)),
+            _ => Err(KindRule::TypeMismatch),
+        },
+        Operator::WholeArray => whole_array(operands),
+        Operator::Subscript => match operands {
+            [i] => given(subscript(i.kind)),
             _ => Err(KindRule::TypeMismatch),
         },
         Operator::Members => given(members(operands)),
@@ -103,7 +104,7 @@ pub fn kind_given(
             [a, b] => given(boolean_if(takes(a.kind, b.kind))),
             _ => Err(KindRule::TypeMismatch),
         },
-        Operator::Choice => given(chosen(operands)),
+        Operator::Choice(_) => given(chosen(operands)),
         Operator::ToWord => match operands {
             [a] => given(to_word(a.kind)),
             _ => Err(KindRule::TypeMismatch),
@@ -142,6 +143,10 @@ pub fn kind_given(
         },
         Operator::Temporal(o) => given(booleans(operands_of_temporal(o), operands)),
         Operator::Bounded(_, low, high) => bounded(low, high, operands),
+        Operator::Window(_) => match operands {
+            [low, high, _] => window(low.constant, high.constant),
+            _ => Err(KindRule::TypeMismatch),
+        },
     }
 }
 
@@ -157,6 +162,16 @@ fn bounded(low: u32, high: u32, operands: &[Operand]) -> Result<Kind, KindRule>
     }
 }
 
+// The same with bounds that are no constants, or negative, or of more than 32 bits.
+fn window(low: Option<i64>, high: Option<i64>) -> Result<Kind, KindRule>
+    ensures { result ≡ window low high }
+{
+    match (low, high) {
+        (Some(_), Some(_)) => Err(KindRule::BadBound),
+        _ => Err(KindRule::NotConstant),
+    }
+}
+
 /// The kind of `next(e)`, where `e` has this kind. The error is that `e` has no single value.
 pub fn next_kind(kind: Kind) -> Result<Kind, KindRule>
     ensures { result ≡ next_kind kind }
@@ -166,17 +181,5 @@ pub fn next_kind(kind: Kind) -> Result<Kind, KindRule>
         Kind::Word { .. } => Ok(kind),
         Kind::Discrete(_) => Ok(kind),
         _ => Err(KindRule::TypeMismatch),
-    }
-}
-
-/// The kind of an element that is assigned, as in `a[i] := e`. The error is that `a` is no array or `i` no integer, that `i` is no
-/// constant, or that it is outside the array.
-pub fn assigned_element(arrays: &[ArrayKind], a: Operand, i: Operand) -> Result<Kind, KindRule>
-    ensures { result ≡ assigned_element arrays.now a i }
-{
-    if is_integer(i.kind) {
-        assigned_by(arrays, a.kind, i.constant)
-    } else {
-        Err(KindRule::TypeMismatch)
     }
 }

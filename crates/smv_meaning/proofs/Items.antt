@@ -5,7 +5,7 @@ use Rattle.smv_value.specs.declared.value.Value.{Value}
 use Rattle.smv_resolve.specs.declared.item.Item.{Item}
 use Rattle.smv_resolve.specs.declared.item.ItemKind.{ItemKind}
 use Rattle.smv_resolve.specs.declared.node.Node.{Node}
-use Rattle.smv_scope.specs.declared.slot.Slot.{Slot}
+use Rattle.smv_slots.specs.declared.slot.Slot.{Slot}
 use Rattle.smv_resolve.specs.Items.{ResolvedItem, item_by, target_by}
 use Rattle.smv_resolve.specs.Resolved.{parts_of, part_of}
 use Rattle.smv_meaning.specs.declared.outcome.Outcome.{Outcome}

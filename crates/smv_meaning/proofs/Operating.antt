@@ -48,16 +48,16 @@ pub united_all : (vs : List Value) (xs : List Outcome) (i : ℕ) → length xs �
 united_all vs xs i l = ap (united vs) (drop_all i xs l)
 
 -- an operator that takes one value of each operand
-applied_other : (o : Operator) (p : Place) (os : List Outcome) → (o ≡ operator.Choice → ⊥) → (o ≡ operator.Members → ⊥) → (o ≡ operator.Union → ⊥) →
+applied_other : (o : Operator) (p : Place) (os : List Outcome) → ((rule : FaultRule) → o ≡ operator.Choice rule → ⊥) → (o ≡ operator.Members → ⊥) → (o ≡ operator.Union → ⊥) →
     (o ≡ operator.Range → ⊥) → (o ≡ operator.In → ⊥) → applied o p os ≡ operated (λ vs. given p (result_of o vs)) [] os
-applied_other operator.Choice p os a b c d e = absurd (a refl)
+applied_other (operator.Choice rule) p os a b c d e = absurd (a rule refl)
 applied_other operator.Members p os a b c d e = absurd (b refl)
 applied_other operator.Union p os a b c d e = absurd (c refl)
 applied_other operator.Range p os a b c d e = absurd (d refl)
 applied_other operator.In p os a b c d e = absurd (e refl)
 applied_other o p os a b c d e = refl
 
-pub applied_by : {E : Type 0} (r : Result Outcome E) (o : Operator) (p : Place) (os : List Outcome) → (o ≡ operator.Choice → ⊥) → (o ≡ operator.Members → ⊥) →
+pub applied_by : {E : Type 0} (r : Result Outcome E) (o : Operator) (p : Place) (os : List Outcome) → ((rule : FaultRule) → o ≡ operator.Choice rule → ⊥) → (o ≡ operator.Members → ⊥) →
     (o ≡ operator.Union → ⊥) → (o ≡ operator.Range → ⊥) → (o ≡ operator.In → ⊥) →
     IfOk r (λ x. x ≡ operated (λ vs. given p (result_of o vs)) [] os) → IfOk r (λ x. x ≡ applied o p os)
 applied_by (Ok x) o p os a b c d e h = h ∙ sym (applied_other o p os a b c d e)

@@ -5,7 +5,7 @@ use Rattle.std.proofs.lemmas.List.{map-append, take-map, take_more}
 use Rattle.smv_value.specs.declared.value.Value.{Value}
 use Rattle.smv_resolve.specs.declared.node.Node.{Node}
 use Rattle.smv_resolve.specs.declared.node.Node.TheVariants as node
-use Rattle.smv_scope.specs.declared.slot.Slot.{Slot}
+use Rattle.smv_slots.specs.declared.slot.Slot.{Slot}
 use Rattle.smv_resolve.specs.Resolved.{Resolved, operands_of, last_of, parts_of, part_at, resolved_by}
 use Rattle.smv_resolve.proofs.Parts.{last_of-map, parts_of-push, parts_of-take}
 use Rattle.smv_meaning.specs.declared.outcome.Outcome.{Outcome}

@@ -5,7 +5,7 @@ use Rattle.std.specs.Option.{is_some, option_or}
 use Rattle.smv_value.specs.declared.operator.Operator.{Operator}
 use Rattle.smv_value.specs.declared.operator.Operator.TheVariants as operator
 use Rattle.smv_value.specs.declared.value.Value.{Value}
-use Rattle.smv_scope.specs.declared.slot.Slot.{Slot}
+use Rattle.smv_slots.specs.declared.slot.Slot.{Slot}
 use Rattle.smv_resolve.specs.Resolved.{Resolved, Operands}
 use Rattle.smv_tree.specs.declared.place.Place.{Place}
 use Rattle.smv_value.specs.declared.value.FaultRule.{FaultRule}
@@ -22,6 +22,7 @@ is_propositional other = false
 abbrev pub is_temporal : Operator → Bool
 is_temporal (operator.Temporal o) = true
 is_temporal (operator.Bounded o low high) = true
+is_temporal (operator.Window o) = true
 is_temporal other = false
 
 -- the operators that may stand over a temporal one

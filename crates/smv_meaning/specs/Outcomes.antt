@@ -85,16 +85,16 @@ taken (Some true) c a b = a
 taken (Some false) c a b = b
 taken None c a b = failed c
 
--- Conditions and branches by turns, and perhaps a last branch without a condition; none of the rest is looked at. No condition
--- may be left (manual 2.2.3, Case expressions).
-abbrev pub choice : Place → List Outcome → Outcome
-choice place [] = Fault fault.CaseOpen place
-choice place (a ∷ []) = a
-choice place (c ∷ a ∷ rest) = taken (truth c) c a (choice place rest)
+-- Conditions and branches by turns, and perhaps a last branch without a condition; none of the rest is looked at. Where no condition
+-- is TRUE it is a fault by this rule (manual 2.2.3, Case expressions).
+abbrev pub choice : FaultRule → Place → List Outcome → Outcome
+choice rule place [] = Fault rule place
+choice rule place (a ∷ []) = a
+choice rule place (c ∷ a ∷ rest) = taken (truth c) c a (choice rule place rest)
 
 -- The table: an operator at this place over the outcomes of its operands.
 abbrev pub applied : Operator → Place → List Outcome → Outcome
-applied operator.Choice place os = choice place os
+applied (operator.Choice rule) place os = choice rule place os
 applied operator.Members place os = united [] os
 applied operator.Union place os = united [] os
 applied operator.Range place os = two ranged os

@@ -1,7 +1,8 @@
 -- The instances to which paths lead.
 use Rattle.std.specs.Prelude.{ℕ, List, [], ◌∷◌, Option, None, Some}
 use Rattle.smv_tree.specs.declared.tree.Program.{Program}
-use Rattle.smv_scope.specs.Lookup.{Target, member_target}
+use Rattle.smv_scope.specs.Lookup.{member_target}
+use Rattle.smv_scope.specs.Target.{Target}
 
 -- the instance that a target is
 abbrev pub whole_of : Target → Option ℕ

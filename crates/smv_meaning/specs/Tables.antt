@@ -8,9 +8,9 @@ use Rattle.smv_value.specs.declared.value.Value.{Value}
 use Rattle.smv_resolve.specs.declared.item.Item.{Item}
 use Rattle.smv_resolve.specs.declared.node.Node.{Node}
 use Rattle.smv_resolve.specs.declared.node.Node.TheVariants as node
-use Rattle.smv_scope.specs.declared.slot.Slot.{Slot}
+use Rattle.smv_slots.specs.declared.slot.Slot.{Slot}
 use Rattle.smv_resolve.specs.Resolved.{last_of, parts_of}
-use Rattle.smv_scope.specs.Slots.{item_of}
+use Rattle.smv_slots.specs.Slots.{item_of}
 use Rattle.smv_meaning.specs.declared.outcome.Outcome.{Outcome}
 use Rattle.smv_meaning.specs.declared.outcome.Outcome.TheVariants.{Nothing}
 use Rattle.smv_meaning.specs.Formulas.{is_over_formulas}

@@ -1,8 +1,8 @@
 -- The values of an expression in a state, with the inputs of the step from it and the next state (manual 2.2, Expressions).
 use Rattle.std.specs.Prelude.{List, [], ◌∷◌}
 use Rattle.smv_value.specs.declared.value.Value.{Value}
-use Rattle.smv_scope.specs.declared.slot.Slot.{Slot}
-use Rattle.smv_scope.specs.Slots.{item_of}
+use Rattle.smv_slots.specs.declared.slot.Slot.{Slot}
+use Rattle.smv_slots.specs.Slots.{item_of}
 use Rattle.smv_resolve.specs.Resolved.{Resolved, Operands}
 use Rattle.smv_meaning.specs.declared.outcome.Outcome.{Outcome}
 use Rattle.smv_meaning.specs.declared.outcome.Outcome.TheVariants.{Nothing}

@@ -4,7 +4,7 @@ ghost use Rattle.std.specs.Prelude.{◌≡◌, [], ℕ, List, IfOk, IsSome, Some
 ghost use Rattle.std.specs.Option.{option_copied};
 ghost use Rattle.smv_value.specs.declared.value.Value.{Value};
 ghost use Rattle.smv_resolve.specs.Resolved.{part_of};
-ghost use Rattle.smv_scope.specs.Slots.{item_of};
+ghost use Rattle.smv_slots.specs.Slots.{item_of};
 ghost use Rattle.smv_scope.specs.Targets.{seen as seen_target};
 ghost use Rattle.smv_meaning.specs.Answers.{Evaluates};
 ghost use Rattle.smv_meaning.specs.Paths.{instance_at, whole_of};
@@ -13,15 +13,18 @@ ghost use Rattle.smv_meaning.specs.Values.{outcome};
 
 use crate::outcome::{one, valued};
 use crate::{Inputs, Outcome, Path, State, Typed, applied};
+use smv_layout::lay_out_expression;
 use smv_resolve::{Node, ResolveStop, first, last, resolve_expression};
-use smv_scope::{NameTarget, Scope, Slot, member_target};
+use smv_scope::{NameTarget, member_target};
+use smv_slots::Slot;
 use smv_tree::{Expr, VariableKind};
 use smv_value::Value;
 use sqlite_items::at;
 use std::alloc::{AllocError, Global};
 
 /// The outcome of an expression that stands in the instance of this path, in a state with inputs and the next state; each of
-/// these is empty where there is none. The error is that a part of the expression is stuck, or want of memory.
+/// these is empty where there is none. The error is that a part of the expression is stuck, at the place of the expression, or
+/// that memory ran out.
 pub fn eval(
     alloc: Global,
     typed: &Typed,
@@ -35,7 +38,7 @@ pub fn eval(
     ensures { (at : ℕ) → instance_at typed.now.scope.program path.now ≡ Some at → Evaluates typed.now.scope.program at e.now s.now u.now next.now result }
 {
     match instance_at(typed, path) {
-        Some(at) => eval_at(alloc, &typed.scope, at, e, s, u, next),
+        Some(at) => eval_at(alloc, typed, at, e, s, u, next),
         None => Err(ResolveStop::NoMemory),
     }
 }
@@ -60,7 +63,7 @@ fn whole_of(target: NameTarget<'_>) -> Option<usize>
 {
     match target {
         NameTarget::Whole(at) => Some(at),
-        NameTarget::Slot(_) => None,
+        NameTarget::Variable(_) => None,
         NameTarget::Given { .. } => None,
         NameTarget::Defined { .. } => None,
         NameTarget::Symbol(_) => None,
@@ -72,19 +75,20 @@ fn whole_of(target: NameTarget<'_>) -> Option<usize>
 // The same in the instance of this number.
 fn eval_at(
     alloc: Global,
-    scope: &Scope,
+    typed: &Typed,
     at: usize,
     e: &Expr,
     s: &State,
     u: &Inputs,
     next: &State,
 ) -> Result<Outcome, ResolveStop>
-    ensures { Evaluates scope.now.program at e.now s.now u.now next.now result }
+    ensures { Evaluates typed.now.scope.program at e.now s.now u.now next.now result }
 {
-    let single = resolve_expression(alloc, scope, at, e)?;
+    let resolved = resolve_expression(alloc, &typed.scope, at, e)?;
+    let single = lay_out_expression(alloc, typed.variables.as_slice(), &resolved)?;
     let outcome = outcome_of(
         alloc,
-        scope.slots.as_slice(),
+        typed.slots.as_slice(),
         single.nodes.as_slice(),
         single.root,
         s.as_slice(),

@@ -5,13 +5,14 @@ ghost use Rattle.smv_meaning.specs.Formulas.{is_over_formulas, is_temporal};
 
 use smv_value::Operator;
 
-/// Whether the operator is a temporal one, with bounds or without.
+/// Whether the operator is a temporal one: without bounds, with bounds, or with bounds as they are written.
 pub fn is_temporal(operator: Operator) -> bool
     ensures { result ≡ is_temporal operator }
 {
     match operator {
         Operator::Temporal(_) => true,
         Operator::Bounded(..) => true,
+        Operator::Window(_) => true,
         _ => false,
     }
 }

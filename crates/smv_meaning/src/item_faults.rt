@@ -5,9 +5,8 @@ ghost use Rattle.std.specs.Option.{option_copied};
 ghost use Rattle.smv_resolve.specs.Items.{item_by, target_by};
 ghost use Rattle.smv_resolve.specs.Resolved.{part_of, parts_of};
 ghost use Rattle.smv_value.specs.declared.value.Value.{Value};
-ghost use Rattle.smv_scope.specs.declared.slot.Slot.{Slot};
-ghost use Rattle.smv_scope.specs.Slots.{slots_of};
-ghost use Rattle.smv_declared.specs.Types.{types_of};
+ghost use Rattle.smv_slots.specs.declared.slot.Slot.{Slot};
+ghost use Rattle.smv_slots.specs.Slots.{slots_of, types_of};
 ghost use Rattle.smv_meaning.specs.Faults.{fault_of_value, is_outside, item_fault, slot_assigned, speaks_of_paths, type_assigned};
 ghost use Rattle.smv_meaning.specs.Formulas.{fault_in, formula_fault};
 ghost use Rattle.smv_meaning.specs.Tables.{fault_at, fault_by_node, first_fault, outcome_at, outcomes_of, slot_at, slot_by_node};
@@ -17,7 +16,7 @@ use crate::evaluation::{outcome_of, outcomes};
 use crate::formulas::is_over_formulas;
 use crate::{Inputs, Outcome, State, Typed};
 use smv_resolve::{Item, ItemKind, Node, last};
-use smv_scope::Slot;
+use smv_slots::Slot;
 use smv_tree::{AssignmentKind, ConstraintKind, Place, SpecificationKind};
 use smv_value::{FaultRule, Value};
 use sqlite_items::at;
@@ -37,7 +36,7 @@ pub fn faults(
 ) -> Result<Option<(FaultRule, Place)>, AllocError>
     ensures { IfOk result (λ found. found ≡ item_fault (types_of typed.now.scope.program) (slots_of typed.now.scope.program) s.now u.now next.now (item_by typed.now.nodes item.now)) }
 {
-    let slots = typed.scope.slots.as_slice();
+    let slots = typed.slots.as_slice();
     let nodes = typed.nodes.as_slice();
     if speaks_of_paths(item.kind) {
         formula_fault(alloc, slots, nodes, item.value, s.as_slice(), u.as_slice())
@@ -90,7 +89,7 @@ fn item_outcome(
 ) -> Result<Outcome, AllocError>
     ensures { IfOk result (λ e. e ≡ item_outcome (slots_of typed.now.scope.program) s.now u.now next.now (part_of typed.now.nodes item.now.value) item.now.kind) }
 {
-    let slots = typed.scope.slots.as_slice();
+    let slots = typed.slots.as_slice();
     let nodes = typed.nodes.as_slice();
     if speaks_of_step(item.kind) {
         outcome_of(alloc, slots, nodes, item.value, s, u, next)

@@ -4,9 +4,9 @@ ghost use Rattle.std.specs.Prelude.{◌≡◌, ◌&&◌, [], Some, IfOk, slice_g
 ghost use Rattle.std.specs.Option.{option_copied};
 ghost use Rattle.std.specs.List.{list_all, zip};
 ghost use Rattle.smv_value.specs.declared.value.Value.{Value};
-ghost use Rattle.smv_scope.specs.declared.slot.Slot.{Slot};
-ghost use Rattle.smv_scope.specs.Slots.{slots_of};
-ghost use Rattle.smv_resolve.specs.Items.{items_of};
+ghost use Rattle.smv_slots.specs.declared.slot.Slot.{Slot};
+ghost use Rattle.smv_slots.specs.Slots.{slots_of};
+ghost use Rattle.smv_layout.specs.Layout.{items_of};
 ghost use Rattle.smv_meaning.specs.Runs.{allows_first, allows_step, are_inputs, asks_always, asks_first, asks_step, fits, in_type, is_among, is_first_state, is_frozen, is_state, is_step, is_true, keeps, keeps_frozen, meets_invariants, takes};
 ghost use Rattle.smv_meaning.specs.Tables.{always_allowed, first_allowed, outcomes_of, seen, step_allowed, target_at};
 
@@ -14,7 +14,7 @@ use crate::evaluation::{outcome_at, outcomes};
 use crate::readers::{input_slots, state_slots};
 use crate::{Inputs, Outcome, State, Typed};
 use smv_resolve::{Item, ItemKind};
-use smv_scope::Slot;
+use smv_slots::Slot;
 use smv_tree::{AssignmentKind, ConstraintKind, VariableKind};
 use smv_value::{Value, same};
 use sqlite_items::at;
@@ -61,7 +61,7 @@ pub fn meets_step(
 fn is_state(alloc: Global, typed: &Typed, s: &[Value]) -> Result<bool, AllocError>
     ensures { IfOk result (λ met. met ≡ is_state typed.now.scope.program s.now) }
 {
-    let slots = state_slots(alloc, &typed.scope)?;
+    let slots = state_slots(alloc, typed.slots.as_slice())?;
     Ok(fits(typed.types.as_slice(), slots.as_slice(), s))
 }
 
@@ -69,7 +69,7 @@ fn is_state(alloc: Global, typed: &Typed, s: &[Value]) -> Result<bool, AllocErro
 fn are_inputs(alloc: Global, typed: &Typed, u: &[Value]) -> Result<bool, AllocError>
     ensures { IfOk result (λ met. met ≡ are_inputs typed.now.scope.program u.now) }
 {
-    let slots = input_slots(alloc, &typed.scope)?;
+    let slots = input_slots(alloc, typed.slots.as_slice())?;
     Ok(fits(typed.types.as_slice(), slots.as_slice(), u))
 }
 
@@ -98,7 +98,7 @@ fn keeps_frozen(
 ) -> Result<bool, AllocError>
     ensures { IfOk result (λ met. met ≡ keeps_frozen (slots_of typed.now.scope.program) s.now next.now) }
 {
-    let slots = state_slots(alloc, &typed.scope)?;
+    let slots = state_slots(alloc, typed.slots.as_slice())?;
     Ok(all_keep(slots.as_slice(), s, next))
 }
 
@@ -133,7 +133,7 @@ fn outcomes_in(alloc: Global, typed: &Typed, s: &[Value]) -> Result<Vec<Outcome>
 {
     outcomes(
         alloc,
-        typed.scope.slots.as_slice(),
+        typed.slots.as_slice(),
         typed.nodes.as_slice(),
         s,
         &[],
@@ -162,7 +162,7 @@ fn all_allow_step(
     let later = outcomes_in(alloc, typed, next)?;
     let here = outcomes(
         alloc,
-        typed.scope.slots.as_slice(),
+        typed.slots.as_slice(),
         typed.nodes.as_slice(),
         s,
         u,

@@ -21,7 +21,7 @@ pub fn applied(
     ensures { IfOk result (λ o. o ≡ applied operator place operands.now) }
 {
     match operator {
-        Operator::Choice => choice(alloc, place, operands),
+        Operator::Choice(rule) => choice(alloc, rule, place, operands),
         Operator::Members => united(alloc, operands),
         Operator::Union => united(alloc, operands),
         Operator::Range => match operands {
@@ -140,9 +140,14 @@ fn included(a: &Outcome, b: &Outcome) -> Outcome
     }
 }
 
-// The branch of the first condition that is TRUE, or a last branch that has none.
-fn choice(alloc: Global, place: Place, operands: &[Outcome]) -> Result<Outcome, AllocError>
-    ensures { IfOk result (λ o. o ≡ choice place operands.now) }
+// The branch of the first condition that is TRUE, or a last branch that has none; else a fault by the rule.
+fn choice(
+    alloc: Global,
+    rule: FaultRule,
+    place: Place,
+    operands: &[Outcome],
+) -> Result<Outcome, AllocError>
+    ensures { IfOk result (λ o. o ≡ choice rule place operands.now) }
 {
     let mut at = 0;
     while at + 1 < operands.len() {
@@ -154,7 +159,7 @@ fn choice(alloc: Global, place: Place, operands: &[Outcome]) -> Result<Outcome, 
         }
     }
     match operands.get(at) {
-        None => Ok(Outcome::Fault(FaultRule::CaseOpen, place)),
+        None => Ok(Outcome::Fault(rule, place)),
         Some(last) => last.copied(alloc),
     }
 }

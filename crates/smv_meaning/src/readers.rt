@@ -3,12 +3,12 @@
 ghost use Rattle.std.specs.Prelude.{◌≡◌, true, map, All, IfOk};
 ghost use Rattle.smv_tree.specs.declared.tree.VariableKind.{VariableKind};
 ghost use Rattle.smv_resolve.specs.Items.{item_by};
-ghost use Rattle.smv_scope.specs.Slots.{is_input, slots_of};
+ghost use Rattle.smv_slots.specs.Slots.{is_input, slots_of};
 ghost use Rattle.smv_meaning.specs.Runs.{input_slots, is_claim, specifications_of, state_slots};
 
 use crate::Typed;
 use smv_resolve::{Item, ItemKind};
-use smv_scope::{Scope, Slot};
+use smv_slots::Slot;
 use smv_tree::VariableKind;
 use sqlite_items::Items;
 use std::alloc::{AllocError, Global};
@@ -17,33 +17,33 @@ use std::alloc::{AllocError, Global};
 pub fn slots(typed: &Typed) -> &[Slot]
     ensures { result.now ≡ slots_of typed.now.scope.program }
 {
-    typed.scope.slots.as_slice()
+    typed.slots.as_slice()
 }
 
-/// The slots of a state, in their order.
-pub fn state_slots(alloc: Global, scope: &Scope) -> Result<Items<Slot>, AllocError>
-    ensures { IfOk result (λ slots. slots ≡ state_slots (slots_of scope.now.program)) }
+/// Those of these slots that a state has, in their order.
+pub fn state_slots(alloc: Global, slots: &[Slot]) -> Result<Items<Slot>, AllocError>
+    ensures { IfOk result (λ found. found ≡ state_slots slots.now) }
 {
-    let mut slots = Vec::new(alloc);
-    for slot in scope.slots.as_slice() {
+    let mut found = Vec::new(alloc);
+    for slot in slots {
         if !is_input(slot.kind) {
-            slots.push(*slot)?;
+            found.push(*slot)?;
         }
     }
-    Ok(Items::from_vec(slots))
+    Ok(Items::from_vec(found))
 }
 
-/// The input slots, in their order.
-pub fn input_slots(alloc: Global, scope: &Scope) -> Result<Items<Slot>, AllocError>
-    ensures { IfOk result (λ slots. slots ≡ input_slots (slots_of scope.now.program)) }
+/// Those of them that are inputs, in their order.
+pub fn input_slots(alloc: Global, slots: &[Slot]) -> Result<Items<Slot>, AllocError>
+    ensures { IfOk result (λ found. found ≡ input_slots slots.now) }
 {
-    let mut slots = Vec::new(alloc);
-    for slot in scope.slots.as_slice() {
+    let mut found = Vec::new(alloc);
+    for slot in slots {
         if is_input(slot.kind) {
-            slots.push(*slot)?;
+            found.push(*slot)?;
         }
     }
-    Ok(Items::from_vec(slots))
+    Ok(Items::from_vec(found))
 }
 
 /// The specifications of a program, in the order of its items.

@@ -1,5 +1,5 @@
 -- The graph of modules leads to modules alone.
-use Rattle.std.proofs.Common.{◌≡◌, inl, inr, ℕ, ◌<◌, ◌≤◌, List, [], ◌∷◌, length, get_or, map, refl, subst, arith, Option, Some, None, All, Contains, bytes_eq}
+use Rattle.std.proofs.Common.{◌≡◌, inl, inr, ℕ, ◌<◌, ◌≤◌, Bool, true, false, if◌then◌else◌, List, [], ◌∷◌, length, get_or, map, refl, subst, arith, Option, Some, None, All, Contains, bytes_eq}
 use Rattle.std.proofs.lemmas.List.{length-map}
 use Rattle.std.specs.List.{flat_map}
 use Rattle.std.proofs.lemmas.Bool.{cases_lt}
@@ -14,8 +14,8 @@ use Rattle.smv_tree.specs.declared.tree.Section.TheVariants as section
 use Rattle.smv_tree.specs.declared.tree.TypeExpr.{TypeExpr}
 use Rattle.smv_tree.specs.declared.tree.TypeExpr.TheVariants as written
 use Rattle.smv_tree.specs.declared.tree.Variable.{Variable}
-use Rattle.smv_scope.specs.Modules.{module_named}
-use Rattle.smv_names.specs.Reached.{module_graph, module_of_type, modules_in, modules_used, some_only}
+use Rattle.smv_scope.specs.Modules.{is_array, module_named}
+use Rattle.smv_names.specs.Reached.{module_graph, module_of_type, module_of_variable, modules_in, modules_used, some_only}
 
 -- a module that is named is one of the modules
 pub named_within : (modules : List Module) (name : List ℕ) (n : ℕ) → module_named modules name ≡ Some n → n < length modules
@@ -35,8 +35,15 @@ type_within : (modules : List Module) (t : TypeExpr) → All (λ v. v < length m
 type_within modules (written.Instance place name given) = some_within (length modules) (module_named modules name) (named_within modules name)
 type_within modules other = All-nil (λ v. v < length modules)
 
+variable_within : (modules : List Module) (v : Variable) → All (λ k. k < length modules) (module_of_variable modules v)
+variable_within modules v = by (is_array v)
+  where
+    by : (b : Bool) → All (λ k. k < length modules) (if b then [] else module_of_type modules v.declared)
+    by true = All-nil (λ k. k < length modules)
+    by false = type_within modules v.declared
+
 section_within : (modules : List Module) (s : Section) → All (λ v. v < length modules) (modules_in modules s)
-section_within modules (section.Variables kind vs) = all_of (length modules) (λ (v : Variable). module_of_type modules v.declared) vs (λ v. type_within modules v.declared)
+section_within modules (section.Variables kind vs) = all_of (length modules) (module_of_variable modules) vs (variable_within modules)
 section_within modules other = All-nil (λ v. v < length modules)
 
 used_within : (modules : List Module) (m : Module) → All (λ v. v < length modules) (modules_used modules m)

@@ -1,5 +1,5 @@
 -- Where the graph of modules has no cycle, no module is an instance of itself.
-use Rattle.std.proofs.Common.{◌≡◌, inl, inr, ℕ, suc, ◌+◌, ◌<◌, List, [], ◌∷◌, map, Option, Some, None, refl, ap, ◌∙◌, subst, arith, Contains}
+use Rattle.std.proofs.Common.{◌≡◌, inl, inr, ℕ, suc, Bool, true, false, if◌then◌else◌, ◌+◌, ◌<◌, List, [], ◌∷◌, map, Option, Some, None, refl, ap, ◌∙◌, subst, arith, Contains}
 use Rattle.std.specs.List.{flat_map}
 use Rattle.std.proofs.lemmas.List.Elements.{Contains-append_left, Contains-append_right}
 use Rattle.digraph.specs.Cycles.{Acyclic, Edge, successors}
@@ -10,10 +10,10 @@ use Rattle.smv_tree.specs.declared.tree.Section.TheVariants as section
 use Rattle.smv_tree.specs.declared.tree.Variable.{Variable}
 use Rattle.smv_tree.specs.declared.tree.TypeExpr.{TypeExpr}
 use Rattle.smv_tree.specs.declared.tree.TypeExpr.TheVariants as written
-use Rattle.smv_scope.specs.Modules.{module_named}
+use Rattle.smv_scope.specs.Modules.{is_array, module_named}
 use Rattle.smv_names.specs.declared.reached.UseRule.TheVariants as asked
 use Rattle.smv_verdicts.specs.Verdicts.{Each}
-use Rattle.smv_names.specs.Reached.{Reaches, ReachesFrom, module_graph, module_of_type, modules_in, modules_used, some_only, use_verdict, section_verdict, modules_verdict, uses_verdict}
+use Rattle.smv_names.specs.Reached.{Reaches, ReachesFrom, module_graph, module_of_type, module_of_variable, modules_in, modules_used, some_only, use_verdict, section_verdict, modules_verdict, uses_verdict}
 
 module _ (p : Program) (acyclic : Acyclic (module_graph p)) where
   -- a node does not reach one that leads to it
@@ -31,9 +31,13 @@ module _ (p : Program) (acyclic : Acyclic (module_graph p)) where
     no_cycle None used r = r
     no_cycle (Some k) used r = no_way_back n k (used k (0, (let lt : 0 < 1 = omega arith in lt), refl)) r
 
-    use_allowed : (v : Variable) (t : TypeExpr) → Used (module_of_type p.modules t) → use_verdict asked.Cyclic p n v t None
-    use_allowed v (written.Instance place name given) used = λ h. no_cycle (module_named p.modules name) used h.1
+    -- no instance is judged cyclic, and no array is
+    use_allowed : (v : Variable) (t : TypeExpr) → (is_array v ≡ false → Used (module_of_type p.modules t)) → use_verdict asked.Cyclic p n v t None
+    use_allowed v (written.Instance place name given) used = λ h. no_cycle (module_named p.modules name) (used h.1) h.2
     use_allowed v other used = refl
+
+    used_directly : (v : Variable) → Used (module_of_variable p.modules v) → is_array v ≡ false → Used (module_of_type p.modules v.declared)
+    used_directly v used e = (let P : Bool → Type 0 = λ b. Used (if b then [] else module_of_type p.modules v.declared) in subst P e used)
 
     first_used : {A : Type 0} (f : A → List ℕ) (x : A) (xs : List A) → Used (flat_map f (x ∷ xs)) → Used (f x)
     unfolding Used
@@ -43,11 +47,11 @@ module _ (p : Program) (acyclic : Acyclic (module_graph p)) where
     unfolding Used
     others_used f x xs used k c = used k (Contains-append_right (f x) (flat_map f xs) k c)
 
-    variables_allowed : (vs : List Variable) → Used (flat_map (λ (v : Variable). module_of_type p.modules v.declared) vs) → Each (λ (v : Variable). use_verdict asked.Cyclic p n v v.declared) vs None
+    variables_allowed : (vs : List Variable) → Used (flat_map (module_of_variable p.modules) vs) → Each (λ (v : Variable). use_verdict asked.Cyclic p n v v.declared) vs None
     variables_allowed [] used = refl
     variables_allowed (v ∷ vs) used = (
-      use_allowed v v.declared (first_used (λ (v : Variable). module_of_type p.modules v.declared) v vs used),
-      variables_allowed vs (others_used (λ (v : Variable). module_of_type p.modules v.declared) v vs used),
+      use_allowed v v.declared (used_directly v (first_used (module_of_variable p.modules) v vs used)),
+      variables_allowed vs (others_used (module_of_variable p.modules) v vs used),
     )
 
     section_allowed : (s : Section) → Used (modules_in p.modules s) → section_verdict asked.Cyclic p n s None

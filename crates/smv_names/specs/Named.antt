@@ -7,6 +7,7 @@ use Rattle.smv_tree.specs.declared.tree.Section.{Section}
 use Rattle.smv_tree.specs.declared.tree.Section.TheVariants as section
 use Rattle.smv_tree.specs.declared.tree.Variable.{Variable}
 use Rattle.smv_tree.specs.declared.tree.Definition.{Definition}
+use Rattle.smv_tree.specs.declared.tree.Dimension.{Dimension}
 use Rattle.smv_tree.specs.declared.tree.Assignment.{Assignment}
 use Rattle.smv_tree.specs.declared.tree.TypeExpr.{TypeExpr}
 use Rattle.smv_tree.specs.declared.tree.TypeExpr.TheVariants as written
@@ -67,12 +68,19 @@ unknown_in_type p at (written.Range place low high) = or_else (unknown_in_expres
 unknown_in_type p at (written.Enumeration place elements) = None
 unknown_in_type p at (written.Instance place name given) = unknown_in_all p at given
 
+abbrev pub unknown_in_dimension : Program → ℕ → Dimension → Option Refusal
+unknown_in_dimension p at d = or_else (unknown_in_expression p at d.low) (unknown_in_expression p at d.high)
+
+-- in the bounds of an array, from the outermost on, and then in the type of its elements
+abbrev pub unknown_in_variable : Program → ℕ → Variable → Option Refusal
+unknown_in_variable p at v = or_else (first_of (unknown_in_dimension p at) v.dimensions) (unknown_in_type p at v.declared)
+
 abbrev pub unknown_in_assignment : Program → ℕ → Assignment → Option Refusal
 unknown_in_assignment p at a = or_else (unknown_in_expression p at a.target) (unknown_in_expression p at a.value)
 
 -- the first identifier in a section that leads nowhere, where it stands in the instance of this number
 abbrev pub unknown_in_section : Program → ℕ → Section → Option Refusal
-unknown_in_section p at (section.Variables kind vs) = first_of (λ (v : Variable). unknown_in_type p at v.declared) vs
+unknown_in_section p at (section.Variables kind vs) = first_of (unknown_in_variable p at) vs
 unknown_in_section p at (section.Definitions ds) = first_of (λ (d : Definition). unknown_in_expression p at d.body) ds
 unknown_in_section p at (section.Constants symbols) = None
 unknown_in_section p at (section.Assignments as') = first_of (unknown_in_assignment p at) as'

@@ -1,5 +1,5 @@
 -- The rules of instances, which are judged in the modules that `main` reaches: an own choice of this project.
-use Rattle.std.specs.Prelude.{◌≡◌, ◌≢◌, ℕ, ◌+◌, nat_lt, if◌then◌else◌, List, [], ◌∷◌, length, map, Option, None, Some, slice_get}
+use Rattle.std.specs.Prelude.{◌≡◌, ◌≢◌, ℕ, ◌+◌, nat_lt, false, if◌then◌else◌, List, [], ◌∷◌, length, map, Option, None, Some, slice_get}
 use mathlib.Core.Logic.{◌⊎◌}
 use Rattle.std.specs.List.{flat_map}
 use Rattle.digraph.specs.Cycles.{Leads}
@@ -15,7 +15,7 @@ use Rattle.smv_tree.specs.declared.tree.TypeExpr.{TypeExpr}
 use Rattle.smv_tree.specs.declared.tree.TypeExpr.TheVariants as written
 use Rattle.smv_tree.specs.declared.tree.Expr.{Expr}
 use Rattle.smv_tree.specs.Places.{start}
-use Rattle.smv_scope.specs.Modules.{module_named, main_number, parameters_of}
+use Rattle.smv_scope.specs.Modules.{is_array, module_named, main_number, parameters_of}
 use Rattle.smv_scope.specs.Instances.{instances_of, most_instances}
 use Rattle.smv_names.specs.declared.reached.UseRule.{UseRule}
 use Rattle.smv_names.specs.declared.reached.UseRule.TheVariants as asked
@@ -30,9 +30,13 @@ abbrev pub module_of_type : List Module → TypeExpr → List ℕ
 module_of_type modules (written.Instance place name given) = some_only (module_named modules name)
 module_of_type modules other = []
 
+-- the module of which a variable is an instance, if it is one: an array of instances is none
+abbrev pub module_of_variable : List Module → Variable → List ℕ
+module_of_variable modules v = if is_array v then [] else module_of_type modules v.declared
+
 -- the modules that a section uses
 abbrev pub modules_in : List Module → Section → List ℕ
-modules_in modules (section.Variables kind vs) = flat_map (λ (v : Variable). module_of_type modules v.declared) vs
+modules_in modules (section.Variables kind vs) = flat_map (module_of_variable modules) vs
 modules_in modules other = []
 
 -- the modules that a module uses
@@ -59,12 +63,12 @@ abbrev pub Miscounted : Program → List Expr → Option ℕ → Type 0
 Miscounted p given None = ⊥
 Miscounted p given (Some m) = length given ≢ length (parameters_of p m)
 
--- What is judged of a variable of a module that is reached, where its type is a name: it names a module (306); that module
--- does not reach the one that declares the variable (308); it has as many parameters as it is given expressions (307)
--- (manual 2.3.11, Module Instantiations).
+-- What is judged of a variable of a module that is reached, where its type, or that of its elements, is a name: it names a
+-- module; the module of an instance does not reach the one that declares the variable; it has as many parameters as it is given
+-- expressions (manual 2.3.11, Module Instantiations).
 abbrev pub named_type : UseRule → Program → ℕ → Variable → Place → List ℕ → List Expr → Verdict
 named_type asked.Unknown p n v place name given = Claim (FromMain p n × (module_named p.modules name ≡ None)) (detailed rule.UnknownModule place name)
-named_type asked.Cyclic p n v place name given = Claim (FromMain p n × ReachesFrom (module_graph p) (module_named p.modules name) n) (detailed rule.ModuleCycle v.place v.name)
+named_type asked.Cyclic p n v place name given = Claim (FromMain p n × (is_array v ≡ false) × ReachesFrom (module_graph p) (module_named p.modules name) n) (detailed rule.ModuleCycle v.place v.name)
 named_type asked.Miscounted p n v place name given = Claim (FromMain p n × Miscounted p given (module_named p.modules name)) (detailed rule.ArgumentCount place name)
 
 abbrev pub use_verdict : UseRule → Program → ℕ → Variable → TypeExpr → Verdict

@@ -3,13 +3,12 @@
 ghost use Rattle.std.specs.Prelude.{◌≡◌, ◌++◌, map, true, IfOk, OnOk};
 ghost use Rattle.std.specs.List.{flat_map};
 ghost use Rattle.digraph.specs.Cycles.{Acyclic, Closed};
-ghost use Rattle.smv_tree.specs.declared.tree.Variable.{Variable};
 ghost use Rattle.smv_scope.specs.Modules.{module_named};
 ghost use Rattle.smv_scope.specs.Symbols.{AreNumbered};
-ghost use Rattle.smv_names.specs.Reached.{module_graph, module_of_type, modules_in, modules_used, some_only};
+ghost use Rattle.smv_names.specs.Reached.{module_graph, module_of_variable, modules_in, modules_used, some_only};
 
 use digraph::least_round;
-use smv_scope::ModuleNumbers;
+use smv_scope::{ModuleNumbers, is_array};
 use smv_tree::{Module, Program, Section, TypeExpr, Variable};
 use sqlite_items::Items;
 use std::alloc::{AllocError, Global};
@@ -77,7 +76,7 @@ fn push_modules_in(
     }
 }
 
-// Adds the modules that are the types of variables.
+// Adds the modules of which variables are instances.
 fn push_modules_of(
     used: &mut Vec<usize>,
     modules: &[Module],
@@ -85,10 +84,10 @@ fn push_modules_of(
     variables: &[Variable],
 ) -> Result<(), AllocError>
     requires { AreNumbered modules.now numbers.now }
-    ensures { OnOk result (used.new.items ≡ used.old.items ++ flat_map (λ (v : Variable). module_of_type modules.now v.declared) variables.now) }
+    ensures { OnOk result (used.new.items ≡ used.old.items ++ flat_map (module_of_variable modules.now) variables.now) }
 {
     for variable in variables {
-        push_module_of(used, modules, numbers, &variable.declared)?;
+        push_module_of(used, modules, numbers, variable)?;
     }
     Ok(())
 }
@@ -97,12 +96,15 @@ fn push_module_of(
     used: &mut Vec<usize>,
     modules: &[Module],
     numbers: &ModuleNumbers,
-    declared: &TypeExpr,
+    variable: &Variable,
 ) -> Result<(), AllocError>
     requires { AreNumbered modules.now numbers.now }
-    ensures { OnOk result (used.new.items ≡ used.old.items ++ module_of_type modules.now declared.now) }
+    ensures { OnOk result (used.new.items ≡ used.old.items ++ module_of_variable modules.now variable.now) }
 {
-    match declared {
+    if is_array(variable) {
+        return Ok(());
+    }
+    match &variable.declared {
         TypeExpr::Instance(_, name, _) => push_some(
             used,
             module_named(modules, numbers, name.as_str()),

@@ -4,18 +4,17 @@ ghost use Rattle.std.specs.Prelude.{◌≡◌};
 ghost use Rattle.smv_tree.specs.declared.tree.Definition.{Definition};
 ghost use Rattle.smv_tree.specs.declared.tree.Name.{Name};
 ghost use Rattle.smv_tree.specs.declared.tree.Start.TheVariants as start;
-ghost use Rattle.smv_tree.specs.declared.tree.Variable.{Variable};
 ghost use Rattle.smv_scope.specs.Lookup.{as_instance, depth_limit, instance_within};
 ghost use Rattle.smv_scope.specs.Targets.{seen};
 ghost use Rattle.smv_tree.specs.Occurring.{read};
 ghost use Rattle.smv_names.specs.Lent.{read_some};
-ghost use Rattle.smv_names.specs.Named.{unknown_before, unknown_from, unknown_identifier, unknown_in_all, unknown_in_assignment, unknown_in_expression, unknown_in_name, unknown_in_section, unknown_in_sections, unknown_in_type, unknown_last, unknown_members, unknown_names};
+ghost use Rattle.smv_names.specs.Named.{unknown_before, unknown_from, unknown_identifier, unknown_in_all, unknown_in_assignment, unknown_in_dimension, unknown_in_expression, unknown_in_name, unknown_in_section, unknown_in_sections, unknown_in_type, unknown_in_variable, unknown_last, unknown_members, unknown_names};
 ghost use Rattle.smv_verdicts.specs.Verdicts.{Judges, first_of};
 
 use smv_scope::{NameTarget, Scope, instance_of, member_target, own_target, sections_of};
 use smv_tree::{
-    Assignment, Definition, Expr, Identifier, Name, Rule, Section, Start, TextStop, TypeExpr,
-    Variable, names_in,
+    Assignment, Definition, Dimension, Expr, Identifier, Name, Rule, Section, Start, TextStop,
+    TypeExpr, Variable, names_in,
 };
 use smv_verdicts::refuse_name;
 use std::alloc::Global;
@@ -78,12 +77,51 @@ fn unknown_in_variables(
     at: usize,
     variables: &[Variable],
 ) -> Result<(), TextStop>
-    ensures { Judges result (first_of (λ (v : Variable). unknown_in_type scope.now.program at v.declared) variables.now) }
+    ensures { Judges result (first_of (unknown_in_variable scope.now.program at) variables.now) }
 {
     for variable in variables {
-        unknown_in_type(alloc, scope, at, &variable.declared)?;
+        unknown_in_variable(alloc, scope, at, variable)?;
     }
     Ok(())
+}
+
+// In the bounds of an array, from the outermost on, and then in the type of its elements.
+fn unknown_in_variable(
+    alloc: Global,
+    scope: &Scope,
+    at: usize,
+    variable: &Variable,
+) -> Result<(), TextStop>
+    ensures { Judges result (unknown_in_variable scope.now.program at variable.now) }
+{
+    unknown_in_dimensions(alloc, scope, at, variable.dimensions.as_slice())?;
+    unknown_in_type(alloc, scope, at, &variable.declared)
+}
+
+fn unknown_in_dimensions(
+    alloc: Global,
+    scope: &Scope,
+    at: usize,
+    dimensions: &[Dimension],
+) -> Result<(), TextStop>
+    ensures { Judges result (first_of (unknown_in_dimension scope.now.program at) dimensions.now) }
+{
+    for dimension in dimensions {
+        unknown_in_dimension(alloc, scope, at, dimension)?;
+    }
+    Ok(())
+}
+
+fn unknown_in_dimension(
+    alloc: Global,
+    scope: &Scope,
+    at: usize,
+    dimension: &Dimension,
+) -> Result<(), TextStop>
+    ensures { Judges result (unknown_in_dimension scope.now.program at dimension.now) }
+{
+    unknown_in_expression(alloc, scope, at, &dimension.low)?;
+    unknown_in_expression(alloc, scope, at, &dimension.high)
 }
 
 fn unknown_in_type(

@@ -18,7 +18,7 @@ use smv_tree::{Place, Program, Rule, TextStop};
 use smv_verdicts::{START, refused};
 use std::alloc::Global;
 
-/// The program with its instances and its slots, where it breaks no rule of names; else the first rule that it breaks, at that
+/// The program with its instances, where it breaks no rule of names; else the first rule that it breaks, at that
 /// rule's first place.
 ///
 /// The rules, in the order in which they are judged, which is an own choice of this project as their numbers and places are
@@ -32,17 +32,18 @@ use std::alloc::Global;
 ///
 /// Of the modules that `main` reaches, in the order of the text:
 ///
-/// - `UnknownModule`: the type of a variable is a name, and no module's (2.3.11). At the name; it is the detail.
+/// - `UnknownModule`: the type of a variable, or of the elements of an array, is a name, and no module's (2.3.11). At the name; it
+///   is the detail.
 /// - `ModuleCycle`: a module is an instance of itself (2.3.11). At the variable that leads back; the detail is its name.
-/// - `ArgumentCount`: an instance is given more or fewer expressions than its module has parameters (2.3.11). At the module's
-///   name; it is the detail.
+/// - `ArgumentCount`: an instance, or the instances of an array, are given more or fewer expressions than their module has
+///   parameters (2.3.11). At the module's name; it is the detail.
 ///
 /// Of the instances, in preorder, and in each in the order of the text:
 ///
 /// - `TooManyInstances`: there are more than 100000. At the name of `main`, with no detail.
 /// - `UnknownName`: an identifier of a name leads nowhere, or one before others to no instance (2.3.13). At the identifier; it is
-///   the detail. Names stand in expressions, in what instances are given, and in the bounds and widths of types. The elements of
-///   an enumeration are no names.
+///   the detail. Names stand in expressions, in what instances are given, and in the bounds and widths of types, those of arrays
+///   before the types of their elements. The elements of an enumeration are no names.
 /// - `DefineCycle`: a definition leads to itself, by definitions and by what parameters were given (2.3.2). At the definition;
 ///   the detail is its name.
 ///

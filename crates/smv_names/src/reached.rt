@@ -13,7 +13,7 @@ ghost use Rattle.smv_names.specs.declared.reached.UseRule.TheVariants as asked;
 
 use crate::graph::{is_acyclic, module_graph, module_named};
 use digraph::reached_from;
-use smv_scope::ModuleNumbers;
+use smv_scope::{ModuleNumbers, is_array};
 use smv_tree::{Program, Rule, Section, TextStop, TypeExpr, Variable};
 use smv_verdicts::refuse_by;
 use sqlite_items::Items;
@@ -191,7 +191,9 @@ fn judge_use(
                     name,
                 ),
                 UseRule::Cyclic => {
-                    let cyclic = uses.reached[n] && reaches(alloc, &uses.graph, target, n)?;
+                    let cyclic = uses.reached[n]
+                        && !is_array(variable)
+                        && reaches(alloc, &uses.graph, target, n)?;
                     refuse_by(
                         alloc,
                         cyclic,

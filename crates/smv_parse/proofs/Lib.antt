@@ -1,4 +1,7 @@
+pub mod UnderTypes
+pub mod Parts
 pub mod OfTypes
+pub mod TypeLoop
 pub mod OfPrograms
 pub mod OfLoops
 pub mod OfParsing

@@ -1,5 +1,5 @@
 -- The loops of the grammar, each over a form that may stand any number of times in a row.
-use Rattle.std.proofs.Common.{◌≡◌, ℕ, List, Ok, Err, refl, sym, ap, ◌∙◌}
+use Rattle.std.proofs.Common.{◌≡◌, ℕ, Bool, List, Ok, Err, refl, sym, ap, ◌∙◌}
 use Rattle.phrase_forms.specs.declared.fault.Fault.{Fault}
 use Rattle.phrase_forms.specs.Forms.{Read, head, many, to, ◌>>=◌}
 use Rattle.smv_tree.specs.declared.place.Place.{Place}
@@ -24,8 +24,8 @@ use Rattle.smv_parse.specs.Programs.{parameter_of, declaration, definition, targ
 use Rattle.smv_parse.proofs.OfTypes.{further_element_lawful, elements_apart}
 use Rattle.smv_parse.proofs.OfPrograms.{further_parameter_lawful, parameters_apart, declaration_lawful, declarations_full, declarations_apart, definition_lawful, definitions_full, definitions_apart, further_constant_lawful, constants_apart, indices_full, indices_apart, assignment_lawful, assignments_full, assignments_apart, section_lawful, sections_full, sections_apart, module_lawful, modules_full, modules_apart}
 
-pub elements : Repeats (further element)
-elements = record { lawful = further_element_lawful; full = refl; apart = elements_apart }
+pub elements : (closed : Bool) → Repeats (further (element closed))
+elements closed = record { lawful = further_element_lawful closed; full = refl; apart = elements_apart closed }
 
 pub constants : Repeats (further (to identifier_of identifier))
 constants = record { lawful = further_constant_lawful; full = refl; apart = constants_apart }

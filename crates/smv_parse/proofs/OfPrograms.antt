@@ -22,20 +22,20 @@ use Rattle.smv_phrases.specs.Lists.{further, bracketed}
 use Rattle.smv_phrases.proofs.EachKind.{token_at, apart, within}
 use Rattle.smv_phrases.proofs.OfNames.{just_lawful, identifier_lawful, name_lawful}
 use Rattle.smv_phrases.proofs.OfLists.{second_lawful, first_lawful, listed_lawful, bracketed_lawful, then_alike, second_alike, first_alike, behind_alike, behind_only_alike}
-use Rattle.smv_expressions.specs.Expressions.{expression_within, index_within, limit_start, limit_start_within, most_levels}
+use Rattle.smv_expressions.specs.Expressions.{expression_within, index_within, most_levels}
 use Rattle.smv_expressions.proofs.OfExpressions.{expression_lawful, index_lawful}
 use Rattle.smv_expressions.proofs.ExpressionsAlike.{expression_alike, index_within_alike}
-use Rattle.smv_parse.specs.Types.{under_one, written_type, word_type, signed_type, enumeration, identifier_type, range_type}
-use Rattle.smv_parse.specs.Programs.{expression, declaration, declares, variables, definition, definitions, constants, target, sided, left_side, assignment, assignments, formula, constrains, constraint, given_name, claims, specification, section_form, parameter_of, module_form, program}
+use Rattle.smv_parse.specs.Types.{written_type}
+use Rattle.smv_parse.specs.Programs.{expression, under_one, declaration, declares, variables, definition, definitions, constants, target, sided, left_side, assignment, assignments, formula, constrains, constraint, given_name, claims, specification, section_form, parameter_of, module_form, program}
 use Rattle.smv_parse.proofs.OfTypes.{type_lawful, type_ends, type_alike}
 
 pub declaration_lawful : (past : ℕ) → Lawful (declaration past)
 unfolding declaration
 declaration_lawful past =
-    to_lawful _ _ (then_lawful _ _ identifier_lawful (second_lawful _ _ (just_lawful kind.Colon refl) (first_lawful _ _ (type_lawful past) (just_lawful kind.Semicolon refl) (type_ends past)) (λ t e. refl)) (λ t e. refl))
+    to_lawful _ _ (then_lawful _ _ identifier_lawful (second_lawful _ _ (just_lawful kind.Colon refl) (first_lawful _ _ (type_lawful past most_levels) (just_lawful kind.Semicolon refl) (type_ends past most_levels)) (λ t e. refl)) (λ t e. refl))
 
 pub declarations_apart : (past : ℕ) (t : Token) → (declaration past).first t ≡ true → (declaration past).more t ≡ false
-unfolding declaration written_type range_type limit_start_within limit_start name_from
+unfolding declaration written_type
 declarations_apart past t e = refl
 
 pub declarations_full : (past : ℕ) → (declaration past).nullable ≡ false
@@ -167,7 +167,7 @@ parameters_lawful : Lawful (bracketed (to parameter_of identifier))
 parameters_lawful = bracketed_lawful _ (to_lawful _ _ identifier_lawful) refl (λ t e. refl) (λ t e. refl) (apart _ _ (λ t. refl) (λ t. refl) refl)
 
 pub sections_apart : (past : ℕ) (t : Token) → (section_form past).first t ≡ true → (section_form past).more t ≡ false
-unfolding section_form variables declaration written_type range_type limit_start_within limit_start definitions definition constants assignments assignment left_side target name_from member index_within constraint specification given_name formula expression_within
+unfolding section_form variables declaration written_type definitions definition constants assignments assignment left_side target name_from member index_within constraint specification given_name formula expression_within
 sections_apart past = apart _ _ (λ t. refl) (λ t. refl) refl
 
 -- a section is not empty
@@ -184,7 +184,7 @@ module_lawful past =
     to_lawful _ _ (then_lawful _ _ (just_lawful kind.Module refl) (then_lawful _ _ identifier_lawful (then_lawful _ _ parameters_lawful (sections_lawful past) (apart _ _ (λ t. refl) (λ t. refl) refl)) (λ t e. refl)) (λ t e. refl))
 
 pub modules_apart : (past : ℕ) (t : Token) → (module_form past).first t ≡ true → (module_form past).more t ≡ false
-unfolding module_form section_form variables declaration written_type range_type limit_start_within limit_start definitions definition constants assignments assignment left_side target name_from member index_within constraint specification given_name formula expression_within
+unfolding module_form section_form variables declaration written_type definitions definition constants assignments assignment left_side target name_from member index_within constraint specification given_name formula expression_within
 modules_apart past = apart _ _ (λ t. refl) (λ t. refl) refl
 
 pub modules_full : (past : ℕ) → (module_form past).nullable ≡ false
@@ -199,9 +199,9 @@ expressions_alike : (past : ℕ) → Alike (expression 0) (expression past)
 expressions_alike past = expression_alike past most_levels
 
 declaration_alike : (past : ℕ) → Alike (declaration 0) (declaration past)
-unfolding declaration written_type word_type signed_type enumeration identifier_type range_type limit_start_within limit_start name_from
+unfolding declaration written_type
 declaration_alike past =
-    to_alike _ (behind_alike is_identifier _ _ (behind_only_alike (is_kind kind.Colon) _ _ (first_alike _ _ _ _ (type_alike past) (same_form (just kind.Semicolon)) (λ t. refl))))
+    to_alike _ (behind_alike is_identifier _ _ (behind_only_alike (is_kind kind.Colon) _ _ (first_alike _ _ _ _ (type_alike past most_levels) (same_form (just kind.Semicolon)) (λ t. refl))))
 
 variables_alike : (past : ℕ) → Alike (variables 0) (variables past)
 unfolding variables

@@ -1,5 +1,6 @@
--- Modules and their sections (NuSMV 2.6 User Manual, 2.3).
-use Rattle.std.specs.Prelude.{ℕ, Bool, false, ◌||◌}
+-- Modules and their sections (NuSMV 2.6 User Manual, 2.3). Tables tell what keywords mean; they are asked of keywords alone, so
+-- that `unwrap_or` never gives its last argument.
+use Rattle.std.specs.Prelude.{ℕ, Bool, false, Option, None, Some, is_some, unwrap_or}
 use Rattle.phrase_forms.specs.Forms.{Form, token, or, maybe, many, to, ◌⨾◌, ◌▹◌, ◌◃◌}
 use Rattle.smv_tree.specs.declared.place.Place.{Place}
 use Rattle.smv_tree.specs.declared.token.Token.{Token}
@@ -23,11 +24,10 @@ use Rattle.smv_tree.specs.declared.tree.SpecificationKind.{SpecificationKind}
 use Rattle.smv_tree.specs.declared.tree.SpecificationKind.TheVariants as claim
 use Rattle.smv_tree.specs.declared.tree.Expr.{Expr}
 use Rattle.smv_tree.specs.declared.tree.Expr.TheVariants as expr
-use Rattle.smv_tree.specs.Kinds.{is_kind}
 use Rattle.smv_phrases.specs.Names.{just, identifier, identifier_of, name, place_of}
 use Rattle.smv_phrases.specs.Lists.{listed, bracketed}
 use Rattle.smv_expressions.specs.Expressions.{selected_by_all, expression_within, index_within, most_levels}
-use Rattle.smv_parse.specs.Types.{under_one, written_type}
+use Rattle.smv_parse.specs.Types.{written_type}
 
 -- the expressions of a section: all levels may be opened in them, and then `past` that are too many
 abbrev pub expression : ℕ → Form Token Expr
@@ -35,20 +35,22 @@ expression past = expression_within past most_levels
 
 -- identifier ":" type ";"
 unfoldable pub declaration : ℕ → Form Token Variable
-declaration past = to (λ x. record { place = x.0.place; name = x.0.text; declared = x.1 }) (identifier ⨾ just kind.Colon ▹ written_type past ◃ just kind.Semicolon)
+declaration past =
+    to (λ x. record { place = x.0.place; name = x.0.text; dimensions = x.1.0; declared = x.1.1 }) (identifier ⨾ just kind.Colon ▹ written_type past most_levels ◃ just kind.Semicolon)
 
 -- "VAR", "IVAR" or "FROZENVAR"
-abbrev pub declares : Token → Bool
-declares t = is_kind kind.Var t || is_kind kind.Ivar t || is_kind kind.FrozenVar t
+abbrev pub kind_declared : TokenKind → Option VariableKind
+kind_declared kind.Var = Some variable.State
+kind_declared kind.Ivar = Some variable.Input
+kind_declared kind.FrozenVar = Some variable.Frozen
+kind_declared other = None
 
-abbrev pub kind_declared : TokenKind → VariableKind
-kind_declared kind.Ivar = variable.Input
-kind_declared kind.FrozenVar = variable.Frozen
-kind_declared other = variable.State
+abbrev pub declares : Token → Bool
+declares t = is_some (kind_declared t.kind)
 
 -- one of those words, and declarations
 unfoldable pub variables : ℕ → Form Token Section
-variables past = to (λ x. section.Variables (kind_declared x.0.kind) x.1) (token false declares ⨾ many (declaration past))
+variables past = to (λ x. section.Variables (unwrap_or (kind_declared x.0.kind) variable.State) x.1) (token false declares ⨾ many (declaration past))
 
 -- identifier ":=" expression ";"
 unfoldable pub definition : ℕ → Form Token Definition
@@ -69,6 +71,10 @@ Left = Place × AssignmentKind × Expr
 -- a name and its indices, with its place
 unfoldable pub target : ℕ → ℕ → Form Token (Place × Expr)
 target past room = to (λ x. (place_of x.0, selected_by_all (expr.Name x.0) x.1)) (name ⨾ many (index_within past room))
+
+-- so many levels may be open under one
+abbrev pub under_one : ℕ
+under_one = 255
 
 -- keyword "(" target ")"
 abbrev pub sided : ℕ → TokenKind → AssignmentKind → Form Token Left
@@ -91,37 +97,39 @@ assignments past = to section.Assignments (just kind.Assign ▹ many (assignment
 unfoldable pub formula : ℕ → Form Token Expr
 formula past = expression past ◃ maybe (just kind.Semicolon)
 
--- "INIT", "INVAR", "TRANS", "JUSTICE" or "FAIRNESS"
-abbrev pub constrains : Token → Bool
-constrains t = is_kind kind.InitSection t || is_kind kind.Invar t || is_kind kind.Trans t || is_kind kind.Justice t || is_kind kind.Fairness t
+-- "INIT", "INVAR", "TRANS", "JUSTICE" or "FAIRNESS"; the last two say the same
+abbrev pub kind_asked : TokenKind → Option ConstraintKind
+kind_asked kind.InitSection = Some asked.Init
+kind_asked kind.Invar = Some asked.Invar
+kind_asked kind.Trans = Some asked.Trans
+kind_asked kind.Justice = Some asked.Justice
+kind_asked kind.Fairness = Some asked.Justice
+kind_asked other = None
 
--- "JUSTICE" and "FAIRNESS" say the same
-abbrev pub kind_asked : TokenKind → ConstraintKind
-kind_asked kind.InitSection = asked.Init
-kind_asked kind.Invar = asked.Invar
-kind_asked kind.Trans = asked.Trans
-kind_asked other = asked.Justice
+abbrev pub constrains : Token → Bool
+constrains t = is_some (kind_asked t.kind)
 
 -- one of those words, and a formula
 unfoldable pub constraint : ℕ → Form Token Section
-constraint past = to (λ x. section.Constraint (record { place = x.0.place; kind = kind_asked x.0.kind; formula = x.1 })) (token false constrains ⨾ formula past)
+constraint past = to (λ x. section.Constraint (record { place = x.0.place; kind = unwrap_or (kind_asked x.0.kind) asked.Init; formula = x.1 })) (token false constrains ⨾ formula past)
 
 -- "NAME" identifier ":=", which has no effect
 unfoldable pub given_name : Form Token Token
 given_name = just kind.Name ▹ identifier ◃ just kind.Becomes
 
 -- "INVARSPEC" or "LTLSPEC"
-abbrev pub claims : Token → Bool
-claims t = is_kind kind.Invarspec t || is_kind kind.Ltlspec t
+abbrev pub kind_claimed : TokenKind → Option SpecificationKind
+kind_claimed kind.Invarspec = Some claim.Invariant
+kind_claimed kind.Ltlspec = Some claim.Temporal
+kind_claimed other = None
 
-abbrev pub kind_claimed : TokenKind → SpecificationKind
-kind_claimed kind.Invarspec = claim.Invariant
-kind_claimed other = claim.Temporal
+abbrev pub claims : Token → Bool
+claims t = is_some (kind_claimed t.kind)
 
 -- one of those words and a formula, with a name or without
 unfoldable pub specification : ℕ → Form Token Section
 specification past =
-    to (λ x. section.Specification (record { place = x.0.place; kind = kind_claimed x.0.kind; formula = x.1 })) (token false claims ⨾ maybe given_name ▹ formula past)
+    to (λ x. section.Specification (record { place = x.0.place; kind = unwrap_or (kind_claimed x.0.kind) claim.Invariant; formula = x.1 })) (token false claims ⨾ maybe given_name ▹ formula past)
 
 unfoldable pub section_form : ℕ → Form Token Section
 section_form past = or (variables past) (or (definitions past) (or constants (or (assignments past) (or (constraint past) (specification past)))))

@@ -7,9 +7,9 @@ ghost use Rattle.smv_phrases.specs.Lists.{further, listed};
 ghost use Rattle.smv_phrases.specs.Reading.{Gives};
 ghost use Rattle.smv_parse.specs.Programs.{declaration, declares, kind_declared, variables, constants};
 
-use crate::types::written_type;
+use crate::types::{MOST_LEVELS, written_type};
 use phrase_forms::Fault;
-use smv_phrases::{Stop, begins, identifier, identifier_of, is_identifier, is_kind, just};
+use smv_phrases::{Stop, begins, identifier, identifier_of, is_identifier, just};
 use smv_tree::{Identifier, Section, Token, TokenKind, Variable, VariableKind};
 use sqlite_items::Items;
 use std::alloc::Global;
@@ -21,11 +21,12 @@ fn declaration<'a>(alloc: Global, tokens: &'a [Token]) -> Result<(Variable, &'a 
 {
     let (name, tokens) = identifier(tokens)?;
     let (_, tokens) = just(TokenKind::Colon, tokens)?;
-    let (declared, tokens) = written_type(alloc, tokens)?;
+    let ((dimensions, declared), tokens) = written_type(alloc, MOST_LEVELS, tokens)?;
     let (_, tokens) = just(TokenKind::Semicolon, tokens)?;
     let variable = Variable {
         place: name.place,
         name: name.text.copy(alloc)?,
+        dimensions,
         declared,
     };
     Ok((variable, tokens))
@@ -60,13 +61,14 @@ fn declarations<'a>(
 }
 
 /// What the variables are that this keyword declares.
-fn kind_declared(keyword: TokenKind) -> VariableKind
+fn kind_declared(keyword: TokenKind) -> Option<VariableKind>
     ensures { result ≡ kind_declared keyword }
 {
     match keyword {
-        TokenKind::Ivar => VariableKind::Input,
-        TokenKind::FrozenVar => VariableKind::Frozen,
-        _ => VariableKind::State,
+        TokenKind::Var => Some(VariableKind::State),
+        TokenKind::Ivar => Some(VariableKind::Input),
+        TokenKind::FrozenVar => Some(VariableKind::Frozen),
+        _ => None,
     }
 }
 
@@ -74,9 +76,7 @@ fn kind_declared(keyword: TokenKind) -> VariableKind
 pub fn declares(token: &Token) -> bool
     ensures { result ≡ declares token.now }
 {
-    is_kind(TokenKind::Var, token)
-        || is_kind(TokenKind::Ivar, token)
-        || is_kind(TokenKind::FrozenVar, token)
+    kind_declared(token.kind).is_some()
 }
 
 /// `VAR`, `IVAR` or `FROZENVAR`.
@@ -96,7 +96,7 @@ pub fn variables<'a>(alloc: Global, tokens: &'a [Token]) -> Result<(Section, &'a
 {
     let (keyword, tokens) = declaring(tokens)?;
     let (declarations, tokens) = declarations(alloc, tokens)?;
-    let kind = kind_declared(keyword.kind);
+    let kind = kind_declared(keyword.kind).unwrap_or(VariableKind::State);
     Ok((Section::Variables(kind, declarations), tokens))
 }
 

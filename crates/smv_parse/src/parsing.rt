@@ -81,13 +81,13 @@ fn unsupported_refusal(alloc: Global, token: &Token) -> Result<Refusal, AllocErr
     })
 }
 
-/// The program that the tokens of a source spell (NuSMV 2.6 User Manual, chapter 2, without arrays; the
+/// The program that the tokens of a source spell (NuSMV 2.6 User Manual, chapter 2; the
 /// levels of precedence, a `;` that may be left out behind the formula of a constraint or a specification, and at
 /// most 256 levels that are open at one place are own choices of this project).
 ///
 /// Tokens that spell no program are refused at one place:
-/// - `Unsupported`: the first token that has no place in the language, whatever stands before it: a word of NuSMV that
-///   the language does without, or one of arrays. Its text is the detail.
+/// - `Unsupported`: the first token that is a word of NuSMV without a place in the language, whatever stands before it. Its
+///   text is the detail.
 /// - `Unexpected`, where none does: the first token with which the tokens no longer begin a program of any depth; its
 ///   text is the detail. Where they begin one and end too early, the end, with the detail `end`.
 /// - `TooDeep`, where none does: the first token that opens a 257th level, if the tokens up to it begin a program of

@@ -9,7 +9,7 @@ ghost use Rattle.smv_parse.specs.Programs.{expression, definition, definitions, 
 ghost use Rattle.smv_phrases.specs.Reading.{Gives};
 
 use crate::declarations::{constants, declares, variables};
-use crate::types::{MOST_LEVELS, UNDER_ONE};
+use crate::types::MOST_LEVELS;
 use phrase_forms::Fault;
 use smv_expressions::indexed;
 use smv_phrases::{
@@ -21,6 +21,9 @@ use smv_tree::{
 };
 use sqlite_items::Items;
 use std::alloc::{AllocError, Global};
+
+/// So many levels may be open under one.
+const UNDER_ONE: usize = 255;
 
 /// The left side of an assignment: its place, what it speaks of, and the variable.
 type Left = (Place, AssignmentKind, Expr);
@@ -211,14 +214,16 @@ fn formula<'a>(alloc: Global, tokens: &'a [Token]) -> Result<(Expr, &'a [Token])
 }
 
 /// What a constraint behind this keyword speaks of.
-fn kind_asked(keyword: TokenKind) -> ConstraintKind
+fn kind_asked(keyword: TokenKind) -> Option<ConstraintKind>
     ensures { result ≡ kind_asked keyword }
 {
     match keyword {
-        TokenKind::InitSection => ConstraintKind::Init,
-        TokenKind::Invar => ConstraintKind::Invar,
-        TokenKind::Trans => ConstraintKind::Trans,
-        _ => ConstraintKind::Justice,
+        TokenKind::InitSection => Some(ConstraintKind::Init),
+        TokenKind::Invar => Some(ConstraintKind::Invar),
+        TokenKind::Trans => Some(ConstraintKind::Trans),
+        TokenKind::Justice => Some(ConstraintKind::Justice),
+        TokenKind::Fairness => Some(ConstraintKind::Justice),
+        _ => None,
     }
 }
 
@@ -226,11 +231,7 @@ fn kind_asked(keyword: TokenKind) -> ConstraintKind
 fn constrains(token: &Token) -> bool
     ensures { result ≡ constrains token.now }
 {
-    is_kind(TokenKind::InitSection, token)
-        || is_kind(TokenKind::Invar, token)
-        || is_kind(TokenKind::Trans, token)
-        || is_kind(TokenKind::Justice, token)
-        || is_kind(TokenKind::Fairness, token)
+    kind_asked(token.kind).is_some()
 }
 
 /// `INIT`, `INVAR`, `TRANS`, `JUSTICE` or `FAIRNESS`.
@@ -252,7 +253,7 @@ fn constraint<'a>(alloc: Global, tokens: &'a [Token]) -> Result<(Section, &'a [T
     let (formula, tokens) = formula(alloc, tokens)?;
     let constraint = Constraint {
         place: keyword.place,
-        kind: kind_asked(keyword.kind),
+        kind: kind_asked(keyword.kind).unwrap_or(ConstraintKind::Init),
         formula,
     };
     Ok((Section::Constraint(constraint), tokens))
@@ -284,12 +285,13 @@ fn maybe_given_name(tokens: &[Token]) -> Result<(Option<&Token>, &[Token]), Stop
 }
 
 /// What a specification behind this keyword claims.
-fn kind_claimed(keyword: TokenKind) -> SpecificationKind
+fn kind_claimed(keyword: TokenKind) -> Option<SpecificationKind>
     ensures { result ≡ kind_claimed keyword }
 {
     match keyword {
-        TokenKind::Invarspec => SpecificationKind::Invariant,
-        _ => SpecificationKind::Temporal,
+        TokenKind::Invarspec => Some(SpecificationKind::Invariant),
+        TokenKind::Ltlspec => Some(SpecificationKind::Temporal),
+        _ => None,
     }
 }
 
@@ -297,7 +299,7 @@ fn kind_claimed(keyword: TokenKind) -> SpecificationKind
 fn claims(token: &Token) -> bool
     ensures { result ≡ claims token.now }
 {
-    is_kind(TokenKind::Invarspec, token) || is_kind(TokenKind::Ltlspec, token)
+    kind_claimed(token.kind).is_some()
 }
 
 /// `INVARSPEC` or `LTLSPEC`.
@@ -320,7 +322,7 @@ fn specification<'a>(alloc: Global, tokens: &'a [Token]) -> Result<(Section, &'a
     let (formula, tokens) = formula(alloc, tokens)?;
     let specification = Specification {
         place: first.place,
-        kind: kind_claimed(first.kind),
+        kind: kind_claimed(first.kind).unwrap_or(SpecificationKind::Invariant),
         formula,
     };
     Ok((Section::Specification(specification), tokens))

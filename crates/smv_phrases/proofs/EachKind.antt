@@ -1,6 +1,7 @@
 -- Tests of a token's kind that hold of each kind.
 use Rattle.std.proofs.Common.{◌≡◌, ℕ, zero, suc, Bool, true, false, cond, List, [], ◌∷◌, Option, Some, None, refl, sym, ◌∙◌}
-use Rattle.std.specs.Prelude.{◌&&◌}
+use Rattle.std.specs.Prelude.{◌&&◌, ◌==◌}
+use Rattle.std.proofs.lemmas.Bool.{eqb-true, eq-eqb}
 use Rattle.smv_tree.specs.declared.token.Token.{Token}
 use Rattle.smv_tree.specs.declared.token.TokenKind.{TokenKind}
 use Rattle.smv_tree.specs.declared.token.TokenKind.TheVariants as kind
@@ -69,3 +70,13 @@ implied false b h e = absurd cc
 pub within : (p q : Token → Bool) → ((t : Token) → p t ≡ p (token_at t.kind)) → ((t : Token) → q t ≡ q (token_at t.kind))
     → each (λ k. cond (p (token_at k)) (q (token_at k)) true) kinds ≡ true → (t : Token) → p t ≡ true → q t ≡ true
 within p q hp hq h t e = hq t ∙ implied (p (token_at t.kind)) (q (token_at t.kind)) (each_kind (λ k. cond (p (token_at k)) (q (token_at k)) true) h t.kind) (sym (hp t) ∙ e)
+
+-- a kind is told by its number
+pub kind_is : (j k : TokenKind) → (number_of j == number_of k) ≡ true → k ≡ j
+kind_is j k e =
+    let same : number_of j ≡ number_of k = eqb-true (number_of j) (number_of k) e in
+    let found : Some k ≡ Some j = sym (number_is_place k) ∙ rw same at (number_is_place j) in
+    cc
+
+pub own_kind : (k : TokenKind) → (number_of k == number_of k) ≡ true
+own_kind k = eq-eqb (number_of k) (number_of k) refl

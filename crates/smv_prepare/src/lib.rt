@@ -2,6 +2,8 @@
 #![tactic(auto)]
 
 mod decoding;
+mod laws;
 mod preparing;
 
+pub use laws::one_item_is_refused;
 pub use preparing::{Prepared, prepare};

@@ -13,7 +13,8 @@ use Rattle.smv_tree.specs.declared.refusal.TextStop.TheVariants.{NoMemory, Refus
 use Rattle.smv_tree.specs.declared.tree.Program.{Program}
 use Rattle.smv_resolve.specs.declared.item.Item.{Item}
 use Rattle.smv_resolve.specs.declared.node.Node.{Node}
-use Rattle.smv_resolve.specs.Items.{ResolvedItem, item_by, items_of}
+use Rattle.smv_resolve.specs.Items.{ResolvedItem, item_by}
+use Rattle.smv_layout.specs.Layout.{items_of}
 use Rattle.smv_meaning.specs.Runs.{is_claim}
 use Rattle.smv_front.specs.Sources.{IsModel, IsSourceStop}
 use Rattle.trace_replay.specs.declared.trace.Trace.{Trace}

@@ -7,7 +7,8 @@ use Rattle.smv_tree.specs.declared.refusal.Refusal.{Refusal}
 use Rattle.smv_tree.specs.declared.refusal.TextStop.{TextStop}
 use Rattle.smv_tree.specs.declared.refusal.TextStop.TheVariants.{Refused, NoMemory}
 use Rattle.smv_tree.specs.declared.tree.Program.{Program}
-use Rattle.smv_resolve.specs.Items.{ResolvedItem, items_of}
+use Rattle.smv_resolve.specs.Items.{ResolvedItem}
+use Rattle.smv_layout.specs.Layout.{items_of}
 use Rattle.smv_meaning.specs.Runs.{is_claim, specifications_of}
 use Rattle.smv_front.specs.Sources.{IsModel, IsRefusedBy}
 use Rattle.trace_replay.specs.declared.trace.Trace.{Trace}

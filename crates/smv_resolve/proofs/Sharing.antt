@@ -1,13 +1,11 @@
 -- What a name leads to is told by the number of the parameter or of the definition.
-use Rattle.std.proofs.Common.{◌≡◌, ℕ, false, true, List, [], ◌∷◌, Option, Some, None, refl, sym, ap, ◌∙◌, subst}
+use Rattle.std.proofs.Common.{◌≡◌, ℕ, Bool, false, true, if◌then◌else◌, List, [], ◌∷◌, Option, Some, None, refl, sym, ap, ◌∙◌, subst}
 use Rattle.std.specs.Prelude.{position, slice_get, bytes_eq}
 use Rattle.smv_tree.specs.declared.tree.Program.{Program}
 use Rattle.smv_tree.specs.declared.tree.Parameter.{Parameter}
 use Rattle.smv_tree.specs.declared.tree.Variable.{Variable}
 use Rattle.smv_tree.specs.declared.tree.VariableKind.{VariableKind}
 use Rattle.smv_tree.specs.declared.tree.Definition.{Definition}
-use Rattle.smv_tree.specs.declared.tree.TypeExpr.{TypeExpr}
-use Rattle.smv_tree.specs.declared.tree.TypeExpr.TheVariants as written
 use Rattle.smv_tree.specs.declared.tree.Identifier.{Identifier}
 use Rattle.smv_tree.specs.declared.tree.Name.{Name}
 use Rattle.smv_tree.specs.declared.tree.Start.{Start}
@@ -16,9 +14,9 @@ use Rattle.smv_tree.specs.declared.tree.Expr.{Expr}
 use Rattle.smv_scope.specs.declared.instance.Parent.{Parent}
 use Rattle.smv_scope.specs.Modules.{parameters_of, variables_of, definitions_of}
 use Rattle.smv_scope.specs.Instances.{child_number, module_at}
-use Rattle.smv_scope.specs.Slots.{slot_number}
+use Rattle.smv_scope.specs.Holders.{holds, holder_number}
 use Rattle.smv_scope.specs.Enumerated.{symbol_number}
-use Rattle.smv_scope.specs.Lookup.{Target, slot_target, instance_target, typed_target, variable_target, body_target, definition_target, named_target, member_of_module, member_target, arguments_by, argument_target, given_by, parent_at, symbol_target, or_symbol, parameter_or_member, own_of_module, start_target, behind_instance, members_target, before_members, whole_only, name_target_by, instance_within, depth_limit, name_target}
+use Rattle.smv_scope.specs.Lookup.{Target, holder_target, instance_target, typed_target, variable_target, body_target, definition_target, named_target, member_of_module, member_target, arguments_by, argument_target, given_by, parent_at, symbol_target, or_symbol, parameter_or_member, own_of_module, start_target, behind_instance, members_target, before_members, whole_only, name_target_by, instance_within, depth_limit, name_target}
 use Rattle.smv_resolve.specs.Resolved.{Resolved}
 use Rattle.smv_resolve.specs.Finding.{definition_in, shared_target, below_target}
 
@@ -26,30 +24,30 @@ use Rattle.smv_resolve.specs.Finding.{definition_in, shared_target, below_target
 abbrev Right : Program → Target → Type 0
 Right p (Target.Given at k owner e) = given_by p at k (parent_at p at) ≡ Target.Given at k owner e
 Right p (Target.Defined at k e) = definition_in p at k (module_at p at) ≡ Target.Defined at k e
-Right p (Target.Slot n) = Unit {0}
+Right p (Target.Variable n) = Unit {0}
 Right p (Target.Whole i) = Unit {0}
 Right p (Target.Symbol n) = Unit {0}
 Right p Target.Unknown = Unit {0}
 Right p Target.TooFar = Unit {0}
 
-right_slot : (p : Program) (o : Option ℕ) → Right p (slot_target o)
-right_slot p None = tt
-right_slot p (Some n) = tt
+right_holder : (p : Program) (o : Option ℕ) → Right p (holder_target o)
+right_holder p None = tt
+right_holder p (Some n) = tt
 
 right_instance : (p : Program) (o : Option ℕ) → Right p (instance_target o)
 right_instance p None = tt
 right_instance p (Some n) = tt
 
-right_typed : (p : Program) (at v : ℕ) (t : TypeExpr) → Right p (typed_target p at v t)
-right_typed p at v (written.Boolean place) = right_slot p (slot_number p at v)
-right_typed p at v (written.Word place signed width) = right_slot p (slot_number p at v)
-right_typed p at v (written.Range place low high) = right_slot p (slot_number p at v)
-right_typed p at v (written.Enumeration place elements) = right_slot p (slot_number p at v)
-right_typed p at v (written.Instance place name given) = right_instance p (child_number p at v)
+right_typed : (p : Program) (at v : ℕ) (x : Variable) → Right p (typed_target p at v x)
+right_typed p at v x = by (holds x)
+  where
+    by : (b : Bool) → Right p (if b then holder_target (holder_number p at v) else instance_target (child_number p at v))
+    by true = right_holder p (holder_number p at v)
+    by false = right_instance p (child_number p at v)
 
 right_variable : (p : Program) (at v : ℕ) (o : Option (VariableKind × Variable)) → Right p (variable_target p at v o)
 right_variable p at v None = tt
-right_variable p at v (Some x) = right_typed p at v x.1.declared
+right_variable p at v (Some x) = right_typed p at v x.1
 
 right_body : (p : Program) (at k m : ℕ) (o : Option Definition) → module_at p at ≡ Some m → slice_get (definitions_of p m) k ≡ o → Right p (body_target at k o)
 right_body p at k m None e is = tt
@@ -84,7 +82,7 @@ right_symbol p None = tt
 right_symbol p (Some n) = tt
 
 right_or_symbol : (p : Program) (name : List ℕ) (t : Target) → Right p t → Right p (or_symbol p name t)
-right_or_symbol p name (Target.Slot n) r = r
+right_or_symbol p name (Target.Variable n) r = r
 right_or_symbol p name (Target.Whole i) r = r
 right_or_symbol p name (Target.Given at k owner e) r = r
 right_or_symbol p name (Target.Defined at k e) r = r
@@ -105,7 +103,7 @@ right_start p at (start.Own x) = right_own_of p at x.name (module_at p at)
 right_start p at (start.Itself place) = tt
 
 right_behind : (p : Program) (go : ℕ → Target) → ((i : ℕ) → Right p (go i)) → (t : Target) → Right p (behind_instance go t)
-right_behind p go h (Target.Slot n) = tt
+right_behind p go h (Target.Variable n) = tt
 right_behind p go h (Target.Whole i) = h i
 right_behind p go h (Target.Given at k owner e) = tt
 right_behind p go h (Target.Defined at k e) = tt
@@ -119,7 +117,7 @@ right_members p (x ∷ []) at = right_member p at x.name
 right_members p (x ∷ y ∷ rest) at = right_behind p (λ i. members_target p i (y ∷ rest)) (λ i. right_members p (y ∷ rest) i) (member_target p at x.name)
 
 right_whole : (p : Program) (go : ℕ → Target) → ((i : ℕ) → Right p (go i)) → (t : Target) → Right p (whole_only go t)
-right_whole p go h (Target.Slot n) = tt
+right_whole p go h (Target.Variable n) = tt
 right_whole p go h (Target.Whole i) = h i
 right_whole p go h (Target.Given at k owner e) = tt
 right_whole p go h (Target.Defined at k e) = tt
@@ -129,7 +127,7 @@ right_whole p go h Target.TooFar = tt
 
 right_before : (p : Program) (given : ℕ → Expr → Target) (go : ℕ → Target) → ((i : ℕ) (e : Expr) → Right p (given i e)) → ((i : ℕ) → Right p (go i)) → (t : Target) →
     Right p (before_members given go t)
-right_before p given go g h (Target.Slot n) = tt
+right_before p given go g h (Target.Variable n) = tt
 right_before p given go g h (Target.Whole i) = h i
 right_before p given go g h (Target.Given at k owner e) = g owner e
 right_before p given go g h (Target.Defined at k e) = tt

@@ -21,11 +21,11 @@ mutual
   -- An expression without names. Each part keeps the place of the node that it is.
   pub data Resolved : Type 0 where
     Constant : Place → Value → Resolved
-    -- the slot of this number
+    -- the variable of this number among those that have values; where slots are laid out, the slot of this number
     Slot : Place → (n : ℕ) → Resolved
     -- the instance of this number, which has no value
     Whole : Place → (at : ℕ) → Resolved
-    -- what a parameter was given, or the body of a definition
+    -- what a parameter was given, or the body of a definition; where slots are laid out, also the slot of an element of an array
     Named : Place → Naming → Resolved → Resolved
     Next : Place → Resolved → Resolved
     Apply : Place → Operator → Operands → Resolved
@@ -62,7 +62,7 @@ lowered (suc count) e = opened (lowered count e)
 
 -- a name that leads to this, where `below` resolves what it stands for
 abbrev pub resolved_target : (ℕ → Expr → Resolved) → Place → Target → Resolved
-resolved_target below place (Target.Slot n) = Resolved.Slot place n
+resolved_target below place (Target.Variable n) = Resolved.Slot place n
 resolved_target below place (Target.Whole i) = Resolved.Whole place i
 resolved_target below place (Target.Given at k owner e) = Resolved.Named place naming.Given (below owner e)
 resolved_target below place (Target.Defined at k e) = Resolved.Named place naming.Defined (below at e)

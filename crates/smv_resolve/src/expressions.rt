@@ -98,7 +98,7 @@ fn find_constant(
     Ok(Found { node, height: 0 })
 }
 
-fn find_slot(
+fn find_variable(
     _scope: &Scope,
     work: &mut Work,
     _depth: usize,
@@ -276,7 +276,7 @@ fn find_target(
 {
     let place = place_of_start(&name.start);
     match name_target(scope, at, name) {
-        NameTarget::Slot(n) => find_slot(scope, work, depth, place, n),
+        NameTarget::Variable(n) => find_variable(scope, work, depth, place, n),
         NameTarget::Whole(i) => find_whole(scope, work, depth, place, i),
         NameTarget::Given {
             at: of,

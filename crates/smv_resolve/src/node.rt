@@ -10,6 +10,8 @@ pub enum Naming {
     Given,
     /// A definition, for its body.
     Defined,
+    /// An element of an array with a constant index, for its slot. No name is resolved to one: it comes where slots are laid out.
+    Element,
 }
 
 /// A node of an expression without names. Its parts are nodes before it in the same list, by their numbers, so that what
@@ -17,7 +19,7 @@ pub enum Naming {
 #[derive(Clone, Copy, Debug)]
 pub enum Node {
     Constant(Place, Value),
-    /// The slot of this number.
+    /// The variable of this number among those that have values; where slots are laid out, the slot of this number.
     Slot(Place, usize),
     /// The instance of this number.
     Whole(Place, usize),

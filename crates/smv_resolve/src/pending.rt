@@ -126,7 +126,7 @@ fn push_name<'a>(
     ensures { OnOk result (AllLead scope.now.program pending.new) }
 {
     match name_target(scope, at, name) {
-        NameTarget::Slot(_) => Ok(true),
+        NameTarget::Variable(_) => Ok(true),
         NameTarget::Whole(_) => Ok(true),
         NameTarget::Symbol(_) => Ok(true),
         NameTarget::Given {

@@ -6,4 +6,5 @@ pub mod Declaring
 pub mod Following
 pub mod Preorder
 pub mod Variables
+pub mod Counting
 pub mod Pathways

@@ -43,7 +43,7 @@ tables_next p modules i x ps ss table old new same h is e f long more right befo
     )
 
 no_table : (ps : List Parameter) (ss : List Section) (o : Option SymbolTable) → ps ≡ [] → ss ≡ [] → o ≡ None → IsTableOf ps ss o
-no_table ps ss o e f g = rw (e, f, g) ((λ name. refl), (λ name. refl), (λ name. refl), refl, refl)
+no_table ps ss o e f g = rw (e, f, g) ((λ name. refl), (λ name. refl), (λ name. refl), refl, refl, refl, refl)
 
 -- no module is left
 pub tables_end : (p : Program) (modules : List Module) (i : ℕ) (tables : List SymbolTable) → modules ≡ p.modules → length modules ≤ i → length tables ≡ i

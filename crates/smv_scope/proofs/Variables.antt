@@ -4,9 +4,7 @@ use Rattle.smv_tree.specs.declared.tree.Module.{Module}
 use Rattle.smv_tree.specs.declared.tree.Variable.{Variable}
 use Rattle.smv_tree.specs.declared.tree.VariableKind.{VariableKind}
 use Rattle.smv_scope.specs.declared.instance.Instance.{Instance}
-use Rattle.smv_scope.specs.declared.slot.Slot.{Slot}
 use Rattle.smv_scope.specs.Instances.{child, children_from}
-use Rattle.smv_scope.specs.Slots.{slots_with, slots_from}
 
 -- variables that are lent
 abbrev pub lent : List (VariableKind × Bor Variable) → List (VariableKind × Variable)
@@ -21,24 +19,12 @@ lent-drop_past xs k h = ap lent (drop_of_length-le xs h)
 
 -- the child that a variable is stands
 pub children_more : (modules : List Module) (at : ℕ) (all more : List Instance) (xs : List (VariableKind × Bor Variable)) (k : ℕ) (x : VariableKind × Bor Variable) → k < length xs → x ≡ get_or xs k x
-    → more ≡ all ++ child modules at k x.1.now.declared
+    → more ≡ all ++ child modules at k x.1.now
     → more ++ children_from modules at (k + 1) (lent (drop (k + 1) xs)) ≡ all ++ children_from modules at k (lent (drop k xs))
 children_more modules at all more xs k x h e is =
     ap (λ ys. ys ++ children_from modules at (k + 1) (lent (drop (k + 1) xs))) is
-    ∙ append_assoc all (child modules at k x.1.now.declared) _
+    ∙ append_assoc all (child modules at k x.1.now) _
     ∙ ap (λ ys. all ++ ys) (ap (children_from modules at k) (sym (lent-drop xs k x h e)))
 
 pub children_done : (modules : List Module) (at : ℕ) (all : List Instance) (xs : List (VariableKind × Bor Variable)) (k : ℕ) → length xs ≤ k → all ≡ all ++ children_from modules at k (lent (drop k xs))
 children_done modules at all xs k h = sym (append-nil all) ∙ ap (λ ys. all ++ ys) (ap (children_from modules at k) (sym (lent-drop_past xs k h)))
-
--- the slot of a variable stands
-pub slots_more : (at : ℕ) (all more : List Slot) (xs : List (VariableKind × Bor Variable)) (k : ℕ) (x : VariableKind × Bor Variable) → k < length xs → x ≡ get_or xs k x
-    → more ≡ all ++ slots_with at k x.0 x.1.now.declared
-    → more ++ slots_from at (k + 1) (lent (drop (k + 1) xs)) ≡ all ++ slots_from at k (lent (drop k xs))
-slots_more at all more xs k x h e is =
-    ap (λ ys. ys ++ slots_from at (k + 1) (lent (drop (k + 1) xs))) is
-    ∙ append_assoc all (slots_with at k x.0 x.1.now.declared) _
-    ∙ ap (λ ys. all ++ ys) (ap (slots_from at k) (sym (lent-drop xs k x h e)))
-
-pub slots_done : (at : ℕ) (all : List Slot) (xs : List (VariableKind × Bor Variable)) (k : ℕ) → length xs ≤ k → all ≡ all ++ slots_from at k (lent (drop k xs))
-slots_done at all xs k h = sym (append-nil all) ∙ ap (λ ys. all ++ ys) (ap (slots_from at k) (sym (lent-drop_past xs k h)))

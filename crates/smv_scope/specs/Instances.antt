@@ -1,5 +1,6 @@
--- The instances of a program in preorder: `main`, and each variable whose type is a module (manual 2.3.11, Module Instantiations).
-use Rattle.std.specs.Prelude.{ℕ, zero, suc, ◌+◌, ◌==◌, Bool, false, ◌&&◌, List, [], ◌∷◌, ◌++◌, length, Option, None, Some, position, slice_get}
+-- The instances of a program in preorder: `main`, and each variable whose type is a module and that is no array (manual 2.3.11,
+-- Module Instantiations).
+use Rattle.std.specs.Prelude.{ℕ, zero, suc, ◌+◌, ◌==◌, Bool, false, ◌&&◌, if◌then◌else◌, List, [], ◌∷◌, ◌++◌, length, Option, None, Some, position, slice_get}
 use Rattle.smv_tree.specs.declared.tree.Program.{Program}
 use Rattle.smv_tree.specs.declared.tree.Module.{Module}
 use Rattle.smv_tree.specs.declared.tree.Variable.{Variable}
@@ -8,22 +9,25 @@ use Rattle.smv_tree.specs.declared.tree.TypeExpr.{TypeExpr}
 use Rattle.smv_tree.specs.declared.tree.TypeExpr.TheVariants as written
 use Rattle.smv_scope.specs.declared.instance.Instance.{Instance}
 use Rattle.smv_scope.specs.declared.instance.Parent.{Parent}
-use Rattle.smv_scope.specs.Modules.{module_named, main_number, variables_of}
+use Rattle.smv_scope.specs.Modules.{module_named, main_number, variables_of, is_array}
 
 -- an instance of a module, if there is one, as this variable of this instance
 abbrev pub instance_as : ℕ → ℕ → Option ℕ → List Instance
 instance_as at v None = []
 instance_as at v (Some m) = record { of_module = m; parent = Some (record { instance = at; variable = v }) } ∷ []
 
--- the instance that a variable of this type is, if it is one
-abbrev pub child : List Module → ℕ → ℕ → TypeExpr → List Instance
-child modules at v (written.Instance place name given) = instance_as at v (module_named modules name)
-child modules at v other = []
+abbrev pub child_with : List Module → ℕ → ℕ → TypeExpr → List Instance
+child_with modules at v (written.Instance place name given) = instance_as at v (module_named modules name)
+child_with modules at v other = []
+
+-- the instance that a variable is, if it is one
+abbrev pub child : List Module → ℕ → ℕ → Variable → List Instance
+child modules at v x = if is_array x then [] else child_with modules at v x.declared
 
 -- the instances that these variables are, the first of which has number v in the instance of number `at`
 abbrev pub children_from : List Module → ℕ → ℕ → List (VariableKind × Variable) → List Instance
 children_from modules at v [] = []
-children_from modules at v (x ∷ xs) = child modules at v x.1.declared ++ children_from modules at (v + 1) xs
+children_from modules at v (x ∷ xs) = child modules at v x.1 ++ children_from modules at (v + 1) xs
 
 -- the instances that an instance declares
 abbrev pub children : Program → ℕ → Instance → List Instance

@@ -1,8 +1,9 @@
 pub mod Modules
 pub mod Symbols
 pub mod Instances
-pub mod Slots
+pub mod Holders
 pub mod Enumerated
+pub mod Target
 pub mod Lookup
 pub mod Targets
 pub mod Paths

@@ -1,5 +1,5 @@
 -- Where names lead. A name is looked up in the instance that it stands in (manual 2.3.13, References to Module Components).
-use Rattle.std.specs.Prelude.{ℕ, zero, suc, List, [], ◌∷◌, Option, None, Some, position, slice_get, bytes_eq}
+use Rattle.std.specs.Prelude.{ℕ, zero, suc, if◌then◌else◌, List, [], ◌∷◌, Option, None, Some, position, slice_get, bytes_eq}
 use Rattle.smv_tree.specs.declared.tree.Program.{Program}
 use Rattle.smv_tree.specs.declared.tree.Parameter.{Parameter}
 use Rattle.smv_tree.specs.declared.tree.Variable.{Variable}
@@ -14,38 +14,27 @@ use Rattle.smv_tree.specs.declared.tree.Start.TheVariants as start
 use Rattle.smv_tree.specs.declared.tree.Expr.{Expr, Expr-F, out-Expr}
 use Rattle.smv_scope.specs.declared.instance.Instance.{Instance}
 use Rattle.smv_scope.specs.declared.instance.Parent.{Parent}
-use Rattle.smv_scope.specs.Modules.{parameters_of, variables_of, definitions_of}
+use Rattle.smv_scope.specs.Modules.{parameters_of, variables_of, definitions_of, is_array}
 use Rattle.smv_scope.specs.Instances.{instances_of, child_number, module_at}
-use Rattle.smv_scope.specs.Slots.{slot_number}
+use Rattle.smv_scope.specs.Holders.{holds, holder_number}
 use Rattle.smv_scope.specs.Enumerated.{symbol_number}
+pub use Rattle.smv_scope.specs.Target.{Target}
 
--- What a name leads to: a slot; an instance; an expression that a parameter of an instance was given, in the instance that
--- gives it; the body of a definition of an instance; a symbol. Or it leads nowhere, or by more parameters than are followed.
-pub data Target : Type 0 where
-  Slot : (n : ℕ) → Target
-  Whole : (at : ℕ) → Target
-  Given : (at k owner : ℕ) → Expr → Target
-  Defined : (at k : ℕ) → Expr → Target
-  Symbol : (n : ℕ) → Target
-  Unknown : Target
-  TooFar : Target
-
-abbrev pub slot_target : Option ℕ → Target
-slot_target None = Target.Unknown
-slot_target (Some n) = Target.Slot n
+abbrev pub holder_target : Option ℕ → Target
+holder_target None = Target.Unknown
+holder_target (Some n) = Target.Variable n
 
 abbrev pub instance_target : Option ℕ → Target
 instance_target None = Target.Unknown
 instance_target (Some i) = Target.Whole i
 
--- a variable of an instance is a slot, or an instance
-abbrev pub typed_target : Program → ℕ → ℕ → TypeExpr → Target
-typed_target p at v (written.Instance place name given) = instance_target (child_number p at v)
-typed_target p at v other = slot_target (slot_number p at v)
+-- a variable of an instance has a value, or is an instance
+abbrev pub typed_target : Program → ℕ → ℕ → Variable → Target
+typed_target p at v x = if holds x then holder_target (holder_number p at v) else instance_target (child_number p at v)
 
 abbrev pub variable_target : Program → ℕ → ℕ → Option (VariableKind × Variable) → Target
 variable_target p at v None = Target.Unknown
-variable_target p at v (Some x) = typed_target p at v x.1.declared
+variable_target p at v (Some x) = typed_target p at v x.1
 
 abbrev pub body_target : ℕ → ℕ → Option Definition → Target
 body_target at k None = Target.Unknown
@@ -68,14 +57,17 @@ member_of_module p at (Some m) name = named_target p at m name (position (λ (x 
 abbrev pub member_target : Program → ℕ → List ℕ → Target
 member_target p at name = member_of_module p at (module_at p at) name
 
--- what an instance is given
-abbrev pub arguments_with : TypeExpr → List Expr
-arguments_with (written.Instance place name given) = given
-arguments_with other = []
+abbrev pub arguments_in_type : TypeExpr → List Expr
+arguments_in_type (written.Instance place name given) = given
+arguments_in_type other = []
+
+-- what the instance that a variable is, is given
+abbrev pub arguments_with : Variable → List Expr
+arguments_with x = if is_array x then [] else arguments_in_type x.declared
 
 abbrev pub arguments_in : Option (VariableKind × Variable) → List Expr
 arguments_in None = []
-arguments_in (Some x) = arguments_with x.1.declared
+arguments_in (Some x) = arguments_with x.1
 
 abbrev pub arguments_of_module : Program → ℕ → Option ℕ → List Expr
 arguments_of_module p v None = []

@@ -1,5 +1,5 @@
 -- Modules, and what they declare (NuSMV 2.6 User Manual, 2.3).
-use Rattle.std.specs.Prelude.{ℕ, List, [], map, Option, None, Some, position, slice_get, codes, bytes_eq}
+use Rattle.std.specs.Prelude.{ℕ, Bool, true, false, List, [], ◌∷◌, map, Option, None, Some, position, slice_get, codes, bytes_eq}
 use Rattle.std.specs.List.{flat_map}
 use Rattle.smv_tree.specs.declared.tree.Program.{Program}
 use Rattle.smv_tree.specs.declared.tree.Module.{Module}
@@ -9,6 +9,7 @@ use Rattle.smv_tree.specs.declared.tree.Section.TheVariants as section
 use Rattle.smv_tree.specs.declared.tree.Variable.{Variable}
 use Rattle.smv_tree.specs.declared.tree.VariableKind.{VariableKind}
 use Rattle.smv_tree.specs.declared.tree.Definition.{Definition}
+use Rattle.smv_tree.specs.declared.tree.Dimension.{Dimension}
 
 -- the number of the first module of this name
 abbrev pub module_named : List Module → List ℕ → Option ℕ
@@ -49,3 +50,11 @@ variables_of p m = flat_map variables_in (sections_of p m)
 -- the definitions of the module of this number, in the order of the source
 abbrev pub definitions_of : Program → ℕ → List Definition
 definitions_of p m = flat_map definitions_in (sections_of p m)
+
+abbrev pub has_dimension : List Dimension → Bool
+has_dimension [] = false
+has_dimension (d ∷ ds) = true
+
+-- the variable is an array, of values or of instances (manual 2.1.6, Array Types)
+abbrev pub is_array : Variable → Bool
+is_array x = has_dimension x.dimensions

@@ -1,10 +1,9 @@
--- The names of instances and slots, as they are printed.
+-- The names of instances and variables, as they are printed.
 use Rattle.std.specs.Prelude.{ℕ, zero, suc, List, [], ◌∷◌, ◌++◌, length, Option, None, Some, slice_get, codes}
 use Rattle.smv_tree.specs.declared.tree.Program.{Program}
 use Rattle.smv_tree.specs.declared.tree.Variable.{Variable}
 use Rattle.smv_tree.specs.declared.tree.VariableKind.{VariableKind}
 use Rattle.smv_scope.specs.declared.instance.Parent.{Parent}
-use Rattle.smv_scope.specs.declared.slot.Slot.{Slot}
 use Rattle.smv_scope.specs.Modules.{variables_of}
 use Rattle.smv_scope.specs.Instances.{instances_of, module_at}
 use Rattle.smv_scope.specs.Lookup.{parent_at}
@@ -43,7 +42,3 @@ path_of p at = path_within p (length (instances_of p)) at
 abbrev pub shown_path : List ℕ → List ℕ
 shown_path [] = codes "main"
 shown_path (b ∷ path) = b ∷ path
-
--- the name of a slot as it is printed
-abbrev pub slot_name : Program → Slot → List ℕ
-slot_name p slot = joined (path_of p slot.instance) (variable_name p slot.instance slot.variable)

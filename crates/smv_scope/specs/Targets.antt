@@ -8,7 +8,7 @@ use Rattle.smv_scope.specs.Lookup.{Target}
 
 -- the same with the expression that is lent
 abbrev pub seen : NameTarget → Target
-seen (found.Slot n) = Target.Slot n
+seen (found.Variable n) = Target.Variable n
 seen (found.Whole i) = Target.Whole i
 seen (found.Given at k owner e) = Target.Given at k owner e.now
 seen (found.Defined at k e) = Target.Defined at k e.now

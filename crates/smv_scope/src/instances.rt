@@ -5,11 +5,12 @@ ghost use Rattle.smv_scope.specs.declared.instance.Instance.{Instance};
 ghost use Rattle.smv_scope.specs.Instances.{child, children, subtree, instances_of, most_instances};
 ghost use Rattle.smv_scope.specs.Symbols.{AreNumbered};
 
+use crate::holders::is_array;
 use crate::layout::LayoutStop;
 use crate::modules::{sections_of, variables_of};
 use crate::symbols::ModuleNumbers;
 use crate::{Instance, Parent};
-use smv_tree::{Program, TypeExpr};
+use smv_tree::{Program, TypeExpr, Variable};
 use sqlite_items::Items;
 use std::alloc::{AllocError, Global};
 
@@ -125,24 +126,27 @@ fn children_of(
     let variables = variables_of(alloc, sections_of(program, x.of_module))?;
     let mut all = Items::new(alloc);
     for (v, variable) in variables.iter().enumerate() {
-        push_child(&mut all, program, names, at, v, &variable.1.declared)?;
+        push_child(&mut all, program, names, at, v, variable.1)?;
     }
     Ok(all)
 }
 
-// The instance that a variable of this type is, if it is one.
+// The instance that a variable is, if it is one.
 fn push_child(
     all: &mut Items<Instance>,
     _program: &Program,
     names: &ModuleNumbers,
     at: usize,
     v: usize,
-    declared: &TypeExpr,
+    variable: &Variable,
 ) -> Result<(), AllocError>
     requires { AreNumbered _program.now.modules names.now }
-    ensures { OnOk result (all.new ≡ all.old ++ child _program.now.modules at v declared.now) }
+    ensures { OnOk result (all.new ≡ all.old ++ child _program.now.modules at v variable.now) }
 {
-    let TypeExpr::Instance(_, name, _) = declared else {
+    if is_array(variable) {
+        return Ok(());
+    }
+    let TypeExpr::Instance(_, name, _) = &variable.declared else {
         return Ok(());
     };
     let Some(of_module) = names.get(name.as_str()) else {

@@ -7,16 +7,17 @@ ghost use Rattle.smv_tree.specs.declared.tree.Variable.{Variable};
 ghost use Rattle.smv_tree.specs.declared.tree.VariableKind.{VariableKind};
 ghost use Rattle.smv_scope.specs.Modules.{variables_of, definitions_of};
 ghost use Rattle.smv_scope.specs.Instances.{module_at, child_number};
-ghost use Rattle.smv_scope.specs.Slots.{slot_number};
+ghost use Rattle.smv_scope.specs.Holders.{holder_number, rank_of};
 ghost use Rattle.smv_scope.specs.Enumerated.{symbol_number};
-ghost use Rattle.smv_scope.specs.Lookup.{slot_target, instance_target, symbol_target, or_symbol, typed_target, variable_target, definition_target, named_target, member_target, arguments_with, arguments_by, given_by, parent_at, own_target, start_target, members_target, name_target_by, as_instance, depth_limit, instance_by_node, instance_within, name_target};
+ghost use Rattle.smv_scope.specs.Lookup.{holder_target, instance_target, symbol_target, or_symbol, typed_target, variable_target, definition_target, named_target, member_target, arguments_with, arguments_by, given_by, parent_at, own_target, start_target, members_target, name_target_by, as_instance, depth_limit, instance_by_node, instance_within, name_target};
 ghost use Rattle.smv_scope.specs.Targets.{seen};
 
+use crate::holders::{holds, is_array, rank_of};
 use crate::modules::{
     definition_at, definition_named, parameter_named, variable_at, variable_named,
 };
 use crate::{NameTarget, Parent, Scope};
-use smv_tree::{Definition, Expr, Identifier, Name, Start, TypeExpr};
+use smv_tree::{Definition, Expr, Identifier, Name, Start, TypeExpr, Variable};
 use sqlite_items::at;
 
 /// Names are followed to this depth.
@@ -215,14 +216,17 @@ pub fn arguments_by(scope: &Scope, parent: Parent) -> &[Expr]
     };
     match variable_at(scope, m, parent.variable) {
         None => &[],
-        Some(x) => arguments_with(&x.declared),
+        Some(x) => arguments_with(x),
     }
 }
 
-fn arguments_with(declared: &TypeExpr) -> &[Expr]
-    ensures { result.now ≡ arguments_with declared.now }
+fn arguments_with(variable: &Variable) -> &[Expr]
+    ensures { result.now ≡ arguments_with variable.now }
 {
-    match declared {
+    if is_array(variable) {
+        return &[];
+    }
+    match &variable.declared {
         TypeExpr::Instance(_, _, given) => given.as_slice(),
         _ => &[],
     }
@@ -270,31 +274,32 @@ fn variable_target<'a>(scope: &'a Scope, instance: usize, v: usize, m: usize) ->
 {
     match variable_at(scope, m, v) {
         None => NameTarget::Unknown,
-        Some(x) => typed_target(scope, instance, v, &x.declared),
+        Some(x) => typed_target(scope, instance, v, x),
     }
 }
 
-// A variable of an instance is a slot, or an instance.
+// A variable of an instance has a value, or is an instance.
 fn typed_target<'a>(
     scope: &'a Scope,
     instance: usize,
     v: usize,
-    declared: &TypeExpr,
+    variable: &Variable,
 ) -> NameTarget<'a>
-    ensures { seen result ≡ typed_target scope.now.program instance v declared.now }
+    ensures { seen result ≡ typed_target scope.now.program instance v variable.now }
 {
-    match declared {
-        TypeExpr::Instance(_, _, _) => instance_target(child_number(scope, instance, v)),
-        _ => slot_target(slot_number(scope, instance, v)),
+    if holds(variable) {
+        holder_target(holder_number(scope, instance, v))
+    } else {
+        instance_target(child_number(scope, instance, v))
     }
 }
 
-fn slot_target<'a>(slot: Option<usize>) -> NameTarget<'a>
-    ensures { seen result ≡ slot_target slot }
+fn holder_target<'a>(number: Option<usize>) -> NameTarget<'a>
+    ensures { seen result ≡ holder_target number }
 {
-    match slot {
+    match number {
         None => NameTarget::Unknown,
-        Some(n) => NameTarget::Slot(n),
+        Some(n) => NameTarget::Variable(n),
     }
 }
 
@@ -323,12 +328,13 @@ pub fn symbol_number(scope: &Scope, name: &str) -> Option<usize>
     scope.symbol_numbers.get(name).copied()
 }
 
-// The number of the slot of a variable of an instance.
-fn slot_number(scope: &Scope, instance: usize, variable: usize) -> Option<usize>
-    ensures { result ≡ slot_number scope.now.program instance variable }
+/// The number of a variable of an instance among those that have values.
+pub fn holder_number(scope: &Scope, instance: usize, variable: usize) -> Option<usize>
+    ensures { result ≡ holder_number scope.now.program instance variable }
 {
-    let key = Parent { instance, variable };
-    scope.slot_numbers.get(&key).copied()
+    let m = module_at(scope, instance)?;
+    let first = scope.first_holders.get(instance).copied()?;
+    Some(first + rank_of(scope, m, variable))
 }
 
 // The number of the instance that a variable of an instance is.

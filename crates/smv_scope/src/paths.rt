@@ -1,12 +1,12 @@
-//! The names of instances and slots, as they are printed.
+//! The names of instances and variables, as they are printed.
 
 ghost use Rattle.std.specs.Prelude.{◌≡◌, ℕ, List, [], map, fold, reverse, string_bytes, IfOk, OnOk};
 ghost use Rattle.std.specs.Borrow.{Bor};
-ghost use Rattle.smv_scope.specs.Paths.{joined, variable_name, path_of, slot_name};
+ghost use Rattle.smv_scope.specs.Paths.{joined, variable_name, path_of};
 
+use crate::Scope;
 use crate::lookup::{module_at, parent_at};
 use crate::modules::variable_at;
-use crate::{Scope, Slot};
 use plain_text::Text;
 use std::alloc::{AllocError, Global};
 
@@ -15,18 +15,6 @@ pub fn path_of(alloc: Global, scope: &Scope, at: usize) -> Result<Text, AllocErr
     ensures { IfOk result (λ path. path ≡ path_of scope.now.program at) }
 {
     let path = path_to(alloc, scope, at)?;
-    Text::from_str(alloc, path.as_str())
-}
-
-/// The name of a slot, behind the path of its instance.
-pub fn slot_name(alloc: Global, scope: &Scope, slot: &Slot) -> Result<Text, AllocError>
-    ensures { IfOk result (λ name. name ≡ slot_name scope.now.program slot.now) }
-{
-    let mut path = path_to(alloc, scope, slot.instance)?;
-    push_name(
-        &mut path,
-        variable_name(scope, slot.instance, slot.variable),
-    )?;
     Text::from_str(alloc, path.as_str())
 }
 
@@ -67,8 +55,8 @@ fn push_name(path: &mut String, name: &str) -> Result<(), AllocError>
     path.push_str(name)
 }
 
-// The own name of a variable of an instance.
-fn variable_name(scope: &Scope, at: usize, v: usize) -> &str
+/// The own name of the variable of this number of an instance; empty where there is none.
+pub fn variable_name(scope: &Scope, at: usize, v: usize) -> &str
     ensures { result.now ≡ variable_name scope.now.program at v }
 {
     let Some(m) = module_at(scope, at) else {

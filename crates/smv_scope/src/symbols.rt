@@ -11,11 +11,11 @@ ghost use Rattle.smv_scope.specs.declared.instance.Parent.{Parent};
 ghost use Rattle.smv_scope.specs.Modules.{sections_of, parameters_of, variables_in, definitions_in};
 ghost use Rattle.smv_scope.specs.Instances.{is_declared_by};
 ghost use Rattle.smv_scope.specs.declared.instance.Instance.{Instance};
-ghost use Rattle.smv_scope.specs.declared.slot.Slot.{Slot};
 ghost use Rattle.smv_scope.specs.Symbols.{first_of, same_variable, spots_in, spots_of, AreNumbered, IsTableOf};
 
+use crate::holders::ranks_of;
 use crate::modules::{definitions_in, definitions_of, variables_in, variables_of};
-use crate::{Instance, Parent, Slot};
+use crate::{Instance, Parent};
 use indexmap::IndexMap;
 use smv_tree::{Definition, Module, Parameter, Program, Section, Variable, VariableKind};
 use sqlite_items::Items;
@@ -33,8 +33,8 @@ pub struct Spot {
     pub index: usize,
 }
 
-/// For each name of a module the number of the first parameter, variable and definition that bears it; and where each
-/// variable and each definition stands.
+/// For each name of a module the number of the first parameter, variable and definition that bears it; where each variable and
+/// each definition stands; and which variables have values.
 #[derive(Debug, Drop)]
 pub struct SymbolTable {
     pub parameters: IndexMap<String, usize>,
@@ -42,6 +42,10 @@ pub struct SymbolTable {
     pub definitions: IndexMap<String, usize>,
     pub variable_spots: Items<Spot>,
     pub definition_spots: Items<Spot>,
+    /// For each variable how many of those before it have values.
+    pub ranks: Items<usize>,
+    /// So many variables have values.
+    pub holders: usize,
 }
 
 /// The symbol tables of the modules.
@@ -64,12 +68,15 @@ fn symbol_table(
 ) -> Result<SymbolTable, AllocError>
     ensures { IfOk result (λ table. IsTableOf parameters.now sections.now (Some table)) }
 {
+    let (ranks, holders) = ranks_of(alloc, sections)?;
     Ok(SymbolTable {
         parameters: parameter_numbers(alloc, parameters)?,
         variables: variable_numbers(alloc, sections)?,
         definitions: definition_numbers(alloc, sections)?,
         variable_spots: variable_spots(alloc, sections)?,
         definition_spots: definition_spots(alloc, sections)?,
+        ranks,
+        holders,
     })
 }
 
@@ -170,21 +177,6 @@ fn push_spots(spots: &mut Items<Spot>, section: usize, count: usize) -> Result<(
         spots.push(Spot { section, index })?;
     }
     Ok(())
-}
-
-/// The number of the slot of each variable that has one.
-pub fn slot_numbers(alloc: Global, slots: &[Slot]) -> Result<HashMap<Parent, usize>, AllocError>
-    ensures { IfOk result (λ table. (x : Parent) → get same_variable table x ≡ position (λ (slot : Slot). slot.instance == x.instance && slot.variable == x.variable) slots.now) }
-{
-    let mut table = HashMap::new(alloc);
-    for (k, slot) in slots.iter().enumerate() {
-        let variable = Parent {
-            instance: slot.instance,
-            variable: slot.variable,
-        };
-        number_first(&mut table, variable, k)?;
-    }
-    Ok(table)
 }
 
 /// The number of the instance that each variable is that is one.

@@ -5,8 +5,8 @@ use smv_tree::Expr;
 /// What a name leads to.
 #[derive(Clone, Copy, Debug)]
 pub enum NameTarget<'a> {
-    /// The slot of this number.
-    Slot(usize),
+    /// The variable of this number among those that have values.
+    Variable(usize),
     /// The instance of this number.
     Whole(usize),
     /// What the parameter of this number of the instance `at` was given, an expression that stands in the instance `owner`.

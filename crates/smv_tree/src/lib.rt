@@ -12,7 +12,7 @@ pub use place::Place;
 pub use refusal::{Refusal, Rule, TextStop};
 pub use token::{Token, TokenKind, Tokens};
 pub use tree::{
-    Assignment, AssignmentKind, Constraint, ConstraintKind, Definition, Expr, Identifier, Module,
-    Name, Parameter, Program, Section, Specification, SpecificationKind, Start, TypeExpr, Variable,
-    VariableKind, WrittenElement,
+    Assignment, AssignmentKind, Constraint, ConstraintKind, Definition, Dimension, Expr,
+    Identifier, Module, Name, Parameter, Program, Section, Specification, SpecificationKind, Start,
+    TypeExpr, Variable, VariableKind, WrittenElement,
 };

@@ -63,11 +63,22 @@ pub enum VariableKind {
     Frozen,
 }
 
+/// The indices of an array as they are written: the integers from the first bound to the second, both among them (manual
+/// 2.1.6, Array Types).
+#[derive(Debug, Drop)]
+pub struct Dimension {
+    pub low: Expr,
+    pub high: Expr,
+}
+
 /// A declared variable; its place is that of its name.
 #[derive(Debug, Drop)]
 pub struct Variable {
     pub place: Place,
     pub name: Text,
+    /// Those of an array, the outermost first; none of what is no array.
+    pub dimensions: Items<Dimension>,
+    /// The type of the variable, or of each element of an array.
     pub declared: TypeExpr,
 }
 
@@ -196,7 +207,7 @@ pub enum Expr {
     /// `TRUE`, `FALSE`, an integer or a word.
     Constant(Place, Value),
     Name(Name),
-    /// An expression in parentheses, at its `(`.
+    /// An expression in parentheses, at its `(`; or a bound of a temporal operator, at its `[`.
     Group(Place, Boxed<Expr>),
     /// The value in the next state.
     Next(Place, Boxed<Expr>),

@@ -3,7 +3,7 @@ use Rattle.std.proofs.Common.{◌≡◌, List, Option, None, Some, slice_get, re
 use Rattle.smv_tree.specs.declared.tree.AssignmentKind.TheVariants as side
 use Rattle.smv_tree.specs.declared.tree.VariableKind.{VariableKind}
 use Rattle.smv_tree.specs.declared.tree.VariableKind.TheVariants as sort
-use Rattle.smv_scope.specs.declared.slot.Slot.{Slot}
+use Rattle.smv_slots.specs.declared.slot.Slot.{Slot}
 use Rattle.smv_resolve.specs.declared.node.Naming.TheVariants as naming
 use Rattle.smv_resolve.specs.Resolved.{Resolved}
 use Rattle.smv_types.specs.Kinds.{is_assignable, slot_takes, takes_assignment}
@@ -23,6 +23,7 @@ later_same slots (Resolved.Slot place n) = slot_same (slice_get slots n)
 later_same slots (Resolved.Whole place i) = refl
 later_same slots (Resolved.Named place naming.Given r) = later_same slots r
 later_same slots (Resolved.Named place naming.Defined r) = refl
+later_same slots (Resolved.Named place naming.Element r) = later_same slots r
 later_same slots (Resolved.Next place r) = refl
 later_same slots (Resolved.Apply place o rs) = refl
 later_same slots Resolved.Stuck = refl

@@ -107,7 +107,7 @@ given_fits k place (Ok None) h = absurd h
 given_fits k place (Err rule) h = tt
 
 applied_is : (o : Operator) (place : Place) (os : List Outcome) → gives_value o ≡ true → applied o place os ≡ operated (λ vs. given place (result_of o vs)) [] os
-applied_is operator.Choice place os g = absurd (false≢true g)
+applied_is (operator.Choice rule) place os g = absurd (false≢true g)
 applied_is operator.Members place os g = absurd (false≢true g)
 applied_is operator.Union place os g = absurd (false≢true g)
 applied_is operator.Range place os g = absurd (false≢true g)
@@ -115,11 +115,11 @@ applied_is operator.In place os g = absurd (false≢true g)
 applied_is other place os g = refl
 
 -- what gives one value gives one of its kind, or faults
-pub value_fits : (o : Operator) (place : Place) (xs : List Operand) (os : List Outcome) (k : Kind) → gives_value o ≡ true → AllKnown xs os → kind_given [] o xs ≡ Ok k → Fits k (applied o place os)
+pub value_fits : (o : Operator) (place : Place) (xs : List Operand) (os : List Outcome) (k : Kind) → gives_value o ≡ true → AllKnown xs os → kind_given o xs ≡ Ok k → Fits k (applied o place os)
 value_fits o place xs os k g h e =
     let P : Outcome → Type 0 = λ y. Fits k y in
     subst P (sym (applied_is o place os g))
-    (operated_fits k (λ vs. given place (result_of o vs)) [] xs os h (all_one o xs k g e) (λ vs a. given_fits k place (result_of o vs) (values_given [] o xs vs k g a e)))
+    (operated_fits k (λ vs. given place (result_of o vs)) [] xs os h (all_one o xs k g e) (λ vs a. given_fits k place (result_of o vs) (values_given o xs vs k g a e)))
 
 -- constants
 
@@ -144,6 +144,14 @@ constant_operator o (x ∷ y ∷ []) z e = two_by x.constant y.constant e
     two_by (Some a) None f = none_some z f
     two_by (Some a) (Some b) f = integer_if (is_constant o) (are_integers (value.Int a ∷ value.Int b ∷ [])) (value_of_result (result_of o (value.Int a ∷ value.Int b ∷ []))) z f
 constant_operator o (x ∷ y ∷ t ∷ xs) z e = none_some z e
+
+-- other operators give no constant
+pub not_constant : (o : Operator) (xs : List Operand) → is_constant o ≡ false → constant_given o xs ≡ None
+not_constant o xs plain = by (constant_given o xs) refl
+  where
+    by : (c : Option ℤ) → constant_given o xs ≡ c → c ≡ None
+    by None e = refl
+    by (Some z) e = absurd (true_false (is_constant o) (constant_operator o xs z e) plain)
 
 -- what is told to be a constant is one
 constant_has : (x : Operand) (o : Outcome) (z : ℤ) → Known x o → x.constant ≡ Some z → (o ≡ one (value.Int z)) × IsOperand x (value.Int z)
@@ -194,6 +202,7 @@ constant_value : (o : Operator) → is_constant o ≡ true → gives_value o ≡
 constant_value operator.Negate e = refl
 constant_value (operator.Arithmetic o) e = refl
 constant_value (operator.Division o) e = refl
+constant_value operator.Subscript e = refl
 constant_value other e = absurd (false≢true e)
 
 -- an operator that is told to give a constant gives it

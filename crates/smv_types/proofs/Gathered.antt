@@ -8,6 +8,7 @@ use Rattle.std.proofs.lemmas.List.Folds.{list_all-append}
 use Rattle.smv_tree.specs.declared.place.Place.{Place}
 use Rattle.smv_value.specs.declared.operator.Operator.{Operator}
 use Rattle.smv_value.specs.declared.operator.Operator.TheVariants as operator
+use Rattle.smv_value.specs.declared.value.FaultRule.{FaultRule}
 use Rattle.smv_value.specs.declared.value.Value.{Value}
 use Rattle.smv_value.specs.declared.value.Value.TheVariants as value
 use Rattle.smv_value.specs.Results.{alike, natural, same}
@@ -15,7 +16,8 @@ use Rattle.smv_kinds.specs.declared.kind.Interval.{Interval}
 use Rattle.smv_kinds.specs.declared.kind.Kind.{Kind}
 use Rattle.smv_kinds.specs.declared.kind.Kind.TheVariants as kind
 use Rattle.smv_kinds.specs.declared.kind.Operand.{Operand}
-use Rattle.smv_kinds.specs.Kinds.{boolean_if, branch, chosen, chosen_after, given, indexed, integers_of, is_boolean, is_integer, joined, kind_given, kind_if, members, range_of, ranged, set_of, takes, two}
+use Rattle.smv_kinds.specs.Kinds.{boolean_if, branch, chosen, chosen_after, given, indexed, integers_of, is_boolean, is_integer, joined, kind_given, kind_if, members, range_of, ranged, set_of, takes, two, whole_array}
+use Rattle.smv_kinds.specs.Constants.{constant_given}
 use Rattle.smv_kind_laws.specs.Values.{HasAll, IsOperand, branches, is_among, is_of_kind}
 use Rattle.smv_kind_laws.proofs.Fitting.{among, given_is, integer_value, kind_if_is, mismatched}
 use Rattle.smv_kind_laws.proofs.Members.{all_branches, all_members, range_has}
@@ -24,9 +26,9 @@ use Rattle.smv_meaning.specs.declared.outcome.Outcome.{Outcome}
 use Rattle.smv_meaning.specs.declared.outcome.Outcome.TheVariants.{Fault, Nothing, Values}
 use Rattle.smv_meaning.specs.Formulas.{is_temporal}
 use Rattle.smv_meaning.specs.Outcomes.{applied, choice, included, one, ranged as ranged_outcome, two as two_outcomes, united}
-use Rattle.smv_types.specs.Kinds.{has_values}
+use Rattle.smv_types.specs.Kinds.{has_values, kind_in}
 use Rattle.smv_types.proofs.Singles.{integer_single, is_single}
-use Rattle.smv_types.proofs.Evaluated.{AllKnown, Fits, Known, gives_one, value_fits}
+use Rattle.smv_types.proofs.Evaluated.{AllKnown, Fits, Known, gives_one, not_constant, value_fits}
 
 both_hold : (a b : Bool) → a ≡ true → b ≡ true → (a && b) ≡ true
 both_hold a b e f = rw (e, f) refl
@@ -126,13 +128,13 @@ fold_many (x ∷ xs) j e = fold_many xs (with_member j x) (joined_many j (set_of
 
 -- no array and no instance
 settled : Kind → Bool
-settled (kind.Array n) = false
+settled kind.Array = false
 settled kind.Instance = false
 settled other = true
 
 given_settled : (j k : Kind) → settled j ≡ true → given j ≡ Ok k → has_values j ≡ true
 unfolding settled
-given_settled (kind.Array n) k s e = absurd (false≢true s)
+given_settled kind.Array k s e = absurd (false≢true s)
 given_settled kind.Instance k s e = absurd (false≢true s)
 given_settled kind.Nothing k s e = absurd (mismatched k e)
 given_settled j k s e = refl
@@ -316,26 +318,26 @@ boolean_of x v e h =
     let P : Kind → Type 0 = λ k. is_among k v ≡ true in
     boolean_value v (subst P (is_boolean_kind x.kind e) (among x.kind v h.kind))
 
-taken_fits : (k : Kind) (place : Place) (b : Bool) (a : Outcome) (os : List Outcome) → Fits k a → Fits k (choice place os) → Fits k (choice place (one (value.Bool b) ∷ a ∷ os))
-taken_fits k place true a os h l = h
-taken_fits k place false a os h l = l
+taken_fits : (k : Kind) (rule : FaultRule) (place : Place) (b : Bool) (a : Outcome) (os : List Outcome) → Fits k a → Fits k (choice rule place os) → Fits k (choice rule place (one (value.Bool b) ∷ a ∷ os))
+taken_fits k rule place true a os h l = h
+taken_fits k rule place false a os h l = l
 
-turns_fit : (k : Kind) (place : Place) (xs : List Operand) (os : List Outcome) → AllKnown xs os → TakesTurns k xs → HasAll k (branches xs) → Fits k (choice place os)
-turns_fit k place [] [] h t all = tt
-turns_fit k place [] (o ∷ os) h t all = absurd h
-turns_fit k place (x ∷ []) [] h t all = absurd h
-turns_fit k place (x ∷ []) (a ∷ []) h t all = branch_fits k x a h.0 t all.0
-turns_fit k place (x ∷ []) (a ∷ b ∷ os) h t all = absurd h.1
-turns_fit k place (c ∷ x ∷ xs) [] h t all = absurd h
-turns_fit k place (c ∷ x ∷ xs) (o ∷ []) h t all = absurd h.1
-turns_fit k place (c ∷ x ∷ xs) (o ∷ a ∷ os) h t all =
-    let P : Outcome → Type 0 = λ y. Fits k (choice place (y ∷ a ∷ os)) in
+turns_fit : (k : Kind) (rule : FaultRule) (place : Place) (xs : List Operand) (os : List Outcome) → AllKnown xs os → TakesTurns k xs → HasAll k (branches xs) → Fits k (choice rule place os)
+turns_fit k rule place [] [] h t all = tt
+turns_fit k rule place [] (o ∷ os) h t all = absurd h
+turns_fit k rule place (x ∷ []) [] h t all = absurd h
+turns_fit k rule place (x ∷ []) (a ∷ []) h t all = branch_fits k x a h.0 t all.0
+turns_fit k rule place (x ∷ []) (a ∷ b ∷ os) h t all = absurd h.1
+turns_fit k rule place (c ∷ x ∷ xs) [] h t all = absurd h
+turns_fit k rule place (c ∷ x ∷ xs) (o ∷ []) h t all = absurd h.1
+turns_fit k rule place (c ∷ x ∷ xs) (o ∷ a ∷ os) h t all =
+    let P : Outcome → Type 0 = λ y. Fits k (choice rule place (y ∷ a ∷ os)) in
     let single = ap is_single (is_boolean_kind c.kind t.0) in
     elim (gives_one c o h.0 (inl single)) [
       | inl i ↦ subst P (sym i.2) tt
       | inr i ↦
           let b = boolean_of c i.0 t.0 i.2 in
-          subst P (sym (i.1 ∙ ap one b.1)) (taken_fits k place b.0 a os (branch_fits k x a h.1.0 t.1 all.0) (turns_fit k place xs os h.1.1 t.2 all.1))
+          subst P (sym (i.1 ∙ ap one b.1)) (taken_fits k rule place b.0 a os (branch_fits k x a h.1.0 t.1 all.0) (turns_fit k rule place xs os h.1.1 t.2 all.1))
     ]
 
 -- what is chosen: it has values, and is single only where each part is
@@ -379,17 +381,17 @@ after_turns (c ∷ x ∷ xs) j k s e =
 
 branch_settled : (a : Kind) → settled (branch a) ≡ true
 unfolding settled
-branch_settled (kind.Array n) = refl
+branch_settled kind.Array = refl
 branch_settled kind.Instance = refl
 branch_settled a = refl
 
 branch_valued : (a : Kind) → has_values (branch a) ≡ true → has_values a ≡ true
-branch_valued (kind.Array n) e = e
+branch_valued kind.Array e = e
 branch_valued kind.Instance e = e
 branch_valued a e = e
 
 branch_single : (a : Kind) → is_single (branch a) ≡ true → is_single a ≡ true
-branch_single (kind.Array n) e = e
+branch_single kind.Array e = e
 branch_single kind.Instance e = e
 branch_single a e = e
 
@@ -401,29 +403,52 @@ chosen_turns (c ∷ x ∷ xs) k e =
     let rest = after_turns xs (branch x.kind) k (branch_settled x.kind) f.1 in
     (f.0, (branch_valued x.kind rest.0.0, λ s. branch_single x.kind (rest.0.1 s)), rest.1)
 
--- there are no arrays
-no_element : (b : Bool) (k : Kind) → given (kind_if b kind.Nothing) ≡ Ok k → ⊥
-no_element true k e = mismatched k e
-no_element false k e = mismatched k e
+-- Arrays have no values.
 
-no_index : (a i k : Kind) → given (indexed [] a i) ≡ Ok k → ⊥
-no_index (kind.Array n) i k e = no_element (is_integer i) k e
-no_index a i k e = mismatched k e
+abbrev pub makes_array : Operator → Bool
+makes_array operator.Index = true
+makes_array operator.WholeArray = true
+makes_array other = false
 
-index_fits : (xs : List Operand) (o : Outcome) (k : Kind) → two (λ a i. given (indexed [] a i)) xs ≡ Ok k → Fits k o
-index_fits [] o k e = absurd (mismatched k e)
-index_fits (x ∷ []) o k e = absurd (mismatched k e)
-index_fits (x ∷ y ∷ []) o k e = absurd (no_index x.kind y.kind k e)
-index_fits (x ∷ y ∷ z ∷ xs) o k e = absurd (mismatched k e)
+if_unvalued : (b : Bool) → has_values (kind_in (given (kind_if b kind.Array))) ≡ false
+if_unvalued true = refl
+if_unvalued false = refl
 
--- An operator over operands of kinds that it takes gives values of the kind that is told, or faults.
-pub applied_fits : (o : Operator) (place : Place) (xs : List Operand) (os : List Outcome) (k : Kind) → is_temporal o ≡ false → AllKnown xs os → kind_given [] o xs ≡ Ok k → Fits k (applied o place os)
-applied_fits operator.Choice place xs os k t h e = turns_fit k place xs os h (chosen_turns xs k e) (all_branches xs k e)
-applied_fits operator.Members place xs os k t h e = members_fit xs os k h e
-applied_fits operator.Union place xs os k t h e = union_fits xs os k h e
-applied_fits operator.Range place xs os k t h e = range_fits xs os k h e
-applied_fits operator.In place xs os k t h e = in_fits xs os k h e
-applied_fits operator.Index place xs os k t h e = index_fits xs (applied operator.Index place os) k e
-applied_fits (operator.Temporal o) place xs os k t h e = absurd (let no : ⊥ = cc in no)
-applied_fits (operator.Bounded o low high) place xs os k t h e = absurd (let no : ⊥ = cc in no)
-applied_fits other place xs os k t h e = value_fits other place xs os k refl h e
+indexed_unvalued : (a i : Kind) → has_values (kind_in (given (indexed a i))) ≡ false
+indexed_unvalued kind.Array i = if_unvalued (is_integer i)
+indexed_unvalued a i = refl
+
+index_unvalued : (xs : List Operand) → has_values (kind_in (two (λ a i. given (indexed a i)) xs)) ≡ false
+index_unvalued [] = refl
+index_unvalued (x ∷ []) = refl
+index_unvalued (x ∷ y ∷ []) = indexed_unvalued x.kind y.kind
+index_unvalued (x ∷ y ∷ z ∷ xs) = refl
+
+whole_unvalued : (xs : List Operand) → has_values (kind_in (whole_array xs)) ≡ false
+whole_unvalued [] = refl
+whole_unvalued (x ∷ xs) = refl
+
+pub array_unvalued : (o : Operator) (xs : List Operand) → makes_array o ≡ true → has_values (kind_in (kind_given o xs)) ≡ false
+array_unvalued operator.Index xs e = index_unvalued xs
+array_unvalued operator.WholeArray xs e = whole_unvalued xs
+array_unvalued other xs e = absurd (false≢true e)
+
+pub array_unset : (o : Operator) (xs : List Operand) → makes_array o ≡ true → constant_given o xs ≡ None
+array_unset operator.Index xs e = not_constant operator.Index xs refl
+array_unset operator.WholeArray xs e = not_constant operator.WholeArray xs refl
+array_unset other xs e = absurd (false≢true e)
+
+-- An operator over operands of kinds that it takes gives values of the kind that is told, or faults, where that is no array.
+pub applied_fits : (o : Operator) (place : Place) (xs : List Operand) (os : List Outcome) (k : Kind) → is_temporal o ≡ false → makes_array o ≡ false → AllKnown xs os → kind_given o xs ≡ Ok k →
+    Fits k (applied o place os)
+applied_fits (operator.Choice rule) place xs os k t n h e = turns_fit k rule place xs os h (chosen_turns xs k e) (all_branches xs k e)
+applied_fits operator.Members place xs os k t n h e = members_fit xs os k h e
+applied_fits operator.Union place xs os k t n h e = union_fits xs os k h e
+applied_fits operator.Range place xs os k t n h e = range_fits xs os k h e
+applied_fits operator.In place xs os k t n h e = in_fits xs os k h e
+applied_fits operator.Index place xs os k t n h e = absurd (let no : ⊥ = cc in no)
+applied_fits operator.WholeArray place xs os k t n h e = absurd (let no : ⊥ = cc in no)
+applied_fits (operator.Temporal o) place xs os k t n h e = absurd (let no : ⊥ = cc in no)
+applied_fits (operator.Bounded o low high) place xs os k t n h e = absurd (let no : ⊥ = cc in no)
+applied_fits (operator.Window o) place xs os k t n h e = absurd (let no : ⊥ = cc in no)
+applied_fits other place xs os k t n h e = value_fits other place xs os k refl h e

@@ -4,10 +4,13 @@ use Rattle.std.proofs.lemmas.List.{map-append}
 use Rattle.smv_tree.specs.declared.place.Place.{Place}
 use Rattle.smv_tree.specs.declared.refusal.Refusal.{Refusal}
 use Rattle.std.proofs.Common.{Option, Some}
+use Rattle.std.specs.Option.{is_some}
 use Rattle.smv_value.specs.declared.operator.Operator.{Operator}
+use Rattle.smv_value.specs.declared.operator.Operator.TheVariants as operator
+use Rattle.smv_value.specs.declared.value.FaultRule.{FaultRule}
 use Rattle.value_types.specs.declared.value_type.ValueType.{ValueType}
 use Rattle.smv_kinds.specs.declared.kind.Operand.{Operand}
-use Rattle.smv_scope.specs.declared.slot.Slot.{Slot}
+use Rattle.smv_slots.specs.declared.slot.Slot.{Slot}
 use Rattle.smv_resolve.specs.declared.node.Node.{Node}
 use Rattle.smv_resolve.specs.Resolved.{Resolved, last_of, operands_of, part_at, parts_of, resolved_by}
 use Rattle.smv_resolve.proofs.Parts.{parts_of-next}
@@ -17,7 +20,7 @@ use Rattle.smv_types.specs.declared.judged.Notes.{Notes}
 use Rattle.smv_kinds.specs.Constants.{constant_given}
 use Rattle.smv_kinds.specs.Kinds.{kind_given}
 use Rattle.smv_tree.specs.declared.tree.AssignmentKind.TheVariants as side
-use Rattle.smv_types.specs.Kinds.{Context, all_told, given_refusal, is_assignable, kind_in, kind_refusal, of_kind, place_of, operands_refusal, told, under_operand}
+use Rattle.smv_types.specs.Kinds.{Context, all_told, inner_refusal, is_assignable, is_chosen_by_constant, kind_in, kind_refusal, of_kind, place_of, operands_refusal, told, under_operand}
 use Rattle.smv_types.specs.Judged.{AreJudged, AreNotes, IsJudged, Tells, judged_at, nothing, told_at}
 
 -- what is told, as a list
@@ -49,7 +52,7 @@ module _ (slots : List Slot) (types : List ValueType) where
 
   -- what is told of an operator
   abbrev pub applied : Operator → List Operand → Operand
-  applied o xs = record { kind = kind_in (kind_given [] o xs); constant = constant_given o xs }
+  applied o xs = record { kind = kind_in (kind_given o xs); constant = constant_given o xs }
 
   pub applied_last : (o : Operator) (count : ℕ) (parts : List Resolved) (table xs : List Operand) → xs ≡ last_of count table → table ≡ map of_part parts →
       applied o xs ≡ applied o (all_told slots types (operands_of (last_of count parts)))
@@ -82,7 +85,8 @@ of_nothing : (slots : List Slot) (types : List ValueType) → IsJudged slots typ
 of_nothing slots types = record {
   place = refl;
   notes = record { step = refl; step_set = refl; name = refl; name_set = refl; state = refl; state_set = refl; path = refl };
-  given = refl;
+  inner = refl;
+  constant = refl;
   init = refl;
   later = refl;
 }
@@ -142,10 +146,10 @@ judged_any slots types rs js h k d within = rw (default_same js k d nothing with
 
 -- what cannot be assigned
 pub unassigned : (slots : List Slot) (types : List ValueType) (r : Resolved) (j : Judged) (place : Place) (notes : Notes) →
-    j ≡ record { place = place; notes = notes; given = None; takes_init = false; takes_later = false } → place ≡ place_of r → AreNotes (λ c. kind_refusal slots types c r) notes →
-    given_refusal slots types r ≡ None → is_assignable slots side.Init r ≡ false → is_assignable slots side.Next r ≡ false → IsJudged slots types r j
-unassigned slots types r j place notes is at noted given init later =
-    rw is (record { place = at; notes = noted; given = sym given; init = sym init; later = sym later })
+    j ≡ record { place = place; notes = notes; inner = None; chosen_by_constant = false; takes_init = false; takes_later = false } → place ≡ place_of r → AreNotes (λ c. kind_refusal slots types c r) notes →
+    inner_refusal slots types r ≡ None → is_chosen_by_constant slots types r ≡ false → is_assignable slots side.Init r ≡ false → is_assignable slots side.Next r ≡ false → IsJudged slots types r j
+unassigned slots types r j place notes is at noted inner constant init later =
+    rw is (record { place = at; notes = noted; inner = sym inner; constant = sym constant; init = sym init; later = sym later })
 
 -- what is told of all is told of the last
 pub last_tells : (slots : List Slot) (types : List ValueType) (count : ℕ) (rs : List Resolved) (xs : List Operand) (js : List Judged) → Tells slots types rs xs js →
@@ -179,6 +183,23 @@ two_tell slots types parts xs js h a b =
       kinds = ap (λ x. x ∷ told_at xs b ∷ []) left ∙ ap (λ x. told slots types (part_at parts a) ∷ x ∷ []) right;
       judged = two_judged slots types (part_at parts a) (part_at parts b) (judged_at js a) (judged_at js b) (h.judged.each a) (h.judged.each b);
     }
+
+-- an index that is a constant, in the first operand
+
+pub subscript_chosen : (slots : List Slot) (types : List ValueType) (place : Place) (rs : List Resolved) →
+    is_some (told slots types (part_at rs 0)).constant ≡ is_chosen_by_constant slots types (Resolved.Apply place operator.Subscript (operands_of rs))
+subscript_chosen slots types place [] = refl
+subscript_chosen slots types place (r ∷ rs) = refl
+
+pub equal_chosen : (slots : List Slot) (types : List ValueType) (place : Place) (rs : List Resolved) →
+    is_chosen_by_constant slots types (part_at rs 0) ≡ is_chosen_by_constant slots types (Resolved.Apply place operator.Equal (operands_of rs))
+equal_chosen slots types place [] = refl
+equal_chosen slots types place (r ∷ rs) = refl
+
+pub choice_chosen : (slots : List Slot) (types : List ValueType) (place : Place) (rule : FaultRule) (rs : List Resolved) →
+    is_chosen_by_constant slots types (part_at rs 0) ≡ is_chosen_by_constant slots types (Resolved.Apply place (operator.Choice rule) (operands_of rs))
+choice_chosen slots types place rule [] = refl
+choice_chosen slots types place rule (r ∷ rs) = refl
 
 -- the first refusal of operands, with one more
 

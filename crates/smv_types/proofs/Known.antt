@@ -25,19 +25,20 @@ use Rattle.smv_kinds.specs.declared.kind.KindRule.TheVariants as rule
 use Rattle.smv_kinds.specs.declared.kind.Operand.{Operand}
 use Rattle.smv_kinds.specs.Constants.{constant_given, integer_in}
 use Rattle.smv_kinds.specs.Contexts.{kind_in_context, makes_set, takes_sets}
-use Rattle.smv_kinds.specs.Kinds.{Given, booleans, bounded_by, given, greatest_bound, inverted, is_boolean, kind_given, kind_if, kind_of_value, logical, next_kind, operands_of_temporal, takes}
+use Rattle.smv_kinds.specs.Kinds.{Given, booleans, bounded_by, given, greatest_bound, inverted, is_boolean, kind_given, kind_if, kind_of_value, logical, next_kind, operands_of_temporal, takes, three_told, window}
 use Rattle.smv_kind_laws.specs.Values.{is_of_kind}
 use Rattle.smv_kind_laws.proofs.Told.{next_is_same, value_has_kind}
 use Rattle.smv_resolve.specs.declared.item.ItemKind.{ItemKind}
 use Rattle.smv_resolve.specs.declared.item.ItemKind.TheVariants as item
 use Rattle.smv_resolve.specs.declared.node.Naming.TheVariants as naming
-use Rattle.smv_resolve.specs.Items.{ResolvedItem, items_of}
+use Rattle.smv_resolve.specs.Items.{ResolvedItem}
+use Rattle.smv_layout.specs.Layout.{items_of}
 use Rattle.smv_resolve.specs.Resolved.{Operands, Resolved}
-use Rattle.smv_scope.specs.declared.slot.Slot.{Slot}
-use Rattle.smv_scope.specs.Slots.{given_to, is_input, slots_of}
+use Rattle.smv_slots.specs.declared.slot.Slot.{Slot}
+use Rattle.smv_slots.specs.Slots.{given_to, is_input, slots_of}
 use Rattle.smv_declared.specs.Refusals.{declared_refusal}
-use Rattle.smv_declared.specs.Types.{types_of}
-use Rattle.smv_declared.proofs.Kept.{types_kept}
+use Rattle.smv_slots.specs.Slots.{types_of}
+use Rattle.smv_slots.proofs.Kept.{types_kept}
 use Rattle.smv_meaning.specs.declared.outcome.Outcome.{Outcome}
 use Rattle.smv_meaning.specs.declared.outcome.Outcome.TheVariants.{Fault, Nothing, Values}
 use Rattle.smv_meaning.specs.Outcomes.{applied, one, valued}
@@ -45,10 +46,10 @@ use Rattle.smv_meaning.specs.Values.{outcome, outcome_in, outcomes}
 use Rattle.smv_meaning.specs.Formulas.{are_known_formulas, is_known, is_known_formula, is_over_formulas, is_propositional, is_temporal}
 use Rattle.smv_meaning.specs.Runs.{AllKnown as AllItemsKnown, are_inputs, is_given, is_known_by, is_known_item, is_single as has_one, is_state}
 use Rattle.smv_verdicts.specs.Verdicts.{first_of, or_else}
-use Rattle.smv_types.specs.Kinds.{Context, all_told, assignment_refusal, context_of_side, formula_refusal, given_refusal, has_values, input_here, is_assignable, is_input_slot, item_refusal, kind_in, kind_of_slot, kind_refusal, kinds_broken, left_refusal, misused, next_broken, next_here, no_taker, no_value, of_kind, of_path, of_state, of_step, operands_refusal, refusal_by_kind, slot_takes, takes_assignment, target_refusal, temporal_at, temporal_here, told, too_many_slots, under_name, under_next, under_operand}
+use Rattle.smv_types.specs.Kinds.{Context, all_told, assignment_refusal, context_of_side, formula_refusal, has_values, inner_refusal, input_here, is_assignable, is_input_slot, item_refusal, kind_in, kind_of_slot, kind_refusal, kinds_broken, left_refusal, misused, next_broken, next_here, no_taker, no_value, of_kind, of_path, of_state, of_step, operands_refusal, refusal_by_kind, slot_takes, takes_assignment, target_refusal, temporal_at, temporal_here, told, under_element, under_name, under_next, under_operand}
 use Rattle.smv_types.specs.Judged.{of_name}
 use Rattle.smv_types.proofs.Evaluated.{AllKnown, Fits, Has, Known, constant_fits}
-use Rattle.smv_types.proofs.Gathered.{applied_fits, boolean_value, takes_parts}
+use Rattle.smv_types.proofs.Gathered.{applied_fits, array_unset, array_unvalued, boolean_value, makes_array, takes_parts}
 use Rattle.smv_types.proofs.SlotValues.{slot_value}
 
 -- two rules that say nothing
@@ -88,9 +89,9 @@ both_true a b e f = rw (e, f) refl
 
 -- kinds that are given
 
-kinds_given : (place : Place) (o : Operator) (g : Given) → kinds_broken place o g ≡ None → (k : Kind) × (g ≡ Ok k)
-kinds_given place o (Ok k) e = (k, refl)
-kinds_given place o (Err r) e = absurd (let never : ⊥ = cc in never)
+kinds_given : (place : Place) (o : Operator) (xs : List Operand) (g : Given) → kinds_broken place o xs g ≡ None → (k : Kind) × (g ≡ Ok k)
+kinds_given place o xs (Ok k) e = (k, refl)
+kinds_given place o xs (Err r) e = absurd (let never : ⊥ = cc in never)
 
 next_given : (place : Place) (g : Given) → next_broken place g ≡ None → (k : Kind) × (g ≡ Ok k)
 next_given place (Ok k) e = (k, refl)
@@ -184,7 +185,20 @@ all_booleans xs = list_all (λ (x : Operand). is_boolean x.kind) xs
 counted_booleans : (n : ℕ) (xs : List Operand) → is_boolean (kind_in (given (booleans n xs))) ≡ true → all_booleans xs ≡ true
 counted_booleans n xs e = (and_parts (length xs == n) (all_booleans xs) (if_boolean ((length xs == n) && all_booleans xs) e)).1
 
-over_booleans : (o : Operator) (xs : List Operand) → is_over_formulas o ≡ true → is_boolean (kind_in (kind_given [] o xs)) ≡ true → all_booleans xs ≡ true
+no_bounds : (c d : Option ℤ) → is_boolean (kind_in (window c d)) ≡ true → ⊥
+no_bounds None d e = false≢true e
+no_bounds (Some low) None e = false≢true e
+no_bounds (Some low) (Some high) e = false≢true e
+
+-- bounds that are not told have no kind
+no_window : (xs : List Operand) → is_boolean (kind_in (three_told (λ low high x. window low.constant high.constant) xs)) ≡ true → ⊥
+no_window [] e = false≢true e
+no_window (x ∷ []) e = false≢true e
+no_window (x ∷ y ∷ []) e = false≢true e
+no_window (x ∷ y ∷ z ∷ []) e = no_bounds x.constant y.constant e
+no_window (x ∷ y ∷ z ∷ t ∷ xs) e = false≢true e
+
+over_booleans : (o : Operator) (xs : List Operand) → is_over_formulas o ≡ true → is_boolean (kind_in (kind_given o xs)) ≡ true → all_booleans xs ≡ true
 over_booleans operator.Not [] v e = absurd (false≢true e)
 over_booleans operator.Not (x ∷ []) v e = both_true _ _ (not_boolean x.kind e) refl
 over_booleans operator.Not (x ∷ y ∷ xs) v e = absurd (false≢true e)
@@ -194,6 +208,7 @@ over_booleans (operator.Logic o) (x ∷ y ∷ []) v e = let p = logic_boolean x.
 over_booleans (operator.Logic o) (x ∷ y ∷ z ∷ xs) v e = absurd (false≢true e)
 over_booleans (operator.Temporal o) xs v e = counted_booleans (operands_of_temporal o) xs e
 over_booleans (operator.Bounded o low high) xs v e = counted_booleans 1 xs (bounded_kept low high (given (booleans 1 xs)) e)
+over_booleans (operator.Window o) xs v e = absurd (no_window xs e)
 over_booleans other xs v e = absurd (false≢true v)
 
 module _ (p : Program) (typed : list_all is_type (types_of p) ≡ true) where
@@ -211,6 +226,9 @@ module _ (p : Program) (typed : list_all is_type (types_of p) ≡ true) where
 
   below_name : (c : Context) (s u t : List Value) → Serves c s u t → Serves (under_name c) s u t
   below_name c s u t h = record { state = h.state; inputs = h.inputs; next = λ e. absurd (false≢true e) }
+
+  below_element : (c : Context) (s u t : List Value) → Serves c s u t → Serves (under_element c) s u t
+  below_element c s u t h = record { state = h.state; inputs = λ e. h.inputs e; next = λ e. h.next e }
 
   below_operand : (o : Operator) (k : ℕ) (c : Context) (s u t : List Value) → Serves c s u t → Serves (under_operand o k c) s u t
   below_operand o k c s u t h = record { state = h.state; inputs = λ e. h.inputs e; next = λ e. h.next e }
@@ -247,16 +265,19 @@ module _ (p : Program) (typed : list_all is_type (types_of p) ≡ true) where
       let P : Kind → Type 0 = λ k. Fits k o in
       inl (record { fits = subst P same has.fits; constant = λ z e. none_some z e })
 
-  apply_known : (c : Context) (place : Place) (o : Operator) (xs : List Operand) (os : List Outcome) → is_temporal o ≡ false → kinds_broken place o (kind_in_context c.set [] o xs) ≡ None → AllKnown xs os →
-      Known (record { kind = kind_in (kind_given [] o xs); constant = constant_given o xs }) (applied o place os)
-  apply_known c place o xs os plain free h =
-      let g = kinds_given place o (kind_in_context c.set [] o xs) free in
-      let is : kind_given [] o xs ≡ Ok g.0 = in_context (not c.set && makes_set o) (kind_given [] o xs) g.0 g.1 in
-      let P : Kind → Type 0 = λ k. Fits k (applied o place os) in
-      inl (record {
-        fits = subst P (sym (ap kind_in is)) (applied_fits o place xs os g.0 plain h is);
-        constant = λ z e. constant_fits o place xs os z h e;
-      })
+  apply_known : (c : Context) (place : Place) (o : Operator) (xs : List Operand) (os : List Outcome) → is_temporal o ≡ false → kinds_broken place o xs (kind_in_context c.set o xs) ≡ None → AllKnown xs os →
+      Known (record { kind = kind_in (kind_given o xs); constant = constant_given o xs }) (applied o place os)
+  apply_known c place o xs os plain free h = elim (cases_Bool (makes_array o)) [
+    | inl array ↦ inr (array_unvalued o xs array, array_unset o xs array)
+    | inr other ↦
+        let g = kinds_given place o xs (kind_in_context c.set o xs) free in
+        let is : kind_given o xs ≡ Ok g.0 = in_context (not c.set && makes_set o) (kind_given o xs) g.0 g.1 in
+        let P : Kind → Type 0 = λ k. Fits k (applied o place os) in
+        inl (record {
+          fits = subst P (sym (ap kind_in is)) (applied_fits o place xs os g.0 plain other h is);
+          constant = λ z e. constant_fits o place xs os z h e;
+        })
+  ]
 
   mutual
     -- an expression that breaks no rule where no temporal operator may stand gives values of its kind, or faults
@@ -267,6 +288,7 @@ module _ (p : Program) (typed : list_all is_type (types_of p) ≡ true) where
     known (Resolved.Slot place n) c s u t plain e h = slot_known c s u t place n (slice_get S n) refl e h
     known (Resolved.Whole place i) c s u t plain e h = inr (refl, refl)
     known (Resolved.Named place naming.Given r) c s u t plain e h = known r (under_name c) s u t refl e (below_name c s u t h)
+    known (Resolved.Named place naming.Element r) c s u t plain e h = known r (under_element c) s u t refl e (below_element c s u t h)
     known (Resolved.Named place naming.Defined r) c s u t plain e h = known r (under_name c) s u t refl (first_none (kind_refusal S T (under_name c) r) _ e) (below_name c s u t h)
     known (Resolved.Next place r) c s u t plain e h =
         let inner = kind_refusal S T (under_next c) r in
@@ -323,6 +345,7 @@ module _ (p : Program) (typed : list_all is_type (types_of p) ≡ true) where
     formula_parts (Resolved.Slot place n) s u e b h = plain_part (Resolved.Slot place n) s u e b h
     formula_parts (Resolved.Whole place i) s u e b h = absurd (false≢true b)
     formula_parts (Resolved.Named place naming.Given r) s u e b h = plain_part r s u e b h
+    formula_parts (Resolved.Named place naming.Element r) s u e b h = plain_part r s u e b h
     formula_parts (Resolved.Named place naming.Defined r) s u e b h = plain_part r s u (first_none (kind_refusal S T (of_name false) r) _ e) b h
     formula_parts (Resolved.Next place r) s u e b h =
         let broken = next_broken place (next_kind (told S T r).kind) in
@@ -364,6 +387,12 @@ module _ (p : Program) (typed : list_all is_type (types_of p) ≡ true) where
       let v = slot_value p s [] slot typed n is state (λ e. absurd (state_slot which slot.kind takes e)) in
       ap (λ o. has_one (valued o)) v.1
 
+  -- of what operators give an array alone may be assigned, which has no values
+  array_assigned : (place : Place) (o : Operator) (rs : Operands) (which : AssignmentKind) → makes_array o ≡ false → is_assignable S which (Resolved.Apply place o rs) ≡ false
+  array_assigned place operator.Index rs which e = absurd (false≢true (sym e))
+  array_assigned place operator.WholeArray rs which e = absurd (false≢true (sym e))
+  array_assigned place other rs which e = refl
+
   target_single : (r : Resolved) (which : AssignmentKind) (s : List Value) → is_assignable S which r ≡ true → has_values (told S T r).kind ≡ true → is_state p s ≡ true → has_one (outcome_in S s r) ≡ true
   target_single (Resolved.Constant place v) which s takes valued state = absurd (false≢true takes)
   target_single (Resolved.Slot place n) which s takes valued state = slot_single which s n (slice_get S n) refl takes state
@@ -371,7 +400,11 @@ module _ (p : Program) (typed : list_all is_type (types_of p) ≡ true) where
   target_single (Resolved.Named place naming.Given r) which s takes valued state = target_single r which s takes valued state
   target_single (Resolved.Named place naming.Defined r) which s takes valued state = absurd (false≢true takes)
   target_single (Resolved.Next place r) which s takes valued state = absurd (false≢true takes)
-  target_single (Resolved.Apply place o rs) which s takes valued state = absurd (false≢true takes)
+  target_single (Resolved.Named place naming.Element r) which s takes valued state = target_single r which s takes valued state
+  target_single (Resolved.Apply place o rs) which s takes valued state = elim (cases_Bool (makes_array o)) [
+    | inl array ↦ absurd (true_false (has_values (kind_in (kind_given o (all_told S T rs)))) valued (array_unvalued o (all_told S T rs) array))
+    | inr other ↦ absurd (false≢true (sym (array_assigned place o rs which other) ∙ takes))
+  ]
   target_single Resolved.Stuck which s takes valued state = absurd (false≢true takes)
 
   side_plain : (which : AssignmentKind) → (context_of_side which).temporal ≡ false
@@ -391,7 +424,7 @@ module _ (p : Program) (typed : list_all is_type (types_of p) ≡ true) where
     later = second_none (left_refusal S T place which target) (or_else value_refusal taker) free
 
     left_free : or_else (target_refusal S place which target) (no_value place (told S T target).kind) ≡ None
-    left_free = second_none (given_refusal S T target) _ (first_none (left_refusal S T place which target) (or_else value_refusal taker) free)
+    left_free = second_none (inner_refusal S T target) _ (first_none (left_refusal S T place which target) (or_else value_refusal taker) free)
 
     target_has_one : (s : List Value) → is_state p s ≡ true → has_one (outcome_in S s target) ≡ true
     target_has_one s state =
@@ -439,8 +472,5 @@ module _ (p : Program) (typed : list_all is_type (types_of p) ≡ true) where
         both_true _ _ (by_kind x.place x.target x.value x.kind (first_none (item_refusal S T x) _ free)) (items_known xs (second_none (item_refusal S T x) _ free))
 
 -- no rule of types and kinds is broken, so all is known
-pub all_known : (p : Program) → declared_refusal p ≡ None → or_else (too_many_slots p) (misused p) ≡ None → AllItemsKnown p
-all_known p declared free s u t state inputs next =
-    let typed = types_kept p declared in
-    let used = second_none (too_many_slots p) (misused p) free in
-    items_known p typed s u t state inputs next (items_of p) used
+pub all_known : (p : Program) → declared_refusal p ≡ None → misused p ≡ None → AllItemsKnown p
+all_known p declared used s u t state inputs next = items_known p (types_kept p declared) s u t state inputs next (items_of p) used

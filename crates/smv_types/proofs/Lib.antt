@@ -5,5 +5,6 @@ pub mod Evaluated
 pub mod Gathered
 pub mod SlotValues
 pub mod Known
+pub mod Laying
 pub mod Once
 pub mod Ordered

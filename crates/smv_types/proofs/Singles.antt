@@ -14,7 +14,7 @@ use Rattle.smv_kinds.specs.declared.kind.KindRule.TheVariants as rule
 use Rattle.smv_kinds.specs.declared.kind.Operand.{Operand}
 use Rattle.smv_kinds.specs.Intervals.{absolute_interval, corners, division_interval, opposite_interval, sum_interval}
 use Rattle.std.specs.Int.{int_max, int_min}
-use Rattle.smv_kinds.specs.Kinds.{Given, bits_from, boolean_if, concatenated, constant_within, constant_word, constant_word_of, extended_by, fit, given, integers_of, inverted, is_amount, is_boolean, is_integer, is_ordered, is_set, kind_given, logical, mismatch, of_integer, of_integers, of_interval, of_intervals, of_number, of_numbers, of_word, one, resized_to, selected, shifted, size, three_told, to_boolean, to_word, two, two_told, with_amount, with_sign}
+use Rattle.smv_kinds.specs.Kinds.{Given, bits_from, boolean_if, concatenated, constant_within, constant_word, constant_word_of, extended_by, fit, given, integers_of, inverted, is_amount, is_boolean, is_integer, is_ordered, is_set, kind_given, logical, mismatch, of_integer, of_integers, of_interval, of_intervals, of_number, of_numbers, of_word, one, resized_to, selected, shifted, size, subscript, three_told, to_boolean, to_word, two, two_told, with_amount, with_sign}
 use Rattle.smv_kind_laws.specs.Values.{gives_value}
 use Rattle.smv_kind_laws.proofs.Fitting.{asked_is, kind_if_is, mismatched}
 
@@ -128,6 +128,9 @@ to_boolean_one : (a k : Kind) → given (to_boolean a) ≡ Ok k → is_single a 
 to_boolean_one (kind.Word t w) k e = refl
 to_boolean_one a k e = absurd (mismatched k e)
 
+subscript_one : (a k : Kind) → given (subscript a) ≡ Ok k → is_single a ≡ true
+subscript_one a k e = integer_single a ((kind_if_is (is_integer a) a k e).0)
+
 -- words and constants
 
 word_one : (g : Bool → ℕ → Given) (a k : Kind) → of_word g a ≡ Ok k → (is_single a ≡ true) × ((s : Bool) × (w : ℕ) × (g s w ≡ Ok k))
@@ -214,7 +217,7 @@ all_boolean (x ∷ xs) e =
     (inl (boolean_single x.kind p.0), all_boolean xs p.1)
 
 -- what operators that give one value are given
-pub all_one : (o : Operator) (xs : List Operand) (k : Kind) → gives_value o ≡ true → kind_given [] o xs ≡ Ok k → AllOne xs
+pub all_one : (o : Operator) (xs : List Operand) (k : Kind) → gives_value o ≡ true → kind_given o xs ≡ Ok k → AllOne xs
 all_one operator.Not xs k g e = one_of (λ a. given (inverted a)) inverted_one xs k e
 all_one (operator.Logic o) xs k g e = two_of (λ a b. given (logical a b)) logical_two xs k e
 all_one operator.Equal xs k g e = two_of (λ a b. given (boolean_if (fit a b))) fit_two xs k e
@@ -230,6 +233,7 @@ all_one operator.Count xs k g e = all_boolean xs ((asked_is (list_all (λ (x : O
 all_one (operator.Shift o) xs k g e = two_of (λ a b. given (shifted a b)) shifted_two xs k e
 all_one operator.Join xs k g e = two_of concatenated concatenated_two xs k e
 all_one operator.Select xs k g e = three_told_of selected selected_three xs k e
+all_one operator.Subscript xs k g e = one_of (λ a. given (subscript a)) subscript_one xs k e
 all_one operator.ToWord xs k g e = one_of (λ a. given (to_word a)) to_word_one xs k e
 all_one operator.ToBoolean xs k g e = one_of (λ a. given (to_boolean a)) to_boolean_one xs k e
 all_one operator.Signed xs k g e = one_of (λ a. given (with_sign true a)) (sign_one true) xs k e

@@ -1,7 +1,7 @@
 -- Each slot of a program has a value of its type in each state, or among the inputs of each step.
 use Rattle.std.proofs.Common.{◌≡◌, ◌∙◌, ℕ, zero, suc, ◌+◌, Bool, true, false, not, ◌&&◌, ◌||◌, cond, ◌==◌, List, [], ◌∷◌, length, filter, Option, None, Some, slice_get, ℤ, refl, sym, ap, subst, arith}
 use Rattle.std.specs.Prelude.{int_le}
-use Rattle.std.specs.List.{list_all, list_any, zip}
+use Rattle.std.specs.List.{flat_map, list_all, list_any, zip}
 use Rattle.std.proofs.lemmas.Bool.{and_parts, and_from, eqb-true, false≢true}
 use Rattle.std.proofs.lemmas.Option.{slice_get_within}
 use Rattle.smv_tree.specs.declared.tree.Program.{Program}
@@ -19,10 +19,9 @@ use Rattle.value_types.proofs.Elements.{element_is}
 use Rattle.value_types.proofs.Hulls.{in_interval}
 use Rattle.value_types.proofs.Ranges.{within_int}
 use Rattle.smv_kind_laws.specs.Values.{is_in_some, is_of_kind}
-use Rattle.smv_scope.specs.declared.slot.Slot.{Slot}
-use Rattle.smv_scope.specs.Instances.{instances_of}
-use Rattle.smv_scope.specs.Slots.{given_to, indexed, is_input, slots_below, slots_of}
-use Rattle.smv_declared.specs.Types.{types_of}
+use Rattle.smv_slots.specs.declared.slot.Slot.{Slot}
+use Rattle.smv_declared.specs.Types.{variable_types_of}
+use Rattle.smv_slots.specs.Slots.{elements_of, given_to, holders_of, indexed, is_input, slots_of, types_of}
 use Rattle.smv_meaning.specs.Runs.{are_inputs, fits, in_type, input_slots, is_state, state_slots}
 use Rattle.smv_types.specs.Kinds.{interval_with, is_symbol, kind_of_slot, kind_of_some, kind_of_type}
 
@@ -217,6 +216,10 @@ module _ (p : Program) (s u : List Value) (slot : Slot) (typed : list_all is_typ
       let P : ℕ → Type 0 = λ n. HasValue (slice_get s n) in
       subst P (sym at) (of_fitting (state_slots (slots_of p)) s k.0 state k.2)
 
+  slot_placed : (n : ℕ) → slice_get (slots_of p) n ≡ Some slot → IsPlaced 0 0 (slots_of p) slot
+  unfolding slots_of
+  slot_placed n e = is_placed 0 0 (flat_map elements_of (zip (holders_of p) (variable_types_of p))) n slot e
+
   -- a slot of the program has a value of its kind in a state, or among the inputs
   pub slot_value : (n : ℕ) → slice_get (slots_of p) n ≡ Some slot → is_state p s ≡ true → (is_input slot.kind ≡ true → are_inputs p u ≡ true) → HasValue (given_to s u (Some slot))
-  slot_value n e state inputs = given_value (is_input slot.kind) refl (is_placed 0 0 (slots_below p 0 (instances_of p)) n slot e) state inputs
+  slot_value n e state inputs = given_value (is_input slot.kind) refl (slot_placed n e) state inputs

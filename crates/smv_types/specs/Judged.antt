@@ -1,20 +1,20 @@
 -- What is noted of nodes, and so of the expressions that they are.
-use Rattle.std.specs.Prelude.{◌≡◌, ℕ, Bool, true, false, List, length, map, Option, None, Some, slice_index_or}
+use Rattle.std.specs.Prelude.{◌≡◌, ℕ, ℤ, Bool, true, false, List, length, map, Option, None, Some, slice_index_or}
 use Rattle.smv_tree.specs.declared.refusal.Refusal.{Refusal}
 use Rattle.smv_tree.specs.declared.tree.AssignmentKind.TheVariants as side
 use Rattle.smv_tree.specs.Places.{start}
 use Rattle.value_types.specs.declared.value_type.ValueType.{ValueType}
 use Rattle.smv_kinds.specs.declared.kind.Operand.{Operand}
 use Rattle.smv_kinds.specs.declared.kind.Kind.TheVariants as kind
-use Rattle.smv_scope.specs.declared.slot.Slot.{Slot}
+use Rattle.smv_slots.specs.declared.slot.Slot.{Slot}
 use Rattle.smv_resolve.specs.Resolved.{Resolved, part_at}
 use Rattle.smv_types.specs.declared.judged.Judged.{Judged}
 use Rattle.smv_types.specs.declared.judged.Notes.{Notes}
 use Rattle.smv_types.specs.declared.judged.Violation.{Violation}
 use Rattle.smv_types.specs.declared.items.Part.{Part}
-use Rattle.smv_types.specs.Kinds.{Context, of_state, of_step, of_path, under_name, bounds_text, kind_refusal, given_refusal, place_of, is_assignable, of_kind, told}
+use Rattle.smv_types.specs.Kinds.{Context, of_state, of_step, of_path, under_name, bounds_text, inner_refusal, is_assignable, is_chosen_by_constant, kind_refusal, of_kind, place_of, told}
 
-abbrev pub detail_of : Option (ℕ × ℕ) → Option (List ℕ)
+abbrev pub detail_of : Option (ℤ × ℤ) → Option (List ℕ)
 detail_of None = None
 detail_of (Some x) = Some (bounds_text x.0 x.1)
 
@@ -41,7 +41,8 @@ pub record AreNotes (refusal : Context → Option Refusal) (n : Notes) : Type 0 
 pub record IsJudged (slots : List Slot) (types : List ValueType) (r : Resolved) (j : Judged) : Type 0 where
   pub place : j.place ≡ place_of r
   pub notes : AreNotes (λ c. kind_refusal slots types c r) j.notes
-  pub given : as_refusal j.given ≡ given_refusal slots types r
+  pub inner : as_refusal j.inner ≡ inner_refusal slots types r
+  pub constant : j.chosen_by_constant ≡ is_chosen_by_constant slots types r
   pub init : j.takes_init ≡ is_assignable slots side.Init r
   pub later : j.takes_later ≡ is_assignable slots side.Next r
 
@@ -50,7 +51,7 @@ no_notes = record { step = None; step_set = None; name = None; name_set = None; 
 
 -- what is noted of nothing
 abbrev pub nothing : Judged
-nothing = record { place = start; notes = no_notes; given = None; takes_init = false; takes_later = false }
+nothing = record { place = start; notes = no_notes; inner = None; chosen_by_constant = false; takes_init = false; takes_later = false }
 
 -- what is noted at this number
 abbrev pub judged_at : List Judged → ℕ → Judged

@@ -1,9 +1,11 @@
 -- The rules of depth, kinds and contexts: an own choice of this project (the kinds are those of manual 2.1 and 2.2).
-use Rattle.std.specs.Prelude.{ℕ, ◌+◌, nat_lt, Bool, true, false, not, ◌&&◌, if◌then◌else◌, List, [], ◌∷◌, ◌++◌, codes, length, Option, None, Some, Ok, Err, slice_get}
-use Rattle.std.specs.Fmt.{decimal}
+use Rattle.std.specs.Prelude.{ℕ, ◌+◌, nat_lt, Bool, true, false, not, ◌&&◌, if◌then◌else◌, List, [], ◌∷◌, ◌++◌, codes, length, Option, None, Some, Ok, Err, slice_get, ℤ, pos}
+use Rattle.std.specs.Fmt.{signed_decimal}
 use Rattle.std.specs.List.{list_any}
+use Rattle.std.specs.Option.{is_some}
 use Rattle.smv_value.specs.declared.operator.Operator.{Operator}
 use Rattle.smv_value.specs.declared.operator.Operator.TheVariants as operator
+use Rattle.smv_value.specs.declared.value.FaultRule.TheVariants as fault
 use Rattle.smv_value.specs.declared.value.Value.{Value}
 use Rattle.smv_value.specs.Results.{is_value}
 use Rattle.value_types.specs.declared.interval.Interval.{Interval as Span}
@@ -35,14 +37,16 @@ use Rattle.smv_tree.specs.declared.tree.ConstraintKind.TheVariants as asked
 use Rattle.smv_tree.specs.declared.tree.SpecificationKind.{SpecificationKind}
 use Rattle.smv_tree.specs.declared.tree.SpecificationKind.TheVariants as claim
 use Rattle.smv_tree.specs.Places.{start}
-use Rattle.smv_scope.specs.declared.slot.Slot.{Slot}
-use Rattle.smv_scope.specs.Slots.{slots_of, is_input}
+use Rattle.smv_slots.specs.declared.slot.Slot.{Slot}
+use Rattle.smv_declared.specs.Types.{most_slots, slot_count}
+use Rattle.smv_slots.specs.Slots.{slots_of, is_input}
 use Rattle.smv_resolve.specs.declared.item.ItemKind.{ItemKind}
 use Rattle.smv_resolve.specs.declared.item.ItemKind.TheVariants as item
 use Rattle.smv_resolve.specs.declared.node.Naming.TheVariants as naming
 use Rattle.smv_resolve.specs.Resolved.{Operands, Resolved}
-use Rattle.smv_resolve.specs.Items.{ResolvedItem, items_of, first_stuck}
-use Rattle.smv_declared.specs.Types.{types_of}
+use Rattle.smv_resolve.specs.Items.{ResolvedItem, first_stuck, items_of as resolved_items}
+use Rattle.smv_layout.specs.Layout.{items_of}
+use Rattle.smv_slots.specs.Slots.{types_of}
 use Rattle.smv_verdicts.specs.Verdicts.{or_else, first_of, plain, detailed}
 use Rattle.smv_meaning.specs.Formulas.{is_over_formulas, is_temporal}
 
@@ -52,15 +56,11 @@ deep_at (Some place) = Some (plain rule.UnfoldedDepth place)
 
 -- no item nests too deep, where names are followed
 abbrev pub too_deep : Program → Option Refusal
-too_deep p = deep_at (first_stuck (items_of p))
-
--- a program has at most this many slots: an own choice of this project
-abbrev pub most_slots : ℕ
-most_slots = 65536
+too_deep p = deep_at (first_stuck (resolved_items p))
 
 -- there are not more
 abbrev pub too_many_slots : Program → Option Refusal
-too_many_slots p = if nat_lt most_slots (length (slots_of p)) then Some (plain rule.TooManySlots start) else None
+too_many_slots p = if nat_lt most_slots (slot_count p) then Some (plain rule.TooManySlots start) else None
 
 -- What may stand somewhere: `next`, inputs, temporal operators, and sets.
 pub record Context : Type 0 where
@@ -83,6 +83,10 @@ of_path = record { next = false; input = true; temporal = true; set = false }
 -- in what a name stands for there is no `next` and no temporal operator
 abbrev pub under_name : Context → Context
 under_name c = record { next = false; input = c.input; temporal = false; set = c.set }
+
+-- an element of an array holds no temporal operator
+abbrev pub under_element : Context → Context
+under_element c = record c { temporal = false }
 
 -- under `next` there is no input either
 abbrev pub under_next : Context → Context
@@ -127,7 +131,7 @@ kind_in (Err r) = kind.Nothing
 abbrev pub of_kind : Kind → Operand
 of_kind k = record { kind = k; constant = None }
 
--- Expressions: the kind of each, and the integer that it is if it is a constant. There are no arrays.
+-- Expressions: the kind of each, and the integer that it is if it is a constant.
 abbrev mutual
   pub told : List Slot → List ValueType → Resolved → Operand
   told slots types (Resolved.Constant place v) = record { kind = kind_of_value v; constant = integer_in (Some v) }
@@ -136,7 +140,7 @@ abbrev mutual
   told slots types (Resolved.Named place naming r) = told slots types r
   told slots types (Resolved.Next place r) = of_kind (kind_in (next_kind (told slots types r).kind))
   told slots types (Resolved.Apply place o rs) =
-      record { kind = kind_in (kind_given [] o (all_told slots types rs)); constant = constant_given o (all_told slots types rs) }
+      record { kind = kind_in (kind_given o (all_told slots types rs)); constant = constant_given o (all_told slots types rs) }
   told slots types Resolved.Stuck = of_kind kind.Nothing
 
   pub all_told : List Slot → List ValueType → Operands → List Operand
@@ -145,7 +149,7 @@ abbrev mutual
 
 -- values of this kind, one or a set of them
 abbrev pub has_values : Kind → Bool
-has_values (kind.Array n) = false
+has_values kind.Array = false
 has_values kind.Instance = false
 has_values kind.Nothing = false
 has_values other = true
@@ -182,17 +186,31 @@ rule_of broken.BadSelection = rule.BadSelection
 rule_of broken.IntWidth = rule.IntWidth
 rule_of broken.BadBound = rule.BadBound
 
-abbrev pub bounds_text : ℕ → ℕ → List ℕ
-bounds_text low high = decimal low ++ codes "," ++ decimal high
+abbrev pub bounds_text : ℤ → ℤ → List ℕ
+bounds_text low high = signed_decimal low ++ codes "," ++ signed_decimal high
+
+abbrev pub both : Option ℤ → Option ℤ → Option (ℤ × ℤ)
+both (Some low) (Some high) = Some (low, high)
+both low high = None
+
+-- the bounds of a temporal operator, where they are constants
+abbrev pub bounds_told : Operator → List Operand → Option (ℤ × ℤ)
+bounds_told (operator.Bounded o low high) xs = Some (pos low, pos high)
+bounds_told (operator.Window o) (low ∷ high ∷ xs) = both low.constant high.constant
+bounds_told o xs = None
+
+abbrev pub with_bounds : Place → Option (ℤ × ℤ) → Refusal
+with_bounds place None = plain rule.BadBound place
+with_bounds place (Some bounds) = detailed rule.BadBound place (bounds_text bounds.0 bounds.1)
 
 -- a rule that operands break; of bounds these are told
-abbrev pub broken_by : Place → Operator → KindRule → Refusal
-broken_by place (operator.Bounded o low high) broken.BadBound = detailed rule.BadBound place (bounds_text low high)
-broken_by place o r = plain (rule_of r) place
+abbrev pub broken_by : Place → Operator → List Operand → KindRule → Refusal
+broken_by place o xs broken.BadBound = with_bounds place (bounds_told o xs)
+broken_by place o xs r = plain (rule_of r) place
 
-abbrev pub kinds_broken : Place → Operator → Given → Option Refusal
-kinds_broken place o (Ok k) = None
-kinds_broken place o (Err r) = Some (broken_by place o r)
+abbrev pub kinds_broken : Place → Operator → List Operand → Given → Option Refusal
+kinds_broken place o xs (Ok k) = None
+kinds_broken place o xs (Err r) = Some (broken_by place o xs r)
 
 -- `next` of what has no single value
 abbrev pub next_broken : Place → Given → Option Refusal
@@ -221,13 +239,14 @@ abbrev mutual
   kind_refusal slots types c (Resolved.Slot place n) = input_here c place (is_input_slot (slice_get slots n))
   kind_refusal slots types c (Resolved.Whole place i) = None
   kind_refusal slots types c (Resolved.Named place naming.Given r) = kind_refusal slots types (under_name c) r
+  kind_refusal slots types c (Resolved.Named place naming.Element r) = kind_refusal slots types (under_element c) r
   kind_refusal slots types c (Resolved.Named place naming.Defined r) =
       or_else (kind_refusal slots types (under_name c) r) (no_value (place_of r) (told slots types r).kind)
   kind_refusal slots types c (Resolved.Next place r) =
       or_else (kind_refusal slots types (under_next c) r) (or_else (next_here c place) (next_broken place (next_kind (told slots types r).kind)))
   kind_refusal slots types c (Resolved.Apply place o rs) =
       or_else (operands_refusal slots types o 0 c rs)
-      (or_else (temporal_here c place o) (kinds_broken place o (kind_in_context c.set [] o (all_told slots types rs))))
+      (or_else (temporal_here c place o) (kinds_broken place o (all_told slots types rs) (kind_in_context c.set o (all_told slots types rs))))
   kind_refusal slots types c Resolved.Stuck = None
 
   -- the first one in operands of this operator, the first of which has number k
@@ -248,17 +267,42 @@ abbrev pub slot_takes : AssignmentKind → Option Slot → Bool
 slot_takes which None = false
 slot_takes which (Some slot) = takes_assignment which slot.kind
 
--- What is assigned is a variable, by its name or as a parameter was given it. An instance is told as one of another kind.
+-- What is assigned is a variable, by its name or as a parameter was given it, or an element of an array, by an index that is a
+-- constant. An instance and a whole array are told as ones of another kind.
 abbrev pub is_assignable : List Slot → AssignmentKind → Resolved → Bool
 is_assignable slots which (Resolved.Slot place n) = slot_takes which (slice_get slots n)
 is_assignable slots which (Resolved.Whole place i) = true
 is_assignable slots which (Resolved.Named place naming.Given r) = is_assignable slots which r
+is_assignable slots which (Resolved.Named place naming.Element r) = is_assignable slots which r
+is_assignable slots which (Resolved.Apply place operator.WholeArray rs) = true
+is_assignable slots which (Resolved.Apply place operator.Index rs) = true
 is_assignable slots which other = false
 
--- What a parameter was given is judged on a left side, too: no `next` stands in it. A left side is in no context else.
-abbrev pub given_refusal : List Slot → List ValueType → Resolved → Option Refusal
-given_refusal slots types (Resolved.Named place naming.Given r) = kind_refusal slots types (under_name (of_step true)) r
-given_refusal slots types other = None
+-- the index by which an element is chosen is a constant
+abbrev pub is_chosen_by_constant : List Slot → List ValueType → Resolved → Bool
+is_chosen_by_constant slots types (Resolved.Apply place operator.Subscript (Operands.With r rs)) = is_some (told slots types r).constant
+is_chosen_by_constant slots types (Resolved.Apply place operator.Equal (Operands.With r rs)) = is_chosen_by_constant slots types r
+is_chosen_by_constant slots types (Resolved.Apply place (operator.Choice rule) (Operands.With r rs)) = is_chosen_by_constant slots types r
+is_chosen_by_constant slots types other = false
+
+-- An index on a left side is a constant, and one of the array.
+abbrev pub index_rule : Bool → Rule
+index_rule false = rule.NotConstant
+index_rule true = rule.BadSelection
+
+-- What may stand in what a parameter was given and in an index, on a left side: no `next`. A left side is in no context else.
+abbrev pub on_the_left : Bool → Context
+on_the_left set = under_name (of_step set)
+
+-- What a parameter was given is judged on a left side, too, and so is an index.
+abbrev pub inner_refusal : List Slot → List ValueType → Resolved → Option Refusal
+inner_refusal slots types (Resolved.Named place naming.Given r) = kind_refusal slots types (on_the_left true) r
+inner_refusal slots types (Resolved.Named place naming.Element r) = inner_refusal slots types r
+inner_refusal slots types (Resolved.Apply place operator.Index rs) = kind_refusal slots types (on_the_left false) (Resolved.Apply place operator.Index rs)
+inner_refusal slots types (Resolved.Apply place (operator.Choice fault.IndexOutside) rs) =
+    let e = Resolved.Apply place (operator.Choice fault.IndexOutside) rs in
+    or_else (kind_refusal slots types (on_the_left false) e) (Some (plain (index_rule (is_chosen_by_constant slots types e)) place))
+inner_refusal slots types other = None
 
 -- told at the left side, with which the assignment begins
 abbrev pub target_refusal : List Slot → Place → AssignmentKind → Resolved → Option Refusal
@@ -284,10 +328,10 @@ no_boolean place k = if is_boolean k then None else Some (plain rule.TypeMismatc
 abbrev pub formula_refusal : List Slot → List ValueType → Context → Resolved → Option Refusal
 formula_refusal slots types c r = or_else (kind_refusal slots types c r) (no_boolean (place_of r) (told slots types r).kind)
 
--- The left side of an assignment: what a parameter was given there, what may be assigned, and that it has values.
+-- The left side of an assignment: what a parameter was given there and the indices, what may be assigned, and that it has values.
 abbrev pub left_refusal : List Slot → List ValueType → Place → AssignmentKind → Resolved → Option Refusal
 left_refusal slots types place which target =
-    or_else (given_refusal slots types target) (or_else (target_refusal slots place which target) (no_value place (told slots types target).kind))
+    or_else (inner_refusal slots types target) (or_else (target_refusal slots place which target) (no_value place (told slots types target).kind))
 
 -- the value of an assignment is of the kind of what is assigned, or a set of such values
 abbrev pub no_taker : Place → Kind → Kind → Option Refusal

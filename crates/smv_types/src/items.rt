@@ -2,7 +2,7 @@
 
 ghost use Rattle.std.specs.Prelude.{◌≡◌, List, Some, map, IfOk};
 ghost use Rattle.value_types.specs.declared.value_type.ValueType.{ValueType};
-ghost use Rattle.smv_scope.specs.declared.slot.Slot.{Slot};
+ghost use Rattle.smv_slots.specs.declared.slot.Slot.{Slot};
 ghost use Rattle.smv_resolve.specs.Items.{item_by};
 ghost use Rattle.smv_resolve.specs.Resolved.{Resolved, part_at, parts_of};
 ghost use Rattle.smv_verdicts.specs.Verdicts.{Judges, first_of};
@@ -16,7 +16,7 @@ use crate::told::told_at;
 use plain_text::Text;
 use smv_kinds::{Kind, takes};
 use smv_resolve::{Item, ItemKind, Node};
-use smv_scope::Slot;
+use smv_slots::Slot;
 use smv_tree::{AssignmentKind, ConstraintKind, Place, Refusal, Rule, SpecificationKind, TextStop};
 use std::alloc::{AllocError, Global};
 use value_types::ValueType;
@@ -111,7 +111,7 @@ fn left_violation(place: Place, which: AssignmentKind, target: Part) -> Option<V
     ensures { (slots : List Slot) (types : List ValueType) (r : Resolved) → IsOf slots types r target → as_refusal result ≡ left_refusal slots types place which r }
 {
     first(
-        target.judged.given,
+        target.judged.inner,
         first(
             target_violation(place, which, target.judged),
             no_value(place, target.kind),
@@ -198,7 +198,7 @@ fn refused_by(alloc: Global, violation: Violation) -> Result<(), TextStop>
 }
 
 // Bounds as they are told.
-fn bounds_text(alloc: Global, low: u32, high: u32) -> Result<Text, AllocError>
+fn bounds_text(alloc: Global, low: i64, high: i64) -> Result<Text, AllocError>
     ensures { IfOk result (λ t. t ≡ bounds_text low high) }
 {
     let text = format!(in alloc; "{low},{high}")?;

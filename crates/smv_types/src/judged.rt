@@ -8,7 +8,7 @@ pub struct Violation {
     pub rule: Rule,
     pub place: Place,
     /// The bounds of a temporal operator, where it is they that break the rule.
-    pub bounds: Option<(u32, u32)>,
+    pub bounds: Option<(i64, i64)>,
 }
 
 impl Violation {
@@ -44,8 +44,10 @@ pub struct Notes {
 pub struct Judged {
     pub place: Place,
     pub notes: Notes,
-    /// The first rule that it breaks on the left side of an assignment, where a parameter was given it.
-    pub given: Option<Violation>,
+    /// The first rule that it breaks on the left side of an assignment, in what a parameter was given and in indices.
+    pub inner: Option<Violation>,
+    /// It is an element, or a part of the choice of one, by an index that is a constant.
+    pub chosen_by_constant: bool,
     /// It may be assigned by `init`.
     pub takes_init: bool,
     /// It may be assigned otherwise.

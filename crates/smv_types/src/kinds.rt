@@ -5,24 +5,26 @@ ghost use Rattle.smv_tree.specs.declared.tree.AssignmentKind.TheVariants as side
 ghost use Rattle.value_types.specs.declared.value_type.ValueType.{ValueType};
 ghost use Rattle.smv_kinds.specs.Contexts.{kind_in_context};
 ghost use Rattle.smv_kinds.specs.Kinds.{next_kind};
-ghost use Rattle.smv_scope.specs.declared.slot.Slot.{Slot};
-ghost use Rattle.smv_scope.specs.Slots.{is_input};
+ghost use Rattle.smv_slots.specs.declared.slot.Slot.{Slot};
+ghost use Rattle.smv_slots.specs.Slots.{is_input};
 ghost use Rattle.smv_resolve.specs.declared.node.Naming.TheVariants as naming;
-ghost use Rattle.smv_resolve.specs.Resolved.{Resolved, Resolved as R, operands_of, parts_of, resolved_by};
+ghost use Rattle.smv_resolve.specs.Resolved.{Operands, Resolved, Resolved as R, operands_of, parts_of, resolved_by};
+ghost use Rattle.smv_tree.specs.declared.place.Place.{Place};
+ghost use Rattle.smv_verdicts.specs.Verdicts.{plain};
 ghost use Rattle.smv_types.specs.Judged.{AreJudged, AreNotes, IsJudged, Tells, as_refusal, judged_at};
-ghost use Rattle.smv_types.specs.Kinds.{broken_by, constant_here, has_values, input_here, kinds_broken, next_broken, no_value, operands_refusal, rule_of, takes_assignment, told};
+ghost use Rattle.smv_types.specs.Kinds.{bounds_told, both as both_bounds, broken_by, constant_here, has_values, index_rule, inner_refusal, input_here, is_assignable, is_chosen_by_constant, kind_refusal, kinds_broken, next_broken, no_value, operands_refusal, rule_of, takes_assignment, told};
 
 use crate::judged::{Judged, Notes, Violation};
 use crate::notes::{
-    both, by_sets, everywhere, input_here, next_here, temporal_here, under_name, under_next,
-    under_operand,
+    both, by_sets, everywhere, first, input_here, next_here, temporal_here, under_element,
+    under_name, under_next, under_operand,
 };
 use crate::told::{kinds_of, told, told_at};
 use smv_kinds::{Kind, KindRule, Operand, kind_in_context, next_kind};
 use smv_resolve::{Naming, Node, last};
-use smv_scope::Slot;
+use smv_slots::Slot;
 use smv_tree::{Place, Rule, VariableKind};
-use smv_value::{Operator, Value, is_value};
+use smv_value::{FaultRule, Operator, Value, is_value};
 use smv_verdicts::START;
 use std::alloc::{AllocError, Global};
 use value_types::ValueType;
@@ -96,12 +98,13 @@ pub(crate) fn judged_at(table: &[Judged], k: usize) -> Judged
 
 // What is noted of what cannot be assigned.
 fn noted(place: Place, notes: Notes) -> Judged
-    ensures { result ≡ record { place = place; notes = notes; given = None; takes_init = false; takes_later = false } }
+    ensures { result ≡ record { place = place; notes = notes; inner = None; chosen_by_constant = false; takes_init = false; takes_later = false } }
 {
     Judged {
         place,
         notes,
-        given: None,
+        inner: None,
+        chosen_by_constant: false,
         takes_init: false,
         takes_later: false,
     }
@@ -146,7 +149,8 @@ fn judge_slot(slots: &[Slot], place: Place, n: usize) -> Judged
 fn judge_slot_of(place: Place, kind: VariableKind) -> Judged
     ensures place { result.place ≡ place }
     ensures notes { AreNotes (λ c. input_here c place (is_input kind)) result.notes }
-    ensures given { result.given ≡ None }
+    ensures inner { result.inner ≡ None }
+    ensures constant { result.chosen_by_constant ≡ false }
     ensures init { result.takes_init ≡ takes_assignment side.Init kind }
     ensures later { result.takes_later ≡ takes_assignment side.Next kind }
 {
@@ -171,6 +175,7 @@ fn judge_named(place: Place, naming: Naming, a: Judged, kind: Kind) -> Judged
     match naming {
         Naming::Given => judge_given(place, a),
         Naming::Defined => judge_defined(place, a, kind),
+        Naming::Element => judge_element(place, a),
     }
 }
 
@@ -181,9 +186,22 @@ fn judge_given(place: Place, a: Judged) -> Judged
     Judged {
         place,
         notes: under_name(a.notes),
-        given: a.notes.name_set,
+        inner: a.notes.name_set,
+        chosen_by_constant: false,
         takes_init: a.takes_init,
         takes_later: a.takes_later,
+    }
+}
+
+// An element of an array.
+fn judge_element(place: Place, a: Judged) -> Judged
+    ensures { (slots : List Slot) (types : List ValueType) (r : Resolved) → IsJudged slots types r a → IsJudged slots types (R.Named place naming.Element r) result }
+{
+    Judged {
+        place,
+        notes: under_element(a.notes),
+        chosen_by_constant: false,
+        ..a
     }
 }
 
@@ -210,7 +228,7 @@ fn has_values(kind: Kind) -> bool
     ensures { result ≡ has_values kind }
 {
     match kind {
-        Kind::Array(_) | Kind::Instance | Kind::Nothing => false,
+        Kind::Array | Kind::Instance | Kind::Nothing => false,
         Kind::Boolean
         | Kind::Word { .. }
         | Kind::Discrete(_)
@@ -248,10 +266,71 @@ fn judge_apply(place: Place, operator: Operator, operands: &[Operand], table: &[
         kinds_broken(place, operator, false, operands),
         kinds_broken(place, operator, true, operands),
     );
-    noted(
+    let notes = both(inside, both(temporal_here(place, operator), kinds));
+    let chosen_by_constant = is_chosen_by_constant(operator, operands, table);
+    let is_array = is_array(operator);
+    Judged {
         place,
-        both(inside, both(temporal_here(place, operator), kinds)),
-    )
+        notes,
+        inner: inner_of(place, operator, notes, chosen_by_constant),
+        chosen_by_constant,
+        takes_init: is_array,
+        takes_later: is_array,
+    }
+}
+
+// A whole array, or an array with an index.
+fn is_array(operator: Operator) -> bool
+    ensures init { (slots : List Slot) (place : Place) (rs : Operands) → result ≡ is_assignable slots side.Init (R.Apply place operator rs) }
+    ensures later { (slots : List Slot) (place : Place) (rs : Operands) → result ≡ is_assignable slots side.Next (R.Apply place operator rs) }
+{
+    match operator {
+        Operator::WholeArray | Operator::Index => true,
+        _ => false,
+    }
+}
+
+// The index by which an element is chosen is a constant, over what is told and noted of operands.
+fn is_chosen_by_constant(operator: Operator, operands: &[Operand], table: &[Judged]) -> bool
+    ensures { (slots : List Slot) (types : List ValueType) (place : Place) (rs : List Resolved) → Tells slots types rs operands.now table.now
+        → result ≡ is_chosen_by_constant slots types (R.Apply place operator (operands_of rs)) }
+{
+    match operator {
+        Operator::Subscript => told_at(operands, 0).constant.is_some(),
+        Operator::Equal => judged_at(table, 0).chosen_by_constant,
+        Operator::Choice(_) => judged_at(table, 0).chosen_by_constant,
+        _ => false,
+    }
+}
+
+// What an operator breaks on a left side, where these are its notes.
+fn inner_of(
+    place: Place,
+    operator: Operator,
+    notes: Notes,
+    chosen_by_constant: bool,
+) -> Option<Violation>
+    ensures { (slots : List Slot) (types : List ValueType) (rs : Operands) → AreNotes (λ c. kind_refusal slots types c (R.Apply place operator rs)) notes
+        → chosen_by_constant ≡ is_chosen_by_constant slots types (R.Apply place operator rs) → as_refusal result ≡ inner_refusal slots types (R.Apply place operator rs) }
+{
+    match operator {
+        Operator::Index => notes.name,
+        Operator::Choice(FaultRule::IndexOutside) => {
+            first(notes.name, Some(outside(place, chosen_by_constant)))
+        }
+        _ => None,
+    }
+}
+
+// An index on a left side that is no constant, or none of the array.
+fn outside(place: Place, is_constant: bool) -> Violation
+    ensures { as_refusal (Some result) ≡ Some (plain (index_rule is_constant) place) }
+{
+    if is_constant {
+        Violation::new(Rule::BadSelection, place)
+    } else {
+        Violation::new(Rule::NotConstant, place)
+    }
 }
 
 // What is noted of all operands of an operator.
@@ -272,24 +351,47 @@ fn kinds_broken(
     sets: bool,
     operands: &[Operand],
 ) -> Option<Violation>
-    ensures { as_refusal result ≡ kinds_broken place operator (kind_in_context sets [] operator operands.now) }
+    ensures { as_refusal result ≡ kinds_broken place operator operands.now (kind_in_context sets operator operands.now) }
 {
-    match kind_in_context(sets, &[], operator, operands) {
+    match kind_in_context(sets, operator, operands) {
         Ok(_) => None,
-        Err(rule) => Some(broken_by(place, operator, rule)),
+        Err(rule) => Some(broken_by(place, operator, operands, rule)),
     }
 }
 
-fn broken_by(place: Place, operator: Operator, rule: KindRule) -> Violation
-    ensures { as_refusal (Some result) ≡ Some (broken_by place operator rule) }
+fn broken_by(place: Place, operator: Operator, operands: &[Operand], rule: KindRule) -> Violation
+    ensures { as_refusal (Some result) ≡ Some (broken_by place operator operands.now rule) }
 {
-    match (operator, rule) {
-        (Operator::Bounded(_, low, high), KindRule::BadBound) => Violation {
+    match rule {
+        KindRule::BadBound => Violation {
             rule: Rule::BadBound,
             place,
-            bounds: Some((low, high)),
+            bounds: bounds_told(operator, operands),
         },
         _ => Violation::new(rule_of(rule), place),
+    }
+}
+
+// The bounds of a temporal operator, where they are constants.
+fn bounds_told(operator: Operator, operands: &[Operand]) -> Option<(i64, i64)>
+    ensures { result ≡ bounds_told operator operands.now }
+{
+    match operator {
+        Operator::Bounded(_, low, high) => Some((i64::from(low), i64::from(high))),
+        Operator::Window(_) => match operands {
+            [low, high, ..] => both_bounds(low.constant, high.constant),
+            _ => None,
+        },
+        _ => None,
+    }
+}
+
+fn both_bounds(low: Option<i64>, high: Option<i64>) -> Option<(i64, i64)>
+    ensures { result ≡ both_bounds low high }
+{
+    match (low, high) {
+        (Some(low), Some(high)) => Some((low, high)),
+        _ => None,
     }
 }
 

@@ -5,7 +5,7 @@ ghost use Rattle.smv_tree.specs.declared.refusal.Refusal.{Refusal};
 ghost use Rattle.smv_kinds.specs.Contexts.{kind_in_context};
 ghost use Rattle.smv_verdicts.specs.Verdicts.{or_else};
 ghost use Rattle.smv_types.specs.Judged.{AreNotes, as_refusal};
-ghost use Rattle.smv_types.specs.Kinds.{Context, input_here, next_here, temporal_here, under_name, under_next, under_operand};
+ghost use Rattle.smv_types.specs.Kinds.{Context, input_here, next_here, temporal_here, under_element, under_name, under_next, under_operand};
 
 use crate::judged::{Notes, Violation};
 use smv_kinds::takes_sets;
@@ -80,6 +80,13 @@ pub(crate) fn under_name(n: Notes) -> Notes
         state_set: n.state_set,
         path: n.name,
     }
+}
+
+// In an element of an array.
+pub(crate) fn under_element(n: Notes) -> Notes
+    ensures { (refusal : Context → Option Refusal) → AreNotes refusal n → AreNotes (λ c. refusal (under_element c)) result }
+{
+    Notes { path: n.name, ..n }
 }
 
 // Under `next`.

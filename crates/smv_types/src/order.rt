@@ -1,20 +1,22 @@
 //! The rules in the order in which they are judged.
 
 ghost use Rattle.std.specs.Prelude.{◌≡◌, map, IfOk};
-ghost use Rattle.smv_declared.specs.Types.{types_of};
-ghost use Rattle.smv_resolve.specs.Items.{item_by, items_of};
-ghost use Rattle.smv_verdicts.specs.Verdicts.{Gives, Judges, or_else};
-ghost use Rattle.smv_types.specs.Kinds.{misused, too_deep, too_many_slots};
+ghost use Rattle.smv_resolve.specs.Items.{item_by, items_of as resolved_items};
+ghost use Rattle.smv_layout.specs.Layout.{items_of};
+ghost use Rattle.smv_slots.specs.Slots.{slots_of, types_of};
+ghost use Rattle.smv_verdicts.specs.Verdicts.{Gives, Judges, first_of};
+ghost use Rattle.smv_types.specs.Kinds.{item_refusal, misused, too_deep};
 ghost use Rattle.smv_types.specs.Rules.{kinds_refusal, types_verdict};
 
 use crate::items::misused;
 use crate::kinds::judge_nodes;
-use crate::limits::too_many_slots;
-use smv_declared::declared_types;
+use crate::limits::variable_types;
+use smv_layout::lay_out_items;
 use smv_meaning::Typed;
 use smv_names::check_names;
 use smv_resolve::{Resolution, ResolveStop, resolve_items};
 use smv_scope::Scope;
+use smv_slots::{Slot, slots_of, types_of};
 use smv_tree::{Program, Rule, TextStop};
 use smv_verdicts::refused;
 use std::alloc::Global;
@@ -30,7 +32,7 @@ use value_types::ValueType;
 /// - `UnfoldedDepth`: more than 2000 levels are open in an expression, where names are followed. At the item that it stands in,
 ///   with no detail.
 /// - The rules of declared types, as `smv_declared::declared_types` says.
-/// - `TooManySlots`: there are more than 65536 variables. At the first byte, with no detail.
+/// - `TooManySlots`: there are more than 65536 variables and elements of arrays. At the first byte, with no detail.
 ///
 /// And then item by item, operands before their operator, and at one place in this order, with no detail but for the last:
 ///
@@ -42,11 +44,13 @@ use value_types::ValueType;
 /// - `SetHere`: a set stands elsewhere than in what is assigned and on the right of `in` (2.3.8). At the operator that makes it.
 /// - `TypeMismatch`: the operands of an operator are of other kinds, or there are more or fewer of them, as `smv_kinds` says; what
 ///   is assigned and its value are not both boolean, of one word type, or both discrete; what is asked for or claimed is no
-///   boolean; an instance stands where a value is wanted. At the operator, the assignment or the whole expression.
+///   boolean; an instance or an array stands where a value is wanted. At the operator, the assignment or the whole expression.
 /// - `WordWidth`: an operator gives a word wider than 128 bits, `resize` takes bits from a signed word, or a word constant is not
 ///   in the range of its type. At the operator.
-/// - `NotConstant`: what is no constant stands where one is asked. At the operator that asks for it.
-/// - `BadSelection`: bits are taken that a word does not have. At the operator.
+/// - `NotConstant`: what is no constant stands where one is asked. At the operator that asks for it, of an element that is
+///   assigned at the `[` of its index.
+/// - `BadSelection`: bits are taken that a word does not have, or an element is assigned that its array does not have. At the
+///   operator.
 /// - `NotAssignable`: what is assigned is no variable that may be assigned so (2.3.8). At the assignment.
 /// - `IntWidth`: an operator may give integers of more than 32 bits. At the operator.
 /// - `BadBound`: the bounds of a temporal operator are out of order, or greater than 255. At the operator, with the bounds.
@@ -68,19 +72,24 @@ fn with_kinds(alloc: Global, scope: Scope) -> Result<Typed, TextStop>
     ensures judged { Judges result (kinds_refusal scope.program) }
 {
     let resolution = resolved(alloc, &scope)?;
-    let types = declared_types(alloc, &scope)?;
-    kinds(alloc, &scope, types.as_slice(), &resolution)?;
+    let variables = variable_types(alloc, &scope)?;
+    let slots = slots_of(alloc, &scope, variables.as_slice())?;
+    let types = types_of(alloc, variables.as_slice())?;
+    let laid = lay_out_items(alloc, variables.as_slice(), &resolution)?;
+    no_misuse(alloc, &scope, slots.as_slice(), types.as_slice(), &laid)?;
     Ok(Typed {
         scope,
+        variables,
+        slots,
         types,
-        nodes: resolution.nodes,
-        items: resolution.items,
+        nodes: laid.nodes,
+        items: laid.items,
     })
 }
 
 // The items of the program, where none nests too deep.
 fn resolved(alloc: Global, scope: &Scope) -> Result<Resolution, TextStop>
-    ensures right { IfOk result (λ r. map (item_by r.nodes) r.items ≡ items_of scope.now.program) }
+    ensures right { IfOk result (λ r. map (item_by r.nodes) r.items ≡ resolved_items scope.now.program) }
     ensures judged { Judges result (too_deep scope.now.program) }
 {
     match resolve_items(alloc, scope) {
@@ -90,27 +99,32 @@ fn resolved(alloc: Global, scope: &Scope) -> Result<Resolution, TextStop>
     }
 }
 
-// There are not too many slots, and the items break no rule of kinds.
+// The items of the program, which are laid out, break no rule of kinds.
+fn no_misuse(
+    alloc: Global,
+    _scope: &Scope,
+    slots: &[Slot],
+    types: &[ValueType],
+    laid: &Resolution,
+) -> Result<(), TextStop>
+    requires slots { slots.now ≡ slots_of _scope.now.program }
+    requires types { types.now ≡ types_of _scope.now.program }
+    requires items { map (item_by laid.now.nodes) laid.now.items ≡ items_of _scope.now.program }
+    ensures { Judges result (misused _scope.now.program) }
+{
+    kinds(alloc, slots, types, laid)
+}
+
+// These items break no rule of kinds.
 fn kinds(
     alloc: Global,
-    scope: &Scope,
+    slots: &[Slot],
     types: &[ValueType],
-    resolution: &Resolution,
+    laid: &Resolution,
 ) -> Result<(), TextStop>
-    requires types { types.now ≡ types_of scope.now.program }
-    requires items { map (item_by resolution.now.nodes) resolution.now.items ≡ items_of scope.now.program }
-    ensures { Judges result (or_else (too_many_slots scope.now.program) (misused scope.now.program)) }
+    ensures { Judges result (first_of (item_refusal slots.now types.now) (map (item_by laid.now.nodes) laid.now.items)) }
 {
-    too_many_slots(scope)?;
-    let slots = scope.slots.as_slice();
-    let nodes = resolution.nodes.as_slice();
+    let nodes = laid.nodes.as_slice();
     let table = judge_nodes(alloc, slots, types, nodes)?;
-    misused(
-        alloc,
-        slots,
-        types,
-        nodes,
-        &table,
-        resolution.items.as_slice(),
-    )
+    misused(alloc, slots, types, nodes, &table, laid.items.as_slice())
 }

@@ -15,7 +15,7 @@ use smv_kinds::{
     next_kind,
 };
 use smv_resolve::{Node, last};
-use smv_scope::Slot;
+use smv_slots::Slot;
 use smv_value::{Operator, Value};
 use std::alloc::{AllocError, Global};
 use value_types::{Element, ValueType};
@@ -139,10 +139,10 @@ fn kind_at(kinds: &[Kind], k: usize) -> Kind
 
 // What is told of an operator over these operands.
 fn told_apply(operator: Operator, operands: &[Operand]) -> Operand
-    ensures { result ≡ record { kind = kind_in (kind_given [] operator operands.now); constant = constant_given operator operands.now } }
+    ensures { result ≡ record { kind = kind_in (kind_given operator operands.now); constant = constant_given operator operands.now } }
 {
     Operand {
-        kind: kind_in(kind_given(&[], operator, operands)),
+        kind: kind_in(kind_given(operator, operands)),
         constant: constant_given(operator, operands),
     }
 }

@@ -245,6 +245,7 @@ value_of operator.Count = λ vs. integer (pos (count_by is_true vs))
 value_of (operator.Shift o) = two (shifted o)
 value_of operator.Join = two joined
 value_of operator.Select = three selected
+value_of operator.Subscript = one (of_integer (λ a. a))
 value_of operator.ToWord = one to_word
 value_of operator.ToBoolean = one to_boolean
 value_of operator.Signed = one (with_sign true)

@@ -6,8 +6,8 @@ ghost use Rattle.smv_value.specs.Results.{integer, is_true, is_value, result_of}
 
 use crate::values::{
     absolute, constant_word, divided, extended, greatest, inverted, is_true, is_value, joined,
-    least, logical, negated, ordered, resized, same, selected, shifted, size, summed, to_boolean,
-    to_word, with_sign,
+    least, logical, negated, ordered, resized, same, selected, shifted, size, subscript, summed,
+    to_boolean, to_word, with_sign,
 };
 use crate::{FaultRule, Operator, Value, integers};
 
@@ -77,6 +77,10 @@ pub fn apply(operator: Operator, operands: &[Value]) -> Result<Option<Value>, Fa
             [a, high, low] => Ok(selected(*a, *high, *low)),
             _ => Ok(None),
         },
+        Operator::Subscript => match operands {
+            [a] => Ok(subscript(*a)),
+            _ => Ok(None),
+        },
         Operator::ToWord => match operands {
             [a] => Ok(to_word(*a)),
             _ => Ok(None),
@@ -114,13 +118,15 @@ pub fn apply(operator: Operator, operands: &[Value]) -> Result<Option<Value>, Fa
             _ => Ok(None),
         },
         Operator::Index => Ok(None),
+        Operator::WholeArray => Ok(None),
         Operator::Members => Ok(None),
         Operator::Union => Ok(None),
         Operator::Range => Ok(None),
         Operator::In => Ok(None),
-        Operator::Choice => Ok(None),
+        Operator::Choice(_) => Ok(None),
         Operator::Temporal(_) => Ok(None),
         Operator::Bounded(..) => Ok(None),
+        Operator::Window(_) => Ok(None),
     }
 }
 

@@ -1,5 +1,7 @@
 //! Operators, in the groups that ask the same of their operands.
 
+use crate::FaultRule;
+
 /// `& | xor xnor -> <->`
 #[derive(Clone, Copy, Debug)]
 pub enum Logic {
@@ -89,16 +91,21 @@ pub enum Operator {
     Join,
     /// `w[h:l]`
     Select,
-    /// `a[i]`
+    /// `a[i]`, as it is written.
     Index,
+    /// An array without an index, over no operand.
+    WholeArray,
+    /// An index: the integer that it is.
+    Subscript,
     /// `{a, b}`
     Members,
     Union,
     /// `a..b`
     Range,
     In,
-    /// `case` and `? :`: conditions and branches by turns, and perhaps a last branch without a condition.
-    Choice,
+    /// Conditions and branches by turns, and perhaps a last branch without a condition: `case`, `? :`, and an element of an array by
+    /// its index. Where no condition is TRUE it faults by this rule.
+    Choice(FaultRule),
     /// `word1`
     ToWord,
     /// `bool`
@@ -115,4 +122,6 @@ pub enum Operator {
     Temporal(Temporal),
     /// `F [a, b]`, and so on, with the bounds.
     Bounded(Bounded, u32, u32),
+    /// The same as it is written: over the bounds and the formula.
+    Window(Bounded),
 }

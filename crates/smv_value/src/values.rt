@@ -186,6 +186,16 @@ pub fn absolute(a: Value) -> Option<Value>
     }
 }
 
+// An index of an array.
+pub fn subscript(a: Value) -> Option<Value>
+    ensures { result ≡ of_integer (λ z. z) a }
+{
+    match a {
+        Value::Int(z) => integer(z),
+        Value::Bool(_) | Value::Sym(_) | Value::Word { .. } => None,
+    }
+}
+
 pub fn greatest(a: Value, b: Value) -> Option<Value>
     ensures { result ≡ of_integers int_max a b }
 {

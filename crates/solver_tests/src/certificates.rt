@@ -1,3 +1,5 @@
+//! Tests of certificates for a system of one bit, right and broken, with hints and without.
+
 ghost use Rattle.std.specs.Prelude.{◌≡◌, IfOk};
 ghost use Rattle.cert_core.specs.declared.form.Form.TheVariants.{Plain, Hinted as Hints};
 ghost use Rattle.cert_core.specs.Blocks.{HasPlace, LogFits};

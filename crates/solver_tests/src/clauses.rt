@@ -1,3 +1,6 @@
+//! Tests of literals, clauses, bits and a small system, and of what unit propagation does at one
+//! clause.
+
 use clause_core::{
     Bits, Clause, Clauses, Lit, Scan, System, is_false, is_set, is_within, met, scan_clause, set,
 };

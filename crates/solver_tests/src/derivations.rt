@@ -1,3 +1,6 @@
+//! Tests of the checker of derivations: logs right and broken, hints right and wrong, and hints
+//! that it finds.
+
 use clause_core::{Clauses, Lit, is_within};
 use hinted_log::Hinted;
 use rup_check::{Checker, Hints, Verdict};

@@ -1,3 +1,6 @@
+//! Tests that both propagators agree: on values after propagation, after a decision, and after it
+//! is undone.
+
 ghost use Rattle.std.specs.Prelude.{◌≡◌, ◌<◌, false, IfOk, IsTrue, length};
 ghost use Rattle.clause_core.specs.Literals.{negate};
 ghost use Rattle.sat_prop.specs.Trails.{among};

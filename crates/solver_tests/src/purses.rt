@@ -1,4 +1,6 @@
-// Purses drawn from by one thread and by four, and seats that are split and joined in every order.
+//! Tests of purses that one thread and four threads draw from, and of seats that are split and
+//! joined in every order.
+
 ghost use Rattle.std.specs.Prelude.{◌≡◌, ◌<◌, ◌≤◌, ◌-◌, ◌^◌, true};
 ghost use Rattle.std.specs.Thread.{IsSync};
 ghost use Rattle.effort_purse.specs.Seats.{IsSeatOf, shares_of};

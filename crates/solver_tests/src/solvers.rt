@@ -1,3 +1,6 @@
+//! Tests of the solver on formulas with known answers. Models, cores and logs are each checked by
+//! other means.
+
 use clause_core::{Clause, Clauses, Lit, is_within, met};
 use effort_purse::PlainPurse;
 use rup_check::{Checker, Verdict};

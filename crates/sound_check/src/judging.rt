@@ -26,7 +26,7 @@ pub enum Verdict {
 /// variables. Where nothing is asked, no part has to be there, and one that is there is not looked at. A block that is
 /// missing has no parts.
 ///
-/// The only error is want of memory. The time is that of `Checker::check` for each part.
+/// The only error is out of memory. The time is that of `Checker::check` for each part.
 pub fn judge(
     alloc: Global,
     questions: &[Option<Decided>],

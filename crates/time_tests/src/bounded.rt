@@ -1,3 +1,5 @@
+//! Tests of operators with bounds: their truth on a word, and how far they look back.
+
 use ltl_meaning::formula::Formula;
 use ltl_meaning::laws::unfoldings;
 use ltl_meaning::node::{BoundedOperator, Node, Window};

@@ -1,3 +1,5 @@
+//! Tests of how deep past operators nest in a formula, and of the atoms of a word.
+
 use crate::tables::{chain, formula, node};
 use ltl_meaning::laws::{dualities, excluded_middle, expansions};
 use ltl_meaning::node::BinaryOperator;

@@ -1,3 +1,6 @@
+//! Tests of the search for fair lassos of small systems, length by length, and of the book of what
+//! was found.
+
 ghost use Rattle.std.specs.Prelude.{◌≡◌, ◌+◌, ◌<◌, [], IfOk, OnOk, length};
 ghost use Rattle.lasso_search.specs.Books.{IsLength};
 

@@ -1,3 +1,6 @@
+//! Tests of monitors beside a small system: first states, steps and fairness sets of each operator,
+//! and counted signals.
+
 ghost use Rattle.std.specs.Prelude.{◌≡◌, ◌+◌, ◌<◌, [], ◌∷◌, IfOk, All};
 ghost use Rattle.clause_core.specs.Literals.{Within};
 

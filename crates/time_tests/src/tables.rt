@@ -1,3 +1,5 @@
+//! Tests of tables of truth: formulas on words of a few times, times far away, and long chains.
+
 use ltl_meaning::formula::Formula;
 use ltl_meaning::node::{BinaryOperator, Link, Node, UnaryOperator};
 use ltl_meaning::word::{AtomSet, Word};

@@ -14,9 +14,10 @@ use Rattle.smv_tree.specs.declared.tree.ConstraintKind.TheVariants as asks
 use Rattle.smv_value.specs.declared.value.Value.{Value}
 use Rattle.smv_resolve.specs.declared.item.ItemKind.{ItemKind}
 use Rattle.smv_resolve.specs.declared.item.ItemKind.TheVariants as item
-use Rattle.smv_resolve.specs.Items.{ResolvedItem, items_of}
-use Rattle.smv_scope.specs.declared.slot.Slot.{Slot}
-use Rattle.smv_scope.specs.Slots.{slots_of}
+use Rattle.smv_resolve.specs.Items.{ResolvedItem}
+use Rattle.smv_layout.specs.Layout.{items_of}
+use Rattle.smv_slots.specs.declared.slot.Slot.{Slot}
+use Rattle.smv_slots.specs.Slots.{slots_of}
 use Rattle.smv_meaning.specs.declared.outcome.Outcome.{Outcome}
 use Rattle.smv_meaning.specs.Runs.{Breaks, allows_always, allows_first, allows_step, are_inputs, asks_always, asks_first, at_time, fits, input_slots, is_first_state, is_state, is_step, keeps_frozen, meets_invariants, outcome_of_target, state_slots}
 use Rattle.smv_meaning.specs.Values.{outcome_in}

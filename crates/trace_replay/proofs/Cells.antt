@@ -10,7 +10,7 @@ use Rattle.value_types.specs.declared.value_type.ValueType.{ValueType}
 use Rattle.value_types.specs.Types.{is_type}
 use Rattle.value_texts.specs.Told.{told_text}
 use Rattle.value_texts.proofs.Codes.{read_told, reading}
-use Rattle.smv_scope.specs.declared.slot.Slot.{Slot}
+use Rattle.smv_slots.specs.declared.slot.Slot.{Slot}
 use Rattle.smv_meaning.specs.Runs.{fits, in_type}
 use Rattle.trace_replay.specs.declared.columns.Column.{Column}
 use Rattle.trace_replay.specs.declared.entry.Binding.{Binding}

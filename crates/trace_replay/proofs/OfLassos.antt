@@ -12,9 +12,10 @@ use Rattle.smv_value.specs.declared.value.Value.{Value}
 use Rattle.smv_value.specs.declared.value.Value.TheVariants as value
 use Rattle.smv_resolve.specs.declared.item.Item.{Item}
 use Rattle.smv_resolve.specs.declared.node.Node.{Node}
-use Rattle.smv_resolve.specs.Items.{ResolvedItem, item_by, items_of}
+use Rattle.smv_resolve.specs.Items.{ResolvedItem, item_by}
+use Rattle.smv_layout.specs.Layout.{items_of}
 use Rattle.smv_resolve.specs.Resolved.{last_of}
-use Rattle.smv_scope.specs.Slots.{slots_of}
+use Rattle.smv_slots.specs.Slots.{slots_of}
 use Rattle.smv_meaning.specs.declared.outcome.Outcome.{Outcome}
 use Rattle.smv_meaning.specs.declared.outcome.Outcome.TheVariants.{Fault, Nothing, Values}
 use Rattle.smv_meaning.specs.Lassos.{Lasso, IsLasso, MeetsJustice, Violates, Holds}

@@ -10,8 +10,8 @@ use Rattle.std.proofs.lemmas.Option.{get_or_from_slice_get, slice_get-map, slice
 use Rattle.smv_tree.specs.declared.tree.Program.{Program}
 use Rattle.smv_value.specs.declared.value.Value.{Value}
 use Rattle.value_texts.specs.Told.{told_text}
-use Rattle.smv_scope.specs.declared.slot.Slot.{Slot}
-use Rattle.smv_scope.specs.Slots.{slots_of}
+use Rattle.smv_slots.specs.declared.slot.Slot.{Slot}
+use Rattle.smv_slots.specs.Slots.{slots_of}
 use Rattle.smv_meaning.specs.Lassos.{IsLasso, Lasso}
 use Rattle.smv_meaning.specs.Runs.{IsRun, are_inputs, at_time, fits, in_type, input_slots, is_state, state_slots}
 use Rattle.trace_replay.specs.declared.entry.Binding.{Binding}

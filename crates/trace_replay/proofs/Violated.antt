@@ -13,8 +13,9 @@ use Rattle.smv_tree.specs.declared.tree.ConstraintKind.TheVariants as asked
 use Rattle.smv_value.specs.declared.value.Value.{Value}
 use Rattle.smv_resolve.specs.declared.item.ItemKind.{ItemKind}
 use Rattle.smv_resolve.specs.declared.item.ItemKind.TheVariants as item
-use Rattle.smv_resolve.specs.Items.{ResolvedItem, items_of}
-use Rattle.smv_scope.specs.Slots.{slots_of}
+use Rattle.smv_resolve.specs.Items.{ResolvedItem}
+use Rattle.smv_layout.specs.Layout.{items_of}
+use Rattle.smv_slots.specs.Slots.{slots_of}
 use Rattle.smv_meaning.specs.Lassos.{Holds, Lasso, Violates}
 use Rattle.smv_meaning.specs.Runs.{are_inputs, at_time, is_first_state, is_state, is_step, is_true, meets_invariants}
 use Rattle.smv_meaning.specs.Values.{outcome_in}

@@ -9,11 +9,10 @@ use Rattle.value_types.specs.declared.value_type.ValueType.TheVariants as type
 use Rattle.value_types.specs.Types.{element_value, is_type}
 use Rattle.value_texts.specs.Told.{told_text}
 use Rattle.value_texts.specs.Read.{value_read}
-use Rattle.smv_scope.specs.declared.slot.Slot.{Slot}
+use Rattle.smv_slots.specs.declared.slot.Slot.{Slot}
 use Rattle.smv_scope.specs.Enumerated.{symbols_of}
-use Rattle.smv_scope.specs.Paths.{slot_name}
-use Rattle.smv_scope.specs.Slots.{slots_of}
-use Rattle.smv_declared.specs.Types.{types_of}
+use Rattle.smv_slots.specs.Names.{slot_name}
+use Rattle.smv_slots.specs.Slots.{slots_of, types_of}
 use Rattle.smv_meaning.specs.Runs.{input_slots, state_slots}
 use Rattle.trace_replay.specs.declared.columns.Column.{Column}
 use Rattle.trace_replay.specs.declared.entry.Binding.{Binding}

@@ -5,7 +5,7 @@ ghost use Rattle.trace_replay.specs.Rows.{column_of, input_columns, state_column
 
 use plain_text::Text;
 use smv_meaning::{Typed, input_slots, state_slots};
-use smv_scope::{Scope, Slot, slot_name};
+use smv_slots::{Slot, slot_name};
 use sqlite_items::Items;
 use std::alloc::{AllocError, Global};
 use value_texts::Symbols;
@@ -21,25 +21,25 @@ pub struct Column {
 pub fn state_columns(alloc: Global, typed: &Typed) -> Result<Items<Column>, AllocError>
     ensures { IfOk result (λ columns. columns ≡ state_columns typed.now.scope.program) }
 {
-    let slots = state_slots(alloc, &typed.scope)?;
-    columns_of(alloc, &typed.scope, slots.as_slice())
+    let slots = state_slots(alloc, typed.slots.as_slice())?;
+    columns_of(alloc, typed, slots.as_slice())
 }
 
 /// Those of the input slots.
 pub fn input_columns(alloc: Global, typed: &Typed) -> Result<Items<Column>, AllocError>
     ensures { IfOk result (λ columns. columns ≡ input_columns typed.now.scope.program) }
 {
-    let slots = input_slots(alloc, &typed.scope)?;
-    columns_of(alloc, &typed.scope, slots.as_slice())
+    let slots = input_slots(alloc, typed.slots.as_slice())?;
+    columns_of(alloc, typed, slots.as_slice())
 }
 
-fn columns_of(alloc: Global, scope: &Scope, slots: &[Slot]) -> Result<Items<Column>, AllocError>
-    ensures { IfOk result (λ columns. columns ≡ map (column_of scope.now.program) slots.now) }
+fn columns_of(alloc: Global, typed: &Typed, slots: &[Slot]) -> Result<Items<Column>, AllocError>
+    ensures { IfOk result (λ columns. columns ≡ map (column_of typed.now.scope.program) slots.now) }
 {
     let mut columns = Vec::new(alloc);
     for slot in slots {
         columns.push(Column {
-            name: slot_name(alloc, scope, slot)?,
+            name: slot_name(alloc, &typed.scope, typed.variables.as_slice(), slot)?,
             declared: slot.declared,
         })?;
     }

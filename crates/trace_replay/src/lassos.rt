@@ -4,7 +4,7 @@ ghost use Rattle.std.specs.Prelude.{◌≡◌, ◌↔◌, ◌<◌, List, map, le
 ghost use Rattle.std.specs.List.{list_any};
 ghost use Rattle.smv_value.specs.declared.value.Value.{Value};
 ghost use Rattle.smv_resolve.specs.Items.{item_by};
-ghost use Rattle.smv_scope.specs.Slots.{slots_of};
+ghost use Rattle.smv_slots.specs.Slots.{slots_of};
 ghost use Rattle.smv_meaning.specs.Lassos.{Holds, Lasso};
 ghost use Rattle.smv_meaning.specs.Runs.{is_true};
 ghost use Rattle.smv_meaning.specs.Values.{outcome_in};

@@ -2,7 +2,7 @@
 
 ghost use Rattle.std.specs.Prelude.{◌≡◌, ◌+◌, ◌<◌, ◌≤◌, ◌↔◌, length, IfOk, IfSome};
 ghost use Rattle.smv_resolve.specs.Items.{item_by};
-ghost use Rattle.smv_scope.specs.Slots.{slots_of};
+ghost use Rattle.smv_slots.specs.Slots.{slots_of};
 ghost use Rattle.smv_meaning.specs.Runs.{specifications_of};
 ghost use Rattle.smv_meaning.specs.Values.{outcome_in};
 ghost use Rattle.trace_replay.specs.Lassos.{IsReplayOf, Shows};

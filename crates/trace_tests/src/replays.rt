@@ -207,6 +207,40 @@ const FED_ROWS: [Row; 7] = [
     },
 ];
 
+const LINKED: &str =
+    "MODULE main\nFROZENVAR after : array -1..0 of -1..0;\nVAR i : -1..0;\nASSIGN init(i) := -1; next(i) := after[i];\nINVARSPEC i = -1\n";
+
+const LINKED_ROWS: [Row; 4] = [
+    Row {
+        text: "--@ spec 1\n--@ state 0: after[-1] = 0, after[0] = -1, i = -1\n--@ state 1: after[-1] = 0, after[0] = -1, i = 0\n",
+        gives: ACCEPTED,
+    },
+    // The index leads to the element whose value is -1.
+    Row {
+        text: "--@ spec 1\n--@ state 0: after[-1] = -1, after[0] = 0, i = -1\n--@ state 1: after[-1] = -1, after[0] = 0, i = 0\n",
+        gives: Given::Judged(Replayed::Rejected {
+            rule: ReplayRule::Step,
+            number: 0,
+        }),
+    },
+    // Each element is frozen.
+    Row {
+        text: "--@ spec 1\n--@ state 0: after[-1] = 0, after[0] = -1, i = -1\n--@ state 1: after[-1] = 0, after[0] = 0, i = 0\n",
+        gives: Given::Judged(Replayed::Rejected {
+            rule: ReplayRule::Step,
+            number: 0,
+        }),
+    },
+    // Elements stand in their order.
+    Row {
+        text: "--@ spec 1\n--@ state 0: after[0] = -1, after[-1] = 0, i = -1\n",
+        gives: Given::Judged(Replayed::Rejected {
+            rule: ReplayRule::Values,
+            number: 0,
+        }),
+    },
+];
+
 // What comes of a text behind a model.
 fn what_comes(alloc: Global, source: &str, text: &str) -> Given {
     match read_model(alloc, source.as_bytes()) {
@@ -262,6 +296,12 @@ fn toggling(rt: HostRuntime) -> Result<(), Fail> {
 #[test]
 fn with_inputs(rt: HostRuntime) -> Result<(), Fail> {
     assert_eq!(rt; wrong(rt.alloc(), FED, &FED_ROWS), None);
+    Ok(())
+}
+
+#[test]
+fn with_elements(rt: HostRuntime) -> Result<(), Fail> {
+    assert_eq!(rt; wrong(rt.alloc(), LINKED, &LINKED_ROWS), None);
     Ok(())
 }
 

@@ -1,3 +1,6 @@
+//! What a crew's work consists of: tasks, how they are taken, done and put back, and what each
+//! worker owns.
+
 ghost use Rattle.std.specs.Prelude.{◌≡◌, ◌<◌, ◌+◌, ◌-◌};
 ghost use Rattle.work_crew.specs.Takings.{IfTask, IfNoTask};
 

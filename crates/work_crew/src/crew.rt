@@ -1,3 +1,6 @@
+//! Workers that take tasks from a value under a lock, do them without the lock, and wait while
+//! there is none.
+
 ghost use Rattle.std.specs.Prelude.{◌≡◌};
 ghost use Rattle.std.specs.Thread.{IsSync};
 ghost use Rattle.work_crew.specs.Takings.{IfTask, IfNoTask};

@@ -1,6 +1,6 @@
 -- The specification's value in a state, beside the state's domain.
 use Rattle.std.proofs.Common.{◌∙◌, List, [], subst, sym}
-use Rattle.smv_scope.specs.Slots.{slots_of}
+use Rattle.smv_slots.specs.Slots.{slots_of}
 use Rattle.smv_resolve.specs.Items.{item_by}
 use Rattle.smv_meaning.specs.Runs.{is_state}
 use Rattle.smv_meaning.specs.Tables.{outcomes_of}

@@ -1,6 +1,6 @@
 -- What the items ask of the step is what they allow.
 use Rattle.std.proofs.Common.{List, [], subst, sym}
-use Rattle.smv_scope.specs.Slots.{slots_of}
+use Rattle.smv_slots.specs.Slots.{slots_of}
 use Rattle.smv_meaning.specs.Tables.{outcomes_of}
 use Rattle.bit_clauses.specs.Asserted.{all_hold}
 use Rattle.bit_outcomes.specs.declared.told.Told.{Told}

@@ -1,8 +1,8 @@
 -- What the items allow of a state, and the state's domain.
 use Rattle.std.proofs.Common.{◌≡◌, ◌∙◌, true, List, ap}
 use Rattle.std.specs.List.{list_all}
-use Rattle.smv_resolve.specs.Items.{items_of}
-use Rattle.smv_scope.specs.Slots.{slots_of}
+use Rattle.smv_layout.specs.Layout.{items_of}
+use Rattle.smv_slots.specs.Slots.{slots_of}
 use Rattle.smv_meaning.specs.Runs.{allows_first, is_state}
 use Rattle.bit_graph.specs.Meaning.{edge_value}
 use Rattle.bit_clauses.specs.declared.either.Either.{Either}

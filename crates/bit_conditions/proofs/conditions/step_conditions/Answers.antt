@@ -1,8 +1,8 @@
 -- What frozen slots and items allow of a step and of both states, and the domains.
 use Rattle.std.proofs.Common.{◌≡◌, ◌∙◌, ◌&&◌, Bool, true, List, ap}
 use Rattle.std.specs.List.{list_all}
-use Rattle.smv_resolve.specs.Items.{items_of}
-use Rattle.smv_scope.specs.Slots.{slots_of}
+use Rattle.smv_layout.specs.Layout.{items_of}
+use Rattle.smv_slots.specs.Slots.{slots_of}
 use Rattle.smv_meaning.specs.Runs.{allows_step, are_inputs, is_state, keeps_frozen, meets_invariants}
 use Rattle.bit_graph.specs.Meaning.{edge_value}
 use Rattle.bit_clauses.specs.declared.either.Either.{Either}

@@ -1,7 +1,7 @@
 -- The formulas are those of the program.
 use Rattle.std.proofs.Common.{◌≡◌, ◌∙◌, ◌&&◌, List, [], map, ap, sym, subst}
 use Rattle.std.specs.List.{filter, list_all}
-use Rattle.smv_scope.specs.Slots.{slots_of}
+use Rattle.smv_slots.specs.Slots.{slots_of}
 use Rattle.smv_resolve.specs.declared.item.Item.{Item}
 use Rattle.smv_meaning.specs.Runs.{is_given, is_true}
 use Rattle.smv_meaning.specs.Tables.{outcome_at, outcomes_of}

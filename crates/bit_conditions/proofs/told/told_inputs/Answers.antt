@@ -2,8 +2,8 @@
 use Rattle.std.proofs.Common.{◌∙◌, ap}
 use Rattle.std.specs.List.{list_all}
 use Rattle.value_types.specs.Types.{is_type}
-use Rattle.smv_scope.specs.Slots.{slots_of}
-use Rattle.smv_declared.specs.Types.{types_of}
+use Rattle.smv_slots.specs.Slots.{slots_of}
+use Rattle.smv_slots.specs.Slots.{types_of}
 use Rattle.smv_meaning.specs.Runs.{input_slots}
 use Rattle.bit_states.proofs.OfSlots.{slot_types}
 use Rattle.bit_outcomes.proofs.Kept.{edge_kept, extends_trans}

@@ -5,8 +5,8 @@ use Rattle.std.specs.Option.{is_some}
 use Rattle.bit_graph.specs.declared.edge.Edge.{Edge}
 use Rattle.smv_resolve.specs.Items.{item_by}
 use Rattle.smv_resolve.specs.Resolved.{part_at, parts_of}
-use Rattle.smv_scope.specs.Slots.{slots_of}
-use Rattle.smv_declared.specs.Types.{types_of}
+use Rattle.smv_slots.specs.Slots.{slots_of}
+use Rattle.smv_slots.specs.Slots.{types_of}
 use Rattle.bit_states.specs.Coding.{inputs_of, next_of, state_of}
 use Rattle.bit_faults.specs.Formulas.{StandsIfAny, TellsFormula}
 use Rattle.bit_faults.proofs.OfFormulas.{stands_at}

@@ -6,8 +6,8 @@ use Rattle.std.specs.Option.{is_some, option_copied}
 use Rattle.value_types.specs.declared.value_type.ValueType.{ValueType}
 use Rattle.value_types.specs.Types.{is_type}
 use Rattle.smv_resolve.specs.Items.{item_by, target_by}
-use Rattle.smv_scope.specs.Slots.{slots_of}
-use Rattle.smv_declared.specs.Types.{types_of}
+use Rattle.smv_slots.specs.Slots.{slots_of}
+use Rattle.smv_slots.specs.Slots.{types_of}
 use Rattle.smv_meaning.specs.Faults.{fault_of_value, type_assigned}
 use Rattle.smv_meaning.specs.Runs.{item_outcome}
 use Rattle.bit_states.specs.Coding.{inputs_of, next_of, state_of}

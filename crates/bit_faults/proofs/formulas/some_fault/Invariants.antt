@@ -5,7 +5,7 @@ use Rattle.std.specs.Option.{is_some}
 use Rattle.bit_graph.specs.Growth.{Extends}
 use Rattle.bit_graph.specs.Meaning.{Consistent, Stands, edge_value}
 use Rattle.smv_value.specs.declared.value.Value.{Value}
-use Rattle.smv_scope.specs.declared.slot.Slot.{Slot}
+use Rattle.smv_slots.specs.declared.slot.Slot.{Slot}
 use Rattle.smv_resolve.specs.Resolved.{Resolved}
 use Rattle.smv_meaning.specs.Formulas.{formula_fault, is_known_formula}
 use Rattle.bit_faults.specs.Formulas.{AllStandIfAny, TellsFormulas}

@@ -2,7 +2,7 @@
 use Rattle.std.proofs.Common.{List, [], subst, sym}
 use Rattle.smv_resolve.specs.declared.node.Node.{Node}
 use Rattle.smv_resolve.specs.Resolved.{parts_of}
-use Rattle.smv_scope.specs.Slots.{slots_of}
+use Rattle.smv_slots.specs.Slots.{slots_of}
 use Rattle.smv_meaning.specs.Tables.{outcomes_of}
 use Rattle.bit_outcomes.specs.declared.told.Told.{Told}
 use Rattle.bit_outcomes.specs.Telling.{AllTold, TellsAll}

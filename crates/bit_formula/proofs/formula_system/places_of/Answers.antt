@@ -3,8 +3,8 @@ use Rattle.std.proofs.Common.{◌≡◌, ◌+◌, ℕ, List, ap, arith, length, 
 use Rattle.std.specs.List.{list_all, range_with_len}
 use Rattle.value_types.specs.declared.value_type.ValueType.{ValueType}
 use Rattle.value_types.specs.Types.{is_type}
-use Rattle.smv_scope.specs.Slots.{slots_of}
-use Rattle.smv_declared.specs.Types.{types_of}
+use Rattle.smv_slots.specs.Slots.{slots_of}
+use Rattle.smv_slots.specs.Slots.{types_of}
 use Rattle.smv_meaning.specs.Runs.{input_slots, state_slots}
 use Rattle.bit_states.specs.Layouts.{BitLayout}
 use Rattle.bit_states.specs.Values.{width_of_all}

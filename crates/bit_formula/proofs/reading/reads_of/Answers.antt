@@ -1,7 +1,7 @@
 -- Where no input is read, none is listed.
 use Rattle.std.proofs.Common.{◌≡◌, ◌∙◌, false}
 use Rattle.std.specs.List.{list_any, range_with_len}
-use Rattle.smv_scope.specs.Slots.{slots_of}
+use Rattle.smv_slots.specs.Slots.{slots_of}
 use Rattle.smv_formulas.specs.Says.{atom_parts}
 use Rattle.bit_formula.specs.Coding.{input_count}
 use Rattle.bit_formula.specs.Reading.{is_some_input, reads_slot}

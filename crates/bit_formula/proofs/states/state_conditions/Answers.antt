@@ -4,7 +4,7 @@ use Rattle.std.proofs.lemmas.List.FromFn.{length-range_with_len}
 use Rattle.bit_arith.specs.Number.{AllStand}
 use Rattle.bit_graph.specs.Meaning.{Consistent, HasInputs}
 use Rattle.smv_value.specs.declared.value.Value.{Value}
-use Rattle.smv_scope.specs.Slots.{slots_of}
+use Rattle.smv_slots.specs.Slots.{slots_of}
 use Rattle.smv_resolve.specs.Resolved.{Resolved}
 use Rattle.smv_formulas.specs.Says.{atom_parts}
 use Rattle.smv_meaning.specs.Runs.{are_inputs, is_first_state, is_state, is_true}

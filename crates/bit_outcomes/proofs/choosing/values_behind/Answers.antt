@@ -21,19 +21,19 @@ pairs-preserved c =
       extends = extends_trans c.args.graph.now g k before.extends next.extends;
       operands_stand = all_told_kept g k next.extends ts before.operands_stand;
       rest_stands = next.stands;
-      told = λ p v os h all.
+      told = λ rule p v os h all.
           let first = next.extends.kept v h in
           let up : c.pairs.i - 1 + 1 ≡ c.pairs.i = omega arith in
           let odd : 2 * (c.pairs.i - 1) + 1 < length c.args.operands.now = omega arith in
           let even : 2 * (c.pairs.i - 1) < length c.args.operands.now = omega arith in
           let within : 2 * (c.pairs.i - 1) + 1 < length os = omega (arith, all.long, odd) in
-          subst (λ (o : Outcome). Tells v c.in_ok-next.next o) (sym (choice_step p os i c.pairs.i up within))
-          (next.told v (get_or os (2 * i) Nothing) (get_or os (2 * i + 1) Nothing) (choice p (drop (2 * c.pairs.i) os)) h
+          subst (λ (o : Outcome). Tells v c.in_ok-next.next o) (sym (choice_step rule p os i c.pairs.i up within))
+          (next.told v (get_or os (2 * i) Nothing) (get_or os (2 * i + 1) Nothing) (choice rule p (drop (2 * c.pairs.i) os)) h
           (tells_at v ts os (2 * i) c.index-operands-i.result even c.index-operands-i.is all)
-          (tells_at v ts os (2 * i + 1) c.index-operands-i-in-pairs.result odd c.index-operands-i-in-pairs.is all) (before.told p v os first all));
+          (tells_at v ts os (2 * i + 1) c.index-operands-i-in-pairs.result odd c.index-operands-i-in-pairs.is all) (before.told rule p v os first all));
     }
 
 pub returns-clause-told : goal.returns-clause-told
-returns-clause-told c = λ p v os h all.
+returns-clause-told c = λ rule p v os h all.
     let end : c.pairs.i ≡ 0 = omega arith in
-    subst (λ (n : ℕ). Tells v c.pairs.rest (choice p (drop (2 * n) os))) end (c.pairs.invariant.told p v os h all)
+    subst (λ (n : ℕ). Tells v c.pairs.rest (choice rule p (drop (2 * n) os))) end (c.pairs.invariant.told rule p v os h all)

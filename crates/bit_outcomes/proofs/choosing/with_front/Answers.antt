@@ -41,12 +41,12 @@ pairs-preserved c =
     }
 
 pub returns-clause-told : goal.returns-clause-told
-returns-clause-told c = λ place v os h all behind.
+returns-clause-told c = λ rule place v os h all behind.
     let from = c.args.tail.now.from in
     let made = c.in_ok-told.ensures in
-    let rest = choice place (drop (2 * from) os) in
+    let rest = choice rule place (drop (2 * from) os) in
     let end : c.pairs.i ≡ from = omega arith in
     let long : 2 * from ≤ length os = omega (arith, all.long, c.requires.from) in
-    subst (Tells v c.in_ok-told.told) (front_choice place os from long)
+    subst (Tells v c.in_ok-told.told) (front_choice rule place os from long)
     (subst (λ (n : ℕ). Tells v c.in_ok-told.told (front_of os n rest)) end
     (made.told v (front_of os c.pairs.i) rest h (c.pairs.invariant.told v os (made.extends.kept v h) all) behind))

@@ -2,11 +2,13 @@
 use Rattle.smv_value.specs.declared.operator.Operator.TheVariants as operator
 use Rattle.smv_meaning.specs.Outcomes.{included, ranged, two, united}
 use Rattle.std.proofs.Common.{[]}
-use Rattle.bit_outcomes.proofs.OfTable.{anywhere, other_told, told_of}
+use Rattle.bit_outcomes.proofs.OfTable.{anywhere, by_rule, other_told, told_of}
 use Rattle.bit_outcomes.proofs.operators.applied.Goals as goal
 
 pub returns-in-Choice-clause-told : goal.returns-in-Choice-clause-told
-returns-in-Choice-clause-told c = told_of c.choice.result c.choice.new.graph c.args.operands.now c.args.operator operator.Choice c.in-Choice.is c.choice.ensures.told
+returns-in-Choice-clause-told c =
+    told_of c.choice.result c.choice.new.graph c.args.operands.now c.args.operator (operator.Choice c.in-Choice.field-0) c.in-Choice.is
+    (by_rule c.choice.result c.choice.new.graph c.args.operands.now c.in-Choice.field-0 c.choice.ensures.told)
 
 pub returns-in-Members-clause-told : goal.returns-in-Members-clause-told
 returns-in-Members-clause-told c =

@@ -27,3 +27,6 @@ returns-in_ok-made-in-Unsigned-clause-value c = plain_one c.args.graph.now c.arg
 
 pub returns-in_ok-made-in-Size-clause-value : goal.returns-in_ok-made-in-Size-clause-value
 returns-in_ok-made-in-Size-clause-value c = given_one c.args.graph.now c.args.operator size c.args.a.now c.in_ok-made-in-Size.made (ap value_of c.in-Size.is) (ap fault_of c.in-Size.is) c.in_ok-made-in-Size.ensures.value
+
+pub returns-in_ok-made-in-Subscript-clause-value : goal.returns-in_ok-made-in-Subscript-clause-value
+returns-in_ok-made-in-Subscript-clause-value c = given_one c.args.graph.now c.args.operator (of_integer (λ x. x)) c.args.a.now c.in_ok-made-in-Subscript.made (ap value_of c.in-Subscript.is) (ap fault_of c.in-Subscript.is) c.in_ok-made-in-Subscript.ensures.value

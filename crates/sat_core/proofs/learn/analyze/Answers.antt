@@ -19,10 +19,10 @@ resolve-requires-clause-open g c all =
     let cs = g.P.Propagator.clauses c.args.inner.now in
     let k = c.args.k in
     let floor = c.index-floor.result.now in
-    let lf : floor ≡ get_or t.starts.items (length t.starts.items - 1) 0 = floor_read c.assignment-trail.result.now t c.len.result floor c.assignment-trail.ensures c.len.ensures c.index-floor.ensures c.requires.level in
+    let lf : floor ≡ get_or t.level_starts.items (length t.level_starts.items - 1) 0 = floor_read c.assignment-trail.result.now t c.len.result floor c.assignment-trail.ensures c.len.ensures c.index-floor.ensures c.requires.level in
     let A : List Lit → Type 0 = AllFalse (among (take floor t.literals.items)) in
     let R : ℕ → Type 0 = λ s. AtRest cs (take s t.literals.items) in
-    let rest : R floor = subst R (sym lf) (c.requires.rest (length t.starts.items - 1) (omega (arith, c.requires.level))) in
+    let rest : R floor = subst R (sym lf) (c.requires.rest (length t.level_starts.items - 1) (omega (arith, c.requires.level))) in
     settled_open t.literals.items cs k floor c.requires.conflict.0 rest (subst A c.clause.ensures all)
 
 pub shorten-requires-clause-low : goal.shorten-requires-clause-low
@@ -43,8 +43,8 @@ returns-clause-within g c =
     let p = c.in_ok-p.p in
     let low = c.in_ok-kept.kept.items in
     let floor = c.index-floor.result.now in
-    let lf : floor ≡ get_or t.starts.items (length t.starts.items - 1) 0 = floor_read c.assignment-trail.result.now t c.len.result floor c.assignment-trail.ensures c.len.ensures c.index-floor.ensures c.requires.level in
-    let lfl : floor < length t.literals.items = omega (arith, lf, t.in_trail (length t.starts.items - 1) (omega (arith, c.requires.level))) in
+    let lf : floor ≡ get_or t.level_starts.items (length t.level_starts.items - 1) 0 = floor_read c.assignment-trail.result.now t c.len.result floor c.assignment-trail.ensures c.len.ensures c.index-floor.ensures c.requires.level in
+    let lfl : floor < length t.literals.items = omega (arith, lf, t.in_trail (length t.level_starts.items - 1) (omega (arith, c.requires.level))) in
     let cl : c.in_ok-clause.clause.items ≡ learned_clause t.literals.items p low =
     c.in_ok-clause.ensures ∙ ap (λ xs. learned_clause xs p c.deref-3.result.now) (c.deref-2.ensures.value ∙ ap (λ (x : Trail). x.literals.items) c.assignment-trail.ensures) ∙ ap (learned_clause t.literals.items p) c.deref-3.ensures.value in
     let lows : All (λ q. q < length t.literals.items) low =
@@ -61,8 +61,8 @@ returns-clause-learned g c =
     let low = c.in_ok-kept.kept.items in
     let marks = c.resolve.new.marks in
     let floor = c.index-floor.result.now in
-    let i = length t.starts.items - 1 in
-    let lf : floor ≡ get_or t.starts.items i 0 = floor_read c.assignment-trail.result.now t c.len.result floor c.assignment-trail.ensures c.len.ensures c.index-floor.ensures c.requires.level in
+    let i = length t.level_starts.items - 1 in
+    let lf : floor ≡ get_or t.level_starts.items i 0 = floor_read c.assignment-trail.result.now t c.len.result floor c.assignment-trail.ensures c.len.ensures c.index-floor.ensures c.requires.level in
     let cl : c.in_ok-clause.clause.items ≡ learned_clause t.literals.items p low =
     c.in_ok-clause.ensures ∙ ap (λ xs. learned_clause xs p c.deref-3.result.now) (c.deref-2.ensures.value ∙ ap (λ (x : Trail). x.literals.items) c.assignment-trail.ensures) ∙ ap (learned_clause t.literals.items p) c.deref-3.ensures.value in
     let M : List Lit → Type 0 = MarksFalse t.literals.items cs marks in
@@ -73,10 +73,10 @@ returns-clause-learned g c =
     let same : c.deref_mut-2.result.now ≡ marks =
     c.deref_mut-2.ensures.value ∙ take-append-le n marks (drop (length marks) c.in_ok-marks.marks.items) (omega (arith, full)) ∙ take_all n marks (omega (arith, full)) in
     let recovers : R marks = subst R same c.in_ok-kept.ensures.recovers in
-    let places : PlacesFalse t.literals.items cs p low (get_or cs k []) = λ s closed hp hl. false' s closed (recovers s closed hp hl) in
-    let P : List Lit → Type 0 = LearnedFrom cs (decided t.literals.items t.starts.items) in
+    let positions : PlacesFalse t.literals.items cs p low (get_or cs k []) = λ s closed hp hl. false' s closed (recovers s closed hp hl) in
+    let P : List Lit → Type 0 = LearnedFrom cs (decided t.literals.items t.level_starts.items) in
     subst P (sym cl) (learned_from t cs k p i floor low (g.met.P.Propagator.based c.args.inner.now) c.requires.conflict.0 c.requires.conflict.1 c.requires.rest
-    (omega (arith, c.requires.level)) lf places c.in_ok-p.ensures.only.0 c.in_ok-p.ensures.in_trail c.in_ok-kept.ensures.below)
+    (omega (arith, c.requires.level)) lf positions c.in_ok-p.ensures.only.0 c.in_ok-p.ensures.in_trail c.in_ok-kept.ensures.below)
 
 pub returns-clause-settled : goal.returns-clause-settled
 returns-clause-settled g c i li =
@@ -84,22 +84,22 @@ returns-clause-settled g c i li =
     let p = c.in_ok-p.p in
     let low = c.in_ok-kept.kept.items in
     let floor = c.index-floor.result.now in
-    let n = length t.starts.items - 1 in
-    let lf : floor ≡ get_or t.starts.items n 0 = floor_read c.assignment-trail.result.now t c.len.result floor c.assignment-trail.ensures c.len.ensures c.index-floor.ensures c.requires.level in
-    let ln : n < length t.starts.items = omega (arith, c.requires.level) in
+    let n = length t.level_starts.items - 1 in
+    let lf : floor ≡ get_or t.level_starts.items n 0 = floor_read c.assignment-trail.result.now t c.len.result floor c.assignment-trail.ensures c.len.ensures c.index-floor.ensures c.requires.level in
+    let ln : n < length t.level_starts.items = omega (arith, c.requires.level) in
     let lfl : floor < length t.literals.items = omega (arith, lf, t.in_trail n ln) in
     let cl : c.in_ok-clause.clause.items ≡ learned_clause t.literals.items p low =
     c.in_ok-clause.ensures ∙ ap (λ xs. learned_clause xs p c.deref-3.result.now) (c.deref-2.ensures.value ∙ ap (λ (x : Trail). x.literals.items) c.assignment-trail.ensures) ∙ ap (learned_clause t.literals.items p) c.deref-3.ensures.value in
-    let st : c.deref-5.result.now ≡ t.starts.items = c.deref-5.ensures.value ∙ ap (λ (x : Trail). x.starts.items) c.assignment-trail.ensures in
+    let st : c.deref-5.result.now ≡ t.level_starts.items = c.deref-5.ensures.value ∙ ap (λ (x : Trail). x.level_starts.items) c.assignment-trail.ensures in
     let lw : c.deref-6.result.now ≡ low = c.deref-6.ensures.value in
     let best = c.greatest-best.result in
     let S : List ℕ → Type 0 = λ xs. (best < length c.deref-6.result.now) × (get_or xs i 0 ≤ get_or c.deref-6.result.now best 0) in
-    let T : List ℕ → Type 0 = λ xs. (best < length xs) × (get_or t.starts.items i 0 ≤ get_or xs best 0) in
-    let seen : T low = subst T lw (subst S st (c.jump_level-level.ensures.seen i li)) in
-    let L : List ℕ → Type 0 = λ xs. c.jump_level-level.result < length xs in
-    let below : c.jump_level-level.result < length t.starts.items = subst L st c.jump_level-level.ensures.below in
+    let T : List ℕ → Type 0 = λ xs. (best < length xs) × (get_or t.level_starts.items i 0 ≤ get_or xs best 0) in
+    let seen : T low = subst T lw (subst S st (c.jump_level-backjump_level.ensures.seen i li)) in
+    let L : List ℕ → Type 0 = λ xs. c.jump_level-backjump_level.result < length xs in
+    let below : c.jump_level-backjump_level.result < length t.level_starts.items = subst L st c.jump_level-backjump_level.ensures.below in
     let lin : i < n = omega arith in
-    let s = get_or t.starts.items i 0 in
+    let s = get_or t.level_starts.items i 0 in
     let lows : All (λ q. q < floor) low = c.in_ok-kept.ensures.below in
     let P : List Lit → Type 0 = Settled (among (take s t.literals.items)) in
     subst P (sym cl) (learned_settled t p floor s best low c.in_ok-p.ensures.only.0 c.in_ok-p.ensures.in_trail lfl (omega (arith, lf, t.rising i n lin ln)) lows seen.0 seen.1)
@@ -110,22 +110,22 @@ returns-clause-watch g c i li =
     let p = c.in_ok-p.p in
     let low = c.in_ok-kept.kept.items in
     let floor = c.index-floor.result.now in
-    let n = length t.starts.items - 1 in
-    let lf : floor ≡ get_or t.starts.items n 0 = floor_read c.assignment-trail.result.now t c.len.result floor c.assignment-trail.ensures c.len.ensures c.index-floor.ensures c.requires.level in
-    let ln : n < length t.starts.items = omega (arith, c.requires.level) in
+    let n = length t.level_starts.items - 1 in
+    let lf : floor ≡ get_or t.level_starts.items n 0 = floor_read c.assignment-trail.result.now t c.len.result floor c.assignment-trail.ensures c.len.ensures c.index-floor.ensures c.requires.level in
+    let ln : n < length t.level_starts.items = omega (arith, c.requires.level) in
     let lfl : floor < length t.literals.items = omega (arith, lf, t.in_trail n ln) in
     let cl : c.in_ok-clause.clause.items ≡ learned_clause t.literals.items p low =
     c.in_ok-clause.ensures ∙ ap (λ xs. learned_clause xs p c.deref-3.result.now) (c.deref-2.ensures.value ∙ ap (λ (x : Trail). x.literals.items) c.assignment-trail.ensures) ∙ ap (learned_clause t.literals.items p) c.deref-3.ensures.value in
-    let st : c.deref-5.result.now ≡ t.starts.items = c.deref-5.ensures.value ∙ ap (λ (x : Trail). x.starts.items) c.assignment-trail.ensures in
+    let st : c.deref-5.result.now ≡ t.level_starts.items = c.deref-5.ensures.value ∙ ap (λ (x : Trail). x.level_starts.items) c.assignment-trail.ensures in
     let lw : c.deref-6.result.now ≡ low = c.deref-6.ensures.value in
     let best = c.greatest-best.result in
     let S : List ℕ → Type 0 = λ xs. (best < length c.deref-6.result.now) × (get_or xs i 0 ≤ get_or c.deref-6.result.now best 0) in
-    let T : List ℕ → Type 0 = λ xs. (best < length xs) × (get_or t.starts.items i 0 ≤ get_or xs best 0) in
-    let seen : T low = subst T lw (subst S st (c.jump_level-level.ensures.seen i li)) in
-    let L : List ℕ → Type 0 = λ xs. c.jump_level-level.result < length xs in
-    let below : c.jump_level-level.result < length t.starts.items = subst L st c.jump_level-level.ensures.below in
+    let T : List ℕ → Type 0 = λ xs. (best < length xs) × (get_or t.level_starts.items i 0 ≤ get_or xs best 0) in
+    let seen : T low = subst T lw (subst S st (c.jump_level-backjump_level.ensures.seen i li)) in
+    let L : List ℕ → Type 0 = λ xs. c.jump_level-backjump_level.result < length xs in
+    let below : c.jump_level-backjump_level.result < length t.level_starts.items = subst L st c.jump_level-backjump_level.ensures.below in
     let lin : i < n = omega arith in
-    let s = get_or t.starts.items i 0 in
+    let s = get_or t.level_starts.items i 0 in
     let lows : All (λ q. q < floor) low = c.in_ok-kept.ensures.below in
     let P : List Lit → Type 0 = λ x. (best + 1 < length x) × (is_literal (at x 0) (at x (best + 1)) ≡ false) × (among (take s t.literals.items) (negate (at x 0)) ≡ false)
     × (among (take s t.literals.items) (negate (at x (best + 1))) ≡ false) in

@@ -11,20 +11,20 @@ returns-clause-done g c =
     let t = g.P.Propagator.trail c.args.inner.now in
     let cs = g.P.Propagator.clauses c.args.inner.now in
     let literals = t.literals.items in
-    let starts = t.starts.items in
-    let n = c.args.lesson.now.level in
-    let x = c.args.lesson.now.clause.items in
+    let level_starts = t.level_starts.items in
+    let n = c.args.learned.now.backjump_level in
+    let x = c.args.learned.now.clause.items in
     let said = c.requires in
     let new = c.learn.new.self in
     let cs' = g.P.Propagator.clauses new in
     let literals' = (g.P.Propagator.trail new).literals.items in
-    let starts' = (g.P.Propagator.trail new).starts.items in
+    let level_starts' = (g.P.Propagator.trail new).level_starts.items in
     let grown : cs' ≡ cs ++ x ∷ [] = c.in_ok-learn.ensures.done ∙ ap (λ ys. ys ++ c.deref.result.now ∷ []) c.undo.ensures.clauses_kept ∙ ap (λ y. cs ++ y ∷ []) c.deref.ensures.value in
-    let el : literals' ≡ take (get_or starts n 0) literals = c.in_ok-learn.ensures.literals ∙ c.undo.ensures.literals in
-    let es : starts' ≡ take n starts = c.in_ok-learn.ensures.starts ∙ c.undo.ensures.starts in
-    let rest = rest_after cs x literals starts n said.level_in t.rising t.in_trail c.requires.rest said.settled in
-    let P : List (List Lit) → Type 0 = λ ys. PerLevel (λ low _. AtRest ys low) (take (get_or starts n 0) literals) (take n starts) in
-    let Q : List Lit → Type 0 = λ ys. PerLevel (λ low _. AtRest cs' low) ys (take n starts) in
+    let el : literals' ≡ take (get_or level_starts n 0) literals = c.in_ok-learn.ensures.literals ∙ c.undo.ensures.literals in
+    let es : level_starts' ≡ take n level_starts = c.in_ok-learn.ensures.level_starts ∙ c.undo.ensures.level_starts in
+    let rest = rest_after cs x literals level_starts n said.level_in t.rising t.in_trail c.requires.rest said.settled in
+    let P : List (List Lit) → Type 0 = λ ys. PerLevel (λ low _. AtRest ys low) (take (get_or level_starts n 0) literals) (take n level_starts) in
+    let Q : List Lit → Type 0 = λ ys. PerLevel (λ low _. AtRest cs' low) ys (take n level_starts) in
     let R : List ℕ → Type 0 = λ ys. PerLevel (λ low _. AtRest cs' low) literals' ys in
     (x, grown, said.within, said.learned, (n, said.level_in, el, es, subst R (sym es) (subst Q (sym el) (subst P (sym grown) rest))))
 
@@ -32,12 +32,12 @@ pub learn-requires-clause-watch : goal.learn-requires-clause-watch
 learn-requires-clause-watch g c =
     let t = g.P.Propagator.trail c.args.inner.now in
     let literals = t.literals.items in
-    let starts = t.starts.items in
-    let n = c.args.lesson.now.level in
-    let w = c.args.lesson.now.second in
+    let level_starts = t.level_starts.items in
+    let n = c.args.learned.now.backjump_level in
+    let w = c.args.learned.now.second_watch in
     let said = c.requires in
-    let can = watchable_after t n c.args.lesson.now.clause.items w said.level_in said.watch in
-    let P : List Lit → Type 0 = λ x. Watchable x (take n starts) c.args.lesson.now.clause.items w in
-    let Q : List ℕ → Type 0 = λ x. Watchable (g.P.Propagator.trail c.undo.new.self).literals.items x c.args.lesson.now.clause.items w in
-    let R : List Lit → Type 0 = λ x. Watchable (g.P.Propagator.trail c.undo.new.self).literals.items (g.P.Propagator.trail c.undo.new.self).starts.items x w in
-    subst R (sym c.deref.ensures.value) (subst Q (sym c.undo.ensures.starts) (subst P (sym c.undo.ensures.literals) can))
+    let can = watchable_after t n c.args.learned.now.clause.items w said.level_in said.watch in
+    let P : List Lit → Type 0 = λ x. Watchable x (take n level_starts) c.args.learned.now.clause.items w in
+    let Q : List ℕ → Type 0 = λ x. Watchable (g.P.Propagator.trail c.undo.new.self).literals.items x c.args.learned.now.clause.items w in
+    let R : List Lit → Type 0 = λ x. Watchable (g.P.Propagator.trail c.undo.new.self).literals.items (g.P.Propagator.trail c.undo.new.self).level_starts.items x w in
+    subst R (sym c.deref.ensures.value) (subst Q (sym c.undo.ensures.level_starts) (subst P (sym c.undo.ensures.literals) can))

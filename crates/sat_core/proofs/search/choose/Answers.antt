@@ -19,10 +19,10 @@ returns-in_ok-core_of-in-Fails-clause-says g c budget over =
     let off : A t = subst A c.assignment.ensures c.in-Fails.ensures.says.1 in
     let all = decisions_assumed t cs assumptions a c.requires.levels c.in-Fails.ensures.says.0 off in
     let core = c.in_ok-core_of-in-Fails.field-0.items in (
-      All-weaker (λ l. (a ≡ l) ⊎ Contains (decided t.literals.items t.starts.items) l) (Contains assumptions) (λ l h.
+      All-weaker (λ l. (a ≡ l) ⊎ Contains (decided t.literals.items t.level_starts.items) l) (Contains assumptions) (λ l h.
           elim h [
             | inl e ↦ let P : Lit → Type 0 = Contains assumptions in subst P e c.in-Fails.ensures.says.0
-            | inr d ↦ All-contains (Contains assumptions) (decided t.literals.items t.starts.items) l all d
+            | inr d ↦ All-contains (Contains assumptions) (decided t.literals.items t.level_starts.items) l all d
           ]) core c.in_ok-core_of-in-Fails.ensures.parts,
       c.in_ok-core_of-in-Fails.ensures.refuted,
     )
@@ -33,7 +33,7 @@ returns-in_ok-decide-in-Decide-clause-levels g c =
     let u = g.P.Propagator.trail c.decide.new.self in
     let done = c.in_ok-decide-in-Decide.ensures in
     levels_decide t u (g.P.Propagator.clauses c.args.inner.now) (g.P.Propagator.clauses c.decide.new.self) c.args.assumptions.now c.in-Decide.l
-    c.requires.levels c.requires.rest (inl c.in-Decide.ensures.says.0) done.literals done.starts done.clauses_kept
+    c.requires.levels c.requires.rest (inl c.in-Decide.ensures.says.0) done.literals done.level_starts done.clauses_kept
 
 pub returns-in_ok-decide-in-Some-clause-levels : goal.returns-in_ok-decide-in-Some-clause-levels
 returns-in_ok-decide-in-Some-clause-levels g c =
@@ -43,4 +43,4 @@ returns-in_ok-decide-in-Some-clause-levels g c =
     let A : Trail → Type 0 = λ x. All (λ a. among x.literals.items a ≡ true) c.args.assumptions.now in
     let l : Lit = record { var = c.in-Some.var; positive = c.sign-positive.result } in
     levels_decide t u (g.P.Propagator.clauses c.args.inner.now) (g.P.Propagator.clauses c.decide-in-Some.new.self) c.args.assumptions.now l
-    c.requires.levels c.requires.rest (inr (subst A c.assignment.ensures c.in-AllTrue.ensures.says)) done.literals done.starts done.clauses_kept
+    c.requires.levels c.requires.rest (inr (subst A c.assignment.ensures c.in-AllTrue.ensures.says)) done.literals done.level_starts done.clauses_kept

@@ -29,7 +29,7 @@ pub returns-clause-parts : goal.returns-clause-parts
 returns-clause-parts g c =
     let t = g.P.Propagator.trail c.args.inner.now in
     let a = c.args.a in
-    let D : Lit → Type 0 = Contains (decided t.literals.items t.starts.items) in
+    let D : Lit → Type 0 = Contains (decided t.literals.items t.level_starts.items) in
     let pushed : c.push.new.self.items ≡ [] ++ a ∷ [] = c.in_ok-push.ensures.items ∙ ap (λ xs. xs ++ a ∷ []) c.new-core.ensures.items in
     All-weaker (λ x. Contains c.push.new.self.items x ⊎ D x) (λ x. (a ≡ x) ⊎ D x) (λ x h.
     elim h [

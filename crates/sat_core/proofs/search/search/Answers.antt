@@ -23,7 +23,7 @@ returns-then-len-eq0-clause-says g c =
     let cs = g.P.Propagator.clauses new in
     let k = c.in-Some.k in
     let h : FalseClause cs t k = rw c.in-Some.is at c.in_ok-k.ensures.says in
-    let none : length t.starts.items ≡ 0 = omega (arith, c.if-len-eq0.true, c.len.ensures, c.assignment.result.now.starts.ok.0, ap (λ (x : Trail). length x.starts.items) c.assignment.ensures) in
+    let none : length t.level_starts.items ≡ 0 = omega (arith, c.if-len-eq0.true, c.len.ensures, c.assignment.result.now.level_starts.ok.0, ap (λ (x : Trail). length x.level_starts.items) c.assignment.ensures) in
     let P : List Lit → Type 0 = All (Contains c.args.assumptions.now) in
     (subst P (sym c.new.ensures.items) (All-nil (Contains c.args.assumptions.now)), refuted_root t cs k (g.met.P.Propagator.based new) h.0 h.1 none c.new.result.items)
 
@@ -62,17 +62,17 @@ search-preserved-in-Some g c =
     let levels = levels_went (g.P.Propagator.trail old) t (g.P.Propagator.clauses old) cs assumptions c.search.invariant.levels c.in_ok-k.ensures.extends c.in_ok-k.ensures.clauses_kept in
     let L : List (List Lit) → Type 0 = GrowsByLearning vars assumptions (g.P.Propagator.clauses first) in
     let learned : L cs = subst L (sym c.in_ok-k.ensures.clauses_kept) c.search.invariant.learned in
-    let S : ℕ → Type 0 = λ n. LearnSays n cs t.literals.items t.starts.items cs' u.literals.items u.starts.items in
+    let S : ℕ → Type 0 = λ n. LearnSays n cs t.literals.items t.level_starts.items cs' u.literals.items u.level_starts.items in
     let said : S vars = subst S same c.in_ok-follow-in-Some.ensures.done in
     let more = said.4 in
     let K : List (List Lit) → Type 0 = PaidFor (g.Q.Purse.tickets c.args.purse.now) (g.Q.Purse.tickets c.search.purse) (g.P.Propagator.clauses first) in
     let I : Trail → Type 0 = λ x. IsSeen x.literals.items assumptions c.still_seen-seen.result in
     record {
-      learned = learnt_more vars assumptions t.literals.items t.starts.items (g.P.Propagator.clauses first) cs cs' u.literals.items u.starts.items learned
+      learned = learnt_more vars assumptions t.literals.items t.level_starts.items (g.P.Propagator.clauses first) cs cs' u.literals.items u.level_starts.items learned
           (assumptions_first t cs assumptions (g.met.P.Propagator.based mid) levels) said;
       vars = c.in_ok-follow-in-Some.ensures.vars ∙ same;
-      levels = level_after t cs cs' assumptions u.literals.items u.starts.items more.0 more.1 more.2 more.3 more.4 levels;
-      seen = subst I c.assignment-in-Some.ensures (c.still_seen-seen.ensures t.literals.items assumptions (get_or t.starts.items more.0 0)
+      levels = level_after t cs cs' assumptions u.literals.items u.level_starts.items more.0 more.1 more.2 more.3 more.4 levels;
+      seen = subst I c.assignment-in-Some.ensures (c.still_seen-seen.ensures t.literals.items assumptions (get_or t.level_starts.items more.0 0)
           (ap (λ (x : Trail). x.literals.items) c.assignment-in-Some.ensures ∙ more.2)
           (seen_went (g.P.Propagator.trail old).literals.items t.literals.items assumptions c.search.seen c.in_ok-k.ensures.extends.prefix c.search.invariant.seen));
       kept = g.met.Q.Purse.kept_trans c.args.purse.now c.search.purse c.draw.new.self c.search.invariant.kept c.in_default.ensures.kept;
@@ -122,8 +122,8 @@ returns-then-len-eq0-clause-log g c =
     turn_paid (length (g.P.Propagator.trail first).values.items) c.args.assumptions.now (g.P.Propagator.clauses first) (g.P.Propagator.clauses c.search.inner) (g.P.Propagator.clauses c.propagate.new.self)
     (g.Q.Purse.tickets c.args.purse.now) (g.Q.Purse.tickets c.search.purse) (g.Q.Purse.tickets c.search.purse) inv.learned inv.paid (c.in_ok-k.ensures.clauses_kept) refl
 
-pub returns-in_err-lesson-in-Some-clause-log : goal.returns-in_err-lesson-in-Some-clause-log
-returns-in_err-lesson-in-Some-clause-log g c =
+pub returns-in_err-learned-in-Some-clause-log : goal.returns-in_err-learned-in-Some-clause-log
+returns-in_err-learned-in-Some-clause-log g c =
     let first = c.args.inner.now in
     let inv = c.search.invariant in
     turn_paid (length (g.P.Propagator.trail first).values.items) c.args.assumptions.now (g.P.Propagator.clauses first) (g.P.Propagator.clauses c.search.inner) (g.P.Propagator.clauses c.propagate.new.self)
@@ -162,11 +162,11 @@ returns-in_err-follow-in-Some-clause-log g c =
     let vars = length (g.P.Propagator.trail first).values.items in
     let same : length t.values.items ≡ vars = c.in_ok-k.ensures.extends.vars ∙ inv.vars in
     let levels = levels_went (g.P.Propagator.trail old) t (g.P.Propagator.clauses old) cs assumptions inv.levels c.in_ok-k.ensures.extends c.in_ok-k.ensures.clauses_kept in
-    let x = c.in_ok-lesson-in-Some.lesson.clause.items in
+    let x = c.in_ok-learned-in-Some.learned.clause.items in
     let W : ℕ → Type 0 = λ n. Within n x in
     let step : IsLearned vars assumptions cs x =
-    is_learned vars assumptions cs (decided t.literals.items t.starts.items) x (subst W same c.in_ok-lesson-in-Some.ensures.within)
-    (assumptions_first t cs assumptions (g.met.P.Propagator.based mid) levels) c.in_ok-lesson-in-Some.ensures.learned in
+    is_learned vars assumptions cs (decided t.literals.items t.level_starts.items) x (subst W same c.in_ok-learned-in-Some.ensures.within)
+    (assumptions_first t cs assumptions (g.met.P.Propagator.based mid) levels) c.in_ok-learned-in-Some.ensures.learned in
     let L : List (List Lit) → Type 0 = λ ys. IsLearned vars assumptions ys x in
     turn_lost vars assumptions (g.P.Propagator.clauses first) (g.P.Propagator.clauses old) (g.P.Propagator.clauses c.follow.new.inner)
     (g.Q.Purse.tickets c.args.purse.now) (g.Q.Purse.tickets c.search.purse) (g.Q.Purse.tickets c.draw.new.self) c.in_default.field-0 x inv.learned inv.paid

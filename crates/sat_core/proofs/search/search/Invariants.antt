@@ -10,7 +10,7 @@ invariant-search g l =
     record {
       learned : GrowsByLearning (length (g.P.Propagator.trail l.fn.inner).values.items) l.assumptions (g.P.Propagator.clauses l.fn.inner) (g.P.Propagator.clauses l.inner);
       vars : length (g.P.Propagator.trail l.inner).values.items ≡ length (g.P.Propagator.trail l.fn.inner).values.items;
-      levels : PerLevel (Level (g.P.Propagator.clauses l.inner) l.assumptions) (g.P.Propagator.trail l.inner).literals.items (g.P.Propagator.trail l.inner).starts.items;
+      levels : PerLevel (Level (g.P.Propagator.clauses l.inner) l.assumptions) (g.P.Propagator.trail l.inner).literals.items (g.P.Propagator.trail l.inner).level_starts.items;
       seen : IsSeen (g.P.Propagator.trail l.inner).literals.items l.assumptions l.seen;
       kept : g.Q.Purse.kept l.fn.purse l.purse;
       ready : g.Q.Purse.ready l.purse;

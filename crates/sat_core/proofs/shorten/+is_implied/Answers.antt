@@ -74,7 +74,7 @@ loop-x-preserved g t c =
     let v = c.loop-x.marks in
     let inv = c.loop-x.invariant in
     let li : i < length xs = omega arith in
-    let place : Lit → ℕ = λ m. get_or x.places.items m.var 0 in
+    let place : Lit → ℕ = λ m. get_or x.positions.items m.var 0 in
     let D : List Bool → Lit → Type 0 = λ ms m. (place m ≡ q → ⊥) → Marked ms (place m) in
     elim c.if-r-q.branch [
       | then-r-q+then-not-marks-r+else-not-is_implied b ↦
@@ -113,9 +113,9 @@ returns-clause-says g t c holds =
     let ew : w ≡ reason_at u.literals.items u.reasons.items q = why_read x u c.index.result.now w q c.assignment-trail.ensures c.index.ensures c.index-reason.ensures c.requires.q_in in
     let xs = c.clause-x-items.result.now in
     let v = c.loop-x.marks in
-    let place : Lit → ℕ = λ m. get_or u.places.items m.var 0 in
-    let D : List Lit → Type 0 = All (λ m. (get_or x.places.items m.var 0 ≡ q → ⊥) → Marked v (get_or x.places.items m.var 0)) in
-    let E : Trail → Type 0 = λ y. All (λ m. (get_or y.places.items m.var 0 ≡ q → ⊥) → Marked v (get_or y.places.items m.var 0)) xs in
+    let place : Lit → ℕ = λ m. get_or u.positions.items m.var 0 in
+    let D : List Lit → Type 0 = All (λ m. (get_or x.positions.items m.var 0 ≡ q → ⊥) → Marked v (get_or x.positions.items m.var 0)) in
+    let E : Trail → Type 0 = λ y. All (λ m. (get_or y.positions.items m.var 0 ≡ q → ⊥) → Marked v (get_or y.positions.items m.var 0)) xs in
     let F : List Lit → Type 0 = All (λ m. (place m ≡ q → ⊥) → Marked v (place m)) in
     let K : ℕ → Type 0 = λ n. F (get_or cs (n - 1) []) in
     let whole : D xs = subst D (take_all c.loop-x.x-index xs (omega arith)) c.loop-x.invariant.done in

@@ -11,5 +11,5 @@ abbrev pub invariant-loop-x : goal.invariant-loop-x
 invariant-loop-x g l =
     record {
       marks : MarksImplied (g.P.Propagator.trail l.inner) (g.P.Propagator.clauses l.inner) l.first l.fn.marks l.marks;
-      done : All (λ m. (get_or l.trail.places.items m.var 0 ≡ l.q → ⊥) → Marked l.marks (get_or l.trail.places.items m.var 0)) (take l.x-index l.x-items);
+      done : All (λ m. (get_or l.trail.positions.items m.var 0 ≡ l.q → ⊥) → Marked l.marks (get_or l.trail.positions.items m.var 0)) (take l.x-index l.x-items);
     }

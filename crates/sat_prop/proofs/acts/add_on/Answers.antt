@@ -37,8 +37,8 @@ pub returns-in_err-attach-clause-levels : goal.returns-in_err-attach-clause-leve
 returns-in_err-attach-clause-levels c =
     let t = c.args.trail.now in
     let said = c.in_err-attach.ensures in
-    let P : List (List Lit) → Type 0 = λ x. LevelsGuarded x (pairs c.attach.new.rows) t.literals.items t.starts.items in
-    let Q : List Watches → Type 0 = λ x. LevelsGuarded c.args.clauses.now x t.literals.items t.starts.items in
+    let P : List (List Lit) → Type 0 = λ x. LevelsGuarded x (pairs c.attach.new.rows) t.literals.items t.level_starts.items in
+    let Q : List Watches → Type 0 = λ x. LevelsGuarded c.args.clauses.now x t.literals.items t.level_starts.items in
     subst P (sym said.failed) (subst Q (sym (ap pairs said.failed_rows)) c.requires.levels)
 
 pub returns-clause-based_in : goal.returns-clause-based_in
@@ -53,9 +53,9 @@ pub returns-clause-levels : goal.returns-clause-levels
 returns-clause-levels c =
     let t = c.args.trail.now in
     let said = c.in_ok-attach.ensures in
-    let new = levels_new c.args.clauses.now (pairs c.args.rows.now) c.args.c.now c.args.w c.watches_of-h.result t.literals.items t.starts.items (pairs_len c.args.rows.now c.args.clauses.now c.requires.rows_len) c.watches_of-h.ensures c.requires.watch c.requires.levels in
-    let P : List (List Lit) → Type 0 = λ x. LevelsGuarded x (pairs c.attach.new.rows) t.literals.items t.starts.items in
-    let Q : List Watches → Type 0 = λ x. LevelsGuarded (c.args.clauses.now ++ c.args.c.now ∷ []) x t.literals.items t.starts.items in
+    let new = levels_new c.args.clauses.now (pairs c.args.rows.now) c.args.c.now c.args.w c.watches_of-h.result t.literals.items t.level_starts.items (pairs_len c.args.rows.now c.args.clauses.now c.requires.rows_len) c.watches_of-h.ensures c.requires.watch c.requires.levels in
+    let P : List (List Lit) → Type 0 = λ x. LevelsGuarded x (pairs c.attach.new.rows) t.literals.items t.level_starts.items in
+    let Q : List Watches → Type 0 = λ x. LevelsGuarded (c.args.clauses.now ++ c.args.c.now ∷ []) x t.literals.items t.level_starts.items in
     subst P (sym said.done) (subst Q (sym (ap pairs said.done_rows ∙ pairs_push c.args.rows.now c.watches_of-h.result c.args.c.now)) new)
 
 pub returns-clause-queue : goal.returns-clause-queue
@@ -93,13 +93,13 @@ pub returns-in_err-attach-clause-swept : goal.returns-in_err-attach-clause-swept
 returns-in_err-attach-clause-swept c =
     let t = c.args.trail.now in
     let said = c.in_err-attach.ensures in
-    swept_same c.args.clauses.now c.attach.new.clauses c.args.short.now.items c.attach.new.short.items c.args.swept (root t.literals.items t.starts.items)
+    swept_same c.args.clauses.now c.attach.new.clauses c.args.short.now.items c.attach.new.short.items c.args.swept (root t.literals.items t.level_starts.items)
     said.failed said.short_kept c.requires.swept
 
 pub returns-clause-swept : goal.returns-clause-swept
 returns-clause-swept c =
     let t = c.args.trail.now in
     let said = c.in_ok-attach.ensures in
-    let u = root t.literals.items t.starts.items in
+    let u = root t.literals.items t.level_starts.items in
     let P : List (List Lit) → Type 0 = λ x. ShortSwept x c.attach.new.short.items c.args.swept u in
     subst P (sym said.done) (swept_added c.args.clauses.now (c.args.c.now ∷ []) c.args.short.now.items c.attach.new.short.items c.args.swept u said.short_kept c.requires.swept)

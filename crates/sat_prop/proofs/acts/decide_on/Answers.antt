@@ -13,7 +13,7 @@ returns-in_err-decide-clause-levels c =
     let cs = c.args.clauses.now in
     let hs = (pairs c.args.rows.now) in
     let said = c.in_err-decide.ensures in
-    let P : List Lit → Type 0 = λ x. LevelsGuarded cs hs x c.decide.new.self.starts.items in
+    let P : List Lit → Type 0 = λ x. LevelsGuarded cs hs x c.decide.new.self.level_starts.items in
     let Q : List ℕ → Type 0 = λ x. LevelsGuarded cs hs c.args.trail.now.literals.items x in
     subst P (sym said.literals_kept) (subst Q (sym said.starts_kept) c.requires.levels)
 
@@ -29,9 +29,9 @@ returns-clause-levels c =
     let W : List Lit → Type 0 = λ x. AllGuarded cs hs x literals in
     let whole : W literals = subst W (take_all c.args.head literals (omega (arith, c.requires.rested))) c.requires.queue in
     let new = levels_decide cs hs c.args.trail.now c.args.l whole c.requires.rested_short c.requires.levels in
-    let P : List Lit → Type 0 = λ x. LevelsGuarded cs hs x c.decide.new.self.starts.items in
+    let P : List Lit → Type 0 = λ x. LevelsGuarded cs hs x c.decide.new.self.level_starts.items in
     let Q : List ℕ → Type 0 = λ x. LevelsGuarded cs hs (literals ++ c.args.l ∷ []) x in
-    subst P (sym said.literals) (subst Q (sym said.starts) new)
+    subst P (sym said.literals) (subst Q (sym said.level_starts) new)
 
 pub returns-clause-queue : goal.returns-clause-queue
 returns-clause-queue c =
@@ -44,12 +44,12 @@ pub returns-in_err-decide-clause-swept : goal.returns-in_err-decide-clause-swept
 returns-in_err-decide-clause-swept c =
     let said = c.in_err-decide.ensures in
     let S : List Lit → Type 0 = ShortSwept c.args.clauses.now c.args.short.now c.args.swept in
-    let P : List Lit → Type 0 = λ x. S (root x c.decide.new.self.starts.items) in
+    let P : List Lit → Type 0 = λ x. S (root x c.decide.new.self.level_starts.items) in
     let Q : List ℕ → Type 0 = λ x. S (root c.args.trail.now.literals.items x) in
     subst P (sym said.literals_kept) (subst Q (sym said.starts_kept) c.requires.swept)
 
 pub returns-clause-swept : goal.returns-clause-swept
 returns-clause-swept c =
     let new = c.decide.new.self in
-    swept_decide c.args.clauses.now c.args.short.now c.args.swept c.args.trail.now c.args.l new.literals.items new.starts.items
-    c.in_ok-decide.ensures.literals c.in_ok-decide.ensures.starts c.requires.swept
+    swept_decide c.args.clauses.now c.args.short.now c.args.swept c.args.trail.now c.args.l new.literals.items new.level_starts.items
+    c.in_ok-decide.ensures.literals c.in_ok-decide.ensures.level_starts c.requires.swept

@@ -28,4 +28,4 @@ returns-clause-queue c =
 pub returns-clause-levels : goal.returns-clause-levels
 returns-clause-levels c =
     let t = c.args.trail.now in
-    retired_levels c.add_on.new.clauses c.add_on.new.rows c.retire_covered.new.rows t.literals.items t.starts.items c.retire_covered.ensures c.in_ok-add_on.ensures.levels
+    retired_levels c.add_on.new.clauses c.add_on.new.rows c.retire_covered.new.rows t.literals.items t.level_starts.items c.retire_covered.ensures c.in_ok-add_on.ensures.levels

@@ -9,16 +9,16 @@ pub returns-then-q-n-clause-open : goal.returns-then-q-n-clause-open
 returns-then-q-n-clause-open c =
     let t = c.args.trail.now in
     let v = c.args.l.var in
-    let lv : v < length t.places.items = omega (arith, c.requires.in_range, t.places_len) in
-    let e : c.index-q.result.now ≡ get_or t.places.items v 0 = get_or_read_under t.places.items v (length t.places.items) c.index-q.result.now 0 c.index-q.ensures lv refl in
+    let lv : v < length t.positions.items = omega (arith, c.requires.in_range, t.places_len) in
+    let e : c.index-q.result.now ≡ get_or t.positions.items v 0 = get_or_read_under t.positions.items v (length t.positions.items) c.index-q.result.now 0 c.index-q.ensures lv refl in
     not_before t c.args.l c.index-q.result.now (omega (arith, c.requires.low)) (omega (arith, e))
 
 pub returns-else-q-n-clause-open : goal.returns-else-q-n-clause-open
 returns-else-q-n-clause-open c =
     let t = c.args.trail.now in
     let v = c.args.l.var in
-    let lv : v < length t.places.items = omega (arith, c.requires.in_range, t.places_len) in
-    let e : c.index-q.result.now ≡ get_or t.places.items v 0 = get_or_read_under t.places.items v (length t.places.items) c.index-q.result.now 0 c.index-q.ensures lv refl in
+    let lv : v < length t.positions.items = omega (arith, c.requires.in_range, t.places_len) in
+    let e : c.index-q.result.now ≡ get_or t.positions.items v 0 = get_or_read_under t.positions.items v (length t.positions.items) c.index-q.result.now 0 c.index-q.ensures lv refl in
     not_before t c.args.l c.args.n c.requires.low (omega (arith, e))
 
 pub returns-else-is_false-clause-open : goal.returns-else-is_false-clause-open

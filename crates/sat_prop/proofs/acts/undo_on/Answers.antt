@@ -12,9 +12,9 @@ returns-clause-levels c =
     let cs = c.args.clauses.now in
     let hs = (pairs c.args.rows.now) in
     let said = c.undo.ensures in
-    let P : List Lit → Type 0 = λ x. LevelsGuarded cs hs x c.undo.new.self.starts.items in
-    let Q : List ℕ → Type 0 = λ x. LevelsGuarded cs hs (take (get_or t.starts.items c.args.level 0) t.literals.items) x in
-    subst P (sym said.literals) (subst Q (sym said.starts) (levels_back cs hs t c.args.level c.requires.level c.requires.levels))
+    let P : List Lit → Type 0 = λ x. LevelsGuarded cs hs x c.undo.new.self.level_starts.items in
+    let Q : List ℕ → Type 0 = λ x. LevelsGuarded cs hs (take (get_or t.level_starts.items c.args.level 0) t.literals.items) x in
+    subst P (sym said.literals) (subst Q (sym said.level_starts) (levels_back cs hs t c.args.level c.requires.level c.requires.levels))
 
 pub returns-clause-queue : goal.returns-clause-queue
 returns-clause-queue c =
@@ -25,5 +25,5 @@ returns-clause-queue c =
 pub returns-clause-swept : goal.returns-clause-swept
 returns-clause-swept c =
     let new = c.undo.new.self in
-    swept_undo c.args.clauses.now c.args.short.now c.args.swept c.args.trail.now c.args.level new.literals.items new.starts.items c.requires.level
-    c.undo.ensures.literals c.undo.ensures.starts c.requires.swept
+    swept_undo c.args.clauses.now c.args.short.now c.args.swept c.args.trail.now c.args.level new.literals.items new.level_starts.items c.requires.level
+    c.undo.ensures.literals c.undo.ensures.level_starts c.requires.swept

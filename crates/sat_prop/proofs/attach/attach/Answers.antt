@@ -1,6 +1,6 @@
 use Rattle.std.proofs.Common.{◌≡◌, ℕ, ◌∷◌, ◌++◌, List, [], true, length, subst, sym, ap, ◌∙◌}
 use Rattle.clause_core.specs.declared.literal.Lit.{Lit}
-use Rattle.sat_prop.specs.declared.lists.Entry.{Entry}
+use Rattle.sat_prop.specs.declared.lists.Watcher.{Watcher}
 use Rattle.sat_prop.specs.declared.watch.Watches.{Watches}
 use Rattle.sat_prop.specs.Entries.{AllEntries, fits, listed_with, numbers_of}
 use Rattle.sat_prop.specs.Packing.{pairs, row_of, RowsMatch}
@@ -14,7 +14,7 @@ pub returns-in-Err-push-clause-all_listed : goal.returns-in-Err-push-clause-all_
 returns-in-Err-push-clause-all_listed c =
     let said = c.in_ok-enlist.ensures in
     let R : List (List Lit) → Type 0 = λ x. AllListed (pairs x) (numbers_of c.delist-in-Err-push.new.lists) in
-    let L : List (List Entry) → Type 0 = λ x. AllListed (pairs c.args.rows.now) (numbers_of x) in
+    let L : List (List Watcher) → Type 0 = λ x. AllListed (pairs c.args.rows.now) (numbers_of x) in
     let rows = popped c.args.rows.now c.push.new.self c.pop.new.self (row_of c.args.h c.args.c.now) c.in_default.ensures.done c.pop.ensures in
     let lists = delisted c.args.lists.now c.enlist.new.lists c.delist-in-Err-push.new.lists c.args.h c.len-k.result said.same said.both c.delist-in-Err-push.ensures.same c.delist-in-Err-push.ensures.undone in
     subst R (sym rows) (subst L (sym lists) c.requires.all_listed)

@@ -1,5 +1,5 @@
 use Rattle.std.proofs.Common.{◌≡◌, ◌-◌, ℕ, List, [], length, take, get_or, set, arith, subst}
-use Rattle.sat_prop.specs.declared.lists.Entry.{Entry}
+use Rattle.sat_prop.specs.declared.lists.Watcher.{Watcher}
 use Rattle.sat_prop.proofs.Listing.{undone_both}
 use Rattle.sat_prop.proofs.attach.unlist_both.Goals as goal
 
@@ -9,7 +9,7 @@ returns c before k len same =
     let now = c.args.lists.now in
     let mid = c.pop.new.self in
     let last = c.pop-2.new.self in
-    let P : List (List Entry) → List (List Entry) → ℕ → Type 0 = λ old new n. new ≡ set old n (take (length (get_or old n []) - 1) (get_or old n [])) in
+    let P : List (List Watcher) → List (List Watcher) → ℕ → Type 0 = λ old new n. new ≡ set old n (take (length (get_or old n []) - 1) (get_or old n [])) in
     let Q : ℕ → Type 0 = P now mid in
     let R : ℕ → Type 0 = P mid last in
     undone_both before mid last now h k (omega (arith, c.requires.a_cell, len)) (omega (arith, c.requires.b_cell, len)) same

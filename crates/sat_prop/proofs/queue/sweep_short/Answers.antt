@@ -64,8 +64,8 @@ short-preserved c =
           let in_why : l.var < length t.reasons.items = omega (arith, in_now, t.reasons_len) in
           let done = w.in_ok-imply-in-UnitOn.ensures in
           let new = w.imply.new.self in
-          let step = went_push c.args.trail.now t new l inv.extends in_now u.1 u.2 done.literals done.values done.starts in
-          let one = went_push t t new l (went_none t) in_now u.1 u.2 done.literals done.values done.starts in
+          let step = went_push c.args.trail.now t new l inv.extends in_now u.1 u.2 done.literals done.values done.level_starts in
+          let one = went_push t t new l (went_none t) in_now u.1 u.2 done.literals done.values done.level_starts in
           let based' : B new = rw (done.literals, done.reasons) (based_push t.values.items t.reasons.items t.literals.items cs l k in_why t.values_ok u.1 u.2 lk u.0 inv.based) in
           let on : among new.literals.items l ≡ true =
           among_here new.literals.items (length t.literals.items) l (omega (arith, ap length done.literals, length-append t.literals.items (l ∷ []))) (ap (λ xs. at xs (length t.literals.items)) done.literals ∙ at_end t.literals.items l) in

@@ -40,7 +40,7 @@ loop-k-preserved c =
           let done = w.in_ok-imply-in-UnitOn.ensures in
           let new = w.imply.new.self in
           let step : Extends c.args.trail.now new × (unset new.values.items < unset c.args.trail.now.values.items) =
-          went_push c.args.trail.now t new l c.loop-k.invariant.extends in_now u.1 u.2 done.literals done.values done.starts in
+          went_push c.args.trail.now t new l c.loop-k.invariant.extends in_now u.1 u.2 done.literals done.values done.level_starts in
           let based = based_push t.values.items t.reasons.items t.literals.items cs l k in_why t.values_ok u.1 u.2 lk u.0 c.loop-k.invariant.based in
           let B : Trail → Type 0 = λ x. Based x.literals.items x.reasons.items cs in
           let W : Trail → Type 0 = λ x. Extends c.args.trail.now x in

@@ -23,7 +23,7 @@ loop-p-preserved c =
     let P : ℕ → Type 0 = λ n. ValuesMatch v (take n tr) in
     let vals : P (p + 1) = subst P e c.loop-p.invariant.values in
     let in_v : (at tr p).var < length v = omega (arith, c.requires.within p none_lit lt, c.loop-p.invariant.vars) in
-    record { values = values_pop v c.args.places.now tr p lt c.requires.placed in_v vals; vars = length-set _ _ _ ∙ c.loop-p.invariant.vars; low = omega arith }
+    record { values = values_pop v c.args.positions.now tr p lt c.requires.placed in_v vals; vars = length-set _ _ _ ∙ c.loop-p.invariant.vars; low = omega arith }
 
 pub returns-clause-values : goal.returns-clause-values
 returns-clause-values c =

@@ -11,7 +11,7 @@ use Rattle.sat_prop.specs.Packing.{pair_of, pairs, rewatched}
 use Rattle.sat_prop.specs.Words.{literal_of}
 use Rattle.sat_prop.specs.declared.trail.Trail.{Trail}
 use Rattle.sat_prop.specs.declared.watch.Watches.{Watches}
-use Rattle.sat_prop.specs.declared.lists.Entry.{Entry}
+use Rattle.sat_prop.specs.declared.lists.Watcher.{Watcher}
 use Rattle.sat_prop.specs.Trails.{among, Based}
 use Rattle.sat_prop.specs.Entries.{fits, numbers, numbers_of}
 use Rattle.sat_prop.specs.Sifted.{put_back, whole}
@@ -36,7 +36,7 @@ is_set-requires c =
     let e = entry_of c.in-Some.slot in
     let lf : cell f < length c.visit.lists = omega (arith, inv.cells, c.requires.cells, cell_in f v c.requires.f_in) in
     let fit : fits cs e ≡ true = fit_front (fits cs) c.visit.lists f c.visit.sieve e lf c.in-Some.ensures inv.fit in
-    let lv : e.other.var < v = var_in (get_or cs e.clause []) v e.other (c.requires.within e.clause [] (fits_below cs e fit)) fit in
+    let lv : e.blocker.var < v = var_in (get_or cs e.clause []) v e.blocker (c.requires.within e.clause [] (fits_below cs e fit)) fit in
     omega (arith, lv, inv.extends.vars, ap length c.deref.ensures.value, ap (λ (l : Lit). l.var) c.literal.ensures)
 
 pub get-requires : goal.get-requires
@@ -60,14 +60,14 @@ visit-preserved-then-is_set c =
     let e = entry_of c.in-Some.slot in
     let lf : cell f < length c.visit.lists = omega (arith, inv.cells, c.requires.cells, cell_in f (length c.args.trail.now.values.items) c.requires.f_in) in
     let fit : fits cs e ≡ true = fit_front (fits cs) c.visit.lists f s e lf c.in-Some.ensures inv.fit in
-    let V : List ℕ → Type 0 = λ v. holds v e.other ≡ true in
+    let V : List ℕ → Type 0 = λ v. holds v e.blocker ≡ true in
     let L : Lit → Type 0 = λ l. holds c.deref.result.now l ≡ true in
     let set' : V c.deref.result.now = subst L c.literal.ensures (sym c.is_set.ensures ∙ c.if-is_set.true) in
-    let on : among t.literals.items e.other ≡ true = t.values_ok e.other ∙ subst V c.deref.ensures.value set' in
-    let hit = true_from t.literals.items (get_or cs e.clause []) e.other (contains_among (get_or cs e.clause []) e.other fit) on in
+    let on : among t.literals.items e.blocker ≡ true = t.values_ok e.blocker ∙ subst V c.deref.ensures.value set' in
+    let hit = true_from t.literals.items (get_or cs e.clause []) e.blocker (contains_among (get_or cs e.clause []) e.blocker fit) on in
     let A : List (List ℕ) → Type 0 = AllListed H in
-    let D : Entry → Type 0 = λ x. DoneWith cs H t.literals.items f x.clause in
-    let P : List Entry → Type 0 = λ xs. All D xs in
+    let D : Watcher → Type 0 = λ x. DoneWith cs H t.literals.items f x.clause in
+    let P : List Watcher → Type 0 = λ xs. All D xs in
     record {
       based = inv.based;
       extends = inv.extends;
@@ -102,7 +102,7 @@ visit-preserved-in_default-other_of c =
     let F : Watches → Type 0 = λ w. HasTwo w → (w.a ≡ f → ⊥) × (w.b ≡ f → ⊥) in
     let beside : F (watches_at H k) = subst F (sym (pair_at R k)) (subst B (ap literal_of c.word_of-fallen.ensures ∙ literal_cell f) (subst A c.get.ensures c.in_default-other_of.ensures.says)) in
     let far = apart_from (watches_at H k) f (cell f) refl beside in
-    let P : List Entry → Type 0 = λ xs. All (λ x. DoneWith cs H t.literals.items f x.clause) xs in
+    let P : List Watcher → Type 0 = λ xs. All (λ x. DoneWith cs H t.literals.items f x.clause) xs in
     record {
       based = inv.based;
       extends = inv.extends;
@@ -227,15 +227,15 @@ visit-preserved-in-Hit c =
     let s = c.visit.sieve in
     let s' = c.keep-in-Hit.new.self in
     let e = entry_of c.in-Some.slot in
-    let x : Entry = record { clause = k; other = literal_of c.in-Some-other_of.word } in
+    let x : Watcher = record { clause = k; blocker = literal_of c.in-Some-other_of.word } in
     let Q : List ℕ → Type 0 = λ v. holds v o ≡ true in
     let on : among t.literals.items o ≡ true = t.values_ok o ∙ subst Q c.deref-in-Some.ensures.value c.in-Hit.ensures in
     let hit = true_from t.literals.items (get_or cs k []) o (contains_among (get_or cs k []) o h.on) on in
     let F : Lit → Type 0 = λ l. among (get_or cs k []) l ≡ true in
     let fit : F (literal_of c.in-Some-other_of.word) = subst F c.literal-other.ensures h.on in
     let A : List (List ℕ) → Type 0 = AllListed H in
-    let D : Entry → Type 0 = λ y. DoneWith cs H t.literals.items f y.clause in
-    let P : List Entry → Type 0 = λ xs. All D xs in
+    let D : Watcher → Type 0 = λ y. DoneWith cs H t.literals.items f y.clause in
+    let P : List Watcher → Type 0 = λ xs. All D xs in
     record {
       based = inv.based;
       extends = inv.extends;
@@ -337,7 +337,7 @@ visit-preserved-in-Move c =
     let s = c.visit.sieve in
     let s' = c.skip-in-Move.new.self in
     let e = entry_of c.in-Some.slot in
-    let put : Entry = record { clause = k; other = o } in
+    let put : Watcher = record { clause = k; blocker = o } in
     let to = c.cell_of.result in
     let lg : to < length L = omega (arith, inv.cells, c.requires.cells, c.cell_of.ensures, cell_in g n gv) in
     let off : among t.literals.items (negate f) ≡ true = went_grows c.args.trail.now t inv.extends (negate f) c.requires.off in
@@ -371,8 +371,8 @@ visit-preserved-in-Move c =
     let B : List Watches → Type 0 = λ w. AllListed w (numbers_of (put_back L' f s')) in
     let K : List Watches → Type 0 = λ w. Kept cs (pairs c.args.rows.now) w c.args.trail.now.literals.items in
     let T : List Watches → Type 0 = λ w. KeepsTwo (pairs c.args.rows.now) w in
-    let D : List Watches → Entry → Type 0 = λ w x. DoneWith cs w t.literals.items f x.clause in
-    let P : List Entry → Type 0 = λ xs. All (D H') xs in
+    let D : List Watches → Watcher → Type 0 = λ w x. DoneWith cs w t.literals.items f x.clause in
+    let P : List Watcher → Type 0 = λ xs. All (D H') xs in
     let Q : List Watches → Type 0 = λ w. All (D w) s'.kept in
     let done : P s.kept = All-weaker (D H) (D H') (λ x d. done_move cs H k g o f t.literals.items x.clause h.paired ng h.apart d) s.kept inv.done in
     record {
@@ -430,8 +430,8 @@ visit-preserved c =
     let in_why : o.var < length t.reasons.items = omega (arith, in_now, t.reasons_len) in
     let set' = c.in_ok-imply-in-Force.ensures in
     let new = c.imply.new.self in
-    let step = went_push c.args.trail.now t new o inv.extends in_now said.1 said.2 set'.literals set'.values set'.starts in
-    let one = went_push t t new o (went_none t) in_now said.1 said.2 set'.literals set'.values set'.starts in
+    let step = went_push c.args.trail.now t new o inv.extends in_now said.1 said.2 set'.literals set'.values set'.level_starts in
+    let one = went_push t t new o (went_none t) in_now said.1 said.2 set'.literals set'.values set'.level_starts in
     let B : Trail → Type 0 = λ x. Based x.literals.items x.reasons.items cs in
     let based' : B new = rw (set'.literals, set'.reasons) (based_push t.values.items t.reasons.items t.literals.items cs o k in_why t.values_ok said.1 said.2 h.here u inv.based) in
     let on : among new.literals.items o ≡ true =
@@ -441,13 +441,13 @@ visit-preserved c =
     let s = c.visit.sieve in
     let s' = c.keep-in-Force.new.self in
     let e = entry_of c.in-Some.slot in
-    let x : Entry = record { clause = k; other = literal_of c.in-Some-other_of.word } in
+    let x : Watcher = record { clause = k; blocker = literal_of c.in-Some-other_of.word } in
     let F : Lit → Type 0 = λ l. among (get_or cs k []) l ≡ true in
     let fit : F (literal_of c.in-Some-other_of.word) = subst F c.literal-other.ensures h.on in
     let A : List (List ℕ) → Type 0 = AllListed H in
-    let D : List Lit → Entry → Type 0 = λ u x. DoneWith cs H u f x.clause in
+    let D : List Lit → Watcher → Type 0 = λ u x. DoneWith cs H u f x.clause in
     let below = All-weaker (D t.literals.items) (D new.literals.items) (λ x d. done_grows cs H t.literals.items new.literals.items f x.clause (λ l. went_grows t new one.0 l) d) s.kept inv.done in
-    let Z : List Entry → Type 0 = λ xs. All (D new.literals.items) xs in
+    let Z : List Watcher → Type 0 = λ xs. All (D new.literals.items) xs in
     record {
       based = based';
       extends = step.0;

@@ -1,5 +1,5 @@
 -- One more item, or none.
-use Rattle.std.proofs.Common.{◌<◌, ◌∙◌, None, get_or, length, ap, sym, arith}
+use Rattle.std.proofs.Common.{◌<◌, ◌∙◌, None, length, ap, sym, arith}
 use Rattle.smv_cli.proofs.Listings.{none_shown, one_more_shown}
 use Rattle.smv_cli.proofs.listing.count_listed.Goals as goal
 

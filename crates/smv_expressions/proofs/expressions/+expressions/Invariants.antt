@@ -77,6 +77,15 @@ decreases-temporal l = l.room * 200 + 61
 abbrev pub decreases-timed : goal.decreases-timed
 decreases-timed l = l.room * 200 + 62
 
+abbrev pub decreases-bounds : goal.decreases-bounds
+decreases-bounds l = l.room * 200 + 0
+
+abbrev pub decreases-maybe_bounds : goal.decreases-maybe_bounds
+decreases-maybe_bounds l = l.room * 200 + 1
+
+abbrev pub decreases-bounds_end : goal.decreases-bounds_end
+decreases-bounds_end l = l.room * 200 + 165
+
 abbrev pub decreases-choices : goal.decreases-choices
 decreases-choices l = l.room * 200 + 0
 

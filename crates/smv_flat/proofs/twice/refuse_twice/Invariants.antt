@@ -1,6 +1,6 @@
 -- The marks know the assignments so far, and what is left gives the refusal.
 use Rattle.std.proofs.Common.{◌≡◌, length, map, take, drop}
-use Rattle.smv_scope.specs.Slots.{slots_of}
+use Rattle.smv_slots.specs.Slots.{slots_of}
 use Rattle.smv_flat.specs.Assignments.{assigned_twice, twice}
 use Rattle.smv_flat.specs.Graph.{assigned_by}
 use Rattle.smv_flat.specs.Marks.{Knows}

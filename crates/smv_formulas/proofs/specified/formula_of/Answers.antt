@@ -1,7 +1,7 @@
 -- The formula says what the specification does.
 use Rattle.std.proofs.Common.{◌≡◌, ◌∙◌, ◌≤◌, ℕ, Bool, true, List, length, ap, sym, subst, arith}
 use Rattle.std.proofs.lemmas.List.{take_all}
-use Rattle.smv_scope.specs.Slots.{slots_of}
+use Rattle.smv_slots.specs.Slots.{slots_of}
 use Rattle.smv_meaning.specs.Formulas.{is_known_formula}
 use Rattle.smv_resolve.specs.declared.node.Node.{Node}
 use Rattle.smv_resolve.specs.Resolved.{part_of}

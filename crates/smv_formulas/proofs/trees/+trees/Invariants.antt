@@ -2,7 +2,7 @@ use Rattle.std.proofs.Common.{◌≤◌, ◌+◌, ◌*◌, List}
 use Rattle.smv_meaning.specs.Lassos.{Holds}
 use Rattle.ltl_meaning.specs.Truth.{binary_truth}
 use Rattle.smv_value.specs.declared.value.Value.{Value}
-use Rattle.smv_scope.specs.declared.slot.Slot.{Slot}
+use Rattle.smv_slots.specs.declared.slot.Slot.{Slot}
 use Rattle.smv_formulas.specs.Known.{IsSound, KeepsKnown}
 use Rattle.smv_formulas.specs.Trees.{Grows, part_below}
 use Rattle.smv_formulas.proofs.Chains.{Continues}

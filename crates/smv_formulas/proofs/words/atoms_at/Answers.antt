@@ -1,7 +1,7 @@
 -- The truth of one atom more.
 use Rattle.std.proofs.Common.{◌≡◌, ◌∙◌, Bool, List, [], ◌∷◌, ◌++◌, ap}
-use Rattle.smv_scope.specs.declared.slot.Slot.{Slot}
-use Rattle.smv_scope.specs.Slots.{slots_of}
+use Rattle.smv_slots.specs.declared.slot.Slot.{Slot}
+use Rattle.smv_slots.specs.Slots.{slots_of}
 use Rattle.smv_value.specs.declared.value.Value.{Value}
 use Rattle.smv_meaning.specs.Tables.{outcomes_of}
 use Rattle.smv_formulas.proofs.OnWords.{truths_next}

@@ -1,6 +1,6 @@
 -- the truths of the atoms so far
 use Rattle.std.proofs.Common.{◌≡◌, take}
-use Rattle.smv_scope.specs.Slots.{slots_of}
+use Rattle.smv_slots.specs.Slots.{slots_of}
 use Rattle.smv_formulas.specs.Says.{atom_parts}
 use Rattle.smv_formulas.specs.Words.{truths_at}
 use Rattle.smv_formulas.proofs.words.atoms_at.Given as goal

@@ -1,6 +1,6 @@
 -- the times so far
 use Rattle.std.proofs.Common.{◌≡◌, ◌<◌, ℕ, [], length, get_or}
-use Rattle.smv_scope.specs.Slots.{slots_of}
+use Rattle.smv_slots.specs.Slots.{slots_of}
 use Rattle.smv_formulas.specs.Says.{atom_parts}
 use Rattle.smv_formulas.specs.Words.{truths_at}
 use Rattle.smv_formulas.proofs.words.word_of.Given as goal

@@ -1,7 +1,7 @@
 -- The faults of the nodes so far.
 use Rattle.std.proofs.Common.{◌≡◌, List, [], map, take}
 use Rattle.smv_value.specs.declared.value.Value.{Value}
-use Rattle.smv_scope.specs.declared.slot.Slot.{Slot}
+use Rattle.smv_slots.specs.declared.slot.Slot.{Slot}
 use Rattle.smv_resolve.specs.Resolved.{parts_of}
 use Rattle.smv_meaning.specs.Formulas.{formula_fault}
 use Rattle.smv_meaning.specs.Tables.{outcomes_of}

@@ -1,7 +1,7 @@
 -- What the items ask by their nodes they ask as resolved items.
 use Rattle.std.proofs.Common.{◌≡◌, ◌∙◌, List, [], ap}
 use Rattle.std.specs.List.{list_all}
-use Rattle.smv_scope.specs.Slots.{slots_of}
+use Rattle.smv_slots.specs.Slots.{slots_of}
 use Rattle.smv_meaning.specs.declared.outcome.Outcome.{Outcome}
 use Rattle.smv_meaning.specs.Runs.{allows_step}
 use Rattle.smv_meaning.specs.Tables.{outcomes_of, step_allowed}
@@ -14,7 +14,7 @@ returns c =
     let nodes = c.args.typed.now.nodes in
     let later : c.as_slice-4.result.now ≡ outcomes_of slots c.args.next.now [] [] nodes = c.as_slice-4.ensures.value ∙ c.in_ok-later.ensures in
     let here : c.as_slice-3.result.now ≡ outcomes_of slots c.args.s.now c.args.u.now c.args.next.now nodes =
-    cc (c.as_slice-3.ensures.value, c.in_ok-here.ensures, c.args.typed.now.scope.laid_out) in
+    cc (c.as_slice-3.ensures.value, c.in_ok-here.ensures, c.args.typed.now.laid_out) in
     c.step_allowed.ensures
     ∙ ap (λ (here : List Outcome). step_allowed here c.as_slice-4.result.now c.as_slice-5.result.now) here
     ∙ ap (λ (later : List Outcome). step_allowed (outcomes_of slots c.args.s.now c.args.u.now c.args.next.now nodes) later c.as_slice-5.result.now) later

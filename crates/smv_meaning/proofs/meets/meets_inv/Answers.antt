@@ -1,7 +1,7 @@
 -- What the items ask by their nodes they ask as resolved items.
 use Rattle.std.proofs.Common.{◌∙◌, List, [], ap}
 use Rattle.std.specs.List.{list_all}
-use Rattle.smv_scope.specs.Slots.{slots_of}
+use Rattle.smv_slots.specs.Slots.{slots_of}
 use Rattle.smv_meaning.specs.declared.outcome.Outcome.{Outcome}
 use Rattle.smv_meaning.specs.Runs.{allows_always}
 use Rattle.smv_meaning.specs.Tables.{always_allowed, outcomes_of}

@@ -11,7 +11,7 @@ loop-at-preserved c =
     cc (ap truth c.index-operands-at.is, c.truth.ensures, c.in-Some-false.is, c.in-Some-false.field-0-test) in
     record {
       within = omega (arith, c.loop-at-test.true);
-      left = sym (choice_false c.args.place c.args.operands.now c.loop-at.at o c.loop-at-test.true is) ∙ c.loop-at.invariant.left;
+      left = sym (choice_false c.args.rule c.args.place c.args.operands.now c.loop-at.at o c.loop-at-test.true is) ∙ c.loop-at.invariant.left;
     }
 
 pub returns-in-None : goal.returns-in-None
@@ -20,5 +20,5 @@ returns-in-None c =
     let is : truth (get_or c.args.operands.now c.loop-at.at o) ≡ None = cc (ap truth c.index-operands-at.is, c.truth.ensures, c.in-None.is) in
     c.failed.ensures
     ∙ ap failed c.index-operands-at.is
-    ∙ sym (choice_failed c.args.place c.args.operands.now c.loop-at.at o c.loop-at-test.true is)
+    ∙ sym (choice_failed c.args.rule c.args.place c.args.operands.now c.loop-at.at o c.loop-at-test.true is)
     ∙ c.loop-at.invariant.left

@@ -5,7 +5,7 @@ use Rattle.smv_phrases.proofs.Repeats.{Totals}
 use Rattle.smv_parse.proofs.types.listed_elements.Given as goal
 
 abbrev pub invariant-phrases : goal.invariant-phrases
-invariant-phrases l = Totals (further element) l.all l.rest ((listed element).parse l.fn.tokens)
+invariant-phrases l = Totals (further (element l.closed)) l.all l.rest ((listed (element l.closed)).parse l.fn.tokens)
 
 abbrev pub decreases-phrases : goal.decreases-phrases
 decreases-phrases l = length l.rest

@@ -46,12 +46,12 @@ find-returns-in-Chain-clause-finds t c =
     (λ n d. rw (c.get-in-Chain.ensures, c.as_slice-in-Chain.ensures) (ap (λ e. levelled c.args.scope.now.program n c.args.at e d) c.in-Chain.is ∙ levelled-chain c.args.scope.now.program c.args.at n d _ _))
     c.find_chain.ensures.finds
 
-pub find_target-returns-in-Slot-clause-finds : goal.find_target-returns-in-Slot-clause-finds
-find_target-returns-in-Slot-clause-finds t c =
-    finds_along c.find_slot.new.work.nodes c.args.depth _
-    (λ k d. resolved_target (λ owner e. opened (followed c.args.scope.now.program k owner e) d) (place_of_start c.args.name.now.start) (name_target c.args.scope.now.program c.args.at c.args.name.now)) c.find_slot.result
-    (λ k d. ap (resolved_target (λ owner e. opened (followed c.args.scope.now.program k owner e) d) (place_of_start c.args.name.now.start)) (sym c.in-Slot.ensures) ∙ ap (λ place. Resolved.Slot place c.in-Slot.n) (sym c.place_of_start-place.ensures))
-    c.find_slot.ensures.finds
+pub find_target-returns-in-Variable-clause-finds : goal.find_target-returns-in-Variable-clause-finds
+find_target-returns-in-Variable-clause-finds t c =
+    finds_along c.find_variable.new.work.nodes c.args.depth _
+    (λ k d. resolved_target (λ owner e. opened (followed c.args.scope.now.program k owner e) d) (place_of_start c.args.name.now.start) (name_target c.args.scope.now.program c.args.at c.args.name.now)) c.find_variable.result
+    (λ k d. ap (resolved_target (λ owner e. opened (followed c.args.scope.now.program k owner e) d) (place_of_start c.args.name.now.start)) (sym c.in-Variable.ensures) ∙ ap (λ place. Resolved.Slot place c.in-Variable.n) (sym c.place_of_start-place.ensures))
+    c.find_variable.ensures.finds
 
 pub find_target-returns-in-Symbol-clause-finds : goal.find_target-returns-in-Symbol-clause-finds
 find_target-returns-in-Symbol-clause-finds t c =

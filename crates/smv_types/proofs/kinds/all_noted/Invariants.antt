@@ -1,7 +1,7 @@
 -- What is noted of the operands so far.
 use Rattle.std.proofs.Common.{List, take}
 use Rattle.value_types.specs.declared.value_type.ValueType.{ValueType}
-use Rattle.smv_scope.specs.declared.slot.Slot.{Slot}
+use Rattle.smv_slots.specs.declared.slot.Slot.{Slot}
 use Rattle.smv_resolve.specs.Resolved.{Resolved, operands_of}
 use Rattle.smv_types.specs.Judged.{AreJudged, AreNotes}
 use Rattle.smv_types.specs.Kinds.{operands_refusal}

@@ -13,4 +13,4 @@ returns c = λ slots types r h k.
     (λ x. c.no_value.ensures ∙ ap (λ p. no_value p c.args.kind) h.place ∙ ap (no_value (place_of r)) k) c.everywhere-whole.ensures in
     unassigned slots types (Resolved.Named c.args.place naming.Defined r) c.noted.result c.args.place c.both.result c.noted.ensures refl
     (c.both.ensures (λ x. kind_refusal slots types (under_name x) r) (λ x. no_value (place_of r) (told slots types r).kind) (c.under_name.ensures (λ x. kind_refusal slots types x r) h.notes) whole)
-    refl refl refl
+    refl refl refl refl

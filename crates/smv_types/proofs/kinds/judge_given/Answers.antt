@@ -7,7 +7,8 @@ pub returns : goal.returns
 returns c = λ slots types r h. record {
   place = refl;
   notes = c.under_name.ensures (λ x. kind_refusal slots types x r) h.notes;
-  given = h.notes.name_set;
+  inner = h.notes.name_set;
+  constant = refl;
   init = h.init;
   later = h.later;
 }

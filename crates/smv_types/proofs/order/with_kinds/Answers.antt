@@ -1,10 +1,25 @@
--- What breaks no rule of kinds is known everywhere; the types of slots are right.
-use Rattle.smv_declared.proofs.Kept.{types_kept}
+-- What breaks no rule of kinds is known everywhere; the types of slots are right, and the items are those of the program.
+use Rattle.std.proofs.Common.{◌∙◌, map}
+use Rattle.smv_resolve.specs.Items.{item_by}
+use Rattle.smv_slots.proofs.Kept.{types_kept}
 use Rattle.smv_types.proofs.Known.{all_known}
+use Rattle.smv_types.proofs.Laying.{first_free, laid_items}
 use Rattle.smv_types.proofs.order.with_kinds.Goals as goal
 
+pub no_misuse-requires-clause-items : goal.no_misuse-requires-clause-items
+no_misuse-requires-clause-items c =
+    laid_items c.args.scope.program c.as_slice-3.result.now (map (item_by c.in_ok-resolution.resolution.nodes) c.in_ok-resolution.resolution.items)
+    (map (item_by c.in_ok-laid.laid.nodes) c.in_ok-laid.laid.items)
+    (c.as_slice-3.ensures ∙ c.in_ok-variables.ensures.types) c.in_ok-resolution.ensures.right c.in_ok-laid.ensures
+
 pub invariant_of-result-clause-known : goal.invariant_of-result-clause-known
-invariant_of-result-clause-known c = all_known c.args.scope.program c.in_ok-types.ensures.judged c.in_ok-kinds.ensures
+invariant_of-result-clause-known c = all_known c.args.scope.program (first_free _ _ c.in_ok-variables.ensures.judged) c.in_ok-no_misuse.ensures
 
 pub invariant_of-result-clause-right_types : goal.invariant_of-result-clause-right_types
-invariant_of-result-clause-right_types c = types_kept c.args.scope.program c.in_ok-types.ensures.judged
+invariant_of-result-clause-right_types c = types_kept c.args.scope.program (first_free _ _ c.in_ok-variables.ensures.judged)
+
+pub invariant_of-result-clause-resolved : goal.invariant_of-result-clause-resolved
+invariant_of-result-clause-resolved c =
+    laid_items c.args.scope.program c.as_slice-3.result.now (map (item_by c.in_ok-resolution.resolution.nodes) c.in_ok-resolution.resolution.items)
+    (map (item_by c.in_ok-laid.laid.nodes) c.in_ok-laid.laid.items)
+    (c.as_slice-3.ensures ∙ c.in_ok-variables.ensures.types) c.in_ok-resolution.ensures.right c.in_ok-laid.ensures

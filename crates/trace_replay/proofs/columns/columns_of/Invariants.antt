@@ -4,4 +4,4 @@ use Rattle.trace_replay.specs.Rows.{column_of}
 use Rattle.trace_replay.proofs.columns.columns_of.Given as goal
 
 abbrev pub invariant-loop-slot : goal.invariant-loop-slot
-invariant-loop-slot l = l.columns.items ≡ map (column_of l.scope.program) (take l.slot-index l.slots)
+invariant-loop-slot l = l.columns.items ≡ map (column_of l.typed.scope.program) (take l.slot-index l.slots)

@@ -1,8 +1,15 @@
 -- They are those of the slots.
-use Rattle.std.proofs.Common.{rules}
-use Rattle.trace_replay.specs.Rows.{input_columns}
+use Rattle.std.proofs.Common.{◌≡◌, ◌∙◌, List, IfOk, map, ap, subst}
+use Rattle.smv_slots.specs.declared.slot.Slot.{Slot}
+use Rattle.smv_meaning.specs.Runs.{input_slots}
+use Rattle.trace_replay.specs.declared.columns.Column.{Column}
+use Rattle.trace_replay.specs.Rows.{column_of, input_columns}
 use Rattle.trace_replay.proofs.columns.input_columns.Goals as goal
 
 pub returns : goal.returns
 unfolding input_columns
-returns c = search rules
+returns c =
+    let p = c.args.typed.now.scope.program in
+    subst (λ (slots : List Slot). IfOk c.columns_of.result (λ (columns : List Column). columns ≡ map (column_of p) slots))
+    (c.as_slice-2.ensures ∙ c.in_ok-slots.ensures ∙ ap input_slots (c.as_slice.ensures ∙ c.args.typed.now.laid_out))
+    c.columns_of.ensures

@@ -3,7 +3,7 @@ use Rattle.std.proofs.Common.{◌≡◌, List, drop}
 use Rattle.std.specs.List.{list_any}
 use Rattle.smv_value.specs.declared.value.Value.{Value}
 use Rattle.smv_resolve.specs.Items.{item_by}
-use Rattle.smv_scope.specs.Slots.{slots_of}
+use Rattle.smv_slots.specs.Slots.{slots_of}
 use Rattle.smv_meaning.specs.Runs.{is_true}
 use Rattle.smv_meaning.specs.Values.{outcome_in}
 use Rattle.trace_replay.proofs.lassos.is_met.Given as goal

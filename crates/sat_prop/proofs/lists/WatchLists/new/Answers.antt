@@ -1,14 +1,14 @@
 use Rattle.std.proofs.Common.{◌≡◌, [], List, Vec, Global, ap}
 use Rattle.std.proofs.lemmas.List.Elements.{All-map, All-weaker}
 use Rattle.sat_prop.proofs.Cells.{items_of, empties_pass}
-use Rattle.sat_prop.specs.declared.lists.Entry.{Entry}
-use Rattle.sat_prop.specs.declared.lists.Slot.{Slot}
+use Rattle.sat_prop.specs.declared.lists.Watcher.{Watcher}
+use Rattle.sat_prop.specs.declared.lists.PackedWatcher.{PackedWatcher}
 use Rattle.sat_prop.specs.Slots.{entries_of}
 use Rattle.sat_prop.proofs.lists.WatchLists.new.Goals as goal
 
 pub returns-clause-empty : goal.returns-clause-empty
 returns-clause-empty c p =
-    let P : List Entry → Type 0 = λ xs. xs ≡ [] in
+    let P : List Watcher → Type 0 = λ xs. xs ≡ [] in
     let cells = c.loop.cells.items in
-    let none = All-weaker (λ (v : Vec Slot Global). v.items ≡ []) (λ v. items_of v ≡ []) (λ v e. ap entries_of e) cells c.loop.invariant.empty in
+    let none = All-weaker (λ (v : Vec PackedWatcher Global). v.items ≡ []) (λ v. items_of v ≡ []) (λ v e. ap entries_of e) cells c.loop.invariant.empty in
     empties_pass p _ (All-map P items_of cells none)

@@ -1,7 +1,7 @@
 use Rattle.std.proofs.Common.{◌≡◌, ◌<◌, ◌-◌, [], List, length, vec_len, get_or, take, map, sym, ap, subst, ◌∙◌}
 use Rattle.std.proofs.lemmas.List.{length-map, take-map}
 use Rattle.sat_prop.specs.Slots.{entries_of, entry_of}
-use Rattle.sat_prop.specs.declared.lists.Entry.{Entry}
+use Rattle.sat_prop.specs.declared.lists.Watcher.{Watcher}
 use Rattle.sat_prop.proofs.Cells.{items_of, cell_read, cell_set}
 use Rattle.sat_prop.proofs.lists.WatchLists.pop.Goals as goal
 
@@ -11,7 +11,7 @@ returns c =
     let k = c.args.c in
     let L = map items_of cells in
     let x = c.index_mut.result.now in
-    let len : k < length L = subst (λ (v : List (List Entry)). k < length v) (sym c.self.view_is) c.requires in
+    let len : k < length L = subst (λ (v : List (List Watcher)). k < length v) (sym c.self.view_is) c.requires in
     let lt : k < length cells = simp length-map at len in
     let r : entries_of x.items ≡ get_or L k [] = cell_read cells k x lt c.index_mut.ensures.value in
     let n : vec_len x ≡ length x.items = x.ok.0 in

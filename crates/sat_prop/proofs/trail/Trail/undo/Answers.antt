@@ -18,10 +18,10 @@ pub invariant_of-self-clause-placed : goal.invariant_of-self-clause-placed
 invariant_of-self-clause-placed c =
     let s = c.args.self.now in
     let n = c.index-n.result.now in
-    let en : n ≡ get_or s.starts.items c.args.level 0 = get_or_read s.starts.items _ _ c.requires c.index-n.ensures 0 in
+    let en : n ≡ get_or s.level_starts.items c.args.level 0 = get_or_read s.level_starts.items _ _ c.requires c.index-n.ensures 0 in
     let le : n ≤ length s.literals.items = omega (arith, en, s.in_trail c.args.level c.requires) in
-    let P : List Lit → Type 0 = λ x. PlacesMatch x s.places.items in
-    subst P (sym c.truncate.ensures.items) (place_take s.literals.items s.places.items n le s.placed)
+    let P : List Lit → Type 0 = λ x. PlacesMatch x s.positions.items in
+    subst P (sym c.truncate.ensures.items) (place_take s.literals.items s.positions.items n le s.placed)
 
 pub invariant_of-self-clause-within : goal.invariant_of-self-clause-within
 invariant_of-self-clause-within c =
@@ -35,26 +35,26 @@ pub invariant_of-self-clause-rising : goal.invariant_of-self-clause-rising
 invariant_of-self-clause-rising c =
     let s = c.args.self.now in
     let P : List ℕ → Type 0 = StartsRise in
-    subst P (sym c.truncate-2.ensures.items) (up_take s.starts.items c.args.level (omega (arith, c.requires)) s.rising)
+    subst P (sym c.truncate-2.ensures.items) (up_take s.level_starts.items c.args.level (omega (arith, c.requires)) s.rising)
 
 pub invariant_of-self-clause-in_trail : goal.invariant_of-self-clause-in_trail
 invariant_of-self-clause-in_trail c =
     let s = c.args.self.now in
     let n = c.index-n.result.now in
-    let en : n ≡ get_or s.starts.items c.args.level 0 = get_or_read s.starts.items _ _ c.requires c.index-n.ensures 0 in
+    let en : n ≡ get_or s.level_starts.items c.args.level 0 = get_or_read s.level_starts.items _ _ c.requires c.index-n.ensures 0 in
     let P : List ℕ → Type 0 = λ x. StartsIn x (take n s.literals.items) in
     let Q : List Lit → Type 0 = StartsIn c.truncate-2.new.self.items in
-    let R : ℕ → Type 0 = λ m. StartsIn (take c.args.level s.starts.items) (take m s.literals.items) in
+    let R : ℕ → Type 0 = λ m. StartsIn (take c.args.level s.level_starts.items) (take m s.literals.items) in
     subst Q (sym c.truncate.ensures.items) (subst P (sym c.truncate-2.ensures.items)
-    (subst R (sym en) (starts_take s.starts.items s.literals.items c.args.level c.requires s.rising s.in_trail)))
+    (subst R (sym en) (starts_take s.level_starts.items s.literals.items c.args.level c.requires s.rising s.in_trail)))
 
 pub invariant_of-self-clause-roots : goal.invariant_of-self-clause-roots
 invariant_of-self-clause-roots c =
     let s = c.args.self.now in
     let n = c.index-n.result.now in
-    let en : n ≡ get_or s.starts.items c.args.level 0 = get_or_read s.starts.items _ _ c.requires c.index-n.ensures 0 in
+    let en : n ≡ get_or s.level_starts.items c.args.level 0 = get_or_read s.level_starts.items _ _ c.requires c.index-n.ensures 0 in
     let P : List ℕ → Type 0 = λ x. DecisionsBegin (take n s.literals.items) s.reasons.items x in
     let Q : List Lit → Type 0 = λ x. DecisionsBegin x s.reasons.items c.truncate-2.new.self.items in
-    let R : ℕ → Type 0 = λ m. DecisionsBegin (take m s.literals.items) s.reasons.items (take c.args.level s.starts.items) in
+    let R : ℕ → Type 0 = λ m. DecisionsBegin (take m s.literals.items) s.reasons.items (take c.args.level s.level_starts.items) in
     subst Q (sym c.truncate.ensures.items) (subst P (sym c.truncate-2.ensures.items)
-    (subst R (sym en) (roots_take s.starts.items s.reasons.items s.literals.items c.args.level c.requires s.rising s.in_trail s.roots)))
+    (subst R (sym en) (roots_take s.level_starts.items s.reasons.items s.literals.items c.args.level c.requires s.rising s.in_trail s.roots)))

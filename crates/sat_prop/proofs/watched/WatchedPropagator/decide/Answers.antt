@@ -7,7 +7,7 @@ use Rattle.sat_prop.proofs.watched.WatchedPropagator.decide.Goals as goal
 pub invariant_of-self-clause-swept_in : goal.invariant_of-self-clause-swept_in
 invariant_of-self-clause-swept_in c =
     let t = c.decide_on.new.trail in
-    let P : List ℕ → Type 0 = λ xs. ShortSwept c.args.self.now.clauses xs c.args.self.now.swept (root t.literals.items t.starts.items) in
+    let P : List ℕ → Type 0 = λ xs. ShortSwept c.args.self.now.clauses xs c.args.self.now.swept (root t.literals.items t.level_starts.items) in
     subst P c.deref.ensures.value c.decide_on.ensures.swept
 
 pub invariant_of-self-clause-within_in : goal.invariant_of-self-clause-within_in

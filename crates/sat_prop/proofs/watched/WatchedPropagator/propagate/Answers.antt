@@ -14,7 +14,7 @@ invariant_of-self-clause-short_listed c =
 pub invariant_of-self-clause-swept_in : goal.invariant_of-self-clause-swept_in
 invariant_of-self-clause-swept_in c =
     let t = c.settle.new.trail in
-    let P : List ℕ → Type 0 = λ xs. ShortSwept c.args.self.now.clauses xs c.settle.new.swept (root t.literals.items t.starts.items) in
+    let P : List ℕ → Type 0 = λ xs. ShortSwept c.args.self.now.clauses xs c.settle.new.swept (root t.literals.items t.level_starts.items) in
     subst P c.deref.ensures.value c.settle.ensures.swept
 
 pub invariant_of-self-clause-within_in : goal.invariant_of-self-clause-within_in

@@ -1,0 +1,230 @@
+//! Operators: indices of arrays, and bounds of temporal operators.
+
+ghost use Rattle.std.specs.Prelude.{◌≡◌, ◌<◌, [], ◌∷◌, ◌++◌, drop, length, map, IfOk, OnOk, Some};
+ghost use Rattle.std.specs.List.{All};
+ghost use Rattle.smv_resolve.specs.Resolved.{Resolved};
+ghost use Rattle.smv_resolve.specs.Finding.{Grows};
+ghost use Rattle.smv_layout.specs.declared.laid.LaidNode.TheVariants.{Array as LaidArray};
+ghost use Rattle.smv_layout.specs.Layout.{Laid, applied, both_bounds, bounded, bounds_in, is_bound, index_laid, indexed, subscripted, values_of};
+ghost use Rattle.smv_layout.specs.Nodes.{IsLaid, Stands, laid_by, subarray_by, subscript_by};
+ghost use Rattle.smv_layout.specs.Sizes.{first_slots};
+
+use crate::elements::push_element;
+use crate::entries::{push_value, value_of, values_of};
+use crate::indices::index_at;
+use crate::laid::{LaidNode, SubarrayNode, SubscriptNode};
+use crate::nodes::{push, push_apply};
+use crate::sizes::first_at;
+use smv_declared::{Constant, VariableType};
+use smv_resolve::Node;
+use smv_tree::Place;
+use smv_value::{Bounded, Operator};
+use sqlite_items::{Items, at};
+use std::alloc::{AllocError, Global};
+
+/// An operator over what stands for its operands, where it is told what constants they are.
+pub fn apply(
+    alloc: Global,
+    variables: &[VariableType],
+    firsts: &[usize],
+    nodes: &mut Items<Node>,
+    place: Place,
+    operator: Operator,
+    constants: &[Constant],
+    indices: &[Option<i64>],
+    operands: &[LaidNode],
+) -> Result<LaidNode, AllocError>
+    requires firsts { firsts.now ≡ first_slots variables.now }
+    requires stand { All (Stands nodes.old) operands.now }
+    ensures grows { OnOk result (Grows nodes.old nodes.new) }
+    ensures laid { IfOk result (λ x. IsLaid nodes.new x (applied variables.now place operator constants.now indices.now (map (laid_by nodes.old) operands.now))) }
+{
+    match operator {
+        Operator::Index => {
+            apply_index(
+                alloc,
+                variables,
+                firsts,
+                nodes,
+                place,
+                index_at(indices, 1),
+                operands,
+            )
+        }
+        Operator::Window(o) => {
+            apply_window(alloc, nodes, place, o, bounds_in(constants), operands)
+        }
+        _ => apply_plain(alloc, nodes, place, operator, operands),
+    }
+}
+
+// An operator that stays.
+fn apply_plain(
+    alloc: Global,
+    nodes: &mut Items<Node>,
+    place: Place,
+    operator: Operator,
+    operands: &[LaidNode],
+) -> Result<LaidNode, AllocError>
+    requires stand { All (Stands nodes.old) operands.now }
+    ensures grows { OnOk result (Grows nodes.old nodes.new) }
+    ensures laid { IfOk result (λ x. IsLaid nodes.new x (Laid.Value (Resolved.Apply place operator (values_of (map (laid_by nodes.old) operands.now))))) }
+{
+    if let [a, b] = operands {
+        return push_value(nodes, Node::Link(place, operator, value_of(a), value_of(b)));
+    }
+    let values = values_of(alloc, operands)?;
+    let n = push_apply(nodes, place, operator, values.as_slice())?;
+    Ok(LaidNode::Value(n))
+}
+
+// `F G O H` with bounds, if these are its bounds.
+fn apply_window(
+    alloc: Global,
+    nodes: &mut Items<Node>,
+    place: Place,
+    o: Bounded,
+    bounds: Option<(u32, u32)>,
+    operands: &[LaidNode],
+) -> Result<LaidNode, AllocError>
+    requires stand { All (Stands nodes.old) operands.now }
+    ensures grows { OnOk result (Grows nodes.old nodes.new) }
+    ensures laid { IfOk result (λ x. IsLaid nodes.new x (Laid.Value (bounded place o bounds (map (laid_by nodes.old) operands.now)))) }
+{
+    match bounds {
+        Some((low, high)) => {
+            let operator = Operator::Bounded(o, low, high);
+            apply_plain(alloc, nodes, place, operator, behind_bounds(operands))
+        }
+        None => apply_plain(alloc, nodes, place, Operator::Window(o), operands),
+    }
+}
+
+// What follows the two bounds.
+fn behind_bounds(operands: &[LaidNode]) -> &[LaidNode]
+    ensures { result.now ≡ drop 2 operands.now }
+{
+    if operands.len() < 2 {
+        &[]
+    } else {
+        &operands[2..]
+    }
+}
+
+// The bounds before a formula, where they are constants of 32 bits without a sign.
+fn bounds_in(constants: &[Constant]) -> Option<(u32, u32)>
+    ensures { result ≡ bounds_in constants.now }
+{
+    match constants {
+        [low, high, _] => both_bounds(*low, *high),
+        _ => None,
+    }
+}
+
+fn both_bounds(low: Constant, high: Constant) -> Option<(u32, u32)>
+    ensures { result ≡ both_bounds low high }
+{
+    let (Constant::Integer(low), Constant::Integer(high)) = (low, high) else {
+        return None;
+    };
+    if is_bound(low) && is_bound(high) {
+        Some((low as u32, high as u32))
+    } else {
+        None
+    }
+}
+
+fn is_bound(z: i64) -> bool
+    ensures { result ≡ is_bound z }
+{
+    0 <= z && z <= 4_294_967_295
+}
+
+// `a[i]`, where this is the integer that i is.
+fn apply_index(
+    alloc: Global,
+    variables: &[VariableType],
+    firsts: &[usize],
+    nodes: &mut Items<Node>,
+    place: Place,
+    constant: Option<i64>,
+    operands: &[LaidNode],
+) -> Result<LaidNode, AllocError>
+    requires firsts { firsts.now ≡ first_slots variables.now }
+    requires stand { All (Stands nodes.old) operands.now }
+    ensures grows { OnOk result (Grows nodes.old nodes.new) }
+    ensures laid { IfOk result (λ x. IsLaid nodes.new x (index_laid variables.now place constant (map (laid_by nodes.old) operands.now))) }
+{
+    match operands {
+        [LaidNode::Array(array), index] => {
+            let subscript = SubscriptNode {
+                place,
+                node: value_of(index),
+                constant,
+            };
+            push_indexed(alloc, variables, firsts, nodes, place, array, subscript)
+        }
+        _ => apply_plain(alloc, nodes, place, Operator::Index, operands),
+    }
+}
+
+// An array with one index more: an element where there is one for each dimension.
+fn push_indexed(
+    alloc: Global,
+    variables: &[VariableType],
+    firsts: &[usize],
+    nodes: &mut Items<Node>,
+    place: Place,
+    array: &SubarrayNode,
+    subscript: SubscriptNode,
+) -> Result<LaidNode, AllocError>
+    requires firsts { firsts.now ≡ first_slots variables.now }
+    requires stands { Stands nodes.old (LaidArray array.now) }
+    requires index { subscript.node < length nodes.old }
+    ensures grows { OnOk result (Grows nodes.old nodes.new) }
+    ensures laid { IfOk result (λ x. IsLaid nodes.new x (indexed variables.now place (subarray_by nodes.old array.now) (subscript_by nodes.old subscript))) }
+{
+    let mut subscripts = Items::from_slice(alloc, array.subscripts.as_slice())?;
+    subscripts.push(subscript)?;
+    match at(variables, array.variable) {
+        None => push_subarray(nodes, place, array, subscript, subscripts),
+        Some(variable) => if variable.dimensions.len() == subscripts.len() {
+            let n = push_element(
+                alloc,
+                nodes,
+                &variable.element,
+                array.place,
+                variable.dimensions.as_slice(),
+                subscripts.as_slice(),
+                first_at(firsts, array.variable),
+            )?;
+            Ok(LaidNode::Value(n))
+        } else {
+            push_subarray(nodes, place, array, subscript, subscripts)
+        },
+    }
+}
+
+// An array with one index more, of these indices.
+fn push_subarray(
+    nodes: &mut Items<Node>,
+    place: Place,
+    array: &SubarrayNode,
+    subscript: SubscriptNode,
+    subscripts: Items<SubscriptNode>,
+) -> Result<LaidNode, AllocError>
+    requires stands { Stands nodes.old (LaidArray array.now) }
+    requires index { subscript.node < length nodes.old }
+    requires subscripts { subscripts ≡ array.now.subscripts ++ subscript ∷ [] }
+    ensures grows { OnOk result (Grows nodes.old nodes.new) }
+    ensures laid { IfOk result (λ x. IsLaid nodes.new x (Laid.Array (subscripted place (subarray_by nodes.old array.now) (subscript_by nodes.old subscript)))) }
+{
+    let link = Node::Link(place, Operator::Index, array.whole, subscript.node);
+    let whole = push(nodes, link)?;
+    Ok(LaidNode::Array(SubarrayNode {
+        variable: array.variable,
+        place: array.place,
+        subscripts,
+        whole,
+    }))
+}

@@ -1,5 +1,0 @@
-use Rattle.std.proofs.Common.{◌∙◌}
-use Rattle.smv_scope.proofs.lookup.slot_number.Goals as goal
-
-pub returns : goal.returns
-returns c = c.copied.ensures ∙ c.get.ensures.value ∙ c.args.scope.now.slots_numbered (record { instance = c.args.instance; variable = c.args.variable })

@@ -1,0 +1,5 @@
+pub mod Holding
+pub mod Elements
+pub mod Counted
+pub mod Kept
+pub mod Standing

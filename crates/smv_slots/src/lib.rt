@@ -1,0 +1,16 @@
+//! The slots of a program: its values one by one, those of arrays element by element (NuSMV 2.6 User Manual, 2.1.6, Array Types;
+//! 2.3.1, Variable Declarations). The definitions are in `specs/`.
+#![tactic(auto)]
+
+mod laws;
+mod names;
+mod sizes;
+mod slot;
+mod slots;
+mod types;
+
+pub use laws::{names_lead_to_slots, slots_have_types, types_are_types};
+pub use names::slot_name;
+pub use slot::{Holder, Slot};
+pub use slots::slots_of;
+pub use types::types_of;

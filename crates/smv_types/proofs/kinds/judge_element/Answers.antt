@@ -1,0 +1,14 @@
+-- An element is judged as its slot, and as one of a choice; no path is spoken of in it.
+use Rattle.std.proofs.Common.{refl}
+use Rattle.smv_types.specs.Kinds.{kind_refusal}
+use Rattle.smv_types.proofs.kinds.judge_element.Goals as goal
+
+pub returns : goal.returns
+returns c = λ slots types r h. record {
+  place = refl;
+  notes = c.under_element.ensures (λ x. kind_refusal slots types x r) h.notes;
+  inner = h.inner;
+  constant = refl;
+  init = h.init;
+  later = h.later;
+}
