@@ -23,7 +23,8 @@ const GUARDED: &str =
 const BOUNDED: &str =
     "MODULE m(n, y)\nLTLSPEC G F [0, n] y\nMODULE main\nVAR x : boolean; v : m(2 * 2 - 3, x); w : m(0, x);\nASSIGN init(x) := FALSE; next(x) := !x;\n";
 
-const CASES: [Case; 65] = [
+// Declared types, and what they count.
+const DECLARED: [Case; 18] = [
     // One slot too many, by one array, by the sum of all, and by products that come to 0 in 64 bits.
     (
         "check",
@@ -136,6 +137,10 @@ const CASES: [Case; 65] = [
         "-- refused 403 EmptyRange at 2:15\n",
         3,
     ),
+];
+
+// What is an element, and its index.
+const ELEMENTS: [Case; 15] = [
     // An array is no value.
     (
         "check",
@@ -229,6 +234,10 @@ const CASES: [Case; 65] = [
         "-- refused 409 IntWidth at 4:10\n",
         3,
     ),
+];
+
+// Assignments to elements.
+const ASSIGNED: [Case; 11] = [
     // What is assigned: the constant indices of an element.
     (
         "check",
@@ -297,6 +306,10 @@ const CASES: [Case; 65] = [
         "",
         0,
     ),
+];
+
+// Bounds of temporal operators, and faults.
+const BOUNDS: [Case; 14] = [
     // The bounds of a temporal operator are constants, which may be of any size.
     (
         "check",
@@ -386,6 +399,10 @@ const CASES: [Case; 65] = [
         "",
         0,
     ),
+];
+
+// Listings and reports.
+const ANSWERS: [Case; 7] = [
     // Elements in the order of their indices, the last one fastest, behind each other in their array's place.
     (
         "flat",
@@ -437,8 +454,36 @@ const CASES: [Case; 65] = [
 ];
 
 #[test]
-fn arrays(rt: HostRuntime) -> Result<(), Fail> {
-    let wrong = first_wrong(&rt, rt.alloc(), &CASES)?;
+fn arrays_are_declared(rt: HostRuntime) -> Result<(), Fail> {
+    let wrong = first_wrong(&rt, rt.alloc(), &DECLARED)?;
+    assert_eq!(rt; wrong, None);
+    Ok(())
+}
+
+#[test]
+fn elements_are_judged(rt: HostRuntime) -> Result<(), Fail> {
+    let wrong = first_wrong(&rt, rt.alloc(), &ELEMENTS)?;
+    assert_eq!(rt; wrong, None);
+    Ok(())
+}
+
+#[test]
+fn elements_are_assigned(rt: HostRuntime) -> Result<(), Fail> {
+    let wrong = first_wrong(&rt, rt.alloc(), &ASSIGNED)?;
+    assert_eq!(rt; wrong, None);
+    Ok(())
+}
+
+#[test]
+fn bounds_and_faults(rt: HostRuntime) -> Result<(), Fail> {
+    let wrong = first_wrong(&rt, rt.alloc(), &BOUNDS)?;
+    assert_eq!(rt; wrong, None);
+    Ok(())
+}
+
+#[test]
+fn elements_are_printed(rt: HostRuntime) -> Result<(), Fail> {
+    let wrong = first_wrong(&rt, rt.alloc(), &ANSWERS)?;
     assert_eq!(rt; wrong, None);
     Ok(())
 }
