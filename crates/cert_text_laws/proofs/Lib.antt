@@ -1,0 +1,10 @@
+mod Certificates
+mod Leading
+mod Lines
+mod Logs
+mod Numbers
+mod Others
+mod Sounds
+mod Steps
+mod Texts
+mod Whole
