@@ -6,5 +6,6 @@ mod asking;
 pub mod making;
 mod parts;
 mod shared;
+mod trimming;
 
 pub use making::{Made, make};

@@ -13,7 +13,9 @@ ghost use Rattle.cert_make.specs.Paying.{PaysOn, PaysMaking};
 use crate::asking::{Asked, Engine};
 use crate::parts::{discard, put_part};
 use crate::shared::{Learned, learn, put_shared_and_kept};
+use crate::trimming::trimmed;
 use cert_check::lists::{joined, negate_all};
+use cert_check::{Verdict, check};
 use cert_core::{Certificate, Form, MAX_VARS, Part};
 use clause_core::{Clauses, System};
 use effort_purse::Purse;
@@ -229,13 +231,32 @@ fn put_all<Q: Purse>(
     }
 }
 
+// The certificate without the shared steps that no part needs, if what is left certifies; else as it is.
+fn trimmed_or_whole(
+    alloc: Global,
+    system: &System,
+    cert: Certificate,
+) -> Result<Certificate, AllocError>
+    requires { IsMade system.now cert.clauses cert }
+    ensures { IfOk result (IsMade system.now cert.clauses) }
+{
+    let given = cert.clauses().len().saturating_add(system.step().len());
+    let less = trimmed(alloc, given, &cert)?;
+    match check(alloc, system, &less)? {
+        Verdict::Yes => Ok(less),
+        Verdict::No { .. } => Ok(cert),
+    }
+}
+
 /// Makes of clauses over state bits that are an invariant without bad states a certificate that certifies, judged by hints.
 ///
-/// A solver for all parts `first` is asked each clause, negated; one for all parts `kept` each clause, negated, at the next
-/// state; and one for the part `safe` its own question. What the second one learns follows from the clauses and the steps
-/// alone, and is the shared part, so that each part `kept` is one step. Each question costs a ticket of the purse, and each
-/// clause that a solver learns another; `Spent` comes only where the purse refused one, and then some part is not answered.
-/// The other error is out of memory; more variables than a text can number count as that.
+/// A solver for all parts `first` is asked each clause, negated; one for all parts `kept` each clause, negated, at the
+/// next state; and one for the part `safe` its own question. What the second one learns follows from the clauses and
+/// the steps alone, and is the shared part, so that each part `kept` is one step. Shared steps that no part needs are
+/// then left out, backwards from the hints, if `check` accepts what is left: the time of one more check, which grows
+/// with the hints and the clauses that they name. Each question costs a ticket of the purse, and each clause that a
+/// solver learns another; `Spent` comes only where the purse refused one, and then some part is not answered. The other
+/// error is out of memory; more variables than a text can number count as that.
 pub fn make<Q: Purse>(
     alloc: Global,
     system: &System,
@@ -260,6 +281,9 @@ pub fn make<Q: Purse>(
     let mut cert = bare(alloc, clauses)?;
     match put_all(alloc, &mut checker, system, clauses, &mut cert, purse)? {
         Asked::Spent { drawn, budget } => Ok(Made::Spent { drawn, budget }),
-        Asked::Refuted => Ok(Made::Certificate(cert)),
+        Asked::Refuted => {
+            let made = trimmed_or_whole(alloc, system, cert)?;
+            Ok(Made::Certificate(made))
+        }
     }
 }
