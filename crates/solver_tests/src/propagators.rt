@@ -55,8 +55,8 @@ fn note(seen: &mut Vec<u8>, trail: &Trail) -> Result<(), AllocError> {
 
 // Adds the clauses, and tells whether all of them could be.
 fn add_all<P: Propagator>(alloc: Global, p: &mut P, text: &str) -> Result<bool, AllocError>
-    requires { length (P.trail p.old).starts.items ≡ 0 }
-    ensures { length (P.trail p.new).starts.items ≡ 0 }
+    requires { length (P.trail p.old).level_starts.items ≡ 0 }
+    ensures { length (P.trail p.new).level_starts.items ≡ 0 }
 {
     let mut clause = Vec::new(alloc);
     for letter in text.as_bytes() {
@@ -100,7 +100,7 @@ fn is_row<P: Propagator + Drop>(alloc: Global, row: &Row) -> Result<bool, AllocE
     if note_rest(&mut p, &mut seen)? && is_unset(&p, decision) {
         p.decide(decision)?;
         let _ = note_rest(&mut p, &mut seen)?;
-        if p.assignment().starts.len() == 0 {
+        if p.assignment().level_starts.len() == 0 {
             return Ok(false);
         }
         p.undo(0);
