@@ -20,12 +20,13 @@ use std::sync::ledger::{Ledger, Share};
 use work_crew::Taking;
 
 /// The book, and the history that workers share. It is broken where an entry of the book could not be added to that
-/// history; then no more is claimed.
+/// history; then no more is claimed. It counts the claims that are out.
 #[derive(Drop)]
 pub(crate) struct Desk<'a, L: Ledger, J: Naming + Begun> {
     pub(crate) book: Book<'a, L>,
     pub(crate) front: Front<Entry, J>,
     pub(crate) broken: bool,
+    pub(crate) out: u32,
     pub(crate) ghost same: { broken ≡ false → front ≡ book.history },
     pub(crate) ghost systems_are: { book.systems ≡ J.systems },
     pub(crate) ghost limits_are: { book.limits ≡ J.limits },
@@ -55,12 +56,18 @@ impl<'a, L: Ledger, J: Naming + Begun> Desk<'a, L, J> {
                     return Taking::Ended;
                 }
                 *front = self.front.again();
+                self.out = self.out.saturating_add(1);
                 Taking::Task(claim)
             }
             Ok(Claiming::Idle) => Taking::Idle,
             Ok(Claiming::Closed) => Taking::Ended,
             Err(_) => Taking::Ended,
         }
+    }
+
+    /// Whether a claim is out.
+    pub(crate) fn has_claim_out(&self) -> bool {
+        self.out > 0
     }
 
     /// Ends a claim with what came of it; false: there was no memory for that, and it was given back.
@@ -78,6 +85,7 @@ impl<'a, L: Ledger, J: Naming + Begun> Desk<'a, L, J> {
         match self.book.settle(claim, outcome, share) {
             Ok(Settling::Settled) => {
                 self.broken = is_lost(&self.book, &mut self.front, line, self.broken);
+                self.out = self.out.saturating_sub(1);
                 true
             }
             Ok(Settling::NotOut(_)) => true,
@@ -93,6 +101,7 @@ impl<'a, L: Ledger, J: Naming + Begun> Desk<'a, L, J> {
         match self.book.give_back(claim) {
             Returning::Back => {
                 self.broken = is_lost(&self.book, &mut self.front, line, self.broken);
+                self.out = self.out.saturating_sub(1);
             }
             Returning::NotOut(_) => {}
         }

@@ -19,6 +19,9 @@ use std::sync::ledger::Ledger;
 use work_crew::{Craft, Taking};
 
 /// What the workers of some frames need of each other: the systems, the history that they share, and the purse.
+///
+/// They take turns: one claim is out at a time, and whoever is first takes the next. Claims that were asked side by side took
+/// two to four times the work of one worker, since lemmas that one was finding would have spared the others their queries.
 #[derive(Drop)]
 pub(crate) struct Explorer<'a, 'p, L: Ledger, J: Naming + Begun> {
     pub(crate) alloc: Global,
@@ -74,6 +77,9 @@ impl<'a, 'p, L: Ledger, J: Naming + Begun + Send> Craft for Explorer<'a, 'p, L, 
     fn take(&self, desk: &mut Desk<'a, L, J>, hand: &mut Hand<'a, L, J>) -> Taking<Claim> {
         if desk.broken {
             return Taking::Ended;
+        }
+        if desk.has_claim_out() {
+            return Taking::Idle;
         }
         if !desk.show(&mut hand.front, &mut hand.solver) {
             return Taking::Ended;

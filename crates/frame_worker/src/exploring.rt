@@ -120,6 +120,7 @@ fn explore_by<
             book,
             front: front.again(),
             broken: false,
+            out: 0,
         }),
         moved: Condvar::new(),
     };

@@ -32,6 +32,7 @@ pub(crate) fn explored_of<'a, L: Ledger, J: Naming + Begun>(
         mut book,
         front,
         broken,
+        out: _,
     } = desk;
     if broken || !seen.advance(&front) {
         return Ok(None);

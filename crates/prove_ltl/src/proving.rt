@@ -27,8 +27,9 @@ use std::thread::Threads;
 /// Whether a lasso of the system violates the formula, whose atoms are these literals, by so many workers.
 ///
 /// An answer is a certificate that none does; a lasso that does; or the cause why neither is known.
-/// Lassos of 1, 2, .. states are searched up to the bound. Then the system is counted up to 0, 1, .. signals, each with
-/// the lemmas of the one before, until it reaches no bad state. All work is paid from one budget of tickets.
+/// Lassos are searched up to the bound, the shortest first; a query for the greatest of many lengths, which finds none, answers
+/// for all of them. Then the system is counted up to 0, 1, .. signals, each with the lemmas of the one before, until it reaches
+/// no bad state. All work is paid from one budget of tickets.
 ///
 /// One worker is the caller, with number 0. Several have the numbers from 1 on, and explore the frames of each counter. The
 /// caller searches the lengths before, finishes what they leave, and makes the certificate. Where the book of a counter

@@ -1,28 +1,114 @@
-//! Fair lassos of a monitored system, of one length after another.
+//! Fair lassos of a monitored system, the shortest first: short lengths one after another, and then the greatest of many.
+//!
+//! A fair lasso goes on round its loop, so where there is one of some length there is one of each greater length. A query for
+//! the greatest of many lengths that finds none is so an answer for all of them, and mostly costs less than those for the
+//! lengths in the middle.
 
-ghost use Rattle.std.specs.Prelude.{◌≡◌, ℕ, List, [], length, IfOk};
+ghost use Rattle.std.specs.Prelude.{◌≡◌, ◌<◌, ◌≤◌, ℕ, List, [], length, IfOk};
 ghost use Rattle.clause_core.specs.declared.literal.Lit.{Lit};
 ghost use Rattle.ltl_meaning.specs.Ltl.{Ltl};
 ghost use Rattle.ltl_monitor.specs.States.{IsMonitor};
 ghost use Rattle.lasso_search.specs.Lassos.{IsFairLasso};
 ghost use Rattle.ltl_lassos.specs.Violating.{AreViolating};
 ghost use Rattle.prove_ltl.specs.Climbing.{Begins, IsUsedUp};
-ghost use Rattle.prove_ltl.specs.Searching.{SearchSays};
+ghost use Rattle.prove_ltl.specs.Searching.{SearchSays, LengthsSay};
 
 use crate::answers::{LtlAnswer, LtlDone};
 use crate::counting::spent_by;
 use crate::effort::LtlEffort;
 use clause_core::System;
 use effort_purse::Purse;
-use lasso_search::law::{found_lassos, own_lassos};
+use lasso_search::law::{found_lassos, own_lassos, shorter_lassos};
 use lasso_search::{BitLasso, LassoSolver, Searched};
 use ltl_monitor::Monitored;
 use outside::Gate;
 use std::alloc::{AllocError, Global};
 use std::sync::Wait;
 
-// A fair lasso of 1, 2, .. states up to the bound, if there is one. Each length is asked for once, by worker 0, who passes the
-// gate before it.
+// Lengths up to this one are asked for one after another.
+const SHORT: usize = 4;
+
+// Up to this length, and then up to twice the length before, the greatest is asked for first.
+const LONG: usize = 32;
+
+// A fair lasso of `first` + 1, .. states up to `last`, the shortest, if there is one. Each length is asked for once, by worker
+// 0, who passes the gate before it.
+fn search_lengths<R: Wait, Q: Purse, G: Gate>(
+    rt: &R,
+    alloc: Global,
+    solver: &mut LassoSolver,
+    first: usize,
+    last: usize,
+    purse: &mut Q,
+    gate: &G,
+) -> Result<Searched, AllocError>
+    requires order { first ≤ last }
+    requires ready { Q.ready purse.old }
+    ensures says { IfOk result (LengthsSay solver.old.system first last solver.old.known solver.new.known (Q.tickets purse.old) (Q.tickets purse.new) (Q.spent purse.new)) }
+    ensures system { solver.new.system ≡ solver.old.system }
+    ensures kept { Q.kept purse.old purse.new }
+    ensures ready { Q.ready purse.new }
+    ensures budget { Q.budget purse.new ≡ Q.budget purse.old }
+{
+    'lengths: for k in first..last {
+        gate.enter(rt, 0);
+        match solver.search(alloc, k + 1, purse)? {
+            Searched::None => {}
+            Searched::Found(lasso) => return Ok(Searched::Found(lasso)),
+            Searched::Spent { drawn, budget } => return Ok(Searched::Spent { drawn, budget }),
+        }
+    }
+    Ok(Searched::None)
+}
+
+// A fair lasso of more than `low` states, and of `high` at most, if there is one, where none has fewer: the greatest of these
+// lengths is asked for first, and where that finds one the others are asked for a shorter one.
+fn search_between<R: Wait, Q: Purse, G: Gate>(
+    rt: &R,
+    alloc: Global,
+    solver: &mut LassoSolver,
+    low: usize,
+    high: usize,
+    purse: &mut Q,
+    gate: &G,
+) -> Result<Searched, AllocError>
+    requires some { low < high }
+    requires ready { Q.ready purse.old }
+    ensures says { IfOk result (LengthsSay solver.old.system low high solver.old.known solver.new.known (Q.tickets purse.old) (Q.tickets purse.new) (Q.spent purse.new)) }
+    ensures system { solver.new.system ≡ solver.old.system }
+    ensures kept { Q.kept purse.old purse.new }
+    ensures ready { Q.ready purse.new }
+    ensures budget { Q.budget purse.new ≡ Q.budget purse.old }
+{
+    shorter_lassos();
+    gate.enter(rt, 0);
+    match solver.search(alloc, high, purse)? {
+        Searched::None => Ok(Searched::None),
+        Searched::Spent { drawn, budget } => Ok(Searched::Spent { drawn, budget }),
+        Searched::Found(lasso) => {
+            match search_lengths(rt, alloc, solver, low, high - 1, purse, gate)? {
+                Searched::Found(shorter) => Ok(Searched::Found(shorter)),
+                _ => Ok(Searched::Found(lasso)),
+            }
+        }
+    }
+}
+
+// The length that is asked for after all up to `low`, which is less than `bound`.
+fn length_after(low: usize, bound: usize) -> usize
+    requires { low < bound }
+    ensures more { low < result }
+    ensures within { result ≤ bound }
+{
+    let next = low.saturating_mul(2).max(LONG);
+    if low < next && next < bound {
+        next
+    } else {
+        bound
+    }
+}
+
+// A fair lasso of at most so many states, a shortest, if there is one; of a shortest the purse may be spent.
 fn search_all<R: Wait, Q: Purse, G: Gate>(
     rt: &R,
     alloc: Global,
@@ -39,13 +125,20 @@ fn search_all<R: Wait, Q: Purse, G: Gate>(
     ensures budget { Q.budget purse.new ≡ Q.budget purse.old }
 {
     let mut solver = LassoSolver::new(system);
-    'lengths: for k in 0..bound {
-        gate.enter(rt, 0);
-        match solver.search(alloc, k + 1, purse)? {
+    let mut low = SHORT.min(bound);
+    match search_lengths(rt, alloc, &mut solver, 0, low, purse, gate)? {
+        Searched::None => {}
+        Searched::Found(lasso) => return Ok(Searched::Found(lasso)),
+        Searched::Spent { drawn, budget } => return Ok(Searched::Spent { drawn, budget }),
+    }
+    'longer: while low < bound {
+        let high = length_after(low, bound);
+        match search_between(rt, alloc, &mut solver, low, high, purse, gate)? {
             Searched::None => {}
             Searched::Found(lasso) => return Ok(Searched::Found(lasso)),
             Searched::Spent { drawn, budget } => return Ok(Searched::Spent { drawn, budget }),
         }
+        low = high;
     }
     Ok(Searched::None)
 }
