@@ -28,7 +28,7 @@ use Rattle.frame_claims.proofs.Paid.{by_claim}
 use Rattle.frame_claims.proofs.Taken.{may_be_asked, paid_so, there_by}
 use Rattle.frame_claims.proofs.Turned.{older_itself}
 use Rattle.work_crew.specs.declared.craft.Taking.{Taking}
-use Rattle.work_crew.specs.declared.craft.Taking.TheVariants.{Task, Idle, Ended}
+use Rattle.work_crew.specs.declared.craft.Taking.TheVariants.{Task, Idle, Later, Ended}
 use Rattle.work_crew.specs.Takings.{IfTask, IfNoTask}
 use Rattle.frame_worker.specs.Working.{HandView, hand, known_of, Follows, IsHeld, IsClaimed, IsTaken, HasAll}
 
@@ -54,6 +54,7 @@ pub took_so : (systems : List TransitionSystem) (limits : Limits) (first : BookS
     IfTask r (λ (c : ClaimView). IsTaken systems limits first purse (hand h.seat h.share now solver h.first h.parts) c)
 took_so systems limits first purse h front now solver (Task c) held up claimed = record { earlier = front; held = held; up = up; claimed = claimed }
 took_so systems limits first purse h front now solver Idle held up claimed = tt
+took_so systems limits first purse h front now solver Later held up claimed = tt
 took_so systems limits first purse h front now solver Ended held up claimed = tt
 
 pub still_so : (systems : List TransitionSystem) (first : BookState) (purse : SharedPurse) (h : HandView) (front now : List Entry) (solver : Option SolverView)
@@ -61,6 +62,8 @@ pub still_so : (systems : List TransitionSystem) (first : BookState) (purse : Sh
     IfNoTask r (IsHeld systems first purse (hand h.seat h.share now solver h.first h.parts))
 still_so systems first purse h front now solver (Task c) held same = tt
 still_so systems first purse h front now solver Idle held same =
+    subst (λ (z : List Entry). IsHeld systems first purse (hand h.seat h.share z solver h.first h.parts)) (sym same) held
+still_so systems first purse h front now solver Later held same =
     subst (λ (z : List Entry). IsHeld systems first purse (hand h.seat h.share z solver h.first h.parts)) (sym same) held
 still_so systems first purse h front now solver Ended held same =
     subst (λ (z : List Entry). IsHeld systems first purse (hand h.seat h.share z solver h.first h.parts)) (sym same) held

@@ -19,14 +19,19 @@ use std::alloc::AllocError;
 use std::sync::ledger::{Ledger, Share};
 use work_crew::Taking;
 
+// How many times the next claim is left to the worker who had the last one.
+const PASSES: u32 = 10_000;
+
 /// The book, and the history that workers share. It is broken where an entry of the book could not be added to that
-/// history; then no more is claimed. It counts the claims that are out.
+/// history; then no more is claimed. It counts the claims that are out, and knows who had the last one.
 #[derive(Drop)]
 pub(crate) struct Desk<'a, L: Ledger, J: Naming + Begun> {
     pub(crate) book: Book<'a, L>,
     pub(crate) front: Front<Entry, J>,
     pub(crate) broken: bool,
     pub(crate) out: u32,
+    pub(crate) last: u32,
+    pub(crate) passes: u32,
     pub(crate) ghost same: { broken ≡ false → front ≡ book.history },
     pub(crate) ghost systems_are: { book.systems ≡ J.systems },
     pub(crate) ghost limits_are: { book.limits ≡ J.limits },
@@ -57,6 +62,8 @@ impl<'a, L: Ledger, J: Naming + Begun> Desk<'a, L, J> {
                 }
                 *front = self.front.again();
                 self.out = self.out.saturating_add(1);
+                self.last = worker;
+                self.passes = 0;
                 Taking::Task(claim)
             }
             Ok(Claiming::Idle) => Taking::Idle,
@@ -68,6 +75,17 @@ impl<'a, L: Ledger, J: Naming + Begun> Desk<'a, L, J> {
     /// Whether a claim is out.
     pub(crate) fn has_claim_out(&self) -> bool {
         self.out > 0
+    }
+
+    /// Whether this worker leaves the next claim to the one who had the last: so many times at most.
+    pub(crate) fn passes_on(&mut self, worker: u32) -> bool
+        ensures { self.new.broken ≡ self.old.broken }
+    {
+        if worker == self.last || self.last == 0 || self.passes >= PASSES {
+            return false;
+        }
+        self.passes = self.passes.saturating_add(1);
+        true
     }
 
     /// Ends a claim with what came of it; false: there was no memory for that, and it was given back.

@@ -20,8 +20,9 @@ use work_crew::{Craft, Taking};
 
 /// What the workers of some frames need of each other: the systems, the history that they share, and the purse.
 ///
-/// They take turns: one claim is out at a time, and whoever is first takes the next. Claims that were asked side by side took
-/// two to four times the work of one worker, since lemmas that one was finding would have spared the others their queries.
+/// They take turns: one claim is out at a time. Claims that were asked side by side took two to four times the work of one
+/// worker, since lemmas that one was finding would have spared the others their queries. The next claim is left to the worker
+/// who had the last one, whose solver knows most of it; another takes it where that one does not come.
 #[derive(Drop)]
 pub(crate) struct Explorer<'a, 'p, L: Ledger, J: Naming + Begun> {
     pub(crate) alloc: Global,
@@ -80,6 +81,9 @@ impl<'a, 'p, L: Ledger, J: Naming + Begun + Send> Craft for Explorer<'a, 'p, L, 
         }
         if desk.has_claim_out() {
             return Taking::Idle;
+        }
+        if desk.passes_on(hand.first) {
+            return Taking::Later;
         }
         if !desk.show(&mut hand.front, &mut hand.solver) {
             return Taking::Ended;

@@ -121,6 +121,8 @@ fn explore_by<
             front: front.again(),
             broken: false,
             out: 0,
+            last: 0,
+            passes: 0,
         }),
         moved: Condvar::new(),
     };

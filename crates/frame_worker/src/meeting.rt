@@ -33,6 +33,8 @@ pub(crate) fn explored_of<'a, L: Ledger, J: Naming + Begun>(
         front,
         broken,
         out: _,
+        last: _,
+        passes: _,
     } = desk;
     if broken || !seen.advance(&front) {
         return Ok(None);

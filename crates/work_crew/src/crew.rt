@@ -20,8 +20,8 @@ pub struct Crew<C: Craft> {
 
 /// Works until the craft says that this worker does nothing more.
 ///
-/// It passes the gate before each task, and holds no lock while it does one. A worker without a task waits until
-/// another has put something back.
+/// It passes the gate before each time that it asks for a task, and holds no lock while it does one. A worker without a task
+/// waits. Whoever puts something back wakes one that waits, and who ends wakes all.
 pub fn work<C: Craft, R: Wait, G: Gate>(
     rt: &R,
     crew: &Crew<C>,
@@ -53,6 +53,7 @@ pub fn work<C: Craft, R: Wait, G: Gate>(
             Taking::Idle => {
                 let _desk = crew.moved.wait(rt, desk);
             }
+            Taking::Later => {}
             Taking::Ended => {
                 break;
             }
@@ -84,6 +85,7 @@ pub fn finish<C: Craft, R: Wait>(rt: &R, crew: &Crew<C>, mut hand: C::Hand) -> C
             Taking::Idle => {
                 break;
             }
+            Taking::Later => {}
             Taking::Ended => {
                 break;
             }
@@ -104,7 +106,7 @@ fn take_one<C: Craft, R: Wait>(rt: &R, crew: &Crew<C>, hand: &mut C::Hand) -> Ta
     crew.craft.take(&mut desk, hand)
 }
 
-// Puts back what came of a task, and tells those that wait.
+// Puts back what came of a task, and tells one of those that wait.
 fn put_back<C: Craft, R: Wait>(rt: &R, crew: &Crew<C>, hand: &mut C::Hand, done: C::Done) -> bool
     requires did { C.did crew.now.craft hand.old done }
     ensures holds { C.holds crew.now.craft hand.new }
@@ -114,7 +116,7 @@ fn put_back<C: Craft, R: Wait>(rt: &R, crew: &Crew<C>, hand: &mut C::Hand, done:
     let mut desk = crew.desk.lock(rt);
     let goes_on = crew.craft.put(&mut desk, hand, done);
     drop(desk);
-    crew.moved.notify_all();
+    crew.moved.notify_one();
     goes_on
 }
 
