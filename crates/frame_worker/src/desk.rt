@@ -20,7 +20,7 @@ use std::sync::ledger::{Ledger, Share};
 use work_crew::Taking;
 
 // How many times the next claim is left to the worker who had the last one.
-const PASSES: u32 = 10_000;
+const PASSES: u32 = 4;
 
 /// The book, and the history that workers share. It is broken where an entry of the book could not be added to that
 /// history; then no more is claimed. It counts the claims that are out, and knows who had the last one.

@@ -10,7 +10,7 @@ pub enum Taking<T> {
     Task(T),
     /// There is none now, and another worker has one.
     Idle,
-    /// There may be one that another worker is about to take; this one asks again at once.
+    /// There may be one that another worker is about to take; this one asks again soon.
     Later,
     /// There is none any more, or none for this worker.
     Ended,

@@ -9,6 +9,10 @@ use crate::craft::{Craft, Taking};
 use outside::Gate;
 use std::sync::{Condvar, Mutex, Wait};
 use std::thread::{Threads, join};
+use std::time::Duration;
+
+// For how many milliseconds a worker sleeps, if nobody wakes it, that leaves a task to another.
+const PAUSE: u64 = 1;
 
 /// What workers share: what they do, the value under the lock, and where those wait that have no task.
 #[derive(Drop)]
@@ -53,7 +57,11 @@ pub fn work<C: Craft, R: Wait, G: Gate>(
             Taking::Idle => {
                 let _desk = crew.moved.wait(rt, desk);
             }
-            Taking::Later => {}
+            Taking::Later => {
+                let seen = crew.moved.notifications();
+                drop(desk);
+                crew.moved.sleep(rt, seen, Duration::from_millis(PAUSE));
+            }
             Taking::Ended => {
                 break;
             }
