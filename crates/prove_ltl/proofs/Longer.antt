@@ -74,7 +74,7 @@ pays_more m first k last old mid new before between after xs ys low high p q =
     let b = (All-contains (IsOfLength m k last) ys y q.each there).some in
     omega (arith, a, b, same)))
 
--- queries for less lengths than those of earlier ones
+-- queries for shorter lengths than those of earlier ones
 pub pays_less : (m : TransitionSystem) (first k last : ℕ) (old mid new : List (List Lit)) (before between after : List ℕ) (xs ys : List LengthQuery) →
     first ≤ k → k ≤ last → PaysBetween m k last old mid before between xs → PaysBetween m first k mid new between after ys →
     PaysBetween m first last old new before after (xs ++ ys)

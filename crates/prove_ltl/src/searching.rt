@@ -1,7 +1,7 @@
 //! Fair lassos of a monitored system, the shortest first: short lengths one after another, and then the greatest of many.
 //!
-//! A fair lasso goes on round its loop, so where there is one of some length there is one of each greater length. A query for
-//! the greatest of many lengths that finds none is so an answer for all of them, and mostly costs less than those for the
+//! A fair lasso goes on round its loop, so where there is one of some length there is one of each greater length. Where a query
+//! for the greatest of many lengths finds none, it answers for all of them. It mostly costs less than the queries for the
 //! lengths in the middle.
 
 ghost use Rattle.std.specs.Prelude.{◌≡◌, ◌<◌, ◌≤◌, ℕ, List, [], length, IfOk};
@@ -61,8 +61,8 @@ fn search_lengths<R: Wait, Q: Purse, G: Gate>(
     Ok(Searched::None)
 }
 
-// A fair lasso of more than `low` states, and of `high` at most, if there is one, where none has fewer: the greatest of these
-// lengths is asked for first, and where that finds one the others are asked for a shorter one.
+// A fair lasso of more than `low` states and at most `high`, if there is one. The greatest of these lengths is asked for first.
+// Where that finds one, the others are asked for a shorter one.
 fn search_between<R: Wait, Q: Purse, G: Gate>(
     rt: &R,
     alloc: Global,
@@ -108,7 +108,7 @@ fn length_after(low: usize, bound: usize) -> usize
     }
 }
 
-// A fair lasso of at most so many states, a shortest, if there is one; of a shortest the purse may be spent.
+// A fair lasso of at most so many states, if there is one: the shortest, unless the purse is spent before it is found.
 fn search_all<R: Wait, Q: Purse, G: Gate>(
     rt: &R,
     alloc: Global,
