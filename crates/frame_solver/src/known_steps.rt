@@ -1,7 +1,10 @@
 //! A bounded list of steps that queries found. One that leaves a clause is a counterexample to its
 //! induction, and saves a query.
+//!
+//! Most steps are ruled out by the first bits of the state that they lead to, which stand in one word; the others
+//! mostly by the lemma that ruled them out before. Both are kept beside each step, and tested first.
 
-ghost use Rattle.std.specs.Prelude.{◌≡◌, ◌+◌, ◌-◌, ◌<◌, ◌≤◌, ℕ, Bool, not, true, All, IfSome, IsTrue, length};
+ghost use Rattle.std.specs.Prelude.{◌≡◌, ◌+◌, ◌-◌, ◌<◌, ◌≤◌, ℕ, Bool, not, true, All, IfNone, IfSome, IsTrue, length};
 ghost use Rattle.std.specs.List.{HoldsAt};
 ghost use Rattle.clause_core.specs.declared.literal.Lit.{Lit as ALit};
 ghost use Rattle.clause_core.specs.Literals.{Within};
@@ -24,6 +27,43 @@ const MOST: usize = 1024;
 pub struct KnownStep {
     pub values: Bits,
     pub first: bool,
+}
+
+// What is kept beside a step to rule it out fast. Contracts do not see it: a step that it lets through is tested.
+#[derive(Clone, Copy, Drop)]
+pub struct Hint {
+    // The first 64 bits of the state that the step leads to, the first one lowest.
+    pub next: u64,
+    // The place of the lemma that ruled the step out last.
+    pub bar: usize,
+}
+
+// The bits of this number of a word, where `k` is one.
+fn bit(k: usize) -> u64 {
+    if k < 64 { 1 << k } else { 0 }
+}
+
+// The first 64 bits from place `from` on, in a word.
+fn word_from(values: &[bool], from: usize) -> u64 {
+    let mut word: u64 = 0;
+    let end = values.len().min(from.saturating_add(64));
+    for k in from..end {
+        if values[k] {
+            word |= bit(k - from);
+        }
+    }
+    word
+}
+
+// The bits of the literals of a clause that have this sign.
+fn bits_of(clause: &[Lit], positive: bool) -> u64 {
+    let mut word: u64 = 0;
+    for l in clause {
+        if l.positive == positive {
+            word |= bit(l.var);
+        }
+    }
+    word
 }
 
 // Whether the values from place `from` on make each literal false.
@@ -52,21 +92,30 @@ fn meets(values: &[bool], clause: &[Lit]) -> bool
     false
 }
 
-// Whether these values meet each lemma of at least this level.
-fn meets_lemmas(values: &Bits, lemmas: &[Lemma], least: u32) -> bool
+// Whether these values do not meet the lemma at this place, and it has at least this level.
+fn is_barred(values: &Bits, lemmas: &[Lemma], bar: usize, least: u32) -> bool
     requires { All (λ (l : ALemma). Within (length values.now) l.clause) lemmas.now }
-    ensures { IsTrue result → MeetsFrom lemmas.now least (assignment_of values.now) }
 {
-    'lemmas: for lemma in lemmas {
-        if least <= lemma.level && !met(&lemma.clause, values) {
-            return false;
-        }
-    }
-    true
+    bar < lemmas.len() && least <= lemmas[bar].level && !met(&lemmas[bar].clause, values)
 }
 
-// Whether the step is known to lead from a state of frame i.
-fn leads_from(step: &KnownStep, lemmas: &[Lemma], i: u32) -> bool
+// The place of the first lemma of at least this level that these values do not meet.
+fn first_bar(values: &Bits, lemmas: &[Lemma], least: u32) -> Option<usize>
+    requires { All (λ (l : ALemma). Within (length values.now) l.clause) lemmas.now }
+    ensures { IfNone result (MeetsFrom lemmas.now least (assignment_of values.now)) }
+{
+    'lemmas: for k in 0..lemmas.len() {
+        let lemma = &lemmas[k];
+        if least <= lemma.level && !met(&lemma.clause, values) {
+            return Some(k);
+        }
+    }
+    None
+}
+
+// Whether the step is known to lead from a state of frame i. The bar is the place of the lemma that ruled the
+// step out last.
+fn leads_from(step: &KnownStep, lemmas: &[Lemma], i: u32, bar: &mut usize) -> bool
     requires { All (λ (l : ALemma). Within (length step.now.values) l.clause) lemmas.now }
     ensures first { IsTrue result → i ≡ 0 → step.now.first ≡ true }
     ensures later { IsTrue result → 0 < i → MeetsFrom lemmas.now i (assignment_of step.now.values) }
@@ -74,7 +123,16 @@ fn leads_from(step: &KnownStep, lemmas: &[Lemma], i: u32) -> bool
     if i == 0 {
         return step.first;
     }
-    meets_lemmas(&step.values, lemmas, i)
+    if is_barred(&step.values, lemmas, *bar, i) {
+        return false;
+    }
+    match first_bar(&step.values, lemmas, i) {
+        Some(k) => {
+            *bar = k;
+            false
+        }
+        None => true,
+    }
 }
 
 // Whether the step is known to lead from a state of the frame below the level, that meets the clause, to one
@@ -85,6 +143,7 @@ fn leads_out(
     step: &KnownStep,
     clause: &[Lit],
     level: u32,
+    bar: &mut usize,
 ) -> bool
     requires known { IsKnownStep system.now step.now }
     requires lemmas { All (λ (l : ALemma). Within system.now.state_bits l.clause) lemmas.now }
@@ -96,7 +155,23 @@ fn leads_out(
     let values = step.values.as_slice();
     is_outside(values, system.state_bits(), clause)
         && meets(values, clause)
-        && leads_from(step, lemmas, level - 1)
+        && leads_from(step, lemmas, level - 1, bar)
+}
+
+// What is kept beside the step at this place.
+fn hint_at(hints: &[Hint], k: usize) -> Hint {
+    if k < hints.len() {
+        hints[k]
+    } else {
+        Hint { next: 0, bar: 0 }
+    }
+}
+
+// Remembers the lemma that ruled out the step at this place.
+fn note_bar(hints: &mut [Hint], k: usize, bar: usize) {
+    if k < hints.len() {
+        hints[k].bar = bar;
+    }
 }
 
 // The place of the last of these steps that is known to lead out of the clause at the level.
@@ -104,6 +179,7 @@ pub(crate) fn last_out(
     system: &System,
     lemmas: &[Lemma],
     steps: &[KnownStep],
+    hints: &mut [Hint],
     clause: &[Lit],
     level: u32,
 ) -> Option<usize>
@@ -113,9 +189,15 @@ pub(crate) fn last_out(
     requires level { 0 < level }
     ensures { IfSome result (λ k. (k < length steps.now) × HoldsAt (LeadsOut system.now lemmas.now level clause.now) steps.now k) }
 {
+    let positive = bits_of(clause, true);
+    let negative = bits_of(clause, false);
     'steps: for k in (0..steps.len()).rev() {
-        if leads_out(system, lemmas, &steps[k], clause, level) {
-            return Some(k);
+        let Hint { next, mut bar } = hint_at(hints, k);
+        if (next & positive) | (!next & negative) == 0 {
+            if leads_out(system, lemmas, &steps[k], clause, level, &mut bar) {
+                return Some(k);
+            }
+            note_bar(hints, k, bar);
         }
     }
     None
@@ -131,10 +213,36 @@ pub(crate) fn put_last(steps: &mut Vec<KnownStep>, k: usize) -> Result<(), Alloc
     Ok(())
 }
 
-// Adds the step at the end; where there is no room for one more, the first one goes.
-pub(crate) fn keep(steps: &mut Vec<KnownStep>, step: KnownStep) -> Result<(), AllocError>
+// What is kept beside the step at this place goes to the end, as the step does. If memory runs out, it is gone.
+pub(crate) fn put_hint_last(hints: &mut Vec<Hint>, k: usize) -> Result<(), AllocError> {
+    if k < hints.len() {
+        let hint = hints.remove(k);
+        hints.push(hint)?;
+    }
+    Ok(())
+}
+
+// Adds what is kept beside a step at the end; where there is no room for one more, the first one goes.
+fn keep_hint(hints: &mut Vec<Hint>, hint: Hint) -> Result<(), AllocError> {
+    if hints.len() >= MOST {
+        let _ = hints.remove(0);
+    }
+    hints.push(hint)?;
+    Ok(())
+}
+
+// Adds the step at the end, and what is kept beside it; where there is no room for one more, the first one goes. The
+// bits of the state that it leads to stand from place `from` on.
+pub(crate) fn keep(
+    steps: &mut Vec<KnownStep>,
+    hints: &mut Vec<Hint>,
+    from: usize,
+    step: KnownStep,
+) -> Result<(), AllocError>
     ensures { (sys : TransitionSystem) → All (IsKnownStep sys) steps.old.items → IsKnownStep sys step → All (IsKnownStep sys) steps.new.items }
 {
+    let next = word_from(step.values.as_slice(), from);
+    keep_hint(hints, Hint { next, bar: 0 })?;
     if steps.len() >= MOST {
         let _ = steps.remove(0);
     }

@@ -2,7 +2,7 @@
 //! query.
 
 use crate::first_states::Firsts;
-use crate::known_steps::{KnownStep, is_outside, keep, last_out, put_last};
+use crate::known_steps::{Hint, KnownStep, is_outside, keep, last_out, put_hint_last, put_last};
 use crate::stepping::Stepping;
 use clause_core::{Bits, Clause, Lit, System};
 use frame_core::Lemma;
@@ -20,6 +20,8 @@ pub struct Known<'a> {
     first: Option<Bits>,
     // that which was added or used last stands at the end
     steps: Vec<KnownStep>,
+    // what is kept beside each step to rule it out fast
+    hints: Vec<Hint>,
 }
 
 impl<'a> Model for Known<'a> {
@@ -51,6 +53,7 @@ impl<'a> Known<'a> {
             fixed,
             first: None,
             steps: Vec::new(alloc),
+            hints: Vec::new(alloc),
         })
     }
 
@@ -139,10 +142,18 @@ impl<'a> Known<'a> {
         ensures found { IfOk result (λ r. IfSome r (IsStepOut self.old lemmas.now level clause.now)) }
         ensures same { self.new ≡ self.old }
     {
-        match last_out(self.system, lemmas, &self.steps, clause, level) {
+        match last_out(
+            self.system,
+            lemmas,
+            &self.steps,
+            &mut self.hints,
+            clause,
+            level,
+        ) {
             Some(k) => {
                 let values = Bits::from_slice(alloc, self.steps[k].values.as_slice())?;
                 put_last(&mut self.steps, k)?;
+                put_hint_last(&mut self.hints, k)?;
                 Ok(Some(values))
             }
             None => Ok(None),
@@ -161,7 +172,13 @@ impl<'a> Known<'a> {
     {
         if let Stepping::Leaves(values) = found {
             let values = Bits::from_slice(alloc, values.as_slice())?;
-            keep(&mut self.steps, KnownStep { values, first })?;
+            let from = self.system.state_bits();
+            keep(
+                &mut self.steps,
+                &mut self.hints,
+                from,
+                KnownStep { values, first },
+            )?;
         }
         Ok(())
     }

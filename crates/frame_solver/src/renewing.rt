@@ -20,7 +20,7 @@ use sat_prop::Watched;
 use std::alloc::{AllocError, Global};
 
 // How many queries with a clause of their own a new solver has room for.
-const ROOM: usize = 1000;
+const ROOM: usize = 300;
 
 // How many clauses a solver may have learned before it is made anew, beside one for each eight clauses of a step: what was
 // learned long ago costs each query more than it saves.

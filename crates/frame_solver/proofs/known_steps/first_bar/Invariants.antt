@@ -1,8 +1,8 @@
 use Rattle.std.proofs.Common.{◌<◌, ◌≤◌, ℕ}
 use Rattle.clause_core.specs.Assignments.{ClauseTrue, assignment_of}
 use Rattle.frame_core.specs.Law.{lemma_at}
-use Rattle.frame_solver.proofs.known_steps.meets_lemmas.Given as goal
+use Rattle.frame_solver.proofs.known_steps.first_bar.Given as goal
 
 abbrev pub invariant-lemmas : goal.invariant-lemmas
 invariant-lemmas l =
-    (n : ℕ) → n < l.lemma-index → l.least ≤ (lemma_at l.lemmas n).level → ClauseTrue (assignment_of l.values) (lemma_at l.lemmas n).clause
+    (n : ℕ) → n < l.k → l.least ≤ (lemma_at l.lemmas n).level → ClauseTrue (assignment_of l.values) (lemma_at l.lemmas n).clause
