@@ -46,7 +46,7 @@ use Rattle.smv_meaning.specs.Values.{outcome, outcome_in, outcomes}
 use Rattle.smv_meaning.specs.Formulas.{are_known_formulas, is_known, is_known_formula, is_over_formulas, is_propositional, is_temporal}
 use Rattle.smv_meaning.specs.Runs.{AllKnown as AllItemsKnown, are_inputs, is_given, is_known_by, is_known_item, is_single as has_one, is_state}
 use Rattle.smv_verdicts.specs.Verdicts.{first_of, or_else}
-use Rattle.smv_types.specs.Kinds.{Context, all_told, assignment_refusal, context_of_side, formula_refusal, has_values, inner_refusal, input_here, is_assignable, is_input_slot, item_refusal, kind_in, kind_of_slot, kind_refusal, kinds_broken, left_refusal, misused, next_broken, next_here, no_taker, no_value, of_kind, of_path, of_state, of_step, operands_refusal, refusal_by_kind, slot_takes, takes_assignment, target_refusal, temporal_at, temporal_here, told, under_element, under_name, under_next, under_operand}
+use Rattle.smv_types.specs.Kinds.{Context, all_told, assignment_refusal, at_root, context_of_side, formula_refusal, has_values, inner_refusal, input_here, is_assignable, is_input_slot, item_refusal, kind_in, kind_of_slot, kind_refusal, kinds_broken, left_refusal, misused, next_broken, next_here, no_taker, no_value, of_kind, of_path, of_state, of_step, operands_refusal, place_of, refusal_by_kind, slot_takes, takes_assignment, target_refusal, temporal_at, temporal_here, told, under_element, under_name, under_next, under_operand}
 use Rattle.smv_types.specs.Judged.{of_name}
 use Rattle.smv_types.proofs.Evaluated.{AllKnown, Fits, Has, Known, constant_fits}
 use Rattle.smv_types.proofs.Gathered.{applied_fits, array_unset, array_unvalued, boolean_value, makes_array, takes_parts}
@@ -74,6 +74,10 @@ not_both : (a b : Bool) → a ≡ true → (a && not b) ≡ false → b ≡ true
 not_both true true t e = refl
 not_both true false t e = sym e
 not_both false b t e = absurd (false≢true t)
+
+none_at_root : (temporal : Bool) (place : Place) (k : Kind) (r : Option Refusal) → at_root temporal place k r ≡ None → (r ≡ None) × (is_boolean k ≡ true)
+none_at_root temporal place k None e = (refl, refused_unless (is_boolean k) _ e)
+none_at_root temporal place k (Some r) e = absurd (let never : ⊥ = cc in never)
 
 none_of_both : (a b : Option Refusal) → a ≡ None → b ≡ None → or_else a b ≡ None
 none_of_both a b e f = rw (e, f) refl
@@ -441,8 +445,8 @@ module _ (p : Program) (typed : list_all is_type (types_of p) ≡ true) where
 
   formula_known : (c : Context) (e : Resolved) (s u t : List Value) → c.temporal ≡ false → formula_refusal S T c e ≡ None → Serves c s u t → is_known (outcome S s u t e) ≡ true
   formula_known c e s u t plain free h =
-      let boolean = refused_unless (is_boolean (told S T e).kind) _ (second_none (kind_refusal S T c e) _ free) in
-      operand_known (told S T e) (outcome S s u t e) boolean (known e c s u t plain (first_none (kind_refusal S T c e) _ free) h)
+      let root = none_at_root c.temporal (place_of e) (told S T e).kind (kind_refusal S T c e) free in
+      operand_known (told S T e) (outcome S s u t e) root.1 (known e c s u t plain root.0 h)
 
   module _ (s u t : List Value) (state : is_state p s ≡ true) (inputs : are_inputs p u ≡ true) (next : is_state p t ≡ true) where
     in_step : (set : Bool) → Serves (of_step set) s u t
@@ -462,8 +466,8 @@ module _ (p : Program) (typed : list_all is_type (types_of p) ≡ true) where
     by_kind place target e (item.Constraint asked.Justice) free = formula_known (of_state false) e s [] [] refl free (alone false s state)
     by_kind place target e (item.Specification claim.Invariant) free = formula_known (of_state false) e s [] [] refl free (alone false s state)
     by_kind place target e (item.Specification claim.Temporal) free =
-        let boolean = refused_unless (is_boolean (told S T e).kind) _ (second_none (kind_refusal S T of_path e) _ free) in
-        formula_parts e s u (first_none (kind_refusal S T of_path e) _ free) boolean
+        let root = none_at_root true (place_of e) (told S T e).kind (kind_refusal S T of_path e) free in
+        formula_parts e s u root.0 root.1
         (record { state = state; inputs = λ x. inputs; next = λ x. absurd (false≢true x) })
 
     items_known : (xs : List ResolvedItem) → first_of (item_refusal S T) xs ≡ None → list_all (is_known_item S s u t) xs ≡ true

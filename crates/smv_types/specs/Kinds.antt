@@ -1,5 +1,5 @@
 -- The rules of depth, kinds and contexts: an own choice of this project (the kinds are those of manual 2.1 and 2.2).
-use Rattle.std.specs.Prelude.{ℕ, ◌+◌, nat_lt, Bool, true, false, not, ◌&&◌, if◌then◌else◌, List, [], ◌∷◌, ◌++◌, codes, length, Option, None, Some, Ok, Err, slice_get, ℤ, pos}
+use Rattle.std.specs.Prelude.{ℕ, ◌+◌, ◌==◌, nat_lt, Bool, true, false, not, ◌&&◌, if◌then◌else◌, List, [], ◌∷◌, ◌++◌, codes, length, Option, None, Some, Ok, Err, slice_get, ℤ, pos}
 use Rattle.std.specs.Fmt.{signed_decimal}
 use Rattle.std.specs.List.{list_any}
 use Rattle.std.specs.Option.{is_some}
@@ -325,8 +325,28 @@ context_of_specification claim.Temporal = of_path
 abbrev pub no_boolean : Place → Kind → Option Refusal
 no_boolean place k = if is_boolean k then None else Some (plain rule.TypeMismatch place)
 
+-- Rules that are asked at a node after that of its kind. A temporal operator is a boolean whose bounds may be no constants.
+abbrev pub is_after_kind : Bool → Rule → Bool
+is_after_kind temporal rule.WordWidth = true
+is_after_kind temporal rule.BadSelection = true
+is_after_kind temporal rule.IntWidth = true
+is_after_kind temporal rule.NotConstant = not temporal
+is_after_kind temporal other = false
+
+abbrev pub is_at : Place → Place → Bool
+is_at a b = (a.line == b.line) && (a.column == b.column)
+
+-- At the root of what has to be a boolean, that it is none comes before the rules that are asked after that.
+abbrev pub first_at_root : Bool → Place → Kind → Refusal → Refusal
+first_at_root temporal place k r =
+    if is_after_kind temporal r.rule && (is_at r.place place && not (is_boolean k)) then plain rule.TypeMismatch place else r
+
+abbrev pub at_root : Bool → Place → Kind → Option Refusal → Option Refusal
+at_root temporal place k None = no_boolean place k
+at_root temporal place k (Some r) = Some (first_at_root temporal place k r)
+
 abbrev pub formula_refusal : List Slot → List ValueType → Context → Resolved → Option Refusal
-formula_refusal slots types c r = or_else (kind_refusal slots types c r) (no_boolean (place_of r) (told slots types r).kind)
+formula_refusal slots types c r = at_root c.temporal (place_of r) (told slots types r).kind (kind_refusal slots types c r)
 
 -- The left side of an assignment: what a parameter was given there and the indices, what may be assigned, and that it has values.
 abbrev pub left_refusal : List Slot → List ValueType → Place → AssignmentKind → Resolved → Option Refusal

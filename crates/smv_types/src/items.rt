@@ -7,7 +7,7 @@ ghost use Rattle.smv_resolve.specs.Items.{item_by};
 ghost use Rattle.smv_resolve.specs.Resolved.{Resolved, part_at, parts_of};
 ghost use Rattle.smv_verdicts.specs.Verdicts.{Judges, first_of};
 ghost use Rattle.smv_types.specs.Judged.{IsJudged, IsOf, Tells, as_refusal};
-ghost use Rattle.smv_types.specs.Kinds.{assignment_refusal, bounds_text, context_of_constraint, context_of_side, context_of_specification, formula_refusal, is_assignable, item_refusal, kind_refusal, left_refusal, no_boolean, no_taker, target_refusal};
+ghost use Rattle.smv_types.specs.Kinds.{assignment_refusal, at_root, bounds_text, context_of_constraint, context_of_side, context_of_specification, formula_refusal, is_after_kind, is_assignable, is_at, item_refusal, kind_refusal, left_refusal, no_boolean, no_taker, target_refusal};
 
 use crate::judged::{Judged, Violation};
 use crate::kinds::{Table, judged_at, no_value};
@@ -159,17 +159,69 @@ fn constraint_violation(which: ConstraintKind, value: Part) -> Option<Violation>
             value.judged.notes.state
         }
     };
-    first(inside, no_boolean(value.judged.place, value.kind))
+    at_root(false, value.judged.place, value.kind, inside)
 }
 
 fn specification_violation(which: SpecificationKind, value: Part) -> Option<Violation>
     ensures { (slots : List Slot) (types : List ValueType) (e : Resolved) → IsOf slots types e value → as_refusal result ≡ formula_refusal slots types (context_of_specification which) e }
 {
-    let inside = match which {
-        SpecificationKind::Invariant => value.judged.notes.state,
-        SpecificationKind::Temporal => value.judged.notes.path,
-    };
-    first(inside, no_boolean(value.judged.place, value.kind))
+    match which {
+        SpecificationKind::Invariant => at_root(
+            false,
+            value.judged.place,
+            value.kind,
+            value.judged.notes.state,
+        ),
+        SpecificationKind::Temporal => at_root(
+            true,
+            value.judged.place,
+            value.kind,
+            value.judged.notes.path,
+        ),
+    }
+}
+
+// What is broken by an expression of this kind and place that has to be a boolean.
+fn at_root(temporal: bool, place: Place, kind: Kind, inside: Option<Violation>) -> Option<Violation>
+    ensures { as_refusal result ≡ at_root temporal place kind (as_refusal inside) }
+{
+    match inside {
+        None => no_boolean(place, kind),
+        Some(violation) => Some(first_at_root(temporal, place, kind, violation)),
+    }
+}
+
+// At the root, that it is no boolean comes before the rules that are asked after that.
+fn first_at_root(temporal: bool, place: Place, kind: Kind, violation: Violation) -> Violation
+    ensures { as_refusal (Some result) ≡ at_root temporal place kind (as_refusal (Some violation)) }
+{
+    let is_later = is_after_kind(temporal, violation.rule);
+    match kind {
+        Kind::Boolean => violation,
+        _ => {
+            if is_later && is_at(violation.place, place) {
+                Violation::new(Rule::TypeMismatch, place)
+            } else {
+                violation
+            }
+        }
+    }
+}
+
+fn is_after_kind(temporal: bool, rule: Rule) -> bool
+    ensures { result ≡ is_after_kind temporal rule }
+{
+    match rule {
+        Rule::WordWidth | Rule::BadSelection | Rule::IntWidth => true,
+        Rule::NotConstant => !temporal,
+        _ => false,
+    }
+}
+
+fn is_at(a: Place, b: Place) -> bool
+    ensures { result ≡ is_at a b }
+{
+    a.line == b.line && a.column == b.column
 }
 
 // A place where TRUE or FALSE is wanted, and there is something else.
