@@ -274,6 +274,18 @@ const OPERANDS: [Case; 33] = [
     ),
     (
         "check",
+        "MODULE main\nVAR x : 0..65536;\nINIT x * x\n",
+        "-- refused 401 TypeMismatch at 3:8\n",
+        3,
+    ),
+    (
+        "check",
+        "MODULE main\nVAR w : word[8];\nINIT w[9:0]\n",
+        "-- refused 401 TypeMismatch at 3:7\n",
+        3,
+    ),
+    (
+        "check",
         "MODULE main\nVAR x : 0..46340;\nINIT x * x >= 0\n",
         "",
         0,
