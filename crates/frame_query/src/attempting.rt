@@ -114,7 +114,7 @@ pub(crate) fn has_failed(failed: &Option<Clause>, clause: &[Lit]) -> bool
 }
 
 // The literals of the clause in an order in which those of the part come first.
-pub(crate) fn ordered(alloc: Global, clause: &[Lit], part: &[Lit]) -> Result<Vec<Lit>, AllocError>
+fn ordered(alloc: Global, clause: &[Lit], part: &[Lit]) -> Result<Vec<Lit>, AllocError>
     ensures enough { IfOk result (λ v. IsPart clause.now v.items) }
     ensures only { IfOk result (λ v. IsPart v.items clause.now) }
     ensures many { IfOk result (λ v. length v.items ≡ length clause.now) }
@@ -129,6 +129,23 @@ pub(crate) fn ordered(alloc: Global, clause: &[Lit], part: &[Lit]) -> Result<Vec
         }
     }
     both(alloc, &inside, &outside)
+}
+
+// The literals of the clause in an order in which those of the part come first, and among these and the others those of the
+// hint. The last ones are tried first, so that what is kept is of the hint where it can be.
+pub(crate) fn ordered_by(
+    alloc: Global,
+    clause: &[Lit],
+    hint: &[Lit],
+    part: &[Lit],
+) -> Result<Vec<Lit>, AllocError>
+    ensures enough { IfOk result (λ v. IsPart clause.now v.items) }
+    ensures only { IfOk result (λ v. IsPart v.items clause.now) }
+    ensures many { IfOk result (λ v. length v.items ≡ length clause.now) }
+{
+    let likely = ordered(alloc, clause, hint)?;
+    let literals = ordered(alloc, &likely, part)?;
+    Ok(literals)
 }
 
 // The literals of both lists.

@@ -13,7 +13,7 @@ ghost use Rattle.frame_query.specs.Dropping.{PaysParts, Generalises};
 ghost use Rattle.frame_query.specs.Trying.{proof_of, PaysNew, IsGoing, IsCandidate, Fits, DropsTo, TurnSays, EndSays, MovesBy, HintMovesBy};
 
 use crate::attempting::{
-    attempt, attempt_new, both, copy_parents, hinted, lacked, needed_of, ordered, others,
+    attempt, attempt_new, both, copy_parents, hinted, lacked, needed_of, ordered_by, others,
 };
 use crate::hints::{Hint, hint_for};
 use crate::outcomes::Generalised;
@@ -292,9 +292,9 @@ pub(crate) fn generalised<Q: Purse>(
     ensures budget { Q.budget purse.new ≡ Q.budget purse.old }
 {
     let _system = given.system();
-    let rest = ordered(alloc, given.clause(), given.part())?;
-    let draft = drafted(alloc, given)?;
     let hint = hint_for(alloc, hints, given.clause())?;
+    let rest = ordered_by(alloc, given.clause(), &hint, given.part())?;
+    let draft = drafted(alloc, given)?;
     let mut walk = Walk {
         kept: Vec::new(alloc),
         asks: rest.len(),

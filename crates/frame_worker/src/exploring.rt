@@ -26,12 +26,13 @@ use work_crew::Crew;
 /// Explores these frames, which have no obligation and tops 0, by so many workers, but by 4294967294 at most.
 ///
 /// The workers have the numbers from 1 on. They share a book under a lock, and ask for their claims without it, each by a
-/// solver of its own. Then the caller, number 0, finishes alone what is left. What was drawn was paid for queries of the
+/// solver of its own. They take turns: one claim is out at a time, and the next is left for a while to the worker who had
+/// the last one. Then the caller, number 0, finishes alone what is left. What was drawn was paid for queries of the
 /// history's claims, and no two of these are equal.
 ///
 /// The book is dropped where it is not closed, or a claim that came to nothing may have been made twice. So it is where it
-/// notes that the purse was spent, and the seat knows nothing of that. A worker that is refused memory ends alone; want
-/// of memory of the caller is the only error.
+/// notes that the purse was spent, and the seat knows nothing of that. A worker that is refused memory ends alone; that
+/// the caller is refused memory is the only error.
 pub fn explore_together<'a, R: Threads + Wait + Sync, G: Gate + Sync>(
     rt: &R,
     alloc: Global,

@@ -22,7 +22,7 @@ literals-init g c =
     let given = c.args.given.now in
     let C : List Lit → Type 0 = λ q. IsPart q c.in_ok-rest.rest.items in
     let D : List Lit → Type 0 = λ q. IsPart c.in_ok-rest.rest.items q in
-    let count : length c.in_ok-rest.rest.items ≡ length given.clause = c.in_ok-rest.ensures.many ∙ ap length c.clause.ensures in
+    let count : length c.in_ok-rest.rest.items ≡ length given.clause = c.in_ok-rest.ensures.many ∙ ap length c.clause-2.ensures in
     let counted : length c.in_ok-rest.rest.items ≡ c.len.result = omega (arith, c.len.ensures) in
     let known = known_of c.args.steps.now c.args.states.now in
     let tickets = g.Q.Purse.tickets c.args.purse.now in
@@ -30,7 +30,7 @@ literals-init g c =
     record {
       going = record {
         way = way_start (system_at c.args.systems.now 0) c.args.lemmas.now given c.in_ok-draft.draft c.new.result.items c.in_ok-rest.rest.items c.system-system.ensures.shown
-            c.requires.system c.in_ok-draft.ensures.clause c.in_ok-draft.ensures.part c.in_ok-draft.ensures.parents c.new.ensures.items (subst C c.clause.ensures c.in_ok-rest.ensures.enough) (subst D c.clause.ensures c.in_ok-rest.ensures.only);
+            c.requires.system c.in_ok-draft.ensures.clause c.in_ok-draft.ensures.part c.in_ok-draft.ensures.parents c.new.ensures.items (subst C c.clause-2.ensures c.in_ok-rest.ensures.enough) (subst D c.clause-2.ensures c.in_ok-rest.ensures.only);
         fell = tt;
         once = λ _. refl;
         room = omega (arith, c.len.ensures);
