@@ -8,5 +8,5 @@ pub returns-in-Temporal : goal.returns-in-Temporal
 returns-in-Temporal c slots types e is =
     let value = c.args.value in
     let inside : at_root true value.judged.place value.kind (as_refusal value.judged.notes.path) ≡ formula_refusal slots types of_path e =
-        rw (is.judged.place, is.kind, is.judged.notes.path) refl in
+    rw (is.judged.place, is.kind, is.judged.notes.path) refl in
     c.at_root-in-Temporal.ensures ∙ inside ∙ ap (λ (w : SpecificationKind). formula_refusal slots types (context_of_specification w) e) (sym c.in-Temporal.is)
