@@ -124,7 +124,7 @@ const DECLARED: [Case; 20] = [
 ];
 
 // Rules that an operator and its operands break.
-const OPERANDS: [Case; 33] = [
+const OPERANDS: [Case; 35] = [
     (
         "check",
         "MODULE main\nVAR x : 0..3;\nINIT x & TRUE\n",
