@@ -1,5 +1,6 @@
 mod Beginning
 mod Counted
+mod Early
 mod Ladder
 mod Longer
 mod Owned

@@ -3,3 +3,4 @@ pub mod Searching
 pub mod Rungs
 pub mod LtlAnswers
 pub mod Climbing
+pub mod Early

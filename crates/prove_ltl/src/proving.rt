@@ -1,6 +1,6 @@
 //! The call: a system, a formula and its atoms in, an answer out.
 
-ghost use Rattle.std.specs.Prelude.{◌≡◌, ◌<◌, ◌≤◌, ◌+◌, ◌^◌, length, IfOk};
+ghost use Rattle.std.specs.Prelude.{◌≡◌, ◌<◌, ◌≤◌, ◌+◌, ◌^◌, length, IfOk, IfSome};
 ghost use Rattle.clause_core.specs.Literals.{Within};
 ghost use Rattle.clause_core.specs.Systems.{Gives};
 ghost use Rattle.cert_core.specs.declared.form.TheConstants.{MAX_COUNTER};
@@ -8,9 +8,10 @@ ghost use Rattle.ltl_meaning.specs.Temporal.{formula_of};
 ghost use Rattle.ltl_meaning.specs.Unfolded.{unfolded};
 ghost use Rattle.ltl_monitor.specs.States.{AtomsBelow};
 ghost use Rattle.prove_ltl.specs.Climbing.{IsDoneFor};
+ghost use Rattle.prove_ltl.specs.Early.{is_unknown};
 ghost use Rattle.prove_ltl.specs.LtlAnswers.{IsLtlDone};
 
-use crate::answers::LtlDone;
+use crate::answers::{LtlAnswer, LtlDone};
 use crate::climbing::climb_all;
 use crate::effort::LtlEffort;
 use crate::searching::search_first;
@@ -29,7 +30,8 @@ use std::thread::Threads;
 /// An answer is a certificate that none does; a lasso that does; or the cause why neither is known.
 /// Lassos are searched up to the bound, the shortest first; a query for the greatest of many lengths, which finds none, answers
 /// for all of them. Then the system is counted up to 0, 1, .. signals, each with the lemmas of the one before, until it reaches
-/// no bad state. All work is paid from one budget of tickets.
+/// no bad state. All work is paid from one budget of tickets. Before that the caller tries the same alone, twice, with smaller
+/// bounds and with few tickets of its own, since counters often answer where long lassos cost much. What it finds is the answer.
 ///
 /// One worker is the caller, with number 0. Several have the numbers from 1 on, and explore the frames of each counter. The
 /// caller searches the lengths before, finishes what they leave, and makes the certificate. Where the book of a counter
@@ -61,8 +63,84 @@ pub fn prove_ltl<R: Threads + Wait + Sync, G: Gate + Sync>(
     Ok(done)
 }
 
-// The same of a monitored system.
+// Bounds of lassos, and tickets: what is tried before all is done, by the caller alone.
+const FIRST: (usize, u64) = (8, 5_000);
+
+const SECOND: (usize, u64) = (16, 30_000);
+
+// The same of a monitored system. Most formulas are answered by short lassos, or by counters that cost less than long lassos.
 fn prove_monitored<R: Threads + Wait + Sync, G: Gate + Sync>(
+    rt: &R,
+    alloc: Global,
+    system: &System,
+    monitored: &Monitored,
+    effort: &LtlEffort,
+    workers: u32,
+    gate: &G,
+) -> Result<LtlDone, AllocError>
+    requires limit { effort.now.frames + 1 < 2 ^ 32 }
+    requires counter { effort.now.counter ≤ MAX_COUNTER }
+    requires workers { 0 < workers }
+    ensures { IfOk result (IsDoneFor system.now effort.now monitored.now.system) }
+{
+    if let Some(done) = prove_early(rt, alloc, system, monitored, effort, FIRST, gate)? {
+        return Ok(done);
+    }
+    if let Some(done) = prove_early(rt, alloc, system, monitored, effort, SECOND, gate)? {
+        return Ok(done);
+    }
+    prove_whole(rt, alloc, system, monitored, effort, workers, gate)
+}
+
+// An effort of at most this bound and so many tickets.
+fn less_effort(effort: &LtlEffort, limits: (usize, u64)) -> LtlEffort
+    ensures bound { result.bound ≤ effort.now.bound }
+    ensures frames { result.frames ≡ effort.now.frames }
+    ensures counter { result.counter ≡ effort.now.counter }
+{
+    let (bound, conflicts) = limits;
+    LtlEffort {
+        conflicts: effort.conflicts.min(conflicts),
+        frames: effort.frames,
+        counter: effort.counter,
+        bound: effort.bound.min(bound),
+    }
+}
+
+fn is_unknown(answer: &LtlAnswer) -> bool
+    ensures { result ≡ is_unknown answer.now }
+{
+    match answer {
+        LtlAnswer::True(_) => false,
+        LtlAnswer::False(_) => false,
+        LtlAnswer::Unknown(_) => true,
+    }
+}
+
+// A certificate or a lasso, where so small an effort finds one. It has a purse of its own.
+fn prove_early<R: Wait, G: Gate>(
+    rt: &R,
+    alloc: Global,
+    system: &System,
+    monitored: &Monitored,
+    effort: &LtlEffort,
+    limits: (usize, u64),
+    gate: &G,
+) -> Result<Option<LtlDone>, AllocError>
+    requires limit { effort.now.frames + 1 < 2 ^ 32 }
+    requires counter { effort.now.counter ≤ MAX_COUNTER }
+    ensures { IfOk result (λ o. IfSome o (IsDoneFor system.now effort.now monitored.now.system)) }
+{
+    let less = less_effort(effort, limits);
+    let done = prove_alone(rt, alloc, system, monitored, &less, gate)?;
+    if is_unknown(&done.answer) {
+        return Ok(None);
+    }
+    Ok(Some(done))
+}
+
+// The same by the whole effort.
+fn prove_whole<R: Threads + Wait + Sync, G: Gate + Sync>(
     rt: &R,
     alloc: Global,
     system: &System,

@@ -47,7 +47,7 @@ fn ltl_effort(effort: &Effort) -> LtlEffort
 
 /// What is said of the LTLSPEC of this number.
 ///
-/// Its system is built anew, with the inputs that its formula reads. The only error is want of memory.
+/// Its system is built anew, with the inputs that its formula reads. The only error is out of memory.
 pub fn judge_formula<R: Threads + Wait + Sync, G: Gate + Sync>(
     rt: &R,
     alloc: Global,

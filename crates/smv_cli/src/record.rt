@@ -124,7 +124,7 @@ fn write_verdict(
     }
 }
 
-/// The text of a record. The only error is want of memory. Its time is linear in the text.
+/// The text of a record. The only error is out of memory. Its time is linear in the text.
 pub fn print(alloc: Global, made: &Record) -> Result<String, AllocError>
     ensures { IfOk result (λ text. string_bytes text ≡ record_text made.now) }
 {

@@ -356,7 +356,7 @@ pub fn run<'a, R: Threads + Wait + Sync, S: Source, K: Sink, G: Gate + Sync>(
     // What was taken is a report of what the source held, with the effort that the words say; or the line of usage.
     ensures answered { result ≤ 4 → Answered (Stage (map (λ w. w.now) words.now)) (S.left source.old)
         (K.taken sink.old) (K.taken sink.new) result }
-    // No other answer than these: a fault, or want of memory, after a prefix of a report.
+    // No other answer than these: a fault, or out of memory, after a prefix of a report.
     ensures begun { 4 < result → Begun (Stage (map (λ w. w.now) words.now)) (S.left source.old)
         (K.taken sink.old) (K.taken sink.new) }
     ensures named { result ≤ 7 }

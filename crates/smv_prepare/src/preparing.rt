@@ -38,7 +38,7 @@ pub enum Prepared {
 /// - `Spent`: the purse had no ticket left. A query costs one, and each clause that it learns another.
 ///
 /// That all these are refused before anything is decided is an own choice of this project (NuSMV 2.6 User Manual, 2.2.3 and 2.3.8, has
-/// them stop as it runs, or pass). The only error is want of memory.
+/// them stop as it runs, or pass). The only error is out of memory.
 pub fn prepare<Q: Purse>(alloc: Global, flat: &Flat, purse: &mut Q) -> Result<Prepared, AllocError>
     requires small { bits_of flat.now.typed.scope.program ≤ bit_limit }
     requires ready { Q.ready purse.old }

@@ -18,7 +18,7 @@ use std::alloc::{AllocError, Global};
 
 /// The system of a temporal formula, with its monitor and a counter of signals up to a bound beside it.
 ///
-/// Time and memory grow with the nodes of the program, with the formula and with the bound. The only error is want of memory.
+/// Time and memory grow with the nodes of the program, with the formula and with the bound. The only error is out of memory.
 pub fn counted_system(
     alloc: Global,
     flat: &Flat,

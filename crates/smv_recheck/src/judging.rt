@@ -177,7 +177,7 @@ fn by_blocks(
 /// system of the formula with monitor and counter, which is built for it. `again` asks for a certificate that is judged by hints beside
 /// each that certifies.
 ///
-/// The only error is want of memory.
+/// The only error is out of memory.
 pub fn judge(
     alloc: Global,
     flat: &Flat,

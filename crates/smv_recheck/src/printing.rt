@@ -144,7 +144,7 @@ fn write_sound(alloc: Global, out: &mut String, sound: &Option<Sound>) -> Result
 }
 
 /// The report on a text: a line for each specification, behind which stands the certificate that is printed again; in front of all of
-/// them stands the sound block, where it is printed again. The only error is want of memory. Its time is linear in the text.
+/// them stands the sound block, where it is printed again. The only error is out of memory. Its time is linear in the text.
 pub fn print(alloc: Global, checked: &Checked) -> Result<Text, AllocError>
     ensures { IfOk result (λ t. t ≡ printed.report_text checked.now) }
 {
