@@ -30,8 +30,8 @@ use std::thread::Threads;
 /// An answer is a certificate that none does; a lasso that does; or the cause why neither is known.
 /// Lassos are searched up to the bound, the shortest first; a query for the greatest of many lengths, which finds none, answers
 /// for all of them. Then the system is counted up to 0, 1, .. signals, each with the lemmas of the one before, until it reaches
-/// no bad state. All work is paid from one budget of tickets. Before that the caller tries the same alone, twice, with smaller
-/// bounds and with few tickets of its own, since counters often answer where long lassos cost much. What it finds is the answer.
+/// no bad state. All work is paid from one budget of tickets. Before that one worker tries the same twice, with smaller bounds
+/// and with few tickets of its own, since counters often answer where long lassos cost much. What it finds is the answer.
 ///
 /// One worker is the caller, with number 0. Several have the numbers from 1 on, and explore the frames of each counter. The
 /// caller searches the lengths before, finishes what they leave, and makes the certificate. Where the book of a counter
@@ -63,7 +63,7 @@ pub fn prove_ltl<R: Threads + Wait + Sync, G: Gate + Sync>(
     Ok(done)
 }
 
-// Bounds of lassos, and tickets: what is tried before all is done, by the caller alone.
+// Bounds of lassos, and tickets: what one worker tries before all is done.
 const FIRST: (usize, u64) = (8, 5_000);
 
 const SECOND: (usize, u64) = (16, 30_000);
@@ -83,11 +83,13 @@ fn prove_monitored<R: Threads + Wait + Sync, G: Gate + Sync>(
     requires workers { 0 < workers }
     ensures { IfOk result (IsDoneFor system.now effort.now monitored.now.system) }
 {
-    if let Some(done) = prove_early(rt, alloc, system, monitored, effort, FIRST, gate)? {
-        return Ok(done);
-    }
-    if let Some(done) = prove_early(rt, alloc, system, monitored, effort, SECOND, gate)? {
-        return Ok(done);
+    if workers < 2 {
+        if let Some(done) = prove_early(rt, alloc, system, monitored, effort, FIRST, gate)? {
+            return Ok(done);
+        }
+        if let Some(done) = prove_early(rt, alloc, system, monitored, effort, SECOND, gate)? {
+            return Ok(done);
+        }
     }
     prove_whole(rt, alloc, system, monitored, effort, workers, gate)
 }
