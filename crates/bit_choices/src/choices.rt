@@ -20,7 +20,7 @@ use std::alloc::{AllocError, Global};
 /// The value `a` where the condition is true, else `b`.
 ///
 /// It is `None` where the operands are neither two booleans, nor two words of one type, nor two discrete values. The only error
-/// is want of memory.
+/// is running out of memory.
 pub fn choose(
     alloc: Global,
     graph: &mut Graph,

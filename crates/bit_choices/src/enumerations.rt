@@ -21,7 +21,7 @@ use sqlite_items::Items;
 use std::alloc::{AllocError, Global};
 use value_types::Element;
 
-/// The element that has this code. The only error is want of memory.
+/// The element that has this code. The only error is running out of memory.
 pub fn enumeration(
     alloc: Global,
     graph: &mut Graph,

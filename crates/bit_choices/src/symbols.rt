@@ -13,7 +13,7 @@ use bit_numbers::{equal_bits, is_number};
 use bit_operators::{number_edges, resized};
 use std::alloc::{AllocError, Global};
 
-/// The edge that is true where the code is the symbol's. The only error is want of memory.
+/// The edge that is true where the code is the symbol's. The only error is running out of memory.
 pub fn is_symbol(
     alloc: Global,
     graph: &mut Graph,
@@ -43,7 +43,7 @@ fn place(symbols: &[u32], symbol: u32) -> Option<usize>
     symbols.iter().position(|s| *s == symbol)
 }
 
-/// The edge that is true where both codes are of the same symbol. The only error is want of memory.
+/// The edge that is true where both codes are of the same symbol. The only error is running out of memory.
 pub fn same_symbols(
     alloc: Global,
     graph: &mut Graph,
@@ -140,7 +140,7 @@ fn begins(xs: &[u32], ys: &[u32]) -> bool
     true
 }
 
-/// The symbols of both lists, each once, those of the first list in their places. The only error is want of memory.
+/// The symbols of both lists, each once, those of the first list in their places. The only error is running out of memory.
 pub fn united(alloc: Global, xs: &[u32], ys: &[u32]) -> Result<Vec<u32>, AllocError>
     requires { IsTrue (is_distinct xs.now) }
     ensures distinct { IfOk result (λ r. IsTrue (is_distinct r.items)) }
@@ -169,7 +169,7 @@ fn push_new(all: &mut Vec<u32>, symbol: u32) -> Result<(), AllocError>
     }
 }
 
-/// The code, among the symbols `to`, of the symbol that the code stands for among `from`. The only error is want of memory.
+/// The code, among the symbols `to`, of the symbol that the code stands for among `from`. The only error is running out of memory.
 pub fn recoded(
     alloc: Global,
     graph: &mut Graph,

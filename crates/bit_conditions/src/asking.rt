@@ -125,7 +125,7 @@ fn ask_item(
     Ok(())
 }
 
-/// Asks what the items ask then: `there` tells of what they assign, and `here` of their values. The only error is want of memory, or
+/// Asks what the items ask then: `there` tells of what they assign, and `here` of their values. The only error is running out of memory, or
 /// outcomes of which nothing is told.
 pub fn ask_items(
     alloc: Global,

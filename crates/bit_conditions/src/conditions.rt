@@ -143,7 +143,7 @@ fn ask_frozen(
 
 /// What is asked of a first state: what its items ask, and that its bits are those of a state.
 ///
-/// Conditions grow with the items, and gates with what assignments choose from. The only error is want of memory, or outcomes of
+/// Conditions grow with the items, and gates with what assignments choose from. The only error is running out of memory, or outcomes of
 /// which nothing is told, which in a typed program do not come.
 pub fn first_conditions(
     alloc: Global,

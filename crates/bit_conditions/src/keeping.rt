@@ -59,7 +59,7 @@ fn ask_keeps(
     }
 }
 
-/// Asks that each frozen slot has the same value by the edges of both states. The only error is want of memory.
+/// Asks that each frozen slot has the same value by the edges of both states. The only error is running out of memory.
 pub fn ask_kept(
     graph: &Graph,
     asked: &mut Vec<Either>,

@@ -42,7 +42,7 @@ pub struct ToldInputs {
 
 /// What is told of each node where there is no state.
 ///
-/// Time and memory grow with the nodes. The only error is want of memory, or operands whose kinds do not fit, which in a typed
+/// Time and memory grow with the nodes. The only error is running out of memory, or operands whose kinds do not fit, which in a typed
 /// program does not come.
 pub fn nowhere(alloc: Global, graph: &mut Graph, typed: &Typed) -> Result<Items<Told>, AllocError>
     ensures extends { Extends graph.old graph.new }
@@ -92,7 +92,7 @@ pub fn told_state(
     })
 }
 
-/// The inputs whose bits have these edges, where the types are those of the input slots. The only error is want of memory.
+/// The inputs whose bits have these edges, where the types are those of the input slots. The only error is running out of memory.
 pub fn told_inputs(
     alloc: Global,
     graph: &mut Graph,

@@ -23,7 +23,7 @@ pub struct Cone {
 }
 
 impl Cone {
-    /// A graph with so many inputs, into which nothing is taken over yet. The only error is want of memory.
+    /// A graph with so many inputs, into which nothing is taken over yet. The only error is running out of memory.
     pub fn new(alloc: Global, inputs: usize) -> Result<Cone, AllocError>
         ensures copies { IfOk result (λ x. (g : List Gate) → Copies inputs g x) }
     {
@@ -38,7 +38,7 @@ impl Cone {
 
 /// Takes an edge of the graph over into the cone, with all that it leads to, and gives the edge that has its value there.
 ///
-/// Time and memory grow with the nodes that the edge leads to and that were not taken over before. The only error is want of memory.
+/// Time and memory grow with the nodes that the edge leads to and that were not taken over before. The only error is running out of memory.
 pub fn take_over(
     alloc: Global,
     graph: &Graph,

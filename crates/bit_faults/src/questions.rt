@@ -37,7 +37,7 @@ use std::alloc::{AllocError, Global};
 /// The first variables are the bits of the state, of the next one and of the inputs, as in `layout`; those of gates follow. All items
 /// share one graph. The clauses of an item ask for its fault, and for values in the slots that the fault reads: bits that meet them
 /// are `mended` to those of a valuation. So for each item that is asked for, time and memory grow with the gates that its fault stands
-/// on, and with the number of bits. The only error is want of memory, which is answered too where a slot is of a type with no value,
+/// on, and with the number of bits. The only error is running out of memory, which is answered too where a slot is of a type with no value,
 /// an enumeration with no element, which no source can write.
 pub fn fault_questions(
     alloc: Global,

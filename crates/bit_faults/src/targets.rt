@@ -13,7 +13,7 @@ use sqlite_items::at;
 use std::alloc::{AllocError, Global};
 use value_types::ValueType;
 
-/// The slot that each node is, itself or as what a name stands for. The only error is want of memory.
+/// The slot that each node is, itself or as what a name stands for. The only error is running out of memory.
 pub fn slots_assigned(alloc: Global, nodes: &[Node]) -> Result<Vec<Option<usize>>, AllocError>
     ensures { IfOk result (λ slots. slots.items ≡ map slot_assigned (parts_of nodes.now)) }
 {

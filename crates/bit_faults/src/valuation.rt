@@ -38,7 +38,7 @@ pub struct Valuation {
 }
 
 /// The valuation whose bits are the first inputs of the graph. Of operators over values of many bits there are gates as in circuits.
-/// The only error is want of memory.
+/// The only error is running out of memory.
 pub fn valuation_of(
     alloc: Global,
     graph: &mut Graph,
@@ -132,7 +132,7 @@ fn inputs_at(
     Ok(inputs)
 }
 
-/// The edges of these inputs of a graph. The only error is want of memory.
+/// The edges of these inputs of a graph. The only error is running out of memory.
 pub fn edges_of(alloc: Global, bits: &[usize]) -> Result<Items<Edge>, AllocError>
     ensures { IfOk result (λ edges. edges ≡ edges_of bits.now) }
 {

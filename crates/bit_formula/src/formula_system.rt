@@ -105,14 +105,14 @@ impl FormulaSystem {
         &self.layout
     }
 
-    /// The state that the bits are; bits past the end of the list are false. The only error is want of memory.
+    /// The state that the bits are; bits past the end of the list are false. The only error is running out of memory.
     pub fn decode(&self, alloc: Global, bits: &Bits) -> Result<State, AllocError>
         ensures { IfOk result (λ s. s ≡ decoded self.now.layout.state_types self.now.layout.state (assignment_of bits.now)) }
     {
         self.layout.decode(alloc, bits.as_slice())
     }
 
-    /// The inputs of a step that the values of all bits are. The only error is want of memory.
+    /// The inputs of a step that the values of all bits are. The only error is running out of memory.
     pub fn decode_inputs(&self, alloc: Global, bits: &Bits) -> Result<Inputs, AllocError>
         ensures { IfOk result (λ u. u ≡ decoded self.now.layout.input_types self.now.layout.inputs (assignment_of bits.now)) }
     {
@@ -129,7 +129,7 @@ impl FormulaSystem {
 ///
 /// # Errors
 ///
-/// Only want of memory. So counts what `formula_of` says, and a formula with more atoms than literals, which none has.
+/// Only running out of memory. So counts what `formula_of` says, and a formula with more atoms than literals, which none has.
 pub fn build_formula(alloc: Global, flat: &Flat, spec: &Item) -> Result<FormulaSystem, AllocError>
     requires narrow { bits_of flat.now.typed.scope.program ≤ bit_limit }
     requires among { Contains (specifications_of flat.now.typed.scope.program) (item_by flat.now.typed.nodes spec.now) }

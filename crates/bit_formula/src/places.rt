@@ -145,7 +145,7 @@ fn input_places(
 }
 
 /// Where the bits of a state stand whose slots have so many, and those of inputs, of which these are read. The types are those of both.
-/// Time and memory grow with the bits; the only error is want of memory.
+/// Time and memory grow with the bits; the only error is running out of memory.
 pub fn joint_places(
     alloc: Global,
     slots: usize,

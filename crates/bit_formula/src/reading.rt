@@ -142,7 +142,7 @@ fn all_read(
 /// The numbers of the inputs, of which there are `given`, that the atoms read, in their order; atoms are numbers of nodes.
 ///
 /// Time and memory grow with the nodes. Where some input is read, the time grows with the nodes times the inputs. The only error
-/// is want of memory.
+/// is running out of memory.
 pub fn reads_of(
     alloc: Global,
     typed: &Typed,

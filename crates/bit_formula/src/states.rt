@@ -79,7 +79,7 @@ fn read_edges(
 }
 
 /// The inputs that are read in a state with inputs of so many bits, which begin at `start`. The places are those of all inputs. Each edge
-/// that was made earlier keeps its value, also after want of memory, which is the only error.
+/// that was made earlier keeps its value, also where memory runs out, which is the only error.
 pub fn read_inputs(
     alloc: Global,
     graph: &mut Graph,

@@ -13,7 +13,7 @@ use bit_graph::{Edge, Graph};
 use bit_operators::{Symbolic, alike, integer_below, number_edges, resized};
 use std::alloc::{AllocError, Global};
 
-/// The edge that is true where the numbers are equal. The only error is want of memory.
+/// The edge that is true where the numbers are equal. The only error is running out of memory.
 pub fn equal_bits(graph: &mut Graph, a: &[Edge], b: &[Edge]) -> Result<Edge, AllocError>
     requires lengths { length a.now ≡ length b.now }
     requires a_stand { AllStand graph.old a.now }
@@ -31,7 +31,7 @@ pub fn equal_bits(graph: &mut Graph, a: &[Edge], b: &[Edge]) -> Result<Edge, All
     Ok(equal)
 }
 
-/// The edge that is true where the bits are this number. The only error is want of memory.
+/// The edge that is true where the bits are this number. The only error is running out of memory.
 pub fn is_number(
     alloc: Global,
     graph: &mut Graph,
@@ -59,7 +59,7 @@ fn reaches(n: u128, width: usize) -> bool
     width < 128 && 1 << width <= n
 }
 
-/// The edge that is true where the integers are equal. The only error is want of memory.
+/// The edge that is true where the integers are equal. The only error is running out of memory.
 pub fn equal_integers(
     alloc: Global,
     graph: &mut Graph,
@@ -79,7 +79,7 @@ pub fn equal_integers(
     Ok(equal)
 }
 
-/// The edge that is true where the integer is from `low` to `high`, both among them. The only error is want of memory.
+/// The edge that is true where the integer is from `low` to `high`, both among them. The only error is running out of memory.
 pub fn between(
     alloc: Global,
     graph: &mut Graph,
@@ -128,7 +128,7 @@ fn is_above(alloc: Global, graph: &mut Graph, bits: &[Edge], limit: i64) -> Resu
     }
 }
 
-/// The edge that is true where the value is an integer from `low` to `high`. The only error is want of memory.
+/// The edge that is true where the value is an integer from `low` to `high`. The only error is running out of memory.
 pub fn is_between(
     alloc: Global,
     graph: &mut Graph,

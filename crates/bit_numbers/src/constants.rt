@@ -16,7 +16,7 @@ use smv_value::Value;
 use sqlite_items::Items;
 use std::alloc::{AllocError, Global};
 
-/// The value that this is, whatever the nodes are, an integer in the bits that it needs. The only error is want of memory.
+/// The value that this is, whatever the nodes are, an integer in the bits that it needs. The only error is running out of memory.
 pub fn constant(alloc: Global, graph: &Graph, value: Value) -> Result<Symbolic, AllocError>
     ensures stands { IfOk result (λ s. StandsIn graph.now s) }
     ensures value { IfOk result (λ s. (v : ℕ → Bool) → Consistent v graph.now → is_value value ≡ true → denoted v s ≡ Some value) }
@@ -46,7 +46,7 @@ pub fn constant(alloc: Global, graph: &Graph, value: Value) -> Result<Symbolic, 
     }
 }
 
-/// Edges that always are the integer, as many as it needs. The only error is want of memory.
+/// Edges that always are the integer, as many as it needs. The only error is running out of memory.
 pub fn integer_edges(alloc: Global, graph: &Graph, z: i64) -> Result<Vec<Edge>, AllocError>
     ensures stands { IfOk result (λ r. AllStand graph.now r.items) }
     ensures value { IfOk result (λ r. (v : ℕ → Bool) → Consistent v graph.now → integer_of v r.items ≡ z) }

@@ -15,7 +15,7 @@ use smv_value::Arithmetic;
 use sqlite_items::Items;
 use std::alloc::{AllocError, Global};
 
-/// The integer `a` where the condition is true, else `b`. The only error is want of memory.
+/// The integer `a` where the condition is true, else `b`. The only error is running out of memory.
 pub fn choose_integer(
     alloc: Global,
     graph: &mut Graph,

@@ -26,7 +26,7 @@ pub fn integer(alloc: Global, graph: &Graph, number: Vec<Edge>) -> Symbolic
     })
 }
 
-/// The value that is this symbol, whatever the nodes are. The only error is want of memory.
+/// The value that is this symbol, whatever the nodes are. The only error is running out of memory.
 pub fn symbol(alloc: Global, graph: &Graph, n: u32) -> Result<Symbolic, AllocError>
     ensures stands { IfOk result (λ s. StandsIn graph.now s) }
     ensures value { IfOk result (λ s. (v : ℕ → Bool) → Consistent v graph.now → denoted v s ≡ Some (Sym n)) }
@@ -40,7 +40,7 @@ pub fn symbol(alloc: Global, graph: &Graph, n: u32) -> Result<Symbolic, AllocErr
     }))
 }
 
-/// Edges that always are the number. The only error is want of memory.
+/// Edges that always are the number. The only error is running out of memory.
 pub fn number_edges(
     alloc: Global,
     graph: &Graph,

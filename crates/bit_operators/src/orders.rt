@@ -18,7 +18,7 @@ use std::alloc::{AllocError, Global};
 
 /// The edge that is true where the values stand so to each other.
 ///
-/// It is `None` where they are neither two words of one type nor two discrete values. The only error is want of memory.
+/// It is `None` where they are neither two words of one type nor two discrete values. The only error is running out of memory.
 pub fn ordered(
     alloc: Global,
     graph: &mut Graph,
@@ -105,7 +105,7 @@ fn word_below(graph: &mut Graph, signed: bool, a: &[Edge], b: &[Edge]) -> Result
     Ok(less)
 }
 
-/// The edge that is true where the first integer is below the second. The only error is want of memory.
+/// The edge that is true where the first integer is below the second. The only error is running out of memory.
 pub fn integer_below(
     alloc: Global,
     graph: &mut Graph,

@@ -11,7 +11,7 @@ use bit_graph::{Edge, Graph};
 use std::alloc::{AllocError, Global};
 
 /// The low bits of what a word counts, so many. An integer keeps its value in as many bits as it has, and in more. The only error is
-/// want of memory.
+/// running out of memory.
 pub fn resized(
     alloc: Global,
     graph: &Graph,

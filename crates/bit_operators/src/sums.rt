@@ -88,7 +88,7 @@ fn sum_bits(
     }
 }
 
-/// In as many bits as the interval of the sum needs, and at most 32. The only error is want of memory.
+/// In as many bits as the interval of the sum needs, and at most 32. The only error is running out of memory.
 pub fn sum_integer(
     alloc: Global,
     graph: &mut Graph,

@@ -21,7 +21,7 @@ use bit_operators::Symbolic;
 use std::alloc::{AllocError, Global};
 
 /// The branch of the first condition that is TRUE, or a last branch that has none; without one a fault, by whichever rule. The only
-/// error is want of memory.
+/// error is running out of memory.
 ///
 /// It takes a gate for each condition without a branch behind it for the rest, and so many for a branch as its value has edges. Up to
 /// the last branch that is a set, a condition takes some gates, and each member of its branch one.

@@ -42,7 +42,7 @@ impl Front {
     }
 }
 
-/// One condition more, and its branch; `None` where nothing is told of them. The only error is want of memory.
+/// One condition more, and its branch; `None` where nothing is told of them. The only error is running out of memory.
 pub fn with_branch(
     alloc: Global,
     graph: &mut Graph,
@@ -174,7 +174,7 @@ fn members_with(
     }
 }
 
-/// The first conditions and branches, and what is told of the rest. The only error is want of memory.
+/// The first conditions and branches, and what is told of the rest. The only error is running out of memory.
 pub fn closed(
     alloc: Global,
     graph: &mut Graph,

@@ -26,7 +26,7 @@ pub struct Row {
     pub members: Items<Member>,
 }
 
-/// What is told of the outcome as of a set; `None` where nothing is told. The only error is want of memory.
+/// What is told of the outcome as of a set; `None` where nothing is told. The only error is running out of memory.
 pub fn as_row(alloc: Global, graph: &Graph, told: &Told) -> Result<Option<Row>, AllocError>
     requires { ToldStands graph.now told.now }
     ensures stands { IfOk result (λ r. IfSome r (λ row. Stands graph.now row.fault × MembersStand graph.now row.members)) }
@@ -67,7 +67,7 @@ fn only_member(alloc: Global, graph: &Graph, value: &Symbolic) -> Result<Items<M
     Ok(members)
 }
 
-// The members, and each of more members where the condition is true too. The only error is want of memory.
+// The members, and each of more members where the condition is true too. The only error is running out of memory.
 pub fn with_members(
     alloc: Global,
     graph: &mut Graph,
@@ -111,7 +111,7 @@ fn guarded(
     Ok(Member { present, which })
 }
 
-/// The edge that is true where the value is among the members. Kinds that do not fit count as want of memory.
+/// The edge that is true where the value is among the members. Kinds that do not fit count as running out of memory.
 pub fn among(
     alloc: Global,
     graph: &mut Graph,
@@ -164,7 +164,7 @@ fn is_here(
     }
 }
 
-/// The values of all operands one after another. The only error is want of memory.
+/// The values of all operands one after another. The only error is running out of memory.
 pub fn united(alloc: Global, graph: &mut Graph, operands: &[Told]) -> Result<Told, AllocError>
     requires { AllTold graph.old operands.now }
     ensures extends { Extends graph.old graph.new }

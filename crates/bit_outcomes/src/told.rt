@@ -34,7 +34,7 @@ pub enum Told {
     Set(Edge, Items<Member>),
 }
 
-/// The same value. The only error is want of memory.
+/// The same value. The only error is running out of memory.
 pub fn copied_value(alloc: Global, value: &Symbolic) -> Result<Symbolic, AllocError>
     ensures { IfOk result (λ r. r ≡ value.now) }
 {
@@ -68,7 +68,7 @@ fn copied_discrete(alloc: Global, discrete: &Discrete) -> Result<Discrete, Alloc
     })
 }
 
-/// The same. The only error is want of memory.
+/// The same. The only error is running out of memory.
 pub fn copied_which(alloc: Global, which: &Which) -> Result<Which, AllocError>
     ensures { IfOk result (λ r. r ≡ which.now) }
 {
@@ -81,7 +81,7 @@ pub fn copied_which(alloc: Global, which: &Which) -> Result<Which, AllocError>
     }
 }
 
-/// The same member. The only error is want of memory.
+/// The same member. The only error is running out of memory.
 pub fn copied_member(alloc: Global, member: &Member) -> Result<Member, AllocError>
     ensures { IfOk result (λ r. r ≡ member.now) }
 {
@@ -92,7 +92,7 @@ pub fn copied_member(alloc: Global, member: &Member) -> Result<Member, AllocErro
     })
 }
 
-/// The same members. The only error is want of memory.
+/// The same members. The only error is running out of memory.
 pub fn copied_members(alloc: Global, members: &[Member]) -> Result<Items<Member>, AllocError>
     ensures { IfOk result (λ r. r ≡ members.now) }
 {
@@ -104,7 +104,7 @@ pub fn copied_members(alloc: Global, members: &[Member]) -> Result<Items<Member>
     Ok(made)
 }
 
-/// The same. The only error is want of memory.
+/// The same. The only error is running out of memory.
 pub fn copied(alloc: Global, told: &Told) -> Result<Told, AllocError>
     ensures { IfOk result (λ r. r ≡ told.now) }
 {

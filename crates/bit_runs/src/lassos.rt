@@ -35,7 +35,7 @@ pub struct Lasso {
 /// The lasso of the program that a lasso over bits is.
 ///
 /// Where the lasso over bits violates the formula of a specification, that lasso violates the specification. Time and memory grow
-/// with the values of the states and inputs. The only error is want of memory.
+/// with the values of the states and inputs. The only error is running out of memory.
 pub fn lasso_of(
     alloc: Global,
     system: &FormulaSystem,

@@ -27,7 +27,7 @@ pub struct Run {
 /// The run of the program that a run over bits is.
 ///
 /// Where the run over bits leads to a bad state of the system of an invariant, that run breaks the invariant. Time and
-/// memory grow with the values of the states and inputs. The only error is want of memory.
+/// memory grow with the values of the states and inputs. The only error is running out of memory.
 pub fn run_of(alloc: Global, built: &Built, run: &BitRun) -> Result<Run, AllocError>
     ensures states { (p : Program) → IsBuilt p built.now → IfOk result (λ r. r.states ≡ states_in p run.now) }
     ensures inputs { (p : Program) → IsBuilt p built.now → IfOk result (λ r. r.inputs ≡ inputs_in p run.now) }

@@ -16,21 +16,21 @@ use std::alloc::{AllocError, Global};
 use value_types::ValueType;
 
 impl Layout {
-    /// The bits of a state. Time and memory grow with them, and with the elements of enumerations; the only error is want of memory.
+    /// The bits of a state. Time and memory grow with them, and with the elements of enumerations; the only error is running out of memory.
     pub fn encode(&self, alloc: Global, s: &State) -> Result<Vec<bool>, AllocError>
         ensures { IfOk result (λ bits. bits.items ≡ encoded_all self.now.state_types s.now) }
     {
         encoded(alloc, self.state_types(), s.as_slice())
     }
 
-    /// The state that the bits are; bits past the end of the list are false. The only error is want of memory.
+    /// The state that the bits are; bits past the end of the list are false. The only error is running out of memory.
     pub fn decode(&self, alloc: Global, bits: &[bool]) -> Result<State, AllocError>
         ensures { IfOk result (λ s. s ≡ decoded self.now.state_types self.now.state (λ k. slice_index_or bits.now k false)) }
     {
         decoded(alloc, self.state_types(), self.state(), bits)
     }
 
-    /// The inputs of a step that the values of all bits are. The only error is want of memory.
+    /// The inputs of a step that the values of all bits are. The only error is running out of memory.
     pub fn decode_inputs(&self, alloc: Global, bits: &[bool]) -> Result<Inputs, AllocError>
         ensures { IfOk result (λ u. u ≡ decoded self.now.input_types self.now.inputs (λ k. slice_index_or bits.now k false)) }
     {
@@ -38,7 +38,7 @@ impl Layout {
     }
 }
 
-/// The bits of values of these types, one of each. The only error is want of memory.
+/// The bits of values of these types, one of each. The only error is running out of memory.
 pub fn encoded(
     alloc: Global,
     types: &[ValueType],
@@ -68,7 +68,7 @@ fn value_at(values: &[Value], i: usize) -> Option<Value>
 }
 
 /// The values of these types that the bits at these places are, one of each; bits past the end of the list are false. The only error
-/// is want of memory.
+/// is running out of memory.
 pub fn decoded(
     alloc: Global,
     types: &[ValueType],

@@ -118,7 +118,7 @@ impl From<AllocError> for BuildStop {
 /// Where the bits of a program's states and inputs stand, if its types are types.
 ///
 /// Time and memory grow with the slots and their types, and with the bits. `TooManyBits` comes just where a state and the inputs of a
-/// step have more than 65536 bits together, and before any are laid out. The only other error is want of memory.
+/// step have more than 65536 bits together, and before any are laid out. The only other error is running out of memory.
 pub fn layout_of(alloc: Global, typed: &Typed) -> Result<Layout, BuildStop>
     requires { HasTypes typed.now.scope.program }
     ensures layout { IfOk result (λ r. r ≡ layout_of typed.now.scope.program) }
@@ -137,7 +137,7 @@ pub fn layout_of(alloc: Global, typed: &Typed) -> Result<Layout, BuildStop>
 }
 
 /// Whether a state and the inputs of a step have at most 65536 bits together. It is just then that `layout_of` does not answer
-/// `TooManyBits`; nothing is laid out here. Time and memory grow with the slots and their types; the only error is want of memory.
+/// `TooManyBits`; nothing is laid out here. Time and memory grow with the slots and their types; the only error is running out of memory.
 pub fn is_narrow(alloc: Global, typed: &Typed) -> Result<bool, AllocError>
     ensures { IfOk result (λ narrow. IsTrue narrow ↔ (bits_of typed.now.scope.program ≤ bit_limit)) }
 {
@@ -191,7 +191,7 @@ fn laid_out(
     Ok(Layout::new(state, next, inputs, state_types, input_types))
 }
 
-/// So many numbers from `start` on. The only error is want of memory.
+/// So many numbers from `start` on. The only error is running out of memory.
 pub fn numbers(alloc: Global, start: usize, len: usize) -> Result<Items<usize>, AllocError>
     requires { start + len < 2 ^ 64 }
     ensures { IfOk result (λ r. r ≡ range_with_len start len) }

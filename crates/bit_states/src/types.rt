@@ -15,7 +15,7 @@ use value_types::ValueType;
 // How many bits a state and the inputs of a step may have together.
 const MOST: usize = 65_536;
 
-/// The types of the values of a state, in their order. The only error is want of memory.
+/// The types of the values of a state, in their order. The only error is running out of memory.
 pub fn state_types(alloc: Global, typed: &Typed) -> Result<Items<ValueType>, AllocError>
     ensures { IfOk result (λ r. r ≡ state_types typed.now.scope.program) }
 {
@@ -23,7 +23,7 @@ pub fn state_types(alloc: Global, typed: &Typed) -> Result<Items<ValueType>, All
     types_of_slots(alloc, typed.types.as_slice(), slots.as_slice())
 }
 
-/// The types of the inputs of a step, in their order. The only error is want of memory.
+/// The types of the inputs of a step, in their order. The only error is running out of memory.
 pub fn input_types(alloc: Global, typed: &Typed) -> Result<Items<ValueType>, AllocError>
     ensures { IfOk result (λ r. r ≡ input_types typed.now.scope.program) }
 {

@@ -47,7 +47,7 @@ fn bad_edge(
 }
 
 /// The edges that are true in the bad states of these specifications, one for each. Each edge that was made earlier keeps its value,
-/// also after want of memory, which is the only error.
+/// also where memory runs out, which is the only error.
 pub fn bad_edges(
     alloc: Global,
     graph: &mut Graph,

@@ -67,7 +67,7 @@ impl Built {
         &self.layout
     }
 
-    /// The bits of a state. Time and memory grow with them; the only error is want of memory.
+    /// The bits of a state. Time and memory grow with them; the only error is running out of memory.
     pub fn encode(&self, alloc: Global, s: &State) -> Result<Bits, AllocError>
         ensures values { IfOk result (λ bits. bits ≡ encoded_all self.now.layout.state_types s.now) }
         ensures code { (p : Program) → IsBuilt p self.now → is_state p s.now ≡ true → IfOk result (λ bits. state_of p (assignment_of bits) ≡ s.now) }
@@ -76,14 +76,14 @@ impl Built {
         Ok(Bits::from_vec(bits))
     }
 
-    /// The state that the bits are; bits past the end of the list are false. The only error is want of memory.
+    /// The state that the bits are; bits past the end of the list are false. The only error is running out of memory.
     pub fn decode(&self, alloc: Global, bits: &Bits) -> Result<State, AllocError>
         ensures { IfOk result (λ s. s ≡ decoded self.now.layout.state_types self.now.layout.state (assignment_of bits.now)) }
     {
         self.layout.decode(alloc, bits.as_slice())
     }
 
-    /// The inputs of a step that the values of all bits are. The only error is want of memory.
+    /// The inputs of a step that the values of all bits are. The only error is running out of memory.
     pub fn decode_inputs(&self, alloc: Global, bits: &Bits) -> Result<Inputs, AllocError>
         ensures { IfOk result (λ u. u ≡ decoded self.now.layout.input_types self.now.layout.inputs (assignment_of bits.now)) }
     {

@@ -15,7 +15,7 @@ use sqlite_items::Items;
 use std::alloc::{AllocError, Global};
 use value_types::ValueType;
 
-/// The edges of these inputs of a graph. The only error is want of memory.
+/// The edges of these inputs of a graph. The only error is running out of memory.
 pub fn edges_of(alloc: Global, bits: &[usize]) -> Result<Items<Edge>, AllocError>
     ensures { IfOk result (λ r. r ≡ edges_of bits.now) }
 {
@@ -26,7 +26,7 @@ pub fn edges_of(alloc: Global, bits: &[usize]) -> Result<Items<Edge>, AllocError
     Ok(Items::from_vec(edges))
 }
 
-/// The state whose bits are these inputs of the graph. Each edge that was made earlier keeps its value, also after want of memory,
+/// The state whose bits are these inputs of the graph. Each edge that was made earlier keeps its value, also where memory runs out,
 /// which is the only error.
 pub fn framed_state(
     alloc: Global,

@@ -110,7 +110,7 @@ pub fn systems(
     Ok(systems)
 }
 
-/// The same system. Time and memory grow with its clauses; the only error is want of memory.
+/// The same system. Time and memory grow with its clauses; the only error is running out of memory.
 pub fn copied(alloc: Global, system: &System) -> Result<System, AllocError>
     ensures { IfOk result (λ r. r ≡ system.now) }
 {

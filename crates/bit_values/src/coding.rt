@@ -34,7 +34,7 @@ pub fn least_bits(count: u64) -> usize
     }
 }
 
-/// The bits of a value of the type. The only error is want of memory.
+/// The bits of a value of the type. The only error is running out of memory.
 pub fn to_bits(alloc: Global, declared: &ValueType, value: Value) -> Result<Vec<bool>, AllocError>
     ensures { IfOk result (λ bits. bits.items ≡ encoded declared.now value) }
 {
@@ -42,7 +42,7 @@ pub fn to_bits(alloc: Global, declared: &ValueType, value: Value) -> Result<Vec<
     bits_of(alloc, width(declared), code)
 }
 
-/// The low bits of a number, so many, the lowest first. The only error is want of memory.
+/// The low bits of a number, so many, the lowest first. The only error is running out of memory.
 pub fn bits_of(alloc: Global, width: usize, number: u128) -> Result<Vec<bool>, AllocError>
     ensures { IfOk result (λ bits. bits.items ≡ bits_of width number) }
 {

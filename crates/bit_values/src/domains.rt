@@ -12,7 +12,7 @@ use bit_graph::{Edge, Graph};
 use std::alloc::{AllocError, Global};
 use value_types::ValueType;
 
-/// Edges that always have these values. The only error is want of memory.
+/// Edges that always have these values. The only error is running out of memory.
 pub fn constant_edges(alloc: Global, graph: &Graph, bits: &[bool]) -> Result<Vec<Edge>, AllocError>
     ensures stands { IfOk result (λ r. AllStand graph.now r.items) }
     ensures length { IfOk result (λ r. length r.items ≡ length bits.now) }

@@ -40,7 +40,7 @@ fn constant_of_node(alloc: Global, nodes: &[Node], root: usize) -> Result<Consta
     Ok(constant_at(table.as_slice(), root))
 }
 
-/// The constant that each node is, in the order of the nodes. It takes a step for each node, and the only error is want of memory.
+/// The constant that each node is, in the order of the nodes. It takes a step for each node, and the only error is running out of memory.
 pub fn constants_of(alloc: Global, nodes: &[Node]) -> Result<Vec<Constant>, AllocError>
     ensures { IfOk result (λ table. table.items ≡ map constant_of (parts_of nodes.now)) }
 {

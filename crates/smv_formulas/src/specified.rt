@@ -34,7 +34,7 @@ pub struct Specified {
 ///
 /// Where the specification's propositions and temporal operators are over what is TRUE or FALSE or faults, so is each atom.
 ///
-/// The error is want of memory. Past operators that nest 2^32 deep count as such. So do other bounds than `0 <= a <= b <= 255`,
+/// The error is running out of memory. Past operators that nest 2^32 deep count as such. So do other bounds than `0 <= a <= b <= 255`,
 /// other numbers of operands than operators take, and names that stand for what has a temporal operator. No program that is read
 /// has these. The time and the memory are those of the program's nodes and of the formula, and of an atom the number of atoms
 /// before it.

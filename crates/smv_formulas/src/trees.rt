@@ -162,7 +162,7 @@ fn atom(node: usize, atoms: &mut Vec<usize>) -> Result<Tree, AllocError>
     Ok(Tree::Atom(a))
 }
 
-// An operator with bounds over its operand. Other bounds than `low <= high <= 255` count as want of memory.
+// An operator with bounds over its operand. Other bounds than `low <= high <= 255` count as running out of memory.
 fn bounded(
     alloc: Global,
     operator: BoundedOperator,
