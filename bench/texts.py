@@ -317,18 +317,23 @@ class Reader:
             self.refuse()
         return modules
 
+    def listed(self, read, found):
+        """Reads what stands between commas in parentheses, if there are any."""
+        if not self.sees('('):
+            return
+        self.open()
+        if not self.sees(')'):
+            found.append(read())
+            while self.sees(','):
+                self.step()
+                found.append(read())
+        self.close(')')
+
     def module(self):
         place = self.step().place
         name = self.identifier()
         module = Module(place, name.text, name.place)
-        if self.sees('('):
-            self.open()
-            if not self.sees(')'):
-                module.parameters.append(self.identifier())
-                while self.sees(','):
-                    self.step()
-                    module.parameters.append(self.identifier())
-            self.close(')')
+        self.listed(self.identifier, module.parameters)
         while True:
             if self.sees(*DECLARING):
                 section = self.step().text
@@ -431,14 +436,7 @@ class Reader:
         if after and (after.kind == 'end' or after.kind == 'fixed' and after.text in ('(', ';')):
             found = Type('module', token.place)
             found.name = self.step().text
-            if self.sees('('):
-                self.open()
-                if not self.sees(')'):
-                    found.arguments.append(self.expression())
-                    while self.sees(','):
-                        self.step()
-                        found.arguments.append(self.expression())
-                self.close(')')
+            self.listed(self.expression, found.arguments)
             return found
         found = Type('range', token.place)
         found.limits = self.limits()
