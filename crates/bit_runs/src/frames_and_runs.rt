@@ -5,7 +5,7 @@ ghost use Rattle.clause_core.specs.Systems.{TransitionSystem};
 ghost use Rattle.smv_tree.specs.declared.tree.Program.{Program};
 ghost use Rattle.smv_resolve.specs.Items.{ResolvedItem};
 ghost use Rattle.frame_core.specs.declared.parts.Lemma.{Lemma};
-ghost use Rattle.frame_core.specs.Law.{AreAlike, FrameState, FramesHold, IsInvariant, system_at, top_at};
+ghost use Rattle.frame_core.specs.FrameLaw.{AreAlike, FrameState, FramesHold, IsInvariant, system_at, top_at};
 ghost use Rattle.bit_system.specs.Building.{BitProgram, IsBuilt};
 ghost use Rattle.bit_system.specs.Claims.{IsUnbroken, IsUnbrokenWithin};
 ghost use Rattle.bit_system.specs.Standing.{StandsFor};

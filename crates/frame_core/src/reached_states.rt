@@ -3,7 +3,7 @@
 ghost use Rattle.std.specs.Prelude.{◌≡◌, ◌≢◌, ◌<◌, ◌≤◌, ◌+◌, ℕ, Bool, true, List, length};
 ghost use Rattle.clause_core.specs.Assignments.{ClauseTrue};
 ghost use Rattle.clause_core.specs.Systems.{ReachedWithin};
-ghost use Rattle.frame_core.specs.Law.{FrameState, FramesHold, system_at, top_at, lemma_at, IsInvariant};
+ghost use Rattle.frame_core.specs.FrameLaw.{FrameState, FramesHold, system_at, top_at, lemma_at, IsInvariant};
 
 /// A lemma of level i holds in each state that is reached in at most i steps, in each of the systems.
 pub fn lemmas_hold_in_reached_states()

@@ -4,7 +4,7 @@ ghost use Rattle.std.specs.Prelude.{◌≡◌, ◌<◌, ◌≤◌, ℕ, Bool, tr
 ghost use Rattle.clause_core.specs.Assignments.{ClauseTrue};
 ghost use Rattle.clause_core.specs.Systems.{TransitionSystem, ReachedWithin};
 ghost use Rattle.frame_core.specs.declared.parts.Lemma.{Lemma as ALemma};
-ghost use Rattle.frame_core.specs.Law.{FramesHold, system_at, lemma_at};
+ghost use Rattle.frame_core.specs.FrameLaw.{FramesHold, system_at, lemma_at};
 ghost use Rattle.frame_history.specs.declared.entries.Limits.{Limits as ALimits};
 ghost use Rattle.frame_history.specs.declared.entries.Entry.{Entry as AnEntry};
 ghost use Rattle.frame_history.specs.declared.entries.Subject.{Subject as ASubject};

@@ -11,7 +11,7 @@ ghost use Rattle.clause_core.specs.Literals.{Within};
 ghost use Rattle.clause_core.specs.Assignments.{ClauseTrue, assignment_of};
 ghost use Rattle.clause_core.specs.Systems.{TransitionSystem};
 ghost use Rattle.frame_core.specs.declared.parts.Lemma.{Lemma as ALemma};
-ghost use Rattle.frame_core.specs.Law.{MeetsFrom};
+ghost use Rattle.frame_core.specs.FrameLaw.{MeetsFrom};
 ghost use Rattle.frame_solver.specs.Stepping.{IsStepOut};
 ghost use Rattle.frame_solver.specs.Recalling.{IsKnownStep, LeadsOut};
 

@@ -1,4 +1,4 @@
-use Rattle.frame_core.specs.Law.{system_at, top_at}
+use Rattle.frame_core.specs.FrameLaw.{system_at, top_at}
 use Rattle.bit_system.proofs.Agreeing.{agreeing}
 use Rattle.bit_states.proofs.Codes.{coding}
 use Rattle.bit_runs.proofs.Framing.{never_bad, never_bad_below}

@@ -1,4 +1,4 @@
-use Rattle.frame_core.specs.Law.{system_at, top_at}
+use Rattle.frame_core.specs.FrameLaw.{system_at, top_at}
 use Rattle.frame_core.proofs.Reaching.{inductive_live}
 use Rattle.frame_core.proofs.reached_states.a_level_without_live_lemmas_is_an_invariant.Goals as goal
 

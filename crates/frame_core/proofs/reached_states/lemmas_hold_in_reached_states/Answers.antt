@@ -1,4 +1,4 @@
-use Rattle.frame_core.specs.Law.{system_at}
+use Rattle.frame_core.specs.FrameLaw.{system_at}
 use Rattle.frame_core.proofs.Reaching.{holds_within}
 use Rattle.frame_core.proofs.reached_states.lemmas_hold_in_reached_states.Goals as goal
 

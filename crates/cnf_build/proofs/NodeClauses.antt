@@ -11,7 +11,7 @@ use Rattle.clause_core.specs.Literals.{negate}
 use Rattle.clause_core.specs.Assignments.{ClauseTrue}
 use Rattle.clause_core.specs.Propagation.{UnitIn, Closed}
 use Rattle.cnf_build.specs.Encoding.{lit, node_lit, down, forced, clauses_of, cnf_from}
-use Rattle.cnf_build.specs.Law.{NodeSet, Forces, of_nodes}
+use Rattle.cnf_build.specs.CnfMeaning.{NodeSet, Forces, of_nodes}
 
 -- v has at each live node the value that the node gives it
 abbrev pub HoldsLive : (ℕ → Bool) → (ℕ → Bool) → List Node → Type 0
