@@ -1,6 +1,6 @@
 use Rattle.std.proofs.Common.{sym}
 use Rattle.smv_resolve.specs.Finding.{AllKnown}
-use Rattle.smv_resolve.proofs.work.recall.Goals as goal
+use Rattle.smv_resolve.proofs.memo.get.Goals as goal
 
 pub returns-in-Some-clause-right : goal.returns-in-Some-clause-right
 unfolding AllKnown

@@ -1,6 +1,6 @@
 use Rattle.smv_resolve.specs.Finding.{AllKnown}
 use Rattle.smv_resolve.proofs.Knowing.{none_known}
-use Rattle.smv_resolve.proofs.work.no_work.Goals as goal
+use Rattle.smv_resolve.proofs.memo.empty_memo.Goals as goal
 
 pub returns-clause-known : goal.returns-clause-known
 unfolding AllKnown

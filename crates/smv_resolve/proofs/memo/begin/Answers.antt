@@ -1,5 +1,5 @@
 use Rattle.smv_resolve.specs.Finding.{AllKnown}
-use Rattle.smv_resolve.proofs.work.begin.Goals as goal
+use Rattle.smv_resolve.proofs.memo.begin.Goals as goal
 
 pub returns-clause-known : goal.returns-clause-known
 unfolding AllKnown
