@@ -2,7 +2,7 @@
 use Rattle.std.proofs.Common.{◌≢◌, ◌<◌, ℕ, []}
 use Rattle.digraph.specs.Search.{Scanned, Searched, mark}
 use Rattle.digraph.specs.declared.mark.Mark.TheVariants as M
-use Rattle.digraph.proofs.find.find_round.Given as goal
+use Rattle.digraph.proofs.find.find_cycle.Given as goal
 
 abbrev pub invariant-loop-s : goal.invariant-loop-s
 invariant-loop-s l = record {
