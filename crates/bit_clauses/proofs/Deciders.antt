@@ -10,7 +10,7 @@ use Rattle.clause_core.specs.Assignments.{ClauseTrue, Agrees}
 use Rattle.clause_core.specs.Propagation.{AllFalse, Closed, UnitIn}
 use Rattle.clause_core.specs.Systems.{Gives, Meets, Opposed}
 use Rattle.clause_core.proofs.Sound.{agrees_from, agrees_not_both, closed_truths, not_both, truths}
-use Rattle.cnf_build.proofs.Laws.{any_head, any_tail, any_split}
+use Rattle.cnf_build.proofs.NodeClauses.{any_head, any_tail, any_split}
 use Rattle.bit_clauses.specs.Deciding.{Decides, Defines, Refuted, Sets, signed}
 use Rattle.bit_clauses.specs.Nodes.{literals_in}
 

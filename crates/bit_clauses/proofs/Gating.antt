@@ -17,7 +17,7 @@ use Rattle.clause_core.specs.Assignments.{ClauseTrue, Agrees}
 use Rattle.clause_core.specs.Propagation.{Closed}
 use Rattle.clause_core.specs.Systems.{Gives, SameOn}
 use Rattle.cnf_build.specs.Encoding.{lit, variable_lit}
-use Rattle.cnf_build.specs.Law.{CnfLaw, HasValues, InputsSet, of_nodes}
+use Rattle.cnf_build.specs.CnfMeaning.{CnfLaw, HasValues, InputsSet, of_nodes}
 use Rattle.cnf_build.specs.Cone.{Reached}
 use Rattle.bit_clauses.specs.Deciding.{Defines, Sets, signed}
 use Rattle.bit_clauses.specs.Gated.{HasLiteral, IsGated}

@@ -15,7 +15,7 @@ use Rattle.clause_core.specs.Assignments.{ClauseTrue, Agrees}
 use Rattle.clause_core.specs.Propagation.{Closed, UnitIn}
 use Rattle.clause_core.specs.Systems.{Gives, SameOn}
 use Rattle.cnf_build.specs.Encoding.{lit}
-use Rattle.cnf_build.proofs.Laws.{any_head, any_tail}
+use Rattle.cnf_build.proofs.NodeClauses.{any_head, any_tail}
 use Rattle.bit_clauses.specs.Deciding.{Defines, Sets, signed}
 use Rattle.bit_clauses.specs.Gated.{HasLiteral, IsGated}
 use Rattle.bit_clauses.specs.Moving.{Skips, moved_var, moved_lit, moved_clause, moved_clauses}

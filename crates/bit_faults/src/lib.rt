@@ -7,13 +7,13 @@ mod domains;
 mod faults;
 mod formulas;
 mod judged;
-mod laws;
 mod mending;
 mod questions;
+mod soundness_of_questions;
 mod targets;
 mod valuation;
 
 pub use judged::judged_items;
-pub use laws::{what_is_met, what_is_never_met};
 pub use mending::mended;
 pub use questions::fault_questions;
+pub use soundness_of_questions::{what_is_met, what_is_never_met};

@@ -2,6 +2,6 @@
 //! formula is one that violates the specification. Where none does, no lasso of the model violates the specification.
 #![tactic(auto)]
 
-mod laws;
+mod violations_over_bits;
 
-pub use laws::{what_is_never_violated, what_violates_over_bits};
+pub use violations_over_bits::{what_is_never_violated, what_violates_over_bits};

@@ -121,11 +121,11 @@ fn known_bits(graph: &Graph, bits: &[Edge]) -> Option<i64>
         return None;
     }
     let number = known_number(graph, bits)?;
-    Some(counted(bits.len(), number))
+    Some(signed_integer(bits.len(), number))
 }
 
 // The integer that these bits are in two's complement.
-fn counted(width: usize, number: u64) -> i64
+fn signed_integer(width: usize, number: u64) -> i64
     requires within { width ≤ 62 }
     requires small { number < 2 ^ width }
     ensures { result ≡ integer width number }

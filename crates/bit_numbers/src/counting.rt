@@ -18,7 +18,7 @@ use bit_values::least_bits;
 use std::alloc::{AllocError, Global};
 
 /// How many of the operands are true; `None` where one is no boolean.
-pub fn counted(
+pub fn number_of_true(
     alloc: Global,
     graph: &mut Graph,
     operands: &[Symbolic],

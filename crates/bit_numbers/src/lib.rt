@@ -14,7 +14,7 @@ mod shifts;
 
 pub use comparing::{between, equal_bits, equal_integers, is_between, is_number};
 pub use constants::{constant, integer_edges, integer_width, known_integer};
-pub use counting::counted;
+pub use counting::number_of_true;
 pub use division::divided;
 pub use extremes::{absolute, choose_integer, extreme, negated};
 pub use parts::{constant_word, extended, selected, size, to_boolean};

@@ -2,7 +2,7 @@
 use Rattle.std.proofs.Common.{ℕ, zero, suc, ◌<◌, Bool, List, subst, inl, inr}
 use Rattle.clause_core.specs.Systems.{TransitionSystem, ReachedWithin}
 use Rattle.frame_core.specs.declared.parts.Lemma.{Lemma}
-use Rattle.frame_core.specs.Law.{InFrame, IsInvariant, IsSafe, LemmasHold, MeetsFrom}
+use Rattle.frame_core.specs.FrameLaw.{InFrame, IsInvariant, IsSafe, LemmasHold, MeetsFrom}
 use Rattle.frame_core.proofs.Reaching.{holds_within}
 use Rattle.bit_system.specs.Claims.{NeverBad, NeverBadWithin}
 

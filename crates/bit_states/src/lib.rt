@@ -3,13 +3,13 @@
 #![tactic(auto)]
 
 mod coding;
-mod laws;
 mod layout;
 mod slots;
+mod state_coding;
 mod types;
 
 pub use coding::{decoded, encoded};
-pub use laws::what_a_coding_is;
 pub use layout::{BuildStop, Layout, is_narrow, layout_of, numbers};
 pub use slots::{domain_edge, slot_values};
+pub use state_coding::what_a_coding_is;
 pub use types::{input_types, state_types, width_of_all};

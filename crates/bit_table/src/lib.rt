@@ -4,8 +4,8 @@
 mod compared;
 mod indices;
 mod known;
-mod laws;
+mod operator_results;
 mod table;
 
-pub use laws::what_operators_give;
+pub use operator_results::what_operators_give;
 pub use table::apply;

@@ -11,7 +11,7 @@ use crate::compared::{difference, equality, order};
 use crate::indices::subscript;
 use crate::known::{extended_by, resized_by, selected_by, word_of_constants};
 use bit_graph::{Edge, Graph};
-use bit_numbers::{absolute, counted, divided, extreme, negated, shifted, size, to_boolean};
+use bit_numbers::{absolute, divided, extreme, negated, number_of_true, shifted, size, to_boolean};
 use bit_operators::{Symbolic, inverted, joined, logical, summed, to_word, with_sign};
 use smv_value::Operator;
 use std::alloc::{AllocError, Global};
@@ -87,7 +87,7 @@ fn always(
 {
     match operator {
         Operator::Count => {
-            let made = counted(alloc, graph, operands)?;
+            let made = number_of_true(alloc, graph, operands)?;
             Ok(made)
         }
         _ => match operands {

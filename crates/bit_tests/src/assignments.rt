@@ -330,7 +330,7 @@ fn counted_in(alloc: Global, flat: &Flat) -> [usize; 5] {
     }
 }
 
-fn counted(alloc: Global, row: Row) -> [usize; 5] {
+fn counted_of_row(alloc: Global, row: Row) -> [usize; 5] {
     match read_model(alloc, row.source.as_bytes()) {
         Ok(flat) => counted_in(alloc, &flat),
         Err(_) => [0; 5],
@@ -355,7 +355,7 @@ fn systems_have_the_states_and_steps_of_their_models(rt: HostRuntime) -> Result<
 #[test]
 fn few_clauses_come_of_models(rt: HostRuntime) -> Result<(), Fail> {
     for row in &ROWS {
-        assert_eq!(rt; counted(rt.alloc(), *row), row.clauses);
+        assert_eq!(rt; counted_of_row(rt.alloc(), *row), row.clauses);
     }
     Ok(())
 }

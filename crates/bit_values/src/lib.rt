@@ -3,8 +3,8 @@
 
 mod coding;
 mod domains;
-mod laws;
+mod values_as_bits;
 
 pub use coding::{bits_of, from_bits, least_bits, to_bits, width};
 pub use domains::{constant_edges, domain};
-pub use laws::{what_a_width_is, what_bits_are};
+pub use values_as_bits::{what_a_width_is, what_bits_are};

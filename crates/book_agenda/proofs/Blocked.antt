@@ -13,7 +13,7 @@ use Rattle.frame_core.specs.declared.outcomes.Noting.{Noting}
 use Rattle.frame_core.specs.declared.outcomes.Noting.TheVariants.{Noted, OtherSystem}
 use Rattle.frame_core.specs.Facts.{FoundState}
 use Rattle.frame_core.specs.Changes.{NotesSame, with_obligation}
-use Rattle.frame_core.specs.Law.{FrameState, IsAsHigh, no_lemma, no_obligation, lemma_at, obligation_at, raised_at, retired_at}
+use Rattle.frame_core.specs.FrameLaw.{FrameState, IsAsHigh, no_lemma, no_obligation, lemma_at, obligation_at, raised_at, retired_at}
 use Rattle.book_agenda.specs.Values.{IsBlockedTo, blocked_at, AreBlocked, IsLifted}
 
 pub lemma_old : (ls : List Lemma) (l : Lemma) (n : ℕ) → n < length ls → lemma_at (ls ++ l ∷ []) n ≡ lemma_at ls n

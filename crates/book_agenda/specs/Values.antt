@@ -3,7 +3,7 @@ use Rattle.std.specs.Prelude.{◌≡◌, ◌⊎◌, ℕ, ◌<◌, ◌≤◌, ◌
 use Rattle.clause_core.specs.Assignments.{ClauseTrue, assignment_of}
 use Rattle.frame_core.specs.declared.parts.Lemma.{Lemma}
 use Rattle.frame_core.specs.declared.parts.Obligation.{Obligation}
-use Rattle.frame_core.specs.Law.{FrameState, lemma_at, obligation_at}
+use Rattle.frame_core.specs.FrameLaw.{FrameState, lemma_at, obligation_at}
 
 -- x meets each of the first lemmas above this level, and does not meet one of this level, where that is not 0
 pub record IsBlockedBelow (lemmas : List Lemma) (bound : ℕ) (level : ℕ) (x : ℕ → Bool) : Type 0 where

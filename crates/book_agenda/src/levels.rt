@@ -20,7 +20,7 @@ pub struct Levels<'a> {
 }
 
 impl<'a> Model for Levels<'a> {
-    ghost use Rattle.frame_core.specs.Law.{FrameState};
+    ghost use Rattle.frame_core.specs.FrameLaw.{FrameState};
     ghost use Rattle.book_agenda.specs.Values.{IsAgenda};
 
     ghost Value = { FrameState };
@@ -33,7 +33,7 @@ impl<'a> Model for Levels<'a> {
 impl<'a> Levels<'a> {
     ghost use Rattle.std.specs.Prelude.{◌≡◌, ◌<◌, ◌≤◌, ◌+◌, ◌*◌, ◌^◌, [], ℕ, List, is_none, length, false, true, IfOk, OnErr};
     ghost use Rattle.clause_core.specs.Assignments.{assignment_of};
-    ghost use Rattle.frame_core.specs.Law.{FrameState, top_at, lemma_at, obligation_at};
+    ghost use Rattle.frame_core.specs.FrameLaw.{FrameState, top_at, lemma_at, obligation_at};
     ghost use Rattle.frame_core.specs.Changes.{IsOfSystem, InsertsSame, RaisesSame, IsCovered, with_retired, OpensSame, MayHaveParent, NotesSame};
     ghost use Rattle.book_agenda.specs.Values.{IsBlockedTo, AreBlocked};
 

@@ -2,7 +2,7 @@
 
 ghost use Rattle.std.specs.Prelude.{◌≡◌, ◌↔◌, ◌<◌, ◌≤◌, ◌+◌, ◌*◌, ◌++◌, ◌∷◌, [], ℕ, length, slice_index_or, vec_len, vec_capacity, IsTrue};
 ghost use Rattle.clause_core.specs.Assignments.{ClauseTrue, assignment_of};
-ghost use Rattle.frame_core.specs.Law.{MeetsFrom, lemma_at, obligation_at};
+ghost use Rattle.frame_core.specs.FrameLaw.{MeetsFrom, lemma_at, obligation_at};
 ghost use Rattle.book_agenda.specs.Values.{IsBlockedTo, IsLifted, AreFloors, AreMetBelow, blocked_at};
 
 use clause_core::Lit;

@@ -4,7 +4,7 @@
 
 pub mod certificate;
 pub mod form;
-pub mod laws;
+pub mod inductive_invariants;
 mod parts;
 pub mod sound;
 

@@ -5,9 +5,9 @@
 pub mod assignment;
 pub mod bits;
 pub mod clause;
-pub mod laws;
 pub mod literal;
 pub mod scanning;
+pub mod soundness_of_derivations;
 pub mod system;
 
 pub use assignment::{is_false, is_set, set};

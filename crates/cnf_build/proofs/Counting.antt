@@ -5,7 +5,7 @@ use Rattle.bit_graph.specs.declared.edge.Node.{Node}
 use Rattle.bit_graph.specs.declared.edge.Node.TheVariants.{False, Input, And, Xor, Choice}
 use Rattle.clause_core.specs.declared.literal.Lit.{Lit}
 use Rattle.cnf_build.specs.Numbering.{HasVariable, Numbering, is_input, is_named, count_below}
-use Rattle.cnf_build.specs.Law.{IsCnf}
+use Rattle.cnf_build.specs.CnfMeaning.{IsCnf}
 
 module _ (test : ℕ → Bool) where
   step_on : (k : ℕ) → test k ≡ true → count_below test (suc k) ≡ suc (count_below test k)

@@ -12,8 +12,8 @@ use Rattle.clause_core.specs.Propagation.{Closed}
 use Rattle.cnf_build.specs.Encoding.{lit, variable_lit, node_lit, down, forced, clauses_of, cnf_from}
 use Rattle.cnf_build.specs.Cone.{Reaches, IsCone, Reached}
 use Rattle.cnf_build.specs.Numbering.{HasVariable, Numbering}
-use Rattle.cnf_build.specs.Law.{NodeSet, AllRead, InputsSet, of_nodes, HasValues, CnfLaw, IsCnf}
-use Rattle.cnf_build.proofs.Laws.{HoldsLive, SetLive, all_four, all_six, clauses_hold, sets_live, all_nodes}
+use Rattle.cnf_build.specs.CnfMeaning.{NodeSet, AllRead, InputsSet, of_nodes, HasValues, CnfLaw, IsCnf}
+use Rattle.cnf_build.proofs.NodeClauses.{HoldsLive, SetLive, all_four, all_six, clauses_hold, sets_live, all_nodes}
 use Rattle.cnf_build.proofs.Counting.{live_has, numbering_of}
 use Rattle.std.proofs.lemmas.List.Elements.{All-cons, All-nil, All-map}
 

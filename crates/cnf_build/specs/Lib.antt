@@ -1,4 +1,4 @@
 pub mod Encoding
 pub mod Cone
 pub mod Numbering
-pub mod Law
+pub mod CnfMeaning

@@ -5,7 +5,7 @@ ghost use Rattle.bit_graph.specs.Meaning.{Stands, IsBelow};
 ghost use Rattle.clause_core.specs.Literals.{Within};
 ghost use Rattle.cnf_build.specs.Cone.{marked};
 ghost use Rattle.cnf_build.specs.Encoding.{lit, node_lit, clauses_of, forced};
-ghost use Rattle.cnf_build.specs.Law.{CnfLaw, IsCnf};
+ghost use Rattle.cnf_build.specs.CnfMeaning.{CnfLaw, IsCnf};
 ghost use Rattle.cnf_build.specs.Numbering.{name_in};
 
 use crate::cone::cone;

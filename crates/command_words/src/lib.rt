@@ -4,10 +4,10 @@
 #![tactic(auto)]
 
 mod command;
-mod laws;
+mod one_command;
 mod reading;
 mod table;
 
 pub use command::{Command, Effort, Ring, default_effort};
-pub use laws::is_said_once;
+pub use one_command::is_said_once;
 pub use reading::{WordsStop, read_words};

@@ -3,7 +3,7 @@ use Rattle.std.proofs.Common.{◌≡◌, ◌≢◌, ◌⊎◌, inl, inr, ℕ, su
 use Rattle.std.proofs.lemmas.List.{get_or-drop, get_or_push}
 use Rattle.std.proofs.Math.ListN.{get_or-eq_default}
 use Rattle.std.proofs.lemmas.Bool.{cases_lt}
-use Rattle.digraph.specs.Cycles.{Edge, Walk, Acyclic, successors, Distinct, IsRound}
+use Rattle.digraph.specs.Cycles.{Edge, Walk, Acyclic, successors, Distinct, IsCycle}
 use Rattle.digraph.specs.Search.{Searched, Falling, IsDone, mark, IsEndAt}
 use Rattle.digraph.specs.declared.mark.Mark.{Mark}
 use Rattle.digraph.specs.declared.mark.Mark.TheVariants as M
@@ -49,8 +49,8 @@ settled g marks done u at begun = elim (mark_cases (mark marks u)) [
   | inr (inr d) ↦ d
 ]
 
-pub no_round : (g : List (List ℕ)) (marks : List Mark) (done n : ℕ) → Searched g marks [] done → length g ≤ n → ((k : ℕ) → k < n → mark marks k ≢ M.New) → Acyclic g
-no_round g marks done n at long all a leads =
+pub no_cycle : (g : List (List ℕ)) (marks : List Mark) (done n : ℕ) → Searched g marks [] done → length g ≤ n → ((k : ℕ) → k < n → mark marks k ≢ M.New) → Acyclic g
+no_cycle g marks done n at long all a leads =
     let within : a < length g = walk_from g leads.0 a a leads.1 in
     let d : IsDone (mark marks a) = settled g marks done a at (all a (omega (arith, within))) in
     let f = walk_falls g marks at.falling leads.0 a a d.0 d.1 leads.1 in
@@ -102,18 +102,18 @@ module _ (g : List (List ℕ)) (marks : List Mark) (path front : List ℕ) (u v 
       let Q : List ℕ → Type 0 = λ d. Edge g (get_or d (length ys) 0) v in
       walk_along g ys v v (subst P is chain) (subst Q is (back (length ys) (ap length is)))
 
-  pub round_at : IsRound g (drop i path) × Distinct (drop i path)
-  round_at =
+  pub cycle_at : IsCycle g (drop i path) × Distinct (drop i path)
+  cycle_at =
       let is : drop i path ≡ v ∷ drop (suc i) path = drop-cons path i 0 within ∙ ap (λ x. x ∷ drop (suc i) path) here in
-      let P : List ℕ → Type 0 = λ d. IsRound g d in (
+      let P : List ℕ → Type 0 = λ d. IsCycle g d in (
         subst P (sym is) (goes_round (drop (suc i) path) is),
         λ j k less lt e. at.distinct (i + j) (i + k) (omega arith) (omega (arith, long)) (sym (read j) ∙ e ∙ read k),
       )
 
-pub round_of : (g : List (List ℕ)) (marks : List Mark) (path front round : List ℕ) (u v done : ℕ) → Searched g marks path done → path ≡ front ++ u ∷ [] → Edge g u v →
-    mark marks v ≡ M.Open → ((i : ℕ) → i < length path → get_or path i 0 ≡ v → IsEndAt path v round) → IsRound g round × Distinct round
-round_of g marks path front round u v done at made edge on end =
+pub cycle_of : (g : List (List ℕ)) (marks : List Mark) (path front cycle : List ℕ) (u v done : ℕ) → Searched g marks path done → path ≡ front ++ u ∷ [] → Edge g u v →
+    mark marks v ≡ M.Open → ((i : ℕ) → i < length path → get_or path i 0 ≡ v → IsEndAt path v cycle) → IsCycle g cycle × Distinct cycle
+cycle_of g marks path front cycle u v done at made edge on end =
     let f = at.found v on in
     let e = end f.0 f.1 f.2 in
-    let P : List ℕ → Type 0 = λ r. IsRound g r × Distinct r in
-    subst P (sym e.3) (round_at g marks path front u v done at made edge e.0 e.1 e.2)
+    let P : List ℕ → Type 0 = λ r. IsCycle g r × Distinct r in
+    subst P (sym e.3) (cycle_at g marks path front u v done at made edge e.0 e.1 e.2)

@@ -27,12 +27,12 @@ abbrev pub Distinct : List ℕ → Type 0
 Distinct ns = (i j : ℕ) → i < j → j < length ns → slice_index ns i ≢ slice_index ns j
 
 -- these nodes lead round to the first
-abbrev pub IsRound : List (List ℕ) → List ℕ → Type 0
-IsRound g [] = ⊥
-IsRound g (x ∷ xs) = Walk g x xs x
+abbrev pub IsCycle : List (List ℕ) → List ℕ → Type 0
+IsCycle g [] = ⊥
+IsCycle g (x ∷ xs) = Walk g x xs x
 
 -- these nodes lead round to the first, which is the least; none stands twice
-pub record IsLeastRound (g : List (List ℕ)) (round : List ℕ) : Type 0 where
-  pub leads : IsRound g round
-  pub simple : Distinct round
-  pub least : (j : ℕ) → j < length round → slice_index round 0 ≤ slice_index round j
+pub record IsCanonicalCycle (g : List (List ℕ)) (cycle : List ℕ) : Type 0 where
+  pub leads : IsCycle g cycle
+  pub simple : Distinct cycle
+  pub least : (j : ℕ) → j < length cycle → slice_index cycle 0 ≤ slice_index cycle j

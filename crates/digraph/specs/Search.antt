@@ -59,4 +59,4 @@ pub record Stepped (g : List (List ℕ)) (before after : List Mark) (path : List
 
 -- the end of the path that begins where v stands
 abbrev pub IsEndAt : List ℕ → ℕ → List ℕ → Type 0
-IsEndAt path v round = (i : ℕ) × (i < length path) × (slice_index path i ≡ v) × (round ≡ drop i path)
+IsEndAt path v cycle = (i : ℕ) × (i < length path) × (slice_index path i ≡ v) × (cycle ≡ drop i path)

@@ -2,7 +2,7 @@
 //! Cormen, Leiserson, Rivest and Stein, Introduction to Algorithms, Depth-first search).
 
 ghost use Rattle.std.specs.Prelude.{◌≡◌, ℕ, ◌++◌, ◌∷◌, [], ◌<◌, ◌≢◌, ◌^◌, length, slice_index, replicate, take, IfOk, MatchOption, All};
-ghost use Rattle.digraph.specs.Cycles.{Acyclic, Closed, Distinct, Edge, IsRound, successors};
+ghost use Rattle.digraph.specs.Cycles.{Acyclic, Closed, Distinct, Edge, IsCycle, successors};
 ghost use Rattle.digraph.specs.Search.{Begun, IsDone, IsEndAt, NextSays, Scanned, Searched, Stepped, mark};
 ghost use Rattle.digraph.specs.declared.mark.Mark.TheVariants as M;
 
@@ -11,10 +11,10 @@ use sqlite_items::Items;
 use std::alloc::{AllocError, Global};
 
 /// A cycle of the graph that passes no node twice, if there is a cycle.
-pub fn find_round(alloc: Global, g: &[Items<usize>]) -> Result<Option<Items<usize>>, AllocError>
+pub fn find_cycle(alloc: Global, g: &[Items<usize>]) -> Result<Option<Items<usize>>, AllocError>
     requires closed { Closed g.now }
     requires few { length g.now < 2 ^ 32 }
-    ensures { IfOk result (λ r. MatchOption r (Acyclic g.now) (λ round. IsRound g.now round × Distinct round)) }
+    ensures { IfOk result (λ r. MatchOption r (Acyclic g.now) (λ cycle. IsCycle g.now cycle × Distinct cycle)) }
 {
     let mut marks = new_marks(alloc, g.len())?;
     let mut scanned = vec![in alloc; 0; g.len()]?;
@@ -22,8 +22,8 @@ pub fn find_round(alloc: Global, g: &[Items<usize>]) -> Result<Option<Items<usiz
     for s in 0..g.len() {
         if let Mark::New = marks[s] {
             let found = search_from(alloc, g, &mut marks, &mut scanned, &mut done, s)?;
-            if let Some(round) = found {
-                return Ok(Some(round));
+            if let Some(cycle) = found {
+                return Ok(Some(cycle));
             }
         }
     }
@@ -56,7 +56,7 @@ fn search_from(
     requires start { (start < length marks.old.items) × (mark marks.old.items start ≡ M.New) }
     ensures { IfOk result (λ r. MatchOption r
         (Searched g.now marks.new.items [] done.new × Begun marks.old.items marks.new.items × (mark marks.new.items start ≢ M.New) × Scanned g.now marks.new.items scanned.new.items)
-        (λ round. IsRound g.now round × Distinct round)) }
+        (λ cycle. IsCycle g.now cycle × Distinct cycle)) }
 {
     let mut path = Vec::new(alloc);
     path.push(start)?;
@@ -64,8 +64,8 @@ fn search_from(
     while let Some(top) = path.pop() {
         if let Some(v) = step(g, marks, scanned, &mut path, done, top)? {
             path.push(top)?;
-            let round = round_from(alloc, &path, v)?;
-            return Ok(Some(round));
+            let cycle = cycle_from(alloc, &path, v)?;
+            return Ok(Some(cycle));
         }
     }
     Ok(None)
@@ -130,8 +130,8 @@ fn next_of(marks: &[Mark], vs: &[usize], from: usize) -> Next
 }
 
 // The end of the path that begins with this node of it.
-fn round_from(alloc: Global, path: &[usize], v: usize) -> Result<Items<usize>, AllocError>
-    ensures { IfOk result (λ round. (i : ℕ) → i < length path.now → slice_index path.now i ≡ v → IsEndAt path.now v round) }
+fn cycle_from(alloc: Global, path: &[usize], v: usize) -> Result<Items<usize>, AllocError>
+    ensures { IfOk result (λ cycle. (i : ℕ) → i < length path.now → slice_index path.now i ≡ v → IsEndAt path.now v cycle) }
 {
     for (i, x) in path.iter().enumerate() {
         if *x == v {

@@ -1,12 +1,12 @@
 //! Cycles of directed graphs.
 #![tactic(auto)]
 
+mod canonical;
 mod closed;
 mod find;
 mod mark;
 mod reach;
-mod turn;
 
+pub use canonical::canonical_cycle;
 pub use closed::is_closed;
 pub use reach::reached_from;
-pub use turn::least_round;

@@ -3,7 +3,7 @@
 #![tactic(auto)]
 
 mod asking;
-pub mod laws;
 pub mod searching;
+pub mod soundness_of_answers;
 
 pub use searching::{Answer, search};

@@ -11,7 +11,7 @@ use Rattle.frame_core.specs.declared.outcomes.Raising.TheVariants as raising
 use Rattle.frame_core.specs.declared.outcomes.Opening.TheVariants as opening
 use Rattle.frame_core.specs.Facts.{ProvedClause, IsProved, FoundState, IsFound, FoundStep, IsStep, ClearLevel, IsClear, MeetsParents}
 use Rattle.frame_core.specs.Differences.{IsSameSystem}
-use Rattle.frame_core.specs.Law.{FrameState, FramesHold, AreAlike, system_at, top_at, lemma_at, obligation_at, IsAsHigh, AllStand, InFrame, MeetsFrom}
+use Rattle.frame_core.specs.FrameLaw.{FrameState, FramesHold, AreAlike, system_at, top_at, lemma_at, obligation_at, IsAsHigh, AllStand, InFrame, MeetsFrom}
 use Rattle.frame_core.specs.Looking.{IsHeldBy, CoversAt, AreCoveredBy}
 use Rattle.book_agenda.proofs.Blocked.{lemma_old, lemma_last}
 use Rattle.frame_book.specs.declared.claim.Outcome.TheVariants as outcome

@@ -7,7 +7,7 @@ use Rattle.clause_core.specs.Assignments.{ClauseTrue, assignment_of}
 use Rattle.clause_core.specs.Systems.{TransitionSystem, FirstBits}
 use Rattle.frame_core.specs.declared.parts.Lemma.{Lemma}
 use Rattle.frame_core.specs.declared.parts.Obligation.{Obligation}
-use Rattle.frame_core.specs.Law.{FrameState, FramesHold, no_lemma, system_at, top_at, lemma_at, obligation_at, InFrame}
+use Rattle.frame_core.specs.FrameLaw.{FrameState, FramesHold, no_lemma, system_at, top_at, lemma_at, obligation_at, InFrame}
 use Rattle.frame_core.specs.Changes.{VerdictSays, with_retired}
 use Rattle.frame_core.proofs.Changing.{ClauseTrue-part}
 use Rattle.frame_history.specs.declared.entries.Limits.{Limits}

@@ -1,7 +1,7 @@
 -- One entry more.
 use Rattle.std.proofs.Common.{◌≡◌, ℕ, ◌+◌, List, [], ◌∷◌, ◌++◌, set, refl, sym, ap, subst, ◌∙◌, add-zero}
 use Rattle.std.specs.Prelude.{Option, Some, None, if◌then◌else◌}
-use Rattle.frame_core.specs.Law.{FrameState}
+use Rattle.frame_core.specs.FrameLaw.{FrameState}
 use Rattle.frame_core.specs.Changes.{with_retired}
 use Rattle.frame_history.specs.declared.entries.Limits.{Limits}
 use Rattle.frame_history.specs.declared.entries.Made.{Made}

@@ -3,7 +3,7 @@ use Rattle.std.proofs.Common.{◌≡◌, ℕ, ◌+◌, ◌<◌, ◌^◌, false, 
 use Rattle.std.specs.Prelude.{Some, None}
 use Rattle.std.proofs.lemmas.List.{length-replicate}
 use Rattle.frame_core.specs.declared.parts.Lemma.{Lemma}
-use Rattle.frame_core.specs.Law.{FrameState, FramesHold}
+use Rattle.frame_core.specs.FrameLaw.{FrameState, FramesHold}
 use Rattle.frame_history.specs.declared.entries.Limits.{Limits}
 use Rattle.frame_history.specs.declared.entries.Made.{Made}
 use Rattle.frame_history.specs.declared.entries.Entry.{Entry}

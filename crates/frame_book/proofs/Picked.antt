@@ -7,7 +7,7 @@ use Rattle.clause_core.specs.Systems.{TransitionSystem}
 use Rattle.frame_core.specs.declared.parts.Lemma.{Lemma}
 use Rattle.frame_core.specs.declared.outcomes.Verdict.{Verdict}
 use Rattle.frame_core.specs.declared.outcomes.Verdict.TheVariants.{Invariant, Reached}
-use Rattle.frame_core.specs.Law.{FrameState, FramesHold, system_at, top_at, lemma_at, obligation_at}
+use Rattle.frame_core.specs.FrameLaw.{FrameState, FramesHold, system_at, top_at, lemma_at, obligation_at}
 use Rattle.frame_core.specs.Changes.{VerdictSays}
 use Rattle.frame_history.specs.declared.entries.Limits.{Limits}
 use Rattle.frame_history.specs.declared.entries.Subject.{Subject}

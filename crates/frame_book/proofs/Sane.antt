@@ -6,7 +6,7 @@ use Rattle.clause_core.specs.Assignments.{ClauseTrue, assignment_of}
 use Rattle.clause_core.specs.Systems.{TransitionSystem}
 use Rattle.frame_core.specs.declared.parts.Lemma.{Lemma}
 use Rattle.frame_core.specs.declared.parts.Obligation.{Obligation}
-use Rattle.frame_core.specs.Law.{FrameState, top_at, lemma_at, obligation_at}
+use Rattle.frame_core.specs.FrameLaw.{FrameState, top_at, lemma_at, obligation_at}
 use Rattle.frame_core.specs.Changes.{with_retired}
 use Rattle.frame_history.specs.declared.entries.Subject.{Subject}
 use Rattle.frame_history.specs.declared.entries.Subject.TheVariants.{Bad, Block, Push}

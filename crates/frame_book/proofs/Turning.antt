@@ -5,7 +5,7 @@ use Rattle.std.proofs.lemmas.Bool.{cases_lt}
 use Rattle.clause_core.specs.Assignments.{assignment_of}
 use Rattle.clause_core.specs.Systems.{TransitionSystem}
 use Rattle.frame_core.specs.declared.parts.Lemma.{Lemma}
-use Rattle.frame_core.specs.Law.{FrameState, FramesHold, lemma_at, obligation_at}
+use Rattle.frame_core.specs.FrameLaw.{FrameState, FramesHold, lemma_at, obligation_at}
 use Rattle.frame_core.specs.Changes.{fresh}
 use Rattle.frame_history.specs.declared.entries.Limits.{Limits}
 use Rattle.frame_history.specs.declared.entries.Subject.{Subject}

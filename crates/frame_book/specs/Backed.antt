@@ -1,7 +1,7 @@
 -- What stands of claims that were settled since a lemma was last added or raised.
 use Rattle.std.specs.Prelude.{◌≡◌, ◌⊎◌, ℕ, ◌+◌, ◌-◌, ◌<◌, ◌≤◌, Bool, true, false, List, length, slice_index_or, slice_set, Some}
 use Rattle.clause_core.specs.Assignments.{assignment_of}
-use Rattle.frame_core.specs.Law.{FrameState, system_at, top_at, obligation_at, InFrame, IsAsHigh}
+use Rattle.frame_core.specs.FrameLaw.{FrameState, system_at, top_at, obligation_at, InFrame, IsAsHigh}
 use Rattle.frame_history.specs.declared.entries.Limits.{Limits}
 use Rattle.frame_history.specs.declared.entries.Subject.{Subject}
 use Rattle.frame_history.specs.declared.entries.Subject.TheVariants.{Bad, Block, Push}

@@ -1,7 +1,7 @@
 -- A claim as its worker sees it.
 use Rattle.std.specs.Prelude.{◌≡◌, ℕ, Bool, List}
 use Rattle.clause_core.specs.declared.literal.Lit.{Lit}
-use Rattle.frame_core.specs.Law.{FrameState, lemma_at, obligation_at}
+use Rattle.frame_core.specs.FrameLaw.{FrameState, lemma_at, obligation_at}
 use Rattle.frame_history.specs.declared.entries.Subject.{Subject}
 use Rattle.frame_history.specs.declared.entries.Subject.TheVariants.{Bad, Block, Push}
 use Rattle.frame_history.specs.declared.entries.Made.{Made}

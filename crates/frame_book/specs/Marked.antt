@@ -1,6 +1,6 @@
 -- What is marked beside the frames.
 use Rattle.std.specs.Prelude.{◌≡◌, ℕ, ◌+◌, ◌<◌, ◌≤◌, Bool, true, false, List, [], ◌∷◌, length, slice_index_or, slice_set, replicate}
-use Rattle.frame_core.specs.Law.{FrameState, top_at}
+use Rattle.frame_core.specs.FrameLaw.{FrameState, top_at}
 use Rattle.frame_history.specs.declared.entries.Limits.{Limits}
 use Rattle.frame_history.specs.declared.entries.Change.{Change}
 use Rattle.frame_history.specs.declared.entries.Change.TheVariants.{Add, Raise, Held, Retire, Behind, Dropped, Note, Open, PushFailed, Limit}

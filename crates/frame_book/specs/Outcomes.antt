@@ -4,7 +4,7 @@ use Rattle.clause_core.specs.Assignments.{ClauseTrue, assignment_of}
 use Rattle.clause_core.specs.Systems.{TransitionSystem, NextIs}
 use Rattle.frame_core.specs.Differences.{IsSameSystem}
 use Rattle.frame_core.specs.Facts.{ProvedClause, ClearLevel, FoundState, FoundStep}
-use Rattle.frame_core.specs.Law.{system_at}
+use Rattle.frame_core.specs.FrameLaw.{system_at}
 use Rattle.frame_history.specs.declared.entries.Subject.{Subject}
 use Rattle.frame_history.specs.declared.entries.Subject.TheVariants.{Bad, Block, Push}
 use Rattle.frame_history.specs.declared.entries.Lag.TheVariants as lag

@@ -2,7 +2,7 @@
 use Rattle.std.specs.Prelude.{◌≡◌, ◌≢◌, ℕ, ◌<◌, ◌≤◌, Bool, true, false, List, [], ◌∷◌, ◌++◌, length}
 use Rattle.frame_core.specs.declared.parts.Lemma.{Lemma}
 use Rattle.frame_core.specs.Facts.{IsPart}
-use Rattle.frame_core.specs.Law.{FrameState, lemma_at}
+use Rattle.frame_core.specs.FrameLaw.{FrameState, lemma_at}
 use Rattle.frame_core.specs.Changes.{with_lemma, with_level, with_retired, with_top, IsCovered}
 use Rattle.frame_history.specs.declared.entries.Made.{Made}
 use Rattle.frame_history.specs.declared.entries.Change.{Change}

@@ -43,7 +43,7 @@ impl<'a, L: Ledger> Book<'a, L> {
     ghost use Rattle.std.specs.Prelude.{◌≡◌, ◌<◌, ◌≤◌, ◌+◌, ◌^◌, ℕ, Bool, [], length, replicate, IfOk, IfErr, OnErr, IsOk};
     ghost use Rattle.clause_core.specs.Assignments.{ClauseTrue};
     ghost use Rattle.clause_core.specs.Systems.{ReachedWithin};
-    ghost use Rattle.frame_core.specs.Law.{system_at, lemma_at};
+    ghost use Rattle.frame_core.specs.FrameLaw.{system_at, lemma_at};
     ghost use Rattle.frame_book.specs.Outcomes.{IsOutcomeOf};
     ghost use Rattle.frame_book.specs.Book.{IsBook, opened, settlements, Claims, Settles, grown_by, Returns, IsPush};
 

@@ -6,7 +6,7 @@ ghost use Rattle.frame_core.specs.Changes.{VerdictSays};
 ghost use Rattle.frame_history.specs.declared.entries.Subject.{Subject as ASubject};
 ghost use Rattle.frame_book.specs.declared.picking.Task.{Task as ATask};
 ghost use Rattle.frame_history.specs.History.{IsDecided, IsClosed, IsOpenTask, IsNew};
-ghost use Rattle.frame_core.specs.Law.{top_at, obligation_at};
+ghost use Rattle.frame_core.specs.FrameLaw.{top_at, obligation_at};
 ghost use Rattle.frame_history.specs.declared.entries.Subject.TheVariants as asked;
 ghost use Rattle.frame_book.specs.Pages.{state_of, AreSane};
 ghost use Rattle.frame_book.specs.Picking.{IsOpenSystem, IsOffered, IsNotOffered, HasNoTask, IsGreatest};

@@ -5,7 +5,7 @@ ghost use Rattle.clause_core.specs.Assignments.{ClauseTrue, assignment_of};
 ghost use Rattle.clause_core.specs.Systems.{NextIs};
 ghost use Rattle.frame_core.specs.Differences.{IsSameSystem};
 ghost use Rattle.frame_core.specs.Facts.{IsPart};
-ghost use Rattle.frame_core.specs.Law.{FrameState, InFrame, system_at, top_at, lemma_at, obligation_at};
+ghost use Rattle.frame_core.specs.FrameLaw.{FrameState, InFrame, system_at, top_at, lemma_at, obligation_at};
 ghost use Rattle.frame_core.specs.Looking.{parent_at};
 ghost use Rattle.frame_core.specs.Changes.{IsOfSystem, MayHaveParent, with_obligation};
 ghost use Rattle.frame_history.specs.declared.entries.Change.{Change as AChange};

@@ -8,7 +8,7 @@ use Rattle.clause_core.specs.Assignments.{ClauseTrue, assignment_of}
 use Rattle.clause_core.specs.Systems.{TransitionSystem, FirstBits, NextIs}
 use Rattle.frame_core.specs.declared.parts.Lemma.{Lemma}
 use Rattle.frame_core.specs.Facts.{FoundStep, FoundState, ProvedClause, IsPart}
-use Rattle.frame_core.specs.Law.{system_at, AllStand, InFrame}
+use Rattle.frame_core.specs.FrameLaw.{system_at, AllStand, InFrame}
 use Rattle.frame_core.proofs.Changing.{ClauseTrue-part}
 use Rattle.frame_solver.specs.Firsts.{AllFirstsMeet, negation_of}
 use Rattle.frame_query.specs.Findings.{SolverView}

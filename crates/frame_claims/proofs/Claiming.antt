@@ -1,7 +1,7 @@
 -- A claim of a subject that is known.
 use Rattle.std.proofs.Common.{◌≡◌, ℕ, ◌+◌, Bool, List, sym, subst}
 use Rattle.std.specs.Prelude.{Result, IfOk}
-use Rattle.frame_core.specs.Law.{lemma_at}
+use Rattle.frame_core.specs.FrameLaw.{lemma_at}
 use Rattle.frame_history.specs.declared.entries.Subject.{Subject}
 use Rattle.frame_history.specs.declared.entries.Subject.TheVariants.{Push}
 use Rattle.frame_query.specs.Findings.{SolverView}

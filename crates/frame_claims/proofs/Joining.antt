@@ -8,7 +8,7 @@ use Rattle.clause_core.specs.Systems.{TransitionSystem}
 use Rattle.sat_core.specs.Paying.{IsPaidLog}
 use Rattle.sat_core.proofs.Payments.{log_join, log_none}
 use Rattle.frame_core.specs.declared.parts.Lemma.{Lemma}
-use Rattle.frame_core.specs.Law.{system_at}
+use Rattle.frame_core.specs.FrameLaw.{system_at}
 use Rattle.frame_solver.specs.Firsts.{negation_of}
 use Rattle.frame_solver.specs.Paying.{Question, Steps, Firsts, Bads, AskedQuery, IsQueryOf, Pays, PaysOne, AllDiffer, queries_of}
 use Rattle.frame_query.specs.Findings.{SolverView, PaysBad}

@@ -8,7 +8,7 @@ use Rattle.clause_core.specs.Assignments.{ClauseTrue, assignment_of}
 use Rattle.clause_core.specs.Systems.{TransitionSystem, NextIs}
 use Rattle.frame_core.specs.declared.parts.Lemma.{Lemma}
 use Rattle.frame_core.specs.Differences.{IsSameSystem}
-use Rattle.frame_core.specs.Law.{FrameState, FramesHold, system_at, lemma_at, obligation_at, InFrame, AllStand}
+use Rattle.frame_core.specs.FrameLaw.{FrameState, FramesHold, system_at, lemma_at, obligation_at, InFrame, AllStand}
 use Rattle.frame_core.proofs.States.{first_same}
 use Rattle.frame_history.specs.declared.entries.Subject.{Subject}
 use Rattle.frame_history.specs.declared.entries.Subject.TheVariants.{Bad, Block, Push}

@@ -10,7 +10,7 @@ use Rattle.clause_core.specs.Assignments.{assignment_of}
 use Rattle.frame_core.specs.declared.parts.Lemma.{Lemma}
 use Rattle.frame_core.specs.declared.parts.Parent.{Parent}
 use Rattle.frame_core.specs.Facts.{ProvedClause, ClearLevel, FoundStep}
-use Rattle.frame_core.specs.Law.{FrameState, InFrame, AllStand, Stands, IsAsHigh, system_at, lemma_at, no_lemma, raised_at, retired_at}
+use Rattle.frame_core.specs.FrameLaw.{FrameState, InFrame, AllStand, Stands, IsAsHigh, system_at, lemma_at, no_lemma, raised_at, retired_at}
 use Rattle.frame_core.specs.Looking.{IsKeptLevel}
 use Rattle.frame_core.proofs.Changing.{Extends, Extends-added, Extends-raised, retired_lemma}
 use Rattle.frame_history.specs.declared.entries.Limits.{Limits}

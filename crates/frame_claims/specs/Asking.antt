@@ -3,7 +3,7 @@ use Rattle.std.specs.Prelude.{◌≡◌, ℕ, ◌+◌, ◌-◌, ◌<◌, Bool, t
 use Rattle.clause_core.specs.Assignments.{ClauseTrue, assignment_of}
 use Rattle.clause_core.specs.Systems.{FirstBits, NextIs}
 use Rattle.frame_core.specs.Facts.{FoundStep, ProvedClause, IsPart}
-use Rattle.frame_core.specs.Law.{system_at, lemma_at, InFrame, AllStand}
+use Rattle.frame_core.specs.FrameLaw.{system_at, lemma_at, InFrame, AllStand}
 use Rattle.frame_history.specs.declared.entries.Subject.{Subject}
 use Rattle.frame_history.specs.declared.entries.Subject.TheVariants.{Bad, Block, Push}
 use Rattle.frame_solver.specs.Firsts.{AllFirstsMeet}

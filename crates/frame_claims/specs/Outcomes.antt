@@ -2,7 +2,7 @@
 use Rattle.std.specs.Prelude.{◌≡◌, ℕ, ◌-◌, ◌<◌, Bool, true, List, length, All}
 use Rattle.clause_core.specs.declared.literal.Lit.{Lit}
 use Rattle.clause_core.specs.Assignments.{assignment_of}
-use Rattle.frame_core.specs.Law.{FrameState, system_at, InFrame, AllStand}
+use Rattle.frame_core.specs.FrameLaw.{FrameState, system_at, InFrame, AllStand}
 use Rattle.frame_history.specs.declared.entries.Subject.{Subject}
 use Rattle.frame_history.specs.declared.entries.Subject.TheVariants.{Bad, Block, Push}
 use Rattle.frame_history.specs.History.{asked_level, asked_system}

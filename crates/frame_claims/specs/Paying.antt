@@ -3,7 +3,7 @@ use Rattle.std.specs.Prelude.{◌≡◌, ℕ, ⊤, Bool, List, [], map, take, sl
 use Rattle.clause_core.specs.declared.literal.Lit.{Lit}
 use Rattle.clause_core.specs.Assignments.{ClauseTrue, assignment_of}
 use Rattle.sat_core.specs.Paying.{Query, IsPaidLog}
-use Rattle.frame_core.specs.Law.{FrameState, lemma_at, obligation_at}
+use Rattle.frame_core.specs.FrameLaw.{FrameState, lemma_at, obligation_at}
 use Rattle.frame_history.specs.declared.entries.Subject.{Subject}
 use Rattle.frame_history.specs.declared.entries.Subject.TheVariants.{Bad, Block, Push}
 use Rattle.frame_history.specs.declared.entries.Entry.{Entry}

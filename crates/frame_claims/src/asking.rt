@@ -4,7 +4,7 @@
 ghost use Rattle.std.specs.Prelude.{◌≡◌, ◌+◌, ◌-◌, ◌^◌, ◌<◌, ◌≤◌, length, IfOk};
 ghost use Rattle.clause_core.specs.Assignments.{assignment_of};
 ghost use Rattle.clause_core.specs.Systems.{FirstBits};
-ghost use Rattle.frame_core.specs.Law.{AllStand, system_at, lemma_at};
+ghost use Rattle.frame_core.specs.FrameLaw.{AllStand, system_at, lemma_at};
 ghost use Rattle.frame_solver.specs.Firsts.{AllFirstsMeet, negation_of};
 ghost use Rattle.frame_query.specs.Dropping.{PaysParts};
 ghost use Rattle.frame_solver.specs.Paying.{Firsts, PaysOne};

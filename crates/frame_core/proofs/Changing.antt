@@ -12,7 +12,7 @@ use Rattle.clause_core.specs.Systems.{TransitionSystem, FirstBits, StepBits, Bad
 use Rattle.frame_core.specs.declared.parts.Lemma.{Lemma}
 use Rattle.frame_core.specs.declared.parts.Parent.{Parent}
 use Rattle.frame_core.specs.Facts.{ProvedClause, IsProved, IsPart, MeetsParents}
-use Rattle.frame_core.specs.Law.{no_lemma, lemma_at, InFrame, Covers, LemmasHold, IsSafe, AllStand}
+use Rattle.frame_core.specs.FrameLaw.{no_lemma, lemma_at, InFrame, Covers, LemmasHold, IsSafe, AllStand}
 use Rattle.frame_core.specs.Changes.{IsCut}
 
 -- what a query shows of the whole clause

@@ -6,7 +6,7 @@ use Rattle.std.proofs.Math.Seq.{get_or-append_seam}
 use Rattle.std.proofs.lemmas.Bool.{cases_eq, cases_lt}
 use Rattle.std.proofs.lemmas.List.{ext_get_or}
 use Rattle.frame_core.specs.declared.parts.Lemma.{Lemma}
-use Rattle.frame_core.specs.Law.{no_lemma, lemma_at}
+use Rattle.frame_core.specs.FrameLaw.{no_lemma, lemma_at}
 use Rattle.frame_core.specs.Copies.{LagsBehind}
 
 -- a number that is not the first is in the rest

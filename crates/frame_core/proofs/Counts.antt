@@ -10,7 +10,7 @@ use Rattle.std.proofs.lemmas.Bool.Decides.{nat_tests}
 use Rattle.std.proofs.lemmas.List.Sums.{sum_by-append, sum_by-set, sum_by-cons, count_by-le-length, get_or-le-sum_by}
 use Rattle.frame_core.specs.declared.parts.Lemma.{Lemma}
 use Rattle.frame_core.specs.declared.parts.Obligation.{Obligation}
-use Rattle.frame_core.specs.Law.{no_lemma, lemma_at, raised_at, retired_at, no_obligation, obligation_at}
+use Rattle.frame_core.specs.FrameLaw.{no_lemma, lemma_at, raised_at, retired_at, no_obligation, obligation_at}
 use Rattle.frame_core.specs.Changes.{HasLiveAt, HasNoneAt}
 use Rattle.frame_core.specs.Counting.{is_live_at, AreCounts, more_at, less_at, first_of, marked_at, IsMark, AreMarks}
 

@@ -3,7 +3,7 @@ use Rattle.std.proofs.Common.{◌≡◌, ℕ, ◌<◌, ◌≤◌, List, length, 
 use Rattle.std.proofs.lemmas.List.{get_or_read}
 use Rattle.frame_core.specs.declared.parts.Lemma.{Lemma}
 use Rattle.frame_core.specs.declared.parts.Parent.{Parent}
-use Rattle.frame_core.specs.Law.{no_lemma, lemma_at, Stands}
+use Rattle.frame_core.specs.FrameLaw.{no_lemma, lemma_at, Stands}
 use Rattle.frame_core.specs.Looking.{IsKeptLevel}
 
 -- a kept level that is high enough shows that the parent stands

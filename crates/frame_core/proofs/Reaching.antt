@@ -5,7 +5,7 @@ use Rattle.clause_core.specs.Assignments.{ClauseTrue}
 use Rattle.clause_core.specs.Systems.{TransitionSystem, ReachedWithin}
 use Rattle.frame_core.specs.declared.parts.Lemma.{Lemma}
 use Rattle.frame_core.proofs.Changing.{ClauseTrue-part}
-use Rattle.frame_core.specs.Law.{lemma_at, MeetsFrom, LemmasHold, IsSafe, IsInvariant}
+use Rattle.frame_core.specs.FrameLaw.{lemma_at, MeetsFrom, LemmasHold, IsSafe, IsInvariant}
 
 -- a lemma of level i holds in each state that is reached in at most i steps
 pub holds_within : (sys : TransitionSystem) (ls : List Lemma) → LemmasHold sys ls → (j : ℕ) (x : ℕ → Bool) → ReachedWithin sys j x →

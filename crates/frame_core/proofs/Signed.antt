@@ -12,7 +12,7 @@ use Rattle.clause_core.specs.declared.literal.Lit.{Lit}
 use Rattle.clause_core.specs.Literals.{none_lit, at}
 use Rattle.frame_core.specs.declared.parts.Lemma.{Lemma}
 use Rattle.frame_core.specs.Facts.{IsPart}
-use Rattle.frame_core.specs.Law.{no_lemma, lemma_at}
+use Rattle.frame_core.specs.FrameLaw.{no_lemma, lemma_at}
 use Rattle.frame_core.specs.Signatures.{bit_of, AreBitsOf, IsSignature, AreSigned}
 
 -- no literal has no bit

@@ -23,7 +23,7 @@ use Rattle.frame_core.specs.declared.outcomes.Noting.{Noting}
 use Rattle.frame_core.specs.declared.outcomes.Noting.TheVariants as noting
 use Rattle.frame_core.specs.Facts.{ProvedClause, IsProved, ClearLevel, IsClear, FoundState, IsFound, FoundStep, IsStep, IsFirstFlag}
 use Rattle.frame_core.specs.Differences.{IsSameSystem}
-use Rattle.frame_core.specs.Law.{FrameState, FramesHold, LemmasHold, IsSafe, AreAlike, system_at, top_at, lemma_at, AllStand, raised_at, no_obligation, obligation_at, IsObligation, LeadsToBad}
+use Rattle.frame_core.specs.FrameLaw.{FrameState, FramesHold, LemmasHold, IsSafe, AreAlike, system_at, top_at, lemma_at, AllStand, raised_at, no_obligation, obligation_at, IsObligation, LeadsToBad}
 use Rattle.frame_core.specs.Changes.{with_lemma, with_level, with_retired, with_top, with_obligation, IsOfSystem, NeedsNoRaise, IsCovered, MayHaveParent, IsCut, fresh, Inserts, InsertsSame, Raises, RaisesSame, Opens, OpensSame, Notes, NotesSame}
 use Rattle.frame_core.proofs.Changing.{Shown, shown, added, raised, opened, retired, carried, safe_more, safe_without, Extends-added, Extends-raised}
 

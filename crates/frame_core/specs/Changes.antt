@@ -15,7 +15,7 @@ use Rattle.frame_core.specs.declared.outcomes.Noting.TheVariants as noting
 use Rattle.frame_core.specs.declared.outcomes.Verdict.{Verdict}
 use Rattle.frame_core.specs.declared.outcomes.Verdict.TheVariants.{Invariant, Reached}
 use Rattle.frame_core.specs.Facts.{ProvedClause, ClearLevel, FoundState}
-use Rattle.frame_core.specs.Law.{FrameState, system_at, top_at, lemma_at, obligation_at, Covers, AllStand, IsInvariant, IsAsHigh, raised_at, retired_at}
+use Rattle.frame_core.specs.FrameLaw.{FrameState, system_at, top_at, lemma_at, obligation_at, Covers, AllStand, IsInvariant, IsAsHigh, raised_at, retired_at}
 use Rattle.frame_core.specs.Looking.{IsBehind, IsHeldBy, IsHeldByNone}
 use Rattle.frame_core.specs.Differences.{IsSameSystem, DifferAt}
 

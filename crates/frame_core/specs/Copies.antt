@@ -1,7 +1,7 @@
 -- Copies of the lemmas that are brought up to date.
 use Rattle.std.specs.Prelude.{◌≡◌, ◌⊎◌, ℕ, ◌<◌, ◌≤◌, true, List, length, Contains}
 use Rattle.frame_core.specs.declared.parts.Lemma.{Lemma}
-use Rattle.frame_core.specs.Law.{lemma_at}
+use Rattle.frame_core.specs.FrameLaw.{lemma_at}
 
 -- the copy has the first of the lemmas as they are now, but for those that are named as raised or retired since
 pub record LagsBehind (lemmas : List Lemma) (changed : List ℕ) (copy : List Lemma) : Type 0 where

@@ -2,7 +2,7 @@
 use Rattle.std.specs.Prelude.{◌≡◌, ◌==◌, ◌&&◌, ℕ, ◌+◌, ◌-◌, ◌<◌, ◌≤◌, Bool, true, false, List, length, slice_index, slice_index_or, slice_set, count_by, Option, Some, None}
 use Rattle.frame_core.specs.declared.parts.Lemma.{Lemma}
 use Rattle.frame_core.specs.declared.parts.Obligation.{Obligation}
-use Rattle.frame_core.specs.Law.{FrameState, FramesHold, top_at, obligation_at}
+use Rattle.frame_core.specs.FrameLaw.{FrameState, FramesHold, top_at, obligation_at}
 
 -- whether the lemma is live and has this level
 abbrev pub is_live_at : ℕ → Lemma → Bool

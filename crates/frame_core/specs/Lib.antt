@@ -3,7 +3,7 @@ pub mod Copies
 pub mod Counting
 pub mod Differences
 pub mod Facts
-pub mod Law
+pub mod FrameLaw
 pub mod Looking
 pub mod Runs
 pub mod Signatures

@@ -2,7 +2,7 @@
 
 ghost use Rattle.std.specs.Prelude.{◌≡◌, ◌<◌, ◌↔◌, false, length, IsTrue, MatchOption};
 ghost use Rattle.frame_core.specs.Differences.{DifferFirstAt, IsSameSystem, DifferAt};
-ghost use Rattle.frame_core.specs.Law.{AreAlike, system_at};
+ghost use Rattle.frame_core.specs.FrameLaw.{AreAlike, system_at};
 
 use clause_core::{Clauses, Lit, System};
 

@@ -2,7 +2,7 @@
 //! obligations. Each call keeps the law of the frames.
 
 ghost use Rattle.std.specs.Prelude.{◌<◌, ◌↔◌, length, IsTrue};
-ghost use Rattle.frame_core.specs.Law.{IsAsHigh};
+ghost use Rattle.frame_core.specs.FrameLaw.{IsAsHigh};
 
 use crate::comparing::difference;
 use crate::counting::{
@@ -34,7 +34,7 @@ pub struct Frames<'a> {
 }
 
 impl<'a> Model for Frames<'a> {
-    ghost use Rattle.frame_core.specs.Law.{FrameState};
+    ghost use Rattle.frame_core.specs.FrameLaw.{FrameState};
     ghost use Rattle.frame_core.specs.Counting.{IsKept};
 
     ghost Value = { FrameState };
@@ -46,7 +46,7 @@ impl<'a> Model for Frames<'a> {
 
 impl<'a> Frames<'a> {
     ghost use Rattle.std.specs.Prelude.{◌≡◌, ◌<◌, ◌+◌, ◌^◌, [], ◌∷◌, false, true, length, is_none, IfOk, OnErr};
-    ghost use Rattle.frame_core.specs.Law.{FrameState, FramesHold, AreAlike, system_at, top_at, lemma_at, obligation_at};
+    ghost use Rattle.frame_core.specs.FrameLaw.{FrameState, FramesHold, AreAlike, system_at, top_at, lemma_at, obligation_at};
     ghost use Rattle.frame_core.specs.Changes.{IsOfSystem, Inserts, InsertsSame, Raises, RaisesSame, IsCovered, with_retired, Opens, OpensSame, MayHaveParent, Notes, NotesSame, VerdictSays, IsFirstObligation, IsCut, fresh};
     ghost use Rattle.frame_core.specs.Runs.{IsBadRun};
 

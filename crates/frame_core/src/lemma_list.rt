@@ -1,7 +1,7 @@
 //! The list of lemmas with levels and signatures, and how a copy of it is brought up to date.
 
 ghost use Rattle.std.specs.Prelude.{◌≡◌, ◌<◌, vec_len};
-ghost use Rattle.frame_core.specs.Law.{raised_at, retired_at};
+ghost use Rattle.frame_core.specs.FrameLaw.{raised_at, retired_at};
 
 use crate::covering::covers_at;
 use crate::parts::Lemma;
@@ -37,7 +37,7 @@ impl Lemmas {
     ghost use Rattle.frame_core.specs.Copies.{LagsBehind};
     ghost use Rattle.frame_core.specs.Facts.{IsPart};
     ghost use Rattle.frame_core.specs.Looking.{AreCoveredBy};
-    ghost use Rattle.frame_core.specs.Law.{lemma_at, raised_at, retired_at};
+    ghost use Rattle.frame_core.specs.FrameLaw.{lemma_at, raised_at, retired_at};
     ghost use Rattle.frame_core.specs.Signatures.{IsSignature};
 
     /// No lemmas; takes no memory.

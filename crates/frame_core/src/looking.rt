@@ -2,7 +2,7 @@
 
 ghost use Rattle.std.specs.Prelude.{◌≡◌, ◌≤◌, ℕ, true, IfOk, IsTrue, All, ◌↔◌, MatchOption};
 ghost use Rattle.clause_core.specs.Literals.{Within};
-ghost use Rattle.frame_core.specs.Law.{AllStand};
+ghost use Rattle.frame_core.specs.FrameLaw.{AllStand};
 ghost use Rattle.frame_core.specs.Looking.{IsKeptLevel, IsBehind, IsHeldBy, IsHeldByNone, has_literal};
 
 use crate::comparing::is_same_clause;

@@ -10,7 +10,7 @@ use Rattle.frame_core.specs.declared.parts.Lemma.{Lemma}
 use Rattle.frame_core.specs.declared.parts.Parent.{Parent}
 use Rattle.frame_core.specs.Facts.{ProvedClause, IsProved, FoundState, IsFound, IsFirstFlag}
 use Rattle.frame_core.specs.Differences.{IsSameSystem}
-use Rattle.frame_core.specs.Law.{FrameState, FramesHold, IsSafe, InFrame, IsAsHigh, system_at, top_at, lemma_at}
+use Rattle.frame_core.specs.FrameLaw.{FrameState, FramesHold, IsSafe, InFrame, IsAsHigh, system_at, top_at, lemma_at}
 use Rattle.frame_core.specs.Changes.{with_lemma, with_level, with_top, with_obligation, fresh}
 use Rattle.frame_core.proofs.Changing.{opened}
 use Rattle.frame_core.proofs.States.{inserted, lifted, dropped_one, noted, made}

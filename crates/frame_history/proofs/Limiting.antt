@@ -5,7 +5,7 @@ use Rattle.std.proofs.lemmas.Bool.{cases_eq, cases_lt}
 use Rattle.std.proofs.lemmas.List.{get_or_past, get_or-replicate, length-replicate}
 use Rattle.clause_core.specs.Systems.{TransitionSystem, ReachedWithin}
 use Rattle.frame_core.specs.declared.parts.Lemma.{Lemma}
-use Rattle.frame_core.specs.Law.{FrameState, FramesHold, system_at, top_at}
+use Rattle.frame_core.specs.FrameLaw.{FrameState, FramesHold, system_at, top_at}
 use Rattle.frame_core.proofs.Reaching.{holds_within}
 use Rattle.frame_history.specs.declared.entries.Limits.{Limits}
 use Rattle.frame_history.specs.declared.entries.Made.{Made}

@@ -12,7 +12,7 @@ use Rattle.clause_core.specs.Systems.{TransitionSystem}
 use Rattle.frame_core.specs.declared.parts.Lemma.{Lemma}
 use Rattle.frame_core.specs.declared.parts.Obligation.{Obligation}
 use Rattle.frame_core.specs.Facts.{IsPart}
-use Rattle.frame_core.specs.Law.{FrameState, FramesHold, InFrame, IsAsHigh, system_at, top_at, lemma_at, no_lemma, obligation_at, no_obligation, retired_at}
+use Rattle.frame_core.specs.FrameLaw.{FrameState, FramesHold, InFrame, IsAsHigh, system_at, top_at, lemma_at, no_lemma, obligation_at, no_obligation, retired_at}
 use Rattle.frame_core.proofs.Changing.{Extends, Extends-added, Extends-raised, ClauseTrue-part, retired_lemma}
 use Rattle.frame_history.specs.declared.entries.Limits.{Limits}
 use Rattle.frame_history.specs.declared.entries.Subject.{Subject}

@@ -7,7 +7,7 @@ use Rattle.clause_core.specs.Assignments.{assignment_of}
 use Rattle.clause_core.specs.Systems.{TransitionSystem, FirstBits}
 use Rattle.frame_core.specs.declared.parts.Lemma.{Lemma}
 use Rattle.frame_core.specs.declared.outcomes.Verdict.TheVariants.{Invariant, Reached}
-use Rattle.frame_core.specs.Law.{FramesHold, InFrame, system_at, top_at, lemma_at, obligation_at}
+use Rattle.frame_core.specs.FrameLaw.{FramesHold, InFrame, system_at, top_at, lemma_at, obligation_at}
 use Rattle.frame_core.specs.Changes.{HasNoneAt}
 use Rattle.frame_core.proofs.Reaching.{inductive_live}
 use Rattle.frame_history.specs.declared.entries.Limits.{Limits}

@@ -9,7 +9,7 @@ use Rattle.frame_core.specs.declared.parts.Lemma.{Lemma}
 use Rattle.frame_core.specs.declared.parts.Parent.{Parent}
 use Rattle.frame_core.specs.declared.outcomes.Verdict.{Verdict}
 use Rattle.frame_core.specs.Facts.{MeetsParents, IsFirstFlag}
-use Rattle.frame_core.specs.Law.{FrameState, AreAlike, LemmasHold, system_at, top_at, lemma_at, obligation_at, InFrame, AllStand, IsAsHigh}
+use Rattle.frame_core.specs.FrameLaw.{FrameState, AreAlike, LemmasHold, system_at, top_at, lemma_at, obligation_at, InFrame, AllStand, IsAsHigh}
 use Rattle.frame_core.specs.Looking.{IsHeldBy, IsKeptLevel}
 use Rattle.frame_core.specs.Changes.{fresh, with_lemma, with_level, with_retired, with_top, IsCovered, VerdictSays}
 use Rattle.frame_history.specs.declared.entries.Limits.{Limits}

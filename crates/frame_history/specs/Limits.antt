@@ -1,7 +1,7 @@
 -- How far the frames of a history went for a system without an answer; and whether a claim is out.
 use Rattle.std.specs.Prelude.{◌≡◌, ℕ, ◌+◌, ◌<◌, ◌≤◌, Bool, true, List, take, Option, Some}
 use Rattle.clause_core.specs.Systems.{TransitionSystem, StepBits, ReachedWithin, BadBits}
-use Rattle.frame_core.specs.Law.{FrameState, InFrame, system_at, top_at}
+use Rattle.frame_core.specs.FrameLaw.{FrameState, InFrame, system_at, top_at}
 use Rattle.frame_history.specs.declared.entries.Limits.{Limits}
 use Rattle.frame_history.specs.declared.entries.Made.{Made}
 use Rattle.frame_history.specs.declared.entries.Entry.{Entry}

@@ -3,6 +3,6 @@
 #![tactic(auto)]
 
 pub mod entries;
-pub mod laws;
+pub mod lawful_histories;
 
 pub use entries::{Change, Entry, Lag, Limits, Made, Subject};

@@ -9,7 +9,7 @@ use Rattle.clause_core.specs.Literals.{Within}
 use Rattle.clause_core.specs.Systems.{TransitionSystem}
 use Rattle.frame_core.specs.declared.parts.Lemma.{Lemma}
 use Rattle.std.proofs.Math.Seq.{get_or-append_seam, set-append_seam}
-use Rattle.frame_core.specs.Law.{no_lemma, lemma_at, system_at, raised_at, retired_at}
+use Rattle.frame_core.specs.FrameLaw.{no_lemma, lemma_at, system_at, raised_at, retired_at}
 use Rattle.frame_solver.specs.declared.loading.Engine.{Engine}
 use Rattle.frame_solver.specs.Guards.{HoldsGroups}
 use Rattle.frame_solver.specs.Groups.{clauses_of, groups, base, step_heads, state_heads}

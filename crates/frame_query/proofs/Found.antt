@@ -7,7 +7,7 @@ use Rattle.clause_core.specs.Systems.{TransitionSystem}
 use Rattle.frame_core.specs.declared.parts.Lemma.{Lemma}
 use Rattle.frame_core.specs.declared.parts.Parent.{Parent}
 use Rattle.frame_core.specs.Facts.{IsPart, IsProved, ProvedClause, IsFound, IsFirstFlag, FoundStep}
-use Rattle.frame_core.specs.Law.{system_at, AreAlike}
+use Rattle.frame_core.specs.FrameLaw.{system_at, AreAlike}
 use Rattle.frame_core.proofs.States.{first_same, same_back}
 use Rattle.frame_solver.specs.declared.stepping.Stepping.{Stepping}
 use Rattle.frame_solver.specs.declared.stepping.Stepping.TheVariants as stepping

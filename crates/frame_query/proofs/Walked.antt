@@ -10,7 +10,7 @@ use Rattle.clause_core.specs.Systems.{TransitionSystem}
 use Rattle.frame_core.specs.declared.parts.Lemma.{Lemma}
 use Rattle.frame_core.specs.declared.parts.Parent.{Parent}
 use Rattle.frame_core.specs.Facts.{IsPart, IsProved, ProvedClause}
-use Rattle.frame_core.specs.Law.{AllStand}
+use Rattle.frame_core.specs.FrameLaw.{AllStand}
 use Rattle.frame_query.specs.declared.trying.Trial.{Trial}
 use Rattle.frame_query.specs.declared.trying.Trial.TheVariants as trial
 use Rattle.frame_query.specs.declared.trying.Draft.{Draft}

@@ -4,7 +4,7 @@ use Rattle.clause_core.specs.declared.literal.Lit.{Lit}
 use Rattle.clause_core.specs.Systems.{TransitionSystem}
 use Rattle.frame_core.specs.declared.parts.Lemma.{Lemma}
 use Rattle.frame_core.specs.Facts.{IsPart, ProvedClause}
-use Rattle.frame_core.specs.Law.{AllStand}
+use Rattle.frame_core.specs.FrameLaw.{AllStand}
 use Rattle.frame_query.specs.declared.outcomes.Generalised.{Generalised}
 use Rattle.frame_query.specs.declared.outcomes.Generalised.TheVariants as generalised
 use Rattle.frame_solver.specs.Firsts.{IsFirstOut}

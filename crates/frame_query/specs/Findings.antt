@@ -5,7 +5,7 @@ use Rattle.clause_core.specs.Assignments.{assignment_of}
 use Rattle.clause_core.specs.Systems.{TransitionSystem}
 use Rattle.frame_core.specs.declared.parts.Lemma.{Lemma}
 use Rattle.frame_core.specs.Facts.{FoundStep, IsStep, IsPart}
-use Rattle.frame_core.specs.Law.{lemma_at, system_at, InFrame, AllStand}
+use Rattle.frame_core.specs.FrameLaw.{lemma_at, system_at, InFrame, AllStand}
 use Rattle.frame_query.specs.declared.outcomes.Relative.{Relative}
 use Rattle.frame_query.specs.declared.outcomes.Relative.TheVariants as relative
 use Rattle.frame_query.specs.declared.outcomes.Bads.{Bads}

@@ -3,7 +3,7 @@ use Rattle.std.specs.Prelude.{◌≡◌, ◌<◌, List, Option, length, All}
 use Rattle.clause_core.specs.Literals.{Within}
 use Rattle.clause_core.specs.Systems.{TransitionSystem}
 use Rattle.frame_core.specs.declared.parts.Lemma.{Lemma}
-use Rattle.frame_core.specs.Law.{AreAlike, system_at}
+use Rattle.frame_core.specs.FrameLaw.{AreAlike, system_at}
 use Rattle.frame_solver.specs.declared.loading.Engine.{Engine}
 use Rattle.frame_solver.specs.Groups.{base, step_heads, state_heads, clauses_of}
 use Rattle.frame_solver.specs.Engines.{IsLoaded}

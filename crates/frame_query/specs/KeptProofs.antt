@@ -5,7 +5,7 @@ use Rattle.clause_core.specs.Systems.{TransitionSystem}
 use Rattle.frame_core.specs.declared.parts.Lemma.{Lemma}
 use Rattle.frame_core.specs.declared.parts.Parent.{Parent}
 use Rattle.frame_core.specs.Facts.{IsProved, ProvedClause}
-use Rattle.frame_core.specs.Law.{lemma_at, AllStand}
+use Rattle.frame_core.specs.FrameLaw.{lemma_at, AllStand}
 use Rattle.frame_query.specs.declared.kept_proofs.KeptProof.{KeptProof}
 
 -- lemma k as a parent

@@ -1,7 +1,7 @@
 //! Brings a copy of the lemmas up to date: lemmas that were added, raised or retired.
 
 ghost use Rattle.std.specs.Prelude.{◌≡◌, ◌<◌, ◌≤◌, ◌++◌, [], ◌∷◌, true, OnOk, OnErr, length, take, slice_set};
-ghost use Rattle.frame_core.specs.Law.{lemma_at};
+ghost use Rattle.frame_core.specs.FrameLaw.{lemma_at};
 ghost use Rattle.frame_query.specs.Findings.{IsOlder};
 
 use clause_core::Clause;

@@ -53,7 +53,7 @@ impl<'a> FrameSolver<'a> {
     ghost use Rattle.std.specs.Prelude.{◌≡◌, ◌<◌, ◌+◌, ◌^◌, [], length, IfOk, OnOk, All};
     ghost use Rattle.frame_core.specs.declared.parts.Lemma.{Lemma as ALemma};
     ghost use Rattle.clause_core.specs.Literals.{Within};
-    ghost use Rattle.frame_core.specs.Law.{AreAlike, system_at, lemma_at};
+    ghost use Rattle.frame_core.specs.FrameLaw.{AreAlike, system_at, lemma_at};
     ghost use Rattle.frame_solver.specs.Firsts.{AllFirstsMeet, FindsFirsts, negation_of};
     ghost use Rattle.frame_query.specs.Findings.{SolverView, IsOlder, FindsRelative, FindsBad, IsTheState, PaysBad, FindsNoted};
     ghost use Rattle.frame_query.specs.Dropping.{Generalises, PaysParts};

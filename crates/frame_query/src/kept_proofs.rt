@@ -6,7 +6,7 @@ ghost use Rattle.clause_core.specs.Systems.{TransitionSystem};
 ghost use Rattle.clause_core.specs.Literals.{Within};
 ghost use Rattle.frame_core.specs.declared.parts.Lemma.{Lemma as ALemma};
 ghost use Rattle.frame_core.specs.declared.parts.Parent.{Parent as AParent};
-ghost use Rattle.frame_core.specs.Law.{lemma_at, system_at, AllStand};
+ghost use Rattle.frame_core.specs.FrameLaw.{lemma_at, system_at, AllStand};
 ghost use Rattle.frame_query.specs.KeptProofs.{parent_at, proof_at, IsKeptProof, AreKept, IsOfPush};
 
 use clause_core::{Clause, System};

@@ -3,7 +3,7 @@
 ghost use Rattle.std.specs.Prelude.{◌≡◌, ◌+◌, ◌<◌, ◌^◌, ℕ, Bool, IfOk, All, length};
 ghost use Rattle.frame_core.specs.declared.parts.Lemma.{Lemma as ALemma};
 ghost use Rattle.clause_core.specs.Literals.{Within};
-ghost use Rattle.frame_core.specs.Law.{system_at, lemma_at};
+ghost use Rattle.frame_core.specs.FrameLaw.{system_at, lemma_at};
 ghost use Rattle.frame_solver.specs.Groups.{base as base_of, step_heads, clauses_of};
 ghost use Rattle.frame_solver.specs.Engines.{IsLoaded};
 ghost use Rattle.frame_solver.specs.Firsts.{AllFirstsMeet};

@@ -13,7 +13,7 @@ use Rattle.sat_core.specs.declared.answer.Answer.TheVariants as solver
 use Rattle.frame_core.specs.declared.parts.Lemma.{Lemma}
 use Rattle.frame_core.specs.declared.parts.Parent.{Parent}
 use Rattle.frame_core.specs.Facts.{IsClear}
-use Rattle.frame_core.specs.Law.{lemma_at, no_lemma, Stands, AllStand}
+use Rattle.frame_core.specs.FrameLaw.{lemma_at, no_lemma, Stands, AllStand}
 use Rattle.frame_solver.specs.declared.bad_states.BadStates.{BadStates}
 use Rattle.frame_solver.specs.declared.bad_states.BadStates.TheVariants as bads
 use Rattle.frame_solver.specs.Guards.{on, group, HoldsGroups, Obeys}
@@ -26,7 +26,7 @@ use Rattle.frame_solver.proofs.Joined.{IsFree, in_core, joined, joined_low, join
 use Rattle.frame_solver.proofs.Framed.{by_group, groups_count, head_true, in_frame, lemma_level, asked_cases, also_asked, clauses_count}
 use Rattle.frame_solver.specs.declared.loading.Engine.{Engine}
 use Rattle.frame_solver.specs.Engines.{IsReady}
-use Rattle.frame_core.specs.Law.{system_at, AreAlike, no_system}
+use Rattle.frame_core.specs.FrameLaw.{system_at, AreAlike, no_system}
 use Rattle.frame_solver.proofs.Truths.{true_like, all_like}
 
 init_same : (a b : TransitionSystem) → a.state_bits ≡ b.state_bits → a.all_bits ≡ b.all_bits → a.init ≡ b.init → init_group a ≡ init_group b

@@ -6,7 +6,7 @@ use Rattle.clause_core.specs.declared.literal.Lit.{Lit}
 use Rattle.frame_core.specs.declared.parts.Lemma.{Lemma}
 use Rattle.frame_core.specs.declared.parts.Parent.{Parent}
 use Rattle.frame_core.specs.Facts.{IsPart}
-use Rattle.frame_core.specs.Law.{lemma_at}
+use Rattle.frame_core.specs.FrameLaw.{lemma_at}
 use Rattle.frame_solver.specs.Guards.{on}
 use Rattle.frame_solver.specs.Stepping.{IsCut, AreParents}
 

@@ -15,7 +15,7 @@ use Rattle.frame_core.specs.declared.parts.Lemma.{Lemma}
 use Rattle.frame_solver.specs.declared.first_states.Firsts.{Firsts}
 use Rattle.frame_solver.specs.declared.first_states.Firsts.TheVariants as firsts
 use Rattle.frame_solver.specs.Guards.{on, group, HoldsGroups}
-use Rattle.frame_core.specs.Law.{lemma_at}
+use Rattle.frame_core.specs.FrameLaw.{lemma_at}
 use Rattle.frame_solver.specs.Groups.{base, init_group, clauses_of, groups, is_asked}
 use Rattle.frame_solver.specs.Asking.{IsTrueIn, IsOne, IsAskedLiteral, AllOn, IsRefuted, AskSays}
 use Rattle.frame_solver.specs.Stepping.{IsCut}

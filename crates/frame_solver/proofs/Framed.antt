@@ -10,7 +10,7 @@ use Rattle.clause_core.specs.Literals.{Within}
 use Rattle.clause_core.specs.Assignments.{ClauseTrue}
 use Rattle.clause_core.specs.Systems.{TransitionSystem, FirstBits, SameOn}
 use Rattle.frame_core.specs.declared.parts.Lemma.{Lemma}
-use Rattle.frame_core.specs.Law.{lemma_at, no_lemma, MeetsFrom, InFrame}
+use Rattle.frame_core.specs.FrameLaw.{lemma_at, no_lemma, MeetsFrom, InFrame}
 use Rattle.frame_solver.specs.Guards.{on, group, Obeys}
 use Rattle.frame_solver.specs.Groups.{others, first_var, first_clause, init_group, clauses_of, groups, is_asked, is_of_frame}
 use Rattle.frame_solver.specs.Asking.{IsOne, AllOn}

@@ -11,7 +11,7 @@ use Rattle.sat_core.specs.Queries.{State}
 use Rattle.sat_core.specs.Paying.{Query, IsPaidLog, learned_in}
 use Rattle.sat_core.proofs.Payments.{log_none, log_join, asked_more}
 use Rattle.frame_core.specs.declared.parts.Lemma.{Lemma}
-use Rattle.frame_core.specs.Law.{system_at}
+use Rattle.frame_core.specs.FrameLaw.{system_at}
 use Rattle.frame_solver.specs.declared.loading.Engine.{Engine}
 use Rattle.frame_solver.specs.Guards.{off, IsGuarded, AllLoaded, HoldsGroups}
 use Rattle.frame_solver.specs.Groups.{base, groups, clauses_of, step_heads, state_heads}

@@ -5,7 +5,7 @@ use Rattle.std.proofs.lemmas.List.{append-nil, take_more, map-append, length-map
 use Rattle.std.proofs.lemmas.List.Elements.{All-nil, All-contains_itself}
 use Rattle.clause_core.specs.declared.literal.Lit.{Lit}
 use Rattle.clause_core.specs.Systems.{TransitionSystem}
-use Rattle.frame_core.specs.Law.{system_at, no_system}
+use Rattle.frame_core.specs.FrameLaw.{system_at, no_system}
 use Rattle.frame_solver.specs.declared.loading.Engine.{Engine}
 use Rattle.frame_solver.specs.Guards.{behind, HoldsGroups}
 use Rattle.frame_solver.specs.Groups.{init_group, bad_groups, groups}

@@ -17,7 +17,7 @@ use Rattle.frame_solver.specs.declared.stepping.Stepping.{Stepping}
 use Rattle.frame_solver.specs.declared.stepping.Stepping.TheVariants as stepping
 use Rattle.frame_core.specs.declared.parts.Lemma.{Lemma}
 use Rattle.frame_core.specs.declared.parts.Parent.{Parent}
-use Rattle.frame_core.specs.Law.{lemma_at, no_lemma, Stands, AllStand}
+use Rattle.frame_core.specs.FrameLaw.{lemma_at, no_lemma, Stands, AllStand}
 use Rattle.frame_solver.specs.Guards.{on, off, group, HoldsGroups, Obeys}
 use Rattle.frame_solver.specs.Groups.{base, step_heads, clauses_of, groups, is_asked}
 use Rattle.frame_solver.specs.Asking.{IsTrueIn, IsOne, IsAskedLiteral, AllOn, IsRefuted, AskSays}

@@ -7,7 +7,7 @@ use Rattle.sat_core.specs.declared.answer.Answer.TheVariants.{Sat, Unsat}
 use Rattle.sat_core.specs.declared.answer.Answer.TheVariants as solver
 use Rattle.frame_core.specs.declared.parts.Lemma.{Lemma}
 use Rattle.frame_core.specs.Facts.{IsClear}
-use Rattle.frame_core.specs.Law.{InFrame, AllStand}
+use Rattle.frame_core.specs.FrameLaw.{InFrame, AllStand}
 use Rattle.frame_solver.specs.declared.bad_states.BadStates.{BadStates}
 use Rattle.frame_solver.specs.declared.bad_states.BadStates.TheVariants.{None, Some, Spent}
 use Rattle.frame_solver.specs.Stepping.{AreParents}

@@ -6,7 +6,7 @@ use Rattle.std.specs.Prelude.{◌==◌, ℕ, ◌+◌, ◌-◌, ◌&&◌, ◌||�
 use Rattle.clause_core.specs.declared.literal.Lit.{Lit}
 use Rattle.clause_core.specs.Systems.{TransitionSystem}
 use Rattle.frame_core.specs.declared.parts.Lemma.{Lemma}
-use Rattle.frame_core.specs.Law.{lemma_at, system_at}
+use Rattle.frame_core.specs.FrameLaw.{lemma_at, system_at}
 
 -- how many variables a system has beside the state bits
 abbrev pub others : TransitionSystem → ℕ

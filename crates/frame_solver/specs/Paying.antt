@@ -5,7 +5,7 @@ use Rattle.clause_core.specs.Literals.{negate}
 use Rattle.clause_core.specs.Systems.{TransitionSystem}
 use Rattle.sat_core.specs.Paying.{Query, IsPaidLog}
 use Rattle.frame_core.specs.declared.parts.Lemma.{Lemma}
-use Rattle.frame_core.specs.Law.{system_at}
+use Rattle.frame_core.specs.FrameLaw.{system_at}
 use Rattle.frame_solver.specs.Guards.{off, IsGuarded, AllLoaded}
 use Rattle.frame_solver.specs.Groups.{base, step_heads, state_heads, clauses_of, groups}
 use Rattle.frame_solver.specs.Asking.{AreAsked}

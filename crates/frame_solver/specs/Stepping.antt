@@ -9,7 +9,7 @@ use Rattle.sat_core.specs.declared.answer.Answer.TheVariants as solver
 use Rattle.frame_core.specs.declared.parts.Lemma.{Lemma}
 use Rattle.frame_core.specs.declared.parts.Parent.{Parent}
 use Rattle.frame_core.specs.Facts.{MeetsParents, IsPart}
-use Rattle.frame_core.specs.Law.{lemma_at, InFrame, AllStand}
+use Rattle.frame_core.specs.FrameLaw.{lemma_at, InFrame, AllStand}
 use Rattle.frame_solver.specs.declared.stepping.Stepping.{Stepping}
 use Rattle.frame_solver.specs.declared.stepping.Stepping.TheVariants.{Holds, Leaves, Spent}
 use Rattle.frame_solver.specs.Guards.{on}

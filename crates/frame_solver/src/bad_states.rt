@@ -3,7 +3,7 @@
 ghost use Rattle.std.specs.Prelude.{◌≡◌, ◌+◌, ◌<◌, ◌≤◌, ℕ, Bool, List, IfOk, All, length, take};
 ghost use Rattle.frame_core.specs.declared.parts.Lemma.{Lemma as ALemma};
 ghost use Rattle.clause_core.specs.Literals.{Within};
-ghost use Rattle.frame_core.specs.Law.{AreAlike, system_at};
+ghost use Rattle.frame_core.specs.FrameLaw.{AreAlike, system_at};
 ghost use Rattle.frame_solver.specs.Groups.{base as base_of, state_heads, clauses_of};
 ghost use Rattle.frame_solver.specs.Engines.{IsLoaded, IsReady};
 ghost use Rattle.frame_solver.specs.Bads.{FindsBads, ReadsBads};

@@ -3,7 +3,7 @@
 ghost use Rattle.std.specs.Prelude.{◌≡◌, ◌+◌, ◌<◌, ◌≤◌, ℕ, Bool, List, IfOk, All, length, take, map};
 ghost use Rattle.frame_core.specs.declared.parts.Lemma.{Lemma as ALemma};
 ghost use Rattle.clause_core.specs.Literals.{Within, negate};
-ghost use Rattle.frame_core.specs.Law.{system_at};
+ghost use Rattle.frame_core.specs.FrameLaw.{system_at};
 ghost use Rattle.frame_solver.specs.Groups.{base as base_of, state_heads, clauses_of};
 ghost use Rattle.frame_solver.specs.Engines.{IsLoaded, IsReady};
 ghost use Rattle.frame_solver.specs.Stepping.{IsCut};

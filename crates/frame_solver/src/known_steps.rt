@@ -11,7 +11,7 @@ ghost use Rattle.clause_core.specs.Literals.{Within};
 ghost use Rattle.clause_core.specs.Assignments.{ClauseTrue, assignment_of};
 ghost use Rattle.clause_core.specs.Systems.{TransitionSystem};
 ghost use Rattle.frame_core.specs.declared.parts.Lemma.{Lemma as ALemma};
-ghost use Rattle.frame_core.specs.Law.{MeetsFrom};
+ghost use Rattle.frame_core.specs.FrameLaw.{MeetsFrom};
 ghost use Rattle.frame_solver.specs.Stepping.{IsStepOut};
 ghost use Rattle.frame_solver.specs.Recalling.{IsKnownStep, LeadsOut};
 
@@ -31,7 +31,7 @@ pub struct KnownStep {
 
 // What is kept beside a step to rule it out fast. Contracts do not see it: a step that it lets through is tested.
 #[derive(Clone, Copy, Drop)]
-pub struct Hint {
+pub struct StepHint {
     // The first 64 bits of the state that the step leads to, the first one lowest.
     pub next: u64,
     // The place of the lemma that ruled the step out last.
@@ -159,16 +159,16 @@ fn leads_out(
 }
 
 // What is kept beside the step at this place.
-fn hint_at(hints: &[Hint], k: usize) -> Hint {
+fn hint_at(hints: &[StepHint], k: usize) -> StepHint {
     if k < hints.len() {
         hints[k]
     } else {
-        Hint { next: 0, bar: 0 }
+        StepHint { next: 0, bar: 0 }
     }
 }
 
 // Remembers the lemma that ruled out the step at this place.
-fn note_bar(hints: &mut [Hint], k: usize, bar: usize) {
+fn note_bar(hints: &mut [StepHint], k: usize, bar: usize) {
     if k < hints.len() {
         hints[k].bar = bar;
     }
@@ -179,7 +179,7 @@ pub(crate) fn last_out(
     system: &System,
     lemmas: &[Lemma],
     steps: &[KnownStep],
-    hints: &mut [Hint],
+    hints: &mut [StepHint],
     clause: &[Lit],
     level: u32,
 ) -> Option<usize>
@@ -192,7 +192,7 @@ pub(crate) fn last_out(
     let positive = bits_of(clause, true);
     let negative = bits_of(clause, false);
     'steps: for k in (0..steps.len()).rev() {
-        let Hint { next, mut bar } = hint_at(hints, k);
+        let StepHint { next, mut bar } = hint_at(hints, k);
         if (next & positive) | (!next & negative) == 0 {
             if leads_out(system, lemmas, &steps[k], clause, level, &mut bar) {
                 return Some(k);
@@ -214,7 +214,7 @@ pub(crate) fn put_last(steps: &mut Vec<KnownStep>, k: usize) -> Result<(), Alloc
 }
 
 // What is kept beside the step at this place goes to the end, as the step does. If memory runs out, it is gone.
-pub(crate) fn put_hint_last(hints: &mut Vec<Hint>, k: usize) -> Result<(), AllocError> {
+pub(crate) fn put_hint_last(hints: &mut Vec<StepHint>, k: usize) -> Result<(), AllocError> {
     if k < hints.len() {
         let hint = hints.remove(k);
         hints.push(hint)?;
@@ -223,7 +223,7 @@ pub(crate) fn put_hint_last(hints: &mut Vec<Hint>, k: usize) -> Result<(), Alloc
 }
 
 // Adds what is kept beside a step at the end; where there is no room for one more, the first one goes.
-fn keep_hint(hints: &mut Vec<Hint>, hint: Hint) -> Result<(), AllocError> {
+fn keep_hint(hints: &mut Vec<StepHint>, hint: StepHint) -> Result<(), AllocError> {
     if hints.len() >= MOST {
         let _ = hints.remove(0);
     }
@@ -235,14 +235,14 @@ fn keep_hint(hints: &mut Vec<Hint>, hint: Hint) -> Result<(), AllocError> {
 // bits of the state that it leads to stand from place `from` on.
 pub(crate) fn keep(
     steps: &mut Vec<KnownStep>,
-    hints: &mut Vec<Hint>,
+    hints: &mut Vec<StepHint>,
     from: usize,
     step: KnownStep,
 ) -> Result<(), AllocError>
     ensures { (sys : TransitionSystem) → All (IsKnownStep sys) steps.old.items → IsKnownStep sys step → All (IsKnownStep sys) steps.new.items }
 {
     let next = word_from(step.values.as_slice(), from);
-    keep_hint(hints, Hint { next, bar: 0 })?;
+    keep_hint(hints, StepHint { next, bar: 0 })?;
     if steps.len() >= MOST {
         let _ = steps.remove(0);
     }

@@ -6,7 +6,7 @@ ghost use Rattle.clause_core.specs.declared.literal.Lit.{Lit as ALit};
 ghost use Rattle.clause_core.specs.Literals.{Within};
 ghost use Rattle.clause_core.specs.Systems.{TransitionSystem, IsSystem};
 ghost use Rattle.frame_core.specs.declared.parts.Lemma.{Lemma as ALemma};
-ghost use Rattle.frame_core.specs.Law.{AreAlike, system_at};
+ghost use Rattle.frame_core.specs.FrameLaw.{AreAlike, system_at};
 ghost use Rattle.frame_solver.specs.Guards.{off, behind, HoldsGroups};
 ghost use Rattle.frame_solver.specs.Groups.{base as base_of, first_var, first_clause, init_group, step_heads, state_heads, clauses_of};
 

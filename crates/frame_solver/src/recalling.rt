@@ -2,7 +2,9 @@
 //! query.
 
 use crate::first_states::Firsts;
-use crate::known_steps::{Hint, KnownStep, is_outside, keep, last_out, put_hint_last, put_last};
+use crate::known_steps::{
+    KnownStep, StepHint, is_outside, keep, last_out, put_hint_last, put_last,
+};
 use crate::stepping::Stepping;
 use clause_core::{Bits, Clause, Lit, System};
 use frame_core::Lemma;
@@ -21,7 +23,7 @@ pub struct Known<'a> {
     // that which was added or used last stands at the end
     steps: Vec<KnownStep>,
     // what is kept beside each step to rule it out fast
-    hints: Vec<Hint>,
+    hints: Vec<StepHint>,
 }
 
 impl<'a> Model for Known<'a> {

@@ -6,7 +6,7 @@ ghost use Rattle.frame_core.specs.declared.parts.Lemma.{Lemma as ALemma};
 ghost use Rattle.clause_core.specs.Literals.{Within};
 ghost use Rattle.clause_core.specs.Assignments.{ClauseTrue};
 ghost use Rattle.clause_core.specs.Systems.{FirstBits};
-ghost use Rattle.frame_core.specs.Law.{system_at};
+ghost use Rattle.frame_core.specs.FrameLaw.{system_at};
 ghost use Rattle.frame_solver.specs.Groups.{base as base_of, step_heads, clauses_of};
 ghost use Rattle.frame_solver.specs.Engines.{IsLoaded, IsReady};
 ghost use Rattle.frame_solver.specs.Guards.{on};

@@ -11,7 +11,7 @@ use Rattle.clause_core.specs.Systems.{TransitionSystem, FirstBits, StepBits, Bad
 use Rattle.frame_core.specs.declared.parts.Lemma.{Lemma}
 use Rattle.frame_core.specs.declared.parts.Parent.{Parent}
 use Rattle.frame_core.specs.Facts.{FoundState, IsProved, IsClear, IsFound, MeetsParents, IsPart}
-use Rattle.frame_core.specs.Law.{FrameState, lemma_at, Covers}
+use Rattle.frame_core.specs.FrameLaw.{FrameState, lemma_at, Covers}
 use Rattle.frame_core.specs.Changes.{IsCovered, MayHaveParent}
 use Rattle.frame_tests.specs.ThreeBits.{last, middle, register_frames, yes, no, latch, register, low, either_low, low_parent, last_values, middle_values, first_values}
 

@@ -5,7 +5,7 @@ use Rattle.clause_core.specs.Literals.{negate, units}
 use Rattle.clause_core.specs.Systems.{TransitionSystem}
 use Rattle.frame_core.specs.declared.parts.Obligation.{Obligation}
 use Rattle.frame_core.specs.declared.parts.Parent.{Parent}
-use Rattle.frame_core.specs.Law.{FrameState}
+use Rattle.frame_core.specs.FrameLaw.{FrameState}
 
 abbrev pub yes : ℕ → Lit
 yes v = record { var = v; positive = true }

@@ -2,7 +2,7 @@
 
 ghost use Rattle.std.specs.Prelude.{◌≡◌, ◌<◌, IfOk, length};
 ghost use Rattle.clause_core.specs.Literals.{Within};
-ghost use Rattle.frame_core.specs.Law.{system_at};
+ghost use Rattle.frame_core.specs.FrameLaw.{system_at};
 
 use clause_core::{Clauses, Lit, System, is_within};
 use effort_purse::PlainPurse;

@@ -8,7 +8,7 @@ ghost use Rattle.frame_core.specs.Changes.{IsCovered};
 ghost use Rattle.frame_core.specs.Facts.{IsFound};
 
 use clause_core::{Bits, Clause, Clauses, Lit, System, is_within};
-use frame_core::laws::{
+use frame_core::reached_states::{
     a_level_without_live_lemmas_is_an_invariant, lemmas_hold_in_reached_states,
 };
 use frame_core::{

@@ -8,7 +8,7 @@ use Rattle.effort_purse.specs.declared.seat.Seat.{Seat}
 use Rattle.effort_purse.specs.declared.shared.SharedPurse.{SharedPurse}
 use Rattle.effort_purse.specs.Seats.{IsSeatOf, shares_of, tickets_of}
 use Rattle.frame_core.specs.declared.parts.Lemma.{Lemma}
-use Rattle.frame_core.specs.Law.{FrameState}
+use Rattle.frame_core.specs.FrameLaw.{FrameState}
 use Rattle.frame_history.specs.declared.entries.Limits.{Limits}
 use Rattle.frame_history.specs.declared.entries.Entry.{Entry}
 use Rattle.frame_history.specs.declared.entries.Entry.TheVariants.{Claim}

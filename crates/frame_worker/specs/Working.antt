@@ -5,7 +5,7 @@ use Rattle.clause_core.specs.Systems.{TransitionSystem}
 use Rattle.effort_purse.specs.declared.seat.Seat.{Seat}
 use Rattle.effort_purse.specs.declared.shared.SharedPurse.{SharedPurse}
 use Rattle.effort_purse.specs.Seats.{IsSeatOf, shares_of, tickets_of}
-use Rattle.frame_core.specs.Law.{FramesHold}
+use Rattle.frame_core.specs.FrameLaw.{FramesHold}
 use Rattle.frame_history.specs.declared.entries.Limits.{Limits}
 use Rattle.frame_history.specs.declared.entries.Entry.{Entry}
 use Rattle.frame_history.specs.declared.entries.Entry.TheVariants.{Claim}

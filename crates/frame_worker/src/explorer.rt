@@ -1,7 +1,7 @@
 //! What each worker does: it takes a claim, asks for it by its own solver, and puts back what came of it.
 
 ghost use Rattle.std.specs.Prelude.{◌≡◌, ◌<◌, [], length, IfSome};
-ghost use Rattle.frame_core.specs.Law.{AreAlike};
+ghost use Rattle.frame_core.specs.FrameLaw.{AreAlike};
 
 use crate::begun::Begun;
 use crate::desk::Desk;

@@ -1,6 +1,6 @@
 //! Tests of the search for a cycle in a graph.
 
-use digraph::{is_closed, least_round};
+use digraph::{canonical_cycle, is_closed};
 use sqlite_items::Items;
 use std::alloc::{AllocError, Global};
 use std::test::Fail;
@@ -15,9 +15,9 @@ fn graph(alloc: Global, successors: &[&[usize]]) -> Result<Vec<Items<usize>>, Al
 }
 
 // The cycle that is found, if there is one; an empty one where a successor is no node.
-fn round_of(alloc: Global, g: &[Items<usize>]) -> Result<Option<Items<usize>>, AllocError> {
+fn cycle_of(alloc: Global, g: &[Items<usize>]) -> Result<Option<Items<usize>>, AllocError> {
     if is_closed(g) && g.len() < 100 {
-        least_round(alloc, g)
+        canonical_cycle(alloc, g)
     } else {
         Ok(Some(Items::new(alloc)))
     }
@@ -33,7 +33,7 @@ fn rounds(rt: HostRuntime) -> Result<(), Fail> {
         &[&[], &[0], &[1, 0]],
     ];
     for successors in acyclic {
-        assert!(rt; round_of(alloc, &graph(alloc, successors)?)?.is_none());
+        assert!(rt; cycle_of(alloc, &graph(alloc, successors)?)?.is_none());
     }
     let cyclic: [(&[&[usize]], &[usize]); 6] = [
         (&[&[0]], &[0]),
@@ -43,9 +43,9 @@ fn rounds(rt: HostRuntime) -> Result<(), Fail> {
         (&[&[1], &[3], &[1], &[2]], &[1, 3, 2]),
         (&[&[1]], &[]),
     ];
-    for (successors, round) in cyclic {
-        let found = round_of(alloc, &graph(alloc, successors)?)?;
-        assert!(rt; found.is_some_and(|r| r.as_slice() == round));
+    for (successors, cycle) in cyclic {
+        let found = cycle_of(alloc, &graph(alloc, successors)?)?;
+        assert!(rt; found.is_some_and(|r| r.as_slice() == cycle));
     }
     Ok(())
 }

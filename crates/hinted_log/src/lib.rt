@@ -3,7 +3,7 @@
 #![tactic(auto)]
 
 pub mod hinted;
-pub mod laws;
+pub mod hinted_derivations;
 pub mod numbers;
 
 pub use hinted::Hinted;

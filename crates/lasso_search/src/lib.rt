@@ -24,12 +24,12 @@ mod book;
 mod encoding;
 mod lasso;
 mod lasso_solver;
-pub mod law;
 mod loading;
 mod plan;
 mod reading;
 mod searched;
 mod searching;
+pub mod soundness_of_search;
 
 pub use book::LassoBook;
 pub use lasso::BitLasso;

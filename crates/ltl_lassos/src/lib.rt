@@ -2,4 +2,4 @@
 //! have: the laws that a search of lassos and a proof by a counter rest on.
 #![tactic(auto)]
 
-pub mod law;
+pub mod absence_of_violations;

@@ -4,6 +4,6 @@
 
 pub mod formula;
 mod height;
-pub mod laws;
 pub mod node;
+pub mod temporal_equivalences;
 pub mod word;

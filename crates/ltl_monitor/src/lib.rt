@@ -40,8 +40,8 @@
 mod assembly;
 mod counting;
 mod draft;
-pub mod law;
 mod layout;
+pub mod monitor_correctness;
 mod monitored_system;
 mod monitoring;
 mod projection;

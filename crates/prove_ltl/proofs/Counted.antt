@@ -9,7 +9,7 @@ use Rattle.effort_purse.specs.Drawing.{numbers_below}
 use Rattle.effort_purse.specs.Plain.{plain_budget, plain_count, plain_spent}
 use Rattle.effort_purse.specs.Seats.{IsSeatOf, budget_of, is_spent, seats_of, shares_of, tickets_of}
 use Rattle.frame_core.specs.declared.parts.Lemma.{Lemma}
-use Rattle.frame_core.specs.Law.{FrameState}
+use Rattle.frame_core.specs.FrameLaw.{FrameState}
 use Rattle.frame_history.specs.declared.entries.Limits.{Limits}
 use Rattle.frame_history.specs.declared.entries.Entry.{Entry}
 use Rattle.frame_worker.specs.Exploring.{IsExplored}

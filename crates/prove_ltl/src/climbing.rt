@@ -15,7 +15,7 @@ use effort_purse::PlainPurse;
 use frame_core::Frames;
 use frame_history::Limits;
 use frame_worker::Explored;
-use ltl_monitor::law::counters;
+use ltl_monitor::monitor_correctness::counters;
 use ltl_monitor::{Monitored, counted};
 use outside::Gate;
 use prove_run::{Work, explore};

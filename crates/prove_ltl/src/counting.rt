@@ -11,7 +11,7 @@ use crate::effort::LtlEffort;
 use effort_purse::Purse;
 use frame_core::{Frames, Verdict};
 use frame_history::Entry;
-use ltl_lassos::law::counted_systems;
+use ltl_lassos::absence_of_violations::counted_systems;
 use ltl_monitor::Monitored;
 use prove_run::{Work, certificate_of};
 use std::alloc::{AllocError, Global};

@@ -18,7 +18,7 @@ use crate::counting::spent_by;
 use crate::effort::LtlEffort;
 use clause_core::System;
 use effort_purse::Purse;
-use lasso_search::law::{found_lassos, own_lassos, shorter_lassos};
+use lasso_search::soundness_of_search::{found_lassos, own_lassos, shorter_lassos};
 use lasso_search::{BitLasso, LassoSolver, Searched};
 use ltl_monitor::Monitored;
 use outside::Gate;

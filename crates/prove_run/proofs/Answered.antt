@@ -12,7 +12,7 @@ use Rattle.cert_core.specs.Blocks.{Block}
 use Rattle.cert_core.specs.Certificates.{Certifies}
 use Rattle.cert_make.specs.Paying.{PartQuery, PaysParts, PaysOpen}
 use Rattle.frame_core.specs.declared.outcomes.Verdict.TheVariants.{Invariant}
-use Rattle.frame_core.specs.Law.{FrameState, system_at, no_system}
+use Rattle.frame_core.specs.FrameLaw.{FrameState, system_at, no_system}
 use Rattle.frame_core.specs.Changes.{VerdictSays}
 use Rattle.prove_run.specs.declared.answers.Answer.{Answer}
 use Rattle.prove_run.specs.declared.answers.Answer.TheVariants.{True, False, Unknown}

@@ -8,7 +8,7 @@ use Rattle.cert_core.specs.Certificates.{Certifies}
 use Rattle.effort_purse.specs.Drawing.{numbers_below}
 use Rattle.sat_core.specs.Paying.{tickets_in}
 use Rattle.sat_core.proofs.Payments.{log_none}
-use Rattle.frame_core.specs.Law.{FrameState, system_at}
+use Rattle.frame_core.specs.FrameLaw.{FrameState, system_at}
 use Rattle.frame_core.specs.Runs.{IsBadRun}
 use Rattle.frame_history.specs.declared.entries.Entry.{Entry}
 use Rattle.frame_history.specs.History.{HasVerdict}

@@ -4,7 +4,7 @@ use Rattle.std.specs.Prelude.{Option, Some, None, All, map}
 use Rattle.std.proofs.Math.Seq.{get_or-append_seam}
 use Rattle.std.proofs.lemmas.List.{append_assoc}
 use Rattle.frame_core.specs.declared.parts.Lemma.{Lemma}
-use Rattle.frame_core.specs.Law.{FrameState, FramesHold}
+use Rattle.frame_core.specs.FrameLaw.{FrameState, FramesHold}
 use Rattle.frame_history.specs.declared.entries.Subject.{Subject}
 use Rattle.frame_history.specs.declared.entries.Made.{Made}
 use Rattle.frame_history.specs.declared.entries.Change.{Change}

@@ -10,8 +10,8 @@ use Rattle.clause_core.specs.Systems.{TransitionSystem}
 use Rattle.cert_core.specs.Certificates.{IsInvariant}
 use Rattle.frame_core.specs.declared.parts.Lemma.{Lemma}
 use Rattle.frame_core.specs.declared.outcomes.Verdict.TheVariants.{Invariant, Reached}
-use Rattle.frame_core.specs.Law.{FrameState, FramesHold, LemmasHold, MeetsFrom, lemma_at, system_at}
-use Rattle.frame_core.specs.Law.{IsInvariant as IsFrameInvariant}
+use Rattle.frame_core.specs.FrameLaw.{FrameState, FramesHold, LemmasHold, MeetsFrom, lemma_at, system_at}
+use Rattle.frame_core.specs.FrameLaw.{IsInvariant as IsFrameInvariant}
 use Rattle.frame_core.specs.Changes.{VerdictSays}
 use Rattle.frame_core.proofs.Changing.{ClauseTrue-part}
 use Rattle.frame_history.specs.History.{HasVerdict}

@@ -6,7 +6,7 @@ use Rattle.cert_core.specs.Blocks.{Block}
 use Rattle.cert_core.specs.Certificates.{Certifies}
 use Rattle.cert_make.specs.Paying.{PartQuery, PaysParts, PaysOpen}
 use Rattle.sat_core.specs.Paying.{tickets_in}
-use Rattle.frame_core.specs.Law.{FrameState, system_at}
+use Rattle.frame_core.specs.FrameLaw.{FrameState, system_at}
 use Rattle.frame_core.specs.Runs.{IsBadRun}
 use Rattle.frame_history.specs.declared.entries.Limits.{Limits}
 use Rattle.frame_history.specs.declared.entries.Entry.{Entry}

@@ -6,7 +6,7 @@ use Rattle.cert_core.specs.declared.form.Part.{Part}
 use Rattle.cert_make.specs.Paying.{PartQuery, IsOfPart, IsWanted}
 use Rattle.frame_core.specs.declared.parts.Lemma.{Lemma}
 use Rattle.frame_core.specs.declared.outcomes.Verdict.TheVariants.{Invariant}
-use Rattle.frame_core.specs.Law.{FrameState, system_at}
+use Rattle.frame_core.specs.FrameLaw.{FrameState, system_at}
 use Rattle.frame_core.specs.Changes.{VerdictSays}
 
 -- a live lemma of a greater level

@@ -7,7 +7,7 @@ ghost use Rattle.cert_core.specs.declared.form.TheConstants.{MAX_COUNTER};
 ghost use Rattle.cert_core.specs.Certificates.{IsInvariant};
 ghost use Rattle.frame_core.specs.declared.outcomes.Verdict.TheVariants.{Invariant};
 ghost use Rattle.frame_core.specs.Changes.{VerdictSays};
-ghost use Rattle.frame_core.specs.Law.{system_at};
+ghost use Rattle.frame_core.specs.FrameLaw.{system_at};
 ghost use Rattle.prove_run.specs.Answers.{AnswersNext, AreAnswered, CertifySays, cause_of, spent_cause};
 ghost use Rattle.prove_run.specs.Certifying.{clauses_above};
 

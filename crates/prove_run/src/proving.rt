@@ -1,7 +1,7 @@
 //! The calls: systems in, answers out.
 
 ghost use Rattle.std.specs.Prelude.{◌≡◌, ◌<◌, ◌+◌, ◌^◌, ◌∷◌, [], length, IfOk};
-ghost use Rattle.frame_core.specs.Law.{AreAlike};
+ghost use Rattle.frame_core.specs.FrameLaw.{AreAlike};
 ghost use Rattle.prove_run.specs.Answers.{IsDone};
 
 use crate::answering::answers;

@@ -3,7 +3,7 @@
 ghost use Rattle.std.specs.Prelude.{◌≡◌, ◌<◌, ◌+◌, ◌^◌, List, [], length, IfOk, IfSome};
 ghost use Rattle.clause_core.specs.Systems.{TransitionSystem};
 ghost use Rattle.effort_purse.specs.Seats.{IsSeatOf, budget_of, is_spent, seats_of, shares_of, tickets_of};
-ghost use Rattle.frame_core.specs.Law.{AreAlike};
+ghost use Rattle.frame_core.specs.FrameLaw.{AreAlike};
 ghost use Rattle.frame_worker.specs.Exploring.{IsExplored};
 ghost use Rattle.prove_run.specs.Answers.{IsDone, limits_of};
 

@@ -1,7 +1,7 @@
 //! Tests of IC3 on small models, by one, two and five workers, and of gates that workers pass.
 
 ghost use Rattle.std.specs.Prelude.{◌<◌};
-ghost use Rattle.frame_core.specs.Law.{AreAlike};
+ghost use Rattle.frame_core.specs.FrameLaw.{AreAlike};
 
 use bit_runs::what_is_built_is_alike;
 use bit_states::BuildStop;

@@ -3,7 +3,7 @@
 ghost use Rattle.std.specs.Prelude.{◌≡◌, ◌+◌, ◌++◌, ◌∷◌, ◌<◌, ◌^◌, true, [], length, MatchBool};
 ghost use mathlib.Core.List.{IsPrefix};
 
-use crate::law::{Adds, Law, Nothing};
+use crate::counting_rule::{Adds, Law, Nothing};
 use crate::line::{Line, Naming};
 use logbook::{Offer, Seen};
 use std::marker::{Model, PhantomData};

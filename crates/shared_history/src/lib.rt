@@ -4,10 +4,10 @@
 //! Jung, Krebbers, Jourdan, Bizjak, Birkedal and Dreyer 2018).
 #![tactic(auto)]
 
+mod counting_rule;
 mod front;
-mod law;
 mod line;
 
+pub use counting_rule::Law;
 pub use front::Front;
-pub use law::Law;
 pub use line::{Line, Naming, Opened};

@@ -3,8 +3,8 @@
 ghost use Rattle.std.specs.Prelude.{◌≡◌, []};
 ghost use Rattle.shared_history.specs.Rules.{head_of};
 
+use crate::counting_rule::Law;
 use crate::front::Front;
-use crate::law::Law;
 use logbook::{Seen, Start, Word};
 use std::marker::{Brand, PhantomData};
 

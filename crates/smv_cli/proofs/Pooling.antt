@@ -4,7 +4,7 @@ use Rattle.std.specs.Prelude.{filter, slice_get, Some}
 use Rattle.clause_core.specs.Systems.{TransitionSystem}
 use Rattle.command_words.specs.declared.command.Effort.{Effort}
 use Rattle.frame_core.specs.Differences.{IsSameSystem}
-use Rattle.frame_core.specs.Law.{AreAlike, system_at}
+use Rattle.frame_core.specs.FrameLaw.{AreAlike, system_at}
 use Rattle.smv_tree.specs.declared.tree.Program.{Program}
 use Rattle.smv_resolve.specs.Items.{ResolvedItem}
 use Rattle.bit_system.specs.Standing.{StandsFor}

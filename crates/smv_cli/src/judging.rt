@@ -17,7 +17,7 @@ use crate::record::{Reason, Record, Verdict};
 use bit_runs::{run_of, what_is_built_is_alike};
 use bit_system::{Built, copied, what_is_never_bad_is_unbroken};
 use cert_core::Certificate;
-use cert_core::laws::no_run_reaches_bad;
+use cert_core::inductive_invariants::no_run_reaches_bad;
 use clause_core::System;
 use command_words::Effort;
 use outside::Gate;

@@ -7,14 +7,14 @@ mod constant;
 mod constants;
 mod declarations;
 mod elements;
-mod laws;
 mod limits;
 mod place;
 mod tally;
 mod variable_type;
+mod well_formed_types;
 
 pub use constant::Constant;
 pub use constants::constants_of;
 pub use declarations::declared_types;
-pub use laws::types_are_types;
 pub use variable_type::{Bounds, Declared, VariableType};
+pub use well_formed_types::types_are_types;

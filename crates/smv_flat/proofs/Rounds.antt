@@ -5,7 +5,7 @@ use Rattle.std.proofs.lemmas.Bool.{lt-ltb, le-ltb}
 use Rattle.std.proofs.lemmas.List.{get_or_default}
 use Rattle.std.proofs.lemmas.List.Elements.{All-filter, All-from_get_or, All-head, All-tail}
 use Rattle.std.proofs.lemmas.List.Kept.{AllPairs-filter}
-use Rattle.digraph.specs.Cycles.{Distinct, Edge, IsLeastRound, Walk}
+use Rattle.digraph.specs.Cycles.{Distinct, Edge, IsCanonicalCycle, Walk}
 use Rattle.smv_resolve.specs.declared.node.Node.{Node}
 use Rattle.smv_resolve.specs.Resolved.{part_of}
 use Rattle.smv_flat.specs.declared.assigned.Assigned.{Assigned}
@@ -107,10 +107,10 @@ module _ (slots : ℕ) (nodes : List Node) (time : Time) (all : List Assigned) w
   walk_inside x [] b walk = within_graph slots nodes time all x b walk
   walk_inside x (z ∷ zs) b walk = within_graph slots nodes time all x z walk.0
 
-  least_of : (x : ℕ) (xs : List ℕ) → IsLeastRound (whole_graph slots nodes time all) (x ∷ xs) → All (λ v. x ≤ v) (x ∷ xs)
+  least_of : (x : ℕ) (xs : List ℕ) → IsCanonicalCycle (whole_graph slots nodes time all) (x ∷ xs) → All (λ v. x ≤ v) (x ∷ xs)
   least_of x xs round = All-from_get_or (λ v. x ≤ v) (x ∷ xs) 0 (λ i lt. round.least i lt)
 
-  from_slot : (x : ℕ) (xs : List ℕ) → x < slots → IsLeastRound (whole_graph slots nodes time all) (x ∷ xs) → IsLeastRound (dependency slots nodes time all) (x ∷ slots_among slots xs)
+  from_slot : (x : ℕ) (xs : List ℕ) → x < slots → IsCanonicalCycle (whole_graph slots nodes time all) (x ∷ xs) → IsCanonicalCycle (dependency slots nodes time all) (x ∷ slots_among slots xs)
   from_slot x xs slot round =
       let kept : slots_among slots (x ∷ xs) ≡ x ∷ slots_among slots xs = ap (λ t. cond t (x ∷ slots_among slots xs) (slots_among slots xs)) (lt-ltb x slots slot) in
       let D : List ℕ → Type 0 = Distinct in
@@ -123,9 +123,9 @@ module _ (slots : ℕ) (nodes : List Node) (time : Time) (all : List Assigned) w
       }
 
   -- the slots of a least cycle are one
-  pub least_slots : (round : List ℕ) → IsLeastRound (whole_graph slots nodes time all) round → IsLeastRound (dependency slots nodes time all) (slots_among slots round)
+  pub least_slots : (round : List ℕ) → IsCanonicalCycle (whole_graph slots nodes time all) round → IsCanonicalCycle (dependency slots nodes time all) (slots_among slots round)
   least_slots [] round = absurd round.leads
   least_slots (x ∷ xs) round =
       let slot : x < slots = passes_slot x xs round.leads (walk_inside x xs x round.leads) (All-tail (λ v. x ≤ v) x xs (least_of x xs round)) in
-      let R : List ℕ → Type 0 = IsLeastRound (dependency slots nodes time all) in
+      let R : List ℕ → Type 0 = IsCanonicalCycle (dependency slots nodes time all) in
       subst R (sym (ap (λ t. cond t (x ∷ slots_among slots xs) (slots_among slots xs)) (lt-ltb x slots slot))) (from_slot x xs slot round)

@@ -2,7 +2,7 @@
 -- (NuSMV 2.6 User Manual, 2.3.8, ASSIGN Constraint; the order of the rules is an own choice of this project).
 use Rattle.std.specs.Prelude.{◌≡◌, ℕ, ◌==◌, nat_lt, Bool, true, false, not, ◌&&◌, ◌||◌, if◌then◌else◌, List, [], ◌∷◌, ◌++◌, length, map, filter, Option, None, Some, slice_get, codes}
 use Rattle.std.specs.List.{flat_map, list_any, range_with_len}
-use Rattle.digraph.specs.Cycles.{Acyclic, IsLeastRound}
+use Rattle.digraph.specs.Cycles.{Acyclic, IsCanonicalCycle}
 use Rattle.smv_tree.specs.declared.place.Place.{Place}
 use Rattle.smv_tree.specs.declared.refusal.Refusal.{Refusal}
 use Rattle.smv_tree.specs.declared.refusal.Rule.TheVariants as rule
@@ -184,7 +184,7 @@ cycle_refusal p time round =
 
 -- the refusal tells a cycle of this time, which passes each slot once and begins with the first of them
 abbrev pub TellsCycle : Program → Time → Refusal → Type 0
-TellsCycle p time r = (round : List ℕ) × IsLeastRound (dependencies p time) round × (r ≡ cycle_refusal p time round)
+TellsCycle p time r = (round : List ℕ) × IsCanonicalCycle (dependencies p time) round × (r ≡ cycle_refusal p time round)
 
 -- no slot is assigned twice, or depends on itself
 pub record AreAssignable (p : Program) : Type 0 where

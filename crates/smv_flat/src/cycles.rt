@@ -9,7 +9,7 @@ use crate::assigned::Assigned;
 use crate::graph::whole_graph;
 use crate::names::name_of_slot;
 use crate::time::{Time, gives};
-use digraph::least_round;
+use digraph::canonical_cycle;
 use plain_text::Text;
 use smv_meaning::Typed;
 use smv_tree::{Place, Refusal, Rule, TextStop};
@@ -36,7 +36,7 @@ pub fn refuse_cycle(
         return Err(TextStop::NoMemory);
     }
     let graph = whole_graph(alloc, slots, nodes, time, all)?;
-    match least_round(alloc, &graph)? {
+    match canonical_cycle(alloc, &graph)? {
         None => Ok(()),
         Some(round) => {
             let path = slots_among(alloc, slots, round.as_slice())?;

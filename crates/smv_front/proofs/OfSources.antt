@@ -1,6 +1,6 @@
 -- Bytes are a model of one program at most, and are not refused where they are one.
 use Rattle.std.proofs.Common.{◌≡◌, inl, inr, ℕ, List, [], ◌∷◌, Option, None, Some, Result, Err, sym, subst, ap, ◌∙◌, ◌≤◌, ◌<◌, arith}
-use Rattle.digraph.specs.Cycles.{Acyclic, IsRound}
+use Rattle.digraph.specs.Cycles.{Acyclic, IsCycle}
 use Rattle.smv_tree.specs.declared.token.Tokens.{Tokens}
 use Rattle.smv_tree.specs.declared.refusal.Refusal.{Refusal}
 use Rattle.smv_tree.specs.declared.refusal.Rule.TheVariants.{AssignCycle}
@@ -54,7 +54,7 @@ model_read bytes tokens p q t s n e a w = record {
 }
 
 -- a graph without cycles has no round
-round_apart : (g : List (List ℕ)) (round : List ℕ) → Acyclic g → IsRound g round → ⊥
+round_apart : (g : List (List ℕ)) (round : List ℕ) → Acyclic g → IsCycle g round → ⊥
 round_apart g [] a r = r
 round_apart g (x ∷ xs) a r = a x (xs, r)
 

@@ -1,8 +1,8 @@
 //! From the bytes of a source to a model that breaks no rule.
 #![tactic(auto)]
 
-mod laws;
 mod model;
+mod one_reading;
 
-pub use laws::is_read_once;
 pub use model::read_model;
+pub use one_reading::is_read_once;

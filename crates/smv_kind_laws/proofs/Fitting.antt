@@ -21,7 +21,7 @@ use Rattle.smv_kinds.specs.declared.kind.Operand.{Operand}
 use Rattle.smv_kinds.specs.declared.kind.KindRule.{KindRule}
 use Rattle.smv_kinds.specs.declared.kind.KindRule.TheVariants as rule
 use Rattle.smv_kinds.specs.Intervals.{interval}
-use Rattle.smv_kinds.specs.Kinds.{Given, bits_from, boolean_if, concatenated, constant_within, constant_word, constant_word_of, counted, extended_by, given, integers, integers_among, integers_in, integers_of, inverted, is_amount, is_boolean, is_integer, is_ordered, is_set, is_within, kind_if, logical, mismatch, of_integer, of_integers, of_interval, of_intervals, of_number, of_numbers, of_word, resized_to, selected, shifted, size, subscript, to_boolean, to_word, with_amount, with_sign, word_in}
+use Rattle.smv_kinds.specs.Kinds.{Given, bits_from, boolean_if, concatenated, constant_within, constant_word, constant_word_of, extended_by, given, integers, integers_among, integers_in, integers_of, inverted, is_amount, is_boolean, is_integer, is_ordered, is_set, is_within, kind_if, kind_of_count, logical, mismatch, of_integer, of_integers, of_interval, of_intervals, of_number, of_numbers, of_word, resized_to, selected, shifted, size, subscript, to_boolean, to_word, with_amount, with_sign, word_in}
 use Rattle.smv_kind_laws.specs.Values.{AreOperands, IsOperand, is_among, is_element, is_in, is_in_some, is_of_kind}
 use Rattle.smv_kind_laws.proofs.Between.{Between, between_from, between_test, within}
 
@@ -349,7 +349,7 @@ counted_if : (t : Bool) (n m : ℕ) (k : Kind) → m ≤ n → cond t (integers_
 counted_if true n m k h e = interval_fits (interval (pos 0) (pos n)) (pos m) k (omega (arith, ints), omega (arith, ints, h)) e
 counted_if false n m k h e = absurd (mismatched k e)
 
-pub counted_fits : (xs : List Operand) (vs : List Value) (k : Kind) → AreOperands xs vs → counted xs ≡ Ok k → Fits k (integer (pos (count_by is_true vs)))
+pub counted_fits : (xs : List Operand) (vs : List Value) (k : Kind) → AreOperands xs vs → kind_of_count xs ≡ Ok k → Fits k (integer (pos (count_by is_true vs)))
 counted_fits xs vs k h e =
     let few = count_by-le-length is_true vs in
     let long = same_length xs vs h in

@@ -1,9 +1,9 @@
 //! Laws of the kinds of expressions: where kinds fit, operators give values of the kinds that are told.
 #![tactic(auto)]
 
-mod laws;
+mod kinds_of_results;
 
-pub use laws::{
+pub use kinds_of_results::{
     constants_are_values, kinds_have_members, kinds_have_values, kinds_of_formulas,
     what_is_taken_is_alike,
 };

@@ -163,8 +163,8 @@ abbrev pub of_numbers : (Interval → Interval → Interval) → Kind → Kind �
 of_numbers f (kind.Word s w) (kind.Word t v) = given (kind_if (alike s w t v) (kind.Word s w))
 of_numbers f a b = of_integers f a b
 
-abbrev pub counted : List Operand → Given
-counted xs = if list_all (λ (x : Operand). is_boolean x.kind) xs then integers_in (interval (pos 0) (pos (length xs))) else mismatch
+abbrev pub kind_of_count : List Operand → Given
+kind_of_count xs = if list_all (λ (x : Operand). is_boolean x.kind) xs then integers_in (interval (pos 0) (pos (length xs))) else mismatch
 
 -- words
 
@@ -347,7 +347,7 @@ kind_given (operator.Division o) = two (of_numbers (division_interval o))
 kind_given operator.Absolute = one (of_integer absolute_interval)
 kind_given operator.Maximum = two (of_integers (corners int_max))
 kind_given operator.Minimum = two (of_integers (corners int_min))
-kind_given operator.Count = counted
+kind_given operator.Count = kind_of_count
 kind_given (operator.Shift o) = two (λ a b. given (shifted a b))
 kind_given operator.Join = two concatenated
 kind_given operator.Select = three_told selected

@@ -5,7 +5,7 @@ ghost use Rattle.std.specs.Int.{int_max, int_min};
 ghost use Rattle.smv_kinds.specs.Intervals.{absolute_interval, corners, division_interval, opposite_interval, sum_interval};
 ghost use Rattle.std.specs.List.{list_all};
 ghost use Rattle.smv_kinds.specs.declared.kind.Operand.{Operand};
-ghost use Rattle.smv_kinds.specs.Kinds.{booleans, counted, inverted, is_boolean, is_ordered, logical, of_integer, of_integers, of_number, of_numbers, operands_of_temporal};
+ghost use Rattle.smv_kinds.specs.Kinds.{booleans, inverted, is_boolean, is_ordered, kind_of_count, logical, of_integer, of_integers, of_number, of_numbers, operands_of_temporal};
 
 use crate::intervals::{
     Span, absolute_span, division_span, greatest_span, integers_in, least_span, opposite_span,
@@ -153,8 +153,8 @@ pub fn least(a: Kind, b: Kind) -> Result<Kind, KindRule>
 }
 
 // `count`
-pub fn counted(operands: &[Operand]) -> Result<Kind, KindRule>
-    ensures { result ≡ counted operands.now }
+pub fn kind_of_count(operands: &[Operand]) -> Result<Kind, KindRule>
+    ensures { result ≡ kind_of_count operands.now }
 {
     if !all_booleans(operands) {
         return Err(KindRule::TypeMismatch);

@@ -5,8 +5,8 @@ ghost use Rattle.smv_kinds.specs.Kinds.{bounded_by, given, booleans, kind_given,
 
 use crate::joining::{boolean_if, fit, given, joined, set_of, takes};
 use crate::numbers::{
-    absolute, booleans, counted, divided, greatest, inverted, is_ordered, least, logical, negated,
-    operands_of_temporal, summed,
+    absolute, booleans, divided, greatest, inverted, is_ordered, kind_of_count, least, logical,
+    negated, operands_of_temporal, summed,
 };
 use crate::sets::{chosen, indexed, members, ranged, subscript, whole_array};
 use crate::words::{
@@ -69,7 +69,7 @@ pub fn kind_given(operator: Operator, operands: &[Operand]) -> Result<Kind, Kind
             [a, b] => least(a.kind, b.kind),
             _ => Err(KindRule::TypeMismatch),
         },
-        Operator::Count => counted(operands),
+        Operator::Count => kind_of_count(operands),
         Operator::Shift(_) => match operands {
             [a, b] => given(shifted(a.kind, b.kind)),
             _ => Err(KindRule::TypeMismatch),

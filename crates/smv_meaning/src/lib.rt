@@ -5,7 +5,7 @@
 mod evaluation;
 mod formulas;
 mod item_faults;
-mod law;
+mod lasso_runs;
 mod meets;
 mod operators;
 mod outcome;
@@ -16,7 +16,7 @@ mod typed;
 pub use evaluation::{eval, instance_at, outcome_at, outcomes};
 pub use formulas::{is_over_formulas, is_temporal};
 pub use item_faults::faults;
-pub use law::lassos;
+pub use lasso_runs::lassos;
 pub use meets::{meets_init, meets_inv, meets_step};
 pub use operators::applied;
 pub use outcome::Outcome;

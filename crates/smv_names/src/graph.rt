@@ -7,7 +7,7 @@ ghost use Rattle.smv_scope.specs.Modules.{module_named};
 ghost use Rattle.smv_scope.specs.Symbols.{AreNumbered};
 ghost use Rattle.smv_names.specs.Reached.{module_graph, module_of_variable, modules_in, modules_used, some_only};
 
-use digraph::least_round;
+use digraph::canonical_cycle;
 use smv_scope::{ModuleNumbers, is_array};
 use smv_tree::{Module, Program, Section, TypeExpr, Variable};
 use sqlite_items::Items;
@@ -134,7 +134,7 @@ pub(crate) fn is_acyclic(alloc: Global, graph: &[Items<usize>]) -> Result<bool, 
     if graph.len() >= 4294967296 {
         return Ok(false);
     }
-    match least_round(alloc, graph)? {
+    match canonical_cycle(alloc, graph)? {
         None => Ok(true),
         Some(_) => Ok(false),
     }

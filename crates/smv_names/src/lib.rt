@@ -7,12 +7,12 @@ mod defined;
 mod entries;
 mod graph;
 mod known;
-mod law;
 mod names;
 mod numbers;
+mod one_judgement;
 mod order;
 mod reached;
 
-pub use law::are_names_judged_once;
+pub use one_judgement::are_names_judged_once;
 pub use order::check_names;
 pub use smv_verdicts::{START, refused};

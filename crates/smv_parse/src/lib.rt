@@ -2,11 +2,11 @@
 #![tactic(auto)]
 
 mod declarations;
-mod laws;
+mod one_parse;
 mod parsing;
 mod programs;
 mod types;
 mod unsupported;
 
-pub use laws::is_parsed_once;
+pub use one_parse::is_parsed_once;
 pub use parsing::parse;

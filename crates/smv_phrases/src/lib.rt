@@ -2,12 +2,12 @@
 //! 2.3.13).
 #![tactic(auto)]
 
-mod laws;
 mod names;
 mod numbers;
 mod reading;
+mod token_kinds;
 
-pub use laws::kinds_are_told_apart;
 pub use names::{NameStart, begins_name, identifier_of, members, name, name_from, place_of};
 pub use numbers::{integer_value, number_of, word_value};
 pub use reading::{Stop, begins, identifier, is_identifier, is_kind, just, opening};
+pub use token_kinds::kinds_are_told_apart;

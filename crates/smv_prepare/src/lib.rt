@@ -2,8 +2,8 @@
 #![tactic(auto)]
 
 mod decoding;
-mod laws;
+mod one_refused_item;
 mod preparing;
 
-pub use laws::one_item_is_refused;
+pub use one_refused_item::one_item_is_refused;
 pub use preparing::{Prepared, prepare};

@@ -11,7 +11,7 @@ use bit_faults::{fault_questions, what_is_never_met};
 use bit_states::{BuildStop, Layout, layout_of};
 use cert_core::Sound;
 use effort_purse::Purse;
-use fault_search::laws::what_is_free_is_sound;
+use fault_search::soundness_of_answers::what_is_free_is_sound;
 use fault_search::{Answer, search};
 use smv_flat::Flat;
 use smv_meaning::Typed;

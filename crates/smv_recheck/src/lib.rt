@@ -8,13 +8,13 @@ mod checking;
 mod counting;
 mod judgement;
 mod judging;
-mod laws;
 mod printing;
+mod soundness_of_checking;
 mod trace_lines;
 
 pub use checking::{Checked, recheck, status};
 pub use judgement::{Judgement, Record};
-pub use laws::{
+pub use printing::print;
+pub use soundness_of_checking::{
     full_items_are_rejected_for_a_reason, full_parts_are_rejected_for_a_reason, what_is_shown_holds,
 };
-pub use printing::print;

@@ -8,15 +8,15 @@ use Rattle.std.proofs.lemmas.Map.{update_same, update_other}
 use Rattle.smv_tree.specs.declared.tree.Program.{Program}
 use Rattle.smv_resolve.specs.declared.node.Node.{Node}
 use Rattle.smv_scope.specs.declared.target.Shared.{Shared}
-use Rattle.smv_resolve.specs.declared.work.Found.{Found}
-use Rattle.smv_resolve.specs.declared.work.Work.{Work}
+use Rattle.smv_resolve.specs.declared.memo.Found.{Found}
+use Rattle.smv_resolve.specs.declared.memo.Memo.{Memo}
 use Rattle.smv_scope.specs.Targets.{shared_eq}
 use Rattle.smv_resolve.specs.Finding.{Grows, Known, AllKnown}
 
 Known_grown : (p : Program) {old new : List Node} (x : Shared) (found : Found) → Grows old new → Known p old x found → Known p new x found
 Known_grown p x found g k = (omega (arith, k.0, g.longer), record { value = λ n d w l. k.1.value n d w l ∙ sym (g.kept found.node k.0); stuck = k.1.stuck })
 
-pub AllKnown_grown : (p : Program) (old new : Work) → new.known ≡ old.known → Grows old.nodes new.nodes → AllKnown p old → AllKnown p new
+pub AllKnown_grown : (p : Program) (old new : Memo) → new.known ≡ old.known → Grows old.nodes new.nodes → AllKnown p old → AllKnown p new
 unfolding AllKnown
 AllKnown_grown p old new e g k = λ x found is. Known_grown p x found g (k x found (rw (← e) is))
 

@@ -12,9 +12,9 @@ use Rattle.smv_value.specs.declared.operator.Operator.{Operator}
 use Rattle.smv_tree.specs.declared.tree.Expr.{Expr}
 use Rattle.smv_resolve.specs.declared.node.Node.{Node}
 use Rattle.smv_scope.specs.declared.target.Shared.{Shared}
-use Rattle.smv_resolve.specs.declared.work.Found.{Found}
-use Rattle.smv_resolve.specs.declared.work.Halt.{Halt}
-use Rattle.smv_resolve.specs.declared.work.Halt.TheVariants as halt
+use Rattle.smv_resolve.specs.declared.memo.Found.{Found}
+use Rattle.smv_resolve.specs.declared.memo.ResolveError.{ResolveError}
+use Rattle.smv_resolve.specs.declared.memo.ResolveError.TheVariants as error
 use Rattle.smv_resolve.specs.Resolved.{Resolved, Levelled, operands_of, opened, lowered, resolved_links, resolved_operands, followed, levelled, is_stuck, is_some_stuck, part_of}
 use Rattle.smv_resolve.specs.Finding.{Settles, IsFound, Finds, Grows, shared_target, below_target, Known}
 
@@ -25,10 +25,10 @@ settles_along e s = record { value = λ n d w l. e n d ∙ s.value n d w l; stuc
 pub found_along : {nodes : List Node} {most : ℕ} {f : ℕ → Levelled} {x : Found} (g : ℕ → Levelled) → ((n d : ℕ) → g n d ≡ f n d) → IsFound nodes most f x → IsFound nodes most g x
 found_along g e i = record { stands = i.stands; within = i.within; settles = settles_along e i.settles }
 
-pub finds_along : (nodes : List Node) (most : ℕ) (f g : ℕ → Levelled) (r : Result Found Halt) → ((n d : ℕ) → g n d ≡ f n d) → Finds nodes most f r → Finds nodes most g r
+pub finds_along : (nodes : List Node) (most : ℕ) (f g : ℕ → Levelled) (r : Result Found ResolveError) → ((n d : ℕ) → g n d ≡ f n d) → Finds nodes most f r → Finds nodes most g r
 finds_along nodes most f g (Ok x) e found = found_along g e found
-finds_along nodes most f g (Err halt.Stuck) e stuck = λ n w. ap is_stuck (e n most) ∙ stuck n w
-finds_along nodes most f g (Err halt.NoMemory) e stuck = tt
+finds_along nodes most f g (Err error.Stuck) e stuck = λ n w. ap is_stuck (e n most) ∙ stuck n w
+finds_along nodes most f g (Err error.NoMemory) e stuck = tt
 
 either_below : (h k d : ℕ) → (nat_lt d h || nat_lt d k) ≡ nat_lt d (max h k)
 either_below h k d = grind (arith, nat_tests)
@@ -78,22 +78,22 @@ module _ (f g : ℕ → Levelled) (none : (n : ℕ) → is_stuck (g n 0) ≡ tru
     stuck n zero w = none n ∙ below_none x.height
     stuck n (suc k) w = ap is_stuck (down n k w) ∙ i.settles.stuck (m n) k (within n k w) ∙ below_one x.height k
 
-  halts_down : (one two : List Node) (d : ℕ) (h : Halt) → 0 < d → Finds one (d - 1) f (Err h) → Finds two d g (Err h)
+  halts_down : (one two : List Node) (d : ℕ) (h : ResolveError) → 0 < d → Finds one (d - 1) f (Err h) → Finds two d g (Err h)
   halts_down one two zero h some stuck = absurd (omega (arith, some))
-  halts_down one two (suc d) halt.NoMemory some stuck = tt
-  halts_down one two (suc d) halt.Stuck some stuck = λ n w.
+  halts_down one two (suc d) error.NoMemory some stuck = tt
+  halts_down one two (suc d) error.Stuck some stuck = λ n w.
       let one_less : suc d - 1 ≡ d = omega arith in
       ap is_stuck (down n d w) ∙ (rw one_less at stuck) (m n) (within n d w)
 
 -- where no level may be opened
-pub none_opened : (nodes : List Node) (f : ℕ → Levelled) (d : ℕ) → d ≡ 0 → Finds nodes d (λ n. opened (f n)) (Err halt.Stuck)
+pub none_opened : (nodes : List Node) (f : ℕ → Levelled) (d : ℕ) → d ≡ 0 → Finds nodes d (λ n. opened (f n)) (Err error.Stuck)
 none_opened nodes f d is = rw is (λ n w. refl)
 
 -- an expression a level down
 pub found_opened : (nodes : List Node) (d : ℕ) (f : ℕ → Levelled) (x : Found) → 0 < d → IsFound nodes (d - 1) f x → IsFound nodes d (λ n. opened (f n)) (record { node = x.node; height = x.height + 1 })
 found_opened nodes d f x = found_down f (λ n. opened (f n)) (λ n. refl) (λ n. n) (λ n d w. omega (arith, w)) (λ n d w. refl) nodes d x
 
-pub halts_opened : (one two : List Node) (d : ℕ) (f : ℕ → Levelled) (h : Halt) → 0 < d → Finds one (d - 1) f (Err h) → Finds two d (λ n. opened (f n)) (Err h)
+pub halts_opened : (one two : List Node) (d : ℕ) (f : ℕ → Levelled) (h : ResolveError) → 0 < d → Finds one (d - 1) f (Err h) → Finds two d (λ n. opened (f n)) (Err h)
 halts_opened one two d f = halts_down f (λ n. opened (f n)) (λ n. refl) (λ n. n) (λ n d w. omega (arith, w)) (λ n d w. refl) one two d
 
 -- so many levels down
@@ -109,14 +109,14 @@ module _ (f : ℕ → Levelled) where
   lowered-at (suc h) (suc d) n l = let less : d - h ≡ suc d - suc h = omega arith in lowered-at h d n (omega (arith, l)) ∙ ap (f n) less
 
   -- where fewer may be opened
-  pub none_lowered : (nodes : List Node) (h d : ℕ) → d < h → Finds nodes d (λ n. lowered h (f n)) (Err halt.Stuck)
+  pub none_lowered : (nodes : List Node) (h d : ℕ) → d < h → Finds nodes d (λ n. lowered h (f n)) (Err error.Stuck)
   none_lowered nodes h d l = λ n w. stuck_above h d n l
 
-  halts_at : (one two : List Node) (h d : ℕ) (e : Halt) → h ≤ d → Finds one (d - h) f (Err e) → Finds two d (λ n. lowered h (f n)) (Err e)
-  halts_at one two h d halt.Stuck l stuck = λ n w. ap is_stuck (lowered-at h d n l) ∙ stuck n (omega (arith, w))
-  halts_at one two h d halt.NoMemory l stuck = tt
+  halts_at : (one two : List Node) (h d : ℕ) (e : ResolveError) → h ≤ d → Finds one (d - h) f (Err e) → Finds two d (λ n. lowered h (f n)) (Err e)
+  halts_at one two h d error.Stuck l stuck = λ n w. ap is_stuck (lowered-at h d n l) ∙ stuck n (omega (arith, w))
+  halts_at one two h d error.NoMemory l stuck = tt
 
-  pub halts_lowered : (one two : List Node) (h k d : ℕ) (e : Halt) → h ≡ k → h ≤ d → Finds one (d - h) f (Err e) → Finds two d (λ n. lowered k (f n)) (Err e)
+  pub halts_lowered : (one two : List Node) (h k d : ℕ) (e : ResolveError) → h ≡ k → h ≤ d → Finds one (d - h) f (Err e) → Finds two d (λ n. lowered k (f n)) (Err e)
   halts_lowered one two h k d e same l stuck = let P : ℕ → Type 0 = λ j. Finds two d (λ n. lowered j (f n)) (Err e) in subst P same (halts_at one two h d e l stuck)
 
   pub found_lowered : (nodes : List Node) (h d : ℕ) (x : Found) → h ≤ d → IsFound nodes (d - h) f x →
@@ -149,7 +149,7 @@ pub found_followed : (p : Program) (nodes : List Node) (d at : ℕ) (e : Expr) (
     IsFound nodes d (λ n. opened (followed p n at e)) (record { node = x.node; height = x.height + 1 })
 found_followed p nodes d at e x = found_down (λ n. levelled p n at e) (λ n. opened (followed p n at e)) (λ n. refl) (λ n. n - 1) (λ n d w. omega (arith, w)) (followed-more p at e) nodes d x
 
-pub halts_followed : (p : Program) (one two : List Node) (d at : ℕ) (e : Expr) (h : Halt) → 0 < d → Finds one (d - 1) (λ n. levelled p n at e) (Err h) →
+pub halts_followed : (p : Program) (one two : List Node) (d at : ℕ) (e : Expr) (h : ResolveError) → 0 < d → Finds one (d - 1) (λ n. levelled p n at e) (Err h) →
     Finds two d (λ n. opened (followed p n at e)) (Err h)
 halts_followed p one two d at e = halts_down (λ n. levelled p n at e) (λ n. opened (followed p n at e)) (λ n. refl) (λ n. n - 1) (λ n d w. omega (arith, w)) (followed-more p at e) one two d
 
@@ -283,17 +283,17 @@ module _ (operand : ℕ → Expr → Levelled) (beside below : List Expr) where
         (are_along (λ n d. resolved_operands (operand n) beside below d)
         (λ n d. ap (λ es. map (λ e. operand n e d) beside ++ map (λ e. opened (operand n e) d) es) (sym (take_all i below past))) a) stands is
 
-    pub halts_beside : (one two : List Node) (most i : ℕ) (e : Expr) (h : Halt) → i < length beside → e ≡ get_or beside i e →
+    pub halts_beside : (one two : List Node) (most i : ℕ) (e : Expr) (h : ResolveError) → i < length beside → e ≡ get_or beside i e →
         Finds one most (λ n. operand n e) (Err h) → Finds two most applied_to (Err h)
-    halts_beside one two most i e halt.NoMemory l here stuck = tt
-    halts_beside one two most i e halt.Stuck l here stuck = λ n w.
+    halts_beside one two most i e error.NoMemory l here stuck = tt
+    halts_beside one two most i e error.Stuck l here stuck = λ n w.
         some_left (map (λ x. operand n x most) beside) (map (λ x. opened (operand n x) most) below)
         (some_at (λ x. operand n x most) beside i e l (ap (λ x. is_stuck (operand n x most)) (sym here) ∙ stuck n w))
 
-    pub halts_lower : (one two : List Node) (most i : ℕ) (e : Expr) (h : Halt) → i < length below → e ≡ get_or below i e →
+    pub halts_lower : (one two : List Node) (most i : ℕ) (e : Expr) (h : ResolveError) → i < length below → e ≡ get_or below i e →
         Finds one most (λ n. opened (operand n e)) (Err h) → Finds two most applied_to (Err h)
-    halts_lower one two most i e halt.NoMemory l here stuck = tt
-    halts_lower one two most i e halt.Stuck l here stuck = λ n w.
+    halts_lower one two most i e error.NoMemory l here stuck = tt
+    halts_lower one two most i e error.Stuck l here stuck = λ n w.
         some_right (map (λ x. operand n x most) beside) (map (λ x. opened (operand n x) most) below)
         (some_at (λ x. opened (operand n x) most) below i e l (ap (λ x. is_stuck (opened (operand n x) most)) (sym here) ∙ stuck n w))
 
@@ -337,15 +337,15 @@ module _ (operand : ℕ → ℕ → Expr → Resolved) (first : ℕ → Levelled
   pub found_links : {nodes : List Node} {most : ℕ} (i : ℕ) {x : Found} → length links ≤ i → IsFound nodes most (chain_to (take i links)) x → IsFound nodes most (chain_to links) x
   found_links i past found = found_along (chain_to links) (λ n d. ap (resolved_links (operand n d) (first n d)) (sym (take_all i links past))) found
 
-  pub halts_first : (one two : List Node) (most : ℕ) (h : Halt) → Finds one most first (Err h) → Finds two most (chain_to links) (Err h)
-  halts_first one two most halt.Stuck stuck = λ n w. stuck_left (operand n most) (first n most) links (stuck n w)
-  halts_first one two most halt.NoMemory stuck = tt
+  pub halts_first : (one two : List Node) (most : ℕ) (h : ResolveError) → Finds one most first (Err h) → Finds two most (chain_to links) (Err h)
+  halts_first one two most error.Stuck stuck = λ n w. stuck_left (operand n most) (first n most) links (stuck n w)
+  halts_first one two most error.NoMemory stuck = tt
 
-  pub halts_link : (one two : List Node) (most i : ℕ) (link : Place × Operator × Expr) (h : Halt) → i < length links → link ≡ get_or links i link →
+  pub halts_link : (one two : List Node) (most i : ℕ) (link : Place × Operator × Expr) (h : ResolveError) → i < length links → link ≡ get_or links i link →
       Finds one most (λ n d. operand n d link.2) (Err h) → Finds two most (chain_to links) (Err h)
-  halts_link one two most i link halt.Stuck within here stuck = λ n w.
+  halts_link one two most i link error.Stuck within here stuck = λ n w.
       stuck_link (operand n most) (first n most) links i link within (ap (λ (l : Place × Operator × Expr). is_stuck (operand n most l.2)) (sym here) ∙ stuck n w)
-  halts_link one two most i link halt.NoMemory within here stuck = tt
+  halts_link one two most i link error.NoMemory within here stuck = tt
 
 -- what is known
 
@@ -358,7 +358,7 @@ module _ (p : Program) (at : ℕ) (e : Expr) (shared : Shared) (leads : (below :
   found_known nodes most x low k =
       found_along (λ n. opened (followed p n at e)) (λ n d. sym (leads (below_names p n d))) (record { stands = k.0; within = low; settles = k.1 })
 
-  pub stuck_known : (nodes : List Node) (most : ℕ) (x : Found) → most < x.height → Known p nodes shared x → Finds nodes most (λ n. opened (followed p n at e)) (Err halt.Stuck)
+  pub stuck_known : (nodes : List Node) (most : ℕ) (x : Found) → most < x.height → Known p nodes shared x → Finds nodes most (λ n. opened (followed p n at e)) (Err error.Stuck)
   stuck_known nodes most x high k = λ n w. ap is_stuck (sym (leads (below_names p n most))) ∙ k.1.stuck n most w ∙ lt-ltb most x.height high
 
   pub known_found : (nodes : List Node) (most : ℕ) (x : Found) → IsFound nodes most (λ n. opened (followed p n at e)) x → Known p nodes shared x

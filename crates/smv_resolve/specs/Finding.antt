@@ -5,10 +5,10 @@ use Rattle.smv_tree.specs.declared.tree.Program.{Program}
 use Rattle.smv_tree.specs.declared.tree.Expr.{Expr}
 use Rattle.smv_resolve.specs.declared.node.Node.{Node}
 use Rattle.smv_scope.specs.declared.target.Shared.{Shared}
-use Rattle.smv_resolve.specs.declared.work.Found.{Found}
-use Rattle.smv_resolve.specs.declared.work.Work.{Work}
-use Rattle.smv_resolve.specs.declared.work.Halt.{Halt}
-use Rattle.smv_resolve.specs.declared.work.Halt.TheVariants as halt
+use Rattle.smv_resolve.specs.declared.memo.Found.{Found}
+use Rattle.smv_resolve.specs.declared.memo.Memo.{Memo}
+use Rattle.smv_resolve.specs.declared.memo.ResolveError.{ResolveError}
+use Rattle.smv_resolve.specs.declared.memo.ResolveError.TheVariants as error
 use Rattle.smv_scope.specs.Modules.{definitions_of}
 use Rattle.smv_scope.specs.Instances.{module_at}
 use Rattle.smv_scope.specs.Lookup.{Target, body_target, given_by, parent_at}
@@ -28,10 +28,10 @@ pub record IsFound (nodes : List Node) (most : ℕ) (f : ℕ → Levelled) (x : 
   pub settles : Settles f x.height (part_of nodes x.node)
 
 -- the node that stands for what f says; or that f is stuck where so many levels may be opened
-abbrev pub Finds : List Node → ℕ → (ℕ → Levelled) → Result Found Halt → Type 0
+abbrev pub Finds : List Node → ℕ → (ℕ → Levelled) → Result Found ResolveError → Type 0
 Finds nodes most f (Ok x) = IsFound nodes most f x
-Finds nodes most f (Err halt.Stuck) = (n : ℕ) → most ≤ n → is_stuck (f n most) ≡ true
-Finds nodes most f (Err halt.NoMemory) = Unit {0}
+Finds nodes most f (Err error.Stuck) = (n : ℕ) → most ≤ n → is_stuck (f n most) ≡ true
+Finds nodes most f (Err error.NoMemory) = Unit {0}
 
 -- new nodes behind the old ones
 pub record Grows (old new : List Node) : Type 0 where
@@ -63,9 +63,9 @@ Known p nodes x found =
     × Settles (λ n d. below_target (λ owner e. opened (followed p n owner e) d) (shared_target p x)) found.height (part_of nodes found.node)
 
 -- whatever is known is right
-unfoldable pub AllKnown : Program → Work → Type 0
+unfoldable pub AllKnown : Program → Memo → Type 0
 AllKnown p w = (x : Shared) (found : Found) → get shared_eq w.known x ≡ Some found → Known p w.nodes x found
 
 -- what these names share is known
-abbrev pub IsKept : Work → Shared → Type 0
+abbrev pub IsKept : Memo → Shared → Type 0
 IsKept w shared = IsSome (get shared_eq w.known shared)

@@ -8,7 +8,7 @@ ghost use Rattle.smv_resolve.specs.Levels.{levels_before};
 ghost use Rattle.smv_resolve.specs.Finding.{Grows, AllKnown, Finds, IsKept, IsShared};
 
 use crate::dots::levels_before;
-use crate::work::{Found, Halt, Work, keep, push, push_apply, recall};
+use crate::memo::{Found, Memo, ResolveError, get, insert, push, push_apply};
 use crate::{Naming, Node};
 use smv_scope::{NameTarget, Scope, Shared, name_target};
 use smv_tree::{Expr, Name, Place, Start};
@@ -19,29 +19,29 @@ use smv_value::{Operator, Value};
 #[cycle(expressions)]
 pub fn find(
     scope: &Scope,
-    work: &mut Work,
+    memo: &mut Memo,
     room: usize,
     depth: usize,
     at: usize,
     e: &Expr,
-) -> Result<Found, Halt>
-    requires { AllKnown scope.now.program work.old }
-    ensures known { OnOk result (AllKnown scope.now.program work.new) }
-    ensures grows { OnOk result (Grows work.old.nodes work.new.nodes) }
-    ensures finds { Finds work.new.nodes depth (λ n. levelled scope.now.program n at e.now) result }
+) -> Result<Found, ResolveError>
+    requires { AllKnown scope.now.program memo.old }
+    ensures known { OnOk result (AllKnown scope.now.program memo.new) }
+    ensures grows { OnOk result (Grows memo.old.nodes memo.new.nodes) }
+    ensures finds { Finds memo.new.nodes depth (λ n. levelled scope.now.program n at e.now) result }
 {
     if room == 0 {
-        return Err(Halt::NoMemory);
+        return Err(ResolveError::NoMemory);
     }
     let room = room - 1;
     match e {
-        Expr::Constant(place, value) => find_constant(scope, work, depth, *place, *value),
-        Expr::Name(name) => find_name(scope, work, room, depth, at, name),
-        Expr::Group(_, inner) => find_below(scope, work, room, depth, at, inner.get()),
-        Expr::Next(place, a) => find_next(scope, work, room, depth, at, *place, a.get()),
+        Expr::Constant(place, value) => find_constant(scope, memo, depth, *place, *value),
+        Expr::Name(name) => find_name(scope, memo, room, depth, at, name),
+        Expr::Group(_, inner) => find_below(scope, memo, room, depth, at, inner.get()),
+        Expr::Next(place, a) => find_next(scope, memo, room, depth, at, *place, a.get()),
         Expr::Apply(place, operator, beside, below) => find_apply(
             scope,
-            work,
+            memo,
             room,
             depth,
             at,
@@ -51,7 +51,7 @@ pub fn find(
             below.as_slice(),
         ),
         Expr::Chain(first, links) => {
-            find_chain(scope, work, room, depth, at, first.get(), links.as_slice())
+            find_chain(scope, memo, room, depth, at, first.get(), links.as_slice())
         }
     }
 }
@@ -60,22 +60,22 @@ pub fn find(
 #[cycle(expressions)]
 fn find_below(
     scope: &Scope,
-    work: &mut Work,
+    memo: &mut Memo,
     room: usize,
     depth: usize,
     at: usize,
     e: &Expr,
-) -> Result<Found, Halt>
-    requires { AllKnown scope.now.program work.old }
-    ensures known { OnOk result (AllKnown scope.now.program work.new) }
-    ensures grows { OnOk result (Grows work.old.nodes work.new.nodes) }
-    ensures finds { Finds work.new.nodes depth (λ n. opened (levelled scope.now.program n at e.now)) result }
-    ensures follows { Finds work.new.nodes depth (λ n. opened (followed scope.now.program n at e.now)) result }
+) -> Result<Found, ResolveError>
+    requires { AllKnown scope.now.program memo.old }
+    ensures known { OnOk result (AllKnown scope.now.program memo.new) }
+    ensures grows { OnOk result (Grows memo.old.nodes memo.new.nodes) }
+    ensures finds { Finds memo.new.nodes depth (λ n. opened (levelled scope.now.program n at e.now)) result }
+    ensures follows { Finds memo.new.nodes depth (λ n. opened (followed scope.now.program n at e.now)) result }
 {
     if depth == 0 {
-        return Err(Halt::Stuck);
+        return Err(ResolveError::Stuck);
     }
-    let below = find(scope, work, room, depth - 1, at, e)?;
+    let below = find(scope, memo, room, depth - 1, at, e)?;
     Ok(Found {
         node: below.node,
         height: below.height + 1,
@@ -84,88 +84,88 @@ fn find_below(
 
 fn find_constant(
     _scope: &Scope,
-    work: &mut Work,
+    memo: &mut Memo,
     _depth: usize,
     place: Place,
     value: Value,
-) -> Result<Found, Halt>
-    requires { AllKnown _scope.now.program work.old }
-    ensures known { OnOk result (AllKnown _scope.now.program work.new) }
-    ensures grows { OnOk result (Grows work.old.nodes work.new.nodes) }
-    ensures finds { Finds work.new.nodes _depth (λ n d. Resolved.Constant place value) result }
+) -> Result<Found, ResolveError>
+    requires { AllKnown _scope.now.program memo.old }
+    ensures known { OnOk result (AllKnown _scope.now.program memo.new) }
+    ensures grows { OnOk result (Grows memo.old.nodes memo.new.nodes) }
+    ensures finds { Finds memo.new.nodes _depth (λ n d. Resolved.Constant place value) result }
 {
-    let node = push(work, Node::Constant(place, value))?;
+    let node = push(memo, Node::Constant(place, value))?;
     Ok(Found { node, height: 0 })
 }
 
 fn find_variable(
     _scope: &Scope,
-    work: &mut Work,
+    memo: &mut Memo,
     _depth: usize,
     place: Place,
     n: usize,
-) -> Result<Found, Halt>
-    requires { AllKnown _scope.now.program work.old }
-    ensures known { OnOk result (AllKnown _scope.now.program work.new) }
-    ensures grows { OnOk result (Grows work.old.nodes work.new.nodes) }
-    ensures finds { Finds work.new.nodes _depth (λ names d. Resolved.Slot place n) result }
+) -> Result<Found, ResolveError>
+    requires { AllKnown _scope.now.program memo.old }
+    ensures known { OnOk result (AllKnown _scope.now.program memo.new) }
+    ensures grows { OnOk result (Grows memo.old.nodes memo.new.nodes) }
+    ensures finds { Finds memo.new.nodes _depth (λ names d. Resolved.Slot place n) result }
 {
-    let node = push(work, Node::Slot(place, n))?;
+    let node = push(memo, Node::Slot(place, n))?;
     Ok(Found { node, height: 0 })
 }
 
 // A symbol is a constant. Memory is refused where there are more symbols than a value can tell apart.
 fn find_symbol(
     scope: &Scope,
-    work: &mut Work,
+    memo: &mut Memo,
     depth: usize,
     place: Place,
     n: usize,
-) -> Result<Found, Halt>
-    requires { AllKnown scope.now.program work.old }
-    ensures known { OnOk result (AllKnown scope.now.program work.new) }
-    ensures grows { OnOk result (Grows work.old.nodes work.new.nodes) }
-    ensures finds { Finds work.new.nodes depth (λ names d. Resolved.Constant place (Sym n)) result }
+) -> Result<Found, ResolveError>
+    requires { AllKnown scope.now.program memo.old }
+    ensures known { OnOk result (AllKnown scope.now.program memo.new) }
+    ensures grows { OnOk result (Grows memo.old.nodes memo.new.nodes) }
+    ensures finds { Finds memo.new.nodes depth (λ names d. Resolved.Constant place (Sym n)) result }
 {
     if n > u32::MAX as usize {
-        return Err(Halt::NoMemory);
+        return Err(ResolveError::NoMemory);
     }
-    find_constant(scope, work, depth, place, Value::Sym(n as u32))
+    find_constant(scope, memo, depth, place, Value::Sym(n as u32))
 }
 
 fn find_whole(
     _scope: &Scope,
-    work: &mut Work,
+    memo: &mut Memo,
     _depth: usize,
     place: Place,
     i: usize,
-) -> Result<Found, Halt>
-    requires { AllKnown _scope.now.program work.old }
-    ensures known { OnOk result (AllKnown _scope.now.program work.new) }
-    ensures grows { OnOk result (Grows work.old.nodes work.new.nodes) }
-    ensures finds { Finds work.new.nodes _depth (λ n d. Resolved.Whole place i) result }
+) -> Result<Found, ResolveError>
+    requires { AllKnown _scope.now.program memo.old }
+    ensures known { OnOk result (AllKnown _scope.now.program memo.new) }
+    ensures grows { OnOk result (Grows memo.old.nodes memo.new.nodes) }
+    ensures finds { Finds memo.new.nodes _depth (λ n d. Resolved.Whole place i) result }
 {
-    let node = push(work, Node::Whole(place, i))?;
+    let node = push(memo, Node::Whole(place, i))?;
     Ok(Found { node, height: 0 })
 }
 
 #[cycle(expressions)]
 fn find_next(
     scope: &Scope,
-    work: &mut Work,
+    memo: &mut Memo,
     room: usize,
     depth: usize,
     at: usize,
     place: Place,
     a: &Expr,
-) -> Result<Found, Halt>
-    requires { AllKnown scope.now.program work.old }
-    ensures known { OnOk result (AllKnown scope.now.program work.new) }
-    ensures grows { OnOk result (Grows work.old.nodes work.new.nodes) }
-    ensures finds { Finds work.new.nodes depth (λ n d. Resolved.Next place (opened (levelled scope.now.program n at a.now) d)) result }
+) -> Result<Found, ResolveError>
+    requires { AllKnown scope.now.program memo.old }
+    ensures known { OnOk result (AllKnown scope.now.program memo.new) }
+    ensures grows { OnOk result (Grows memo.old.nodes memo.new.nodes) }
+    ensures finds { Finds memo.new.nodes depth (λ n d. Resolved.Next place (opened (levelled scope.now.program n at a.now) d)) result }
 {
-    let operand = find_below(scope, work, room, depth, at, a)?;
-    let node = push(work, Node::Next(place, operand.node))?;
+    let operand = find_below(scope, memo, room, depth, at, a)?;
+    let node = push(memo, Node::Next(place, operand.node))?;
     Ok(Found {
         node,
         height: operand.height,
@@ -176,7 +176,7 @@ fn find_next(
 #[cycle(expressions)]
 fn find_apply(
     scope: &Scope,
-    work: &mut Work,
+    memo: &mut Memo,
     room: usize,
     depth: usize,
     at: usize,
@@ -184,25 +184,25 @@ fn find_apply(
     operator: Operator,
     beside: &[Expr],
     below: &[Expr],
-) -> Result<Found, Halt>
-    requires { AllKnown scope.now.program work.old }
-    ensures known { OnOk result (AllKnown scope.now.program work.new) }
-    ensures grows { OnOk result (Grows work.old.nodes work.new.nodes) }
-    ensures finds { Finds work.new.nodes depth (λ n d. Resolved.Apply place operator (operands_of (resolved_operands (levelled scope.now.program n at) beside.now below.now d))) result }
+) -> Result<Found, ResolveError>
+    requires { AllKnown scope.now.program memo.old }
+    ensures known { OnOk result (AllKnown scope.now.program memo.new) }
+    ensures grows { OnOk result (Grows memo.old.nodes memo.new.nodes) }
+    ensures finds { Finds memo.new.nodes depth (λ n d. Resolved.Apply place operator (operands_of (resolved_operands (levelled scope.now.program n at) beside.now below.now d))) result }
 {
-    let mut operands = Vec::new(work.alloc);
+    let mut operands = Vec::new(memo.alloc);
     let mut height = 0;
     for e in beside {
-        let same = find(scope, work, room, depth, at, e)?;
+        let same = find(scope, memo, room, depth, at, e)?;
         operands.push(same.node)?;
         height = same.height.max(height);
     }
     for lower in below {
-        let next = find_below(scope, work, room, depth, at, lower)?;
+        let next = find_below(scope, memo, room, depth, at, lower)?;
         operands.push(next.node)?;
         height = next.height.max(height);
     }
-    let node = push_apply(work, place, operator, operands.as_slice())?;
+    let node = push_apply(memo, place, operator, operands.as_slice())?;
     Ok(Found { node, height })
 }
 
@@ -210,23 +210,23 @@ fn find_apply(
 #[cycle(expressions)]
 fn find_chain(
     scope: &Scope,
-    work: &mut Work,
+    memo: &mut Memo,
     room: usize,
     depth: usize,
     at: usize,
     first: &Expr,
     links: &[(Place, Operator, Expr)],
-) -> Result<Found, Halt>
-    requires { AllKnown scope.now.program work.old }
-    ensures known { OnOk result (AllKnown scope.now.program work.new) }
-    ensures grows { OnOk result (Grows work.old.nodes work.new.nodes) }
-    ensures finds { Finds work.new.nodes depth (λ n d. resolved_links (λ (e : Expr). levelled scope.now.program n at e d) (levelled scope.now.program n at first.now d) links.now) result }
+) -> Result<Found, ResolveError>
+    requires { AllKnown scope.now.program memo.old }
+    ensures known { OnOk result (AllKnown scope.now.program memo.new) }
+    ensures grows { OnOk result (Grows memo.old.nodes memo.new.nodes) }
+    ensures finds { Finds memo.new.nodes depth (λ n d. resolved_links (λ (e : Expr). levelled scope.now.program n at e d) (levelled scope.now.program n at first.now d) links.now) result }
 {
-    let start = find(scope, work, room, depth, at, first)?;
+    let start = find(scope, memo, room, depth, at, first)?;
     let mut left = start;
     for link in links {
-        let right = find(scope, work, room, depth, at, &link.2)?;
-        let node = push(work, Node::Link(link.0, link.1, left.node, right.node))?;
+        let right = find(scope, memo, room, depth, at, &link.2)?;
+        let node = push(memo, Node::Link(link.0, link.1, left.node, right.node))?;
         let height = left.height.max(right.height);
         left = Found { node, height };
     }
@@ -237,22 +237,22 @@ fn find_chain(
 #[cycle(expressions)]
 fn find_name(
     scope: &Scope,
-    work: &mut Work,
+    memo: &mut Memo,
     room: usize,
     depth: usize,
     at: usize,
     name: &Name,
-) -> Result<Found, Halt>
-    requires { AllKnown scope.now.program work.old }
-    ensures known { OnOk result (AllKnown scope.now.program work.new) }
-    ensures grows { OnOk result (Grows work.old.nodes work.new.nodes) }
-    ensures finds { Finds work.new.nodes depth (λ n. lowered (levels_before scope.now.program at name.now) (resolved_name scope.now.program (followed scope.now.program n) at name.now)) result }
+) -> Result<Found, ResolveError>
+    requires { AllKnown scope.now.program memo.old }
+    ensures known { OnOk result (AllKnown scope.now.program memo.new) }
+    ensures grows { OnOk result (Grows memo.old.nodes memo.new.nodes) }
+    ensures finds { Finds memo.new.nodes depth (λ n. lowered (levels_before scope.now.program at name.now) (resolved_name scope.now.program (followed scope.now.program n) at name.now)) result }
 {
     let levels = levels_before(scope, at, name);
     if depth < levels {
-        return Err(Halt::Stuck);
+        return Err(ResolveError::Stuck);
     }
-    let found = find_target(scope, work, room, depth - levels, at, name)?;
+    let found = find_target(scope, memo, room, depth - levels, at, name)?;
     Ok(Found {
         node: found.node,
         height: found.height + levels,
@@ -263,21 +263,21 @@ fn find_name(
 #[cycle(expressions)]
 fn find_target(
     scope: &Scope,
-    work: &mut Work,
+    memo: &mut Memo,
     room: usize,
     depth: usize,
     at: usize,
     name: &Name,
-) -> Result<Found, Halt>
-    requires { AllKnown scope.now.program work.old }
-    ensures known { OnOk result (AllKnown scope.now.program work.new) }
-    ensures grows { OnOk result (Grows work.old.nodes work.new.nodes) }
-    ensures finds { Finds work.new.nodes depth (λ n. resolved_name scope.now.program (followed scope.now.program n) at name.now) result }
+) -> Result<Found, ResolveError>
+    requires { AllKnown scope.now.program memo.old }
+    ensures known { OnOk result (AllKnown scope.now.program memo.new) }
+    ensures grows { OnOk result (Grows memo.old.nodes memo.new.nodes) }
+    ensures finds { Finds memo.new.nodes depth (λ n. resolved_name scope.now.program (followed scope.now.program n) at name.now) result }
 {
     let place = place_of_start(&name.start);
     match name_target(scope, at, name) {
-        NameTarget::Variable(n) => find_variable(scope, work, depth, place, n),
-        NameTarget::Whole(i) => find_whole(scope, work, depth, place, i),
+        NameTarget::Variable(n) => find_variable(scope, memo, depth, place, n),
+        NameTarget::Whole(i) => find_whole(scope, memo, depth, place, i),
         NameTarget::Given {
             at: of,
             parameter,
@@ -291,7 +291,7 @@ fn find_target(
             };
             let naming = Naming::Given;
             find_named(
-                scope, work, room, depth, place, naming, shared, owner, argument,
+                scope, memo, room, depth, place, naming, shared, owner, argument,
             )
         }
         NameTarget::Defined {
@@ -305,10 +305,10 @@ fn find_target(
                 number: definition,
             };
             let naming = Naming::Defined;
-            find_named(scope, work, room, depth, place, naming, shared, of, body)
+            find_named(scope, memo, room, depth, place, naming, shared, of, body)
         }
-        NameTarget::Symbol(n) => find_symbol(scope, work, depth, place, n),
-        NameTarget::Unknown | NameTarget::TooFar => Err(Halt::Stuck),
+        NameTarget::Symbol(n) => find_symbol(scope, memo, depth, place, n),
+        NameTarget::Unknown | NameTarget::TooFar => Err(ResolveError::Stuck),
     }
 }
 
@@ -325,7 +325,7 @@ pub fn place_of_start(start: &Start) -> Place
 #[cycle(expressions)]
 fn find_named(
     scope: &Scope,
-    work: &mut Work,
+    memo: &mut Memo,
     room: usize,
     depth: usize,
     place: Place,
@@ -333,15 +333,15 @@ fn find_named(
     shared: Shared,
     at: usize,
     e: &Expr,
-) -> Result<Found, Halt>
-    requires known { AllKnown scope.now.program work.old }
+) -> Result<Found, ResolveError>
+    requires known { AllKnown scope.now.program memo.old }
     requires leads { IsShared scope.now.program shared at e.now }
-    ensures known { OnOk result (AllKnown scope.now.program work.new) }
-    ensures grows { OnOk result (Grows work.old.nodes work.new.nodes) }
-    ensures finds { Finds work.new.nodes depth (λ n d. Resolved.Named place naming (opened (followed scope.now.program n at e.now) d)) result }
+    ensures known { OnOk result (AllKnown scope.now.program memo.new) }
+    ensures grows { OnOk result (Grows memo.old.nodes memo.new.nodes) }
+    ensures finds { Finds memo.new.nodes depth (λ n d. Resolved.Named place naming (opened (followed scope.now.program n at e.now) d)) result }
 {
-    let named = find_shared(scope, work, room, depth, shared, at, e)?;
-    let node = push(work, Node::Named(place, naming, named.node))?;
+    let named = find_shared(scope, memo, room, depth, shared, at, e)?;
+    let node = push(memo, Node::Named(place, naming, named.node))?;
     Ok(Found {
         node,
         height: named.height,
@@ -352,27 +352,27 @@ fn find_named(
 #[cycle(expressions)]
 pub fn find_shared(
     scope: &Scope,
-    work: &mut Work,
+    memo: &mut Memo,
     room: usize,
     depth: usize,
     shared: Shared,
     at: usize,
     e: &Expr,
-) -> Result<Found, Halt>
-    requires known { AllKnown scope.now.program work.old }
+) -> Result<Found, ResolveError>
+    requires known { AllKnown scope.now.program memo.old }
     requires leads { IsShared scope.now.program shared at e.now }
-    ensures known { OnOk result (AllKnown scope.now.program work.new) }
-    ensures grows { OnOk result (Grows work.old.nodes work.new.nodes) }
-    ensures finds { Finds work.new.nodes depth (λ n. opened (followed scope.now.program n at e.now)) result }
-    ensures kept { OnOk result (IsKept work.new shared) }
+    ensures known { OnOk result (AllKnown scope.now.program memo.new) }
+    ensures grows { OnOk result (Grows memo.old.nodes memo.new.nodes) }
+    ensures finds { Finds memo.new.nodes depth (λ n. opened (followed scope.now.program n at e.now)) result }
+    ensures kept { OnOk result (IsKept memo.new shared) }
 {
-    if let Some(found) = recall(work, shared) {
+    if let Some(found) = get(memo, shared) {
         if found.height <= depth {
             return Ok(found);
         }
-        return Err(Halt::Stuck);
+        return Err(ResolveError::Stuck);
     }
-    let found = find_below(scope, work, room, depth, at, e)?;
-    keep(work, shared, found)?;
+    let found = find_below(scope, memo, room, depth, at, e)?;
+    insert(memo, shared, found)?;
     Ok(found)
 }

@@ -7,11 +7,11 @@ mod expressions;
 mod first_places;
 mod item;
 mod listing;
+mod memo;
 mod node;
 mod pending;
 mod resolve;
 mod tables;
-mod work;
 
 pub use first_places::first_place;
 pub use item::{Item, ItemKind};

@@ -9,8 +9,8 @@ ghost use Rattle.smv_resolve.specs.Listing.{FindsRoot, AllStand, Adds};
 
 use crate::expressions::find;
 use crate::first_places::first_place;
+use crate::memo::{Memo, ResolveError};
 use crate::pending::find_named;
-use crate::work::{Halt, Work};
 use crate::{Item, ItemKind, ResolveStop};
 use smv_scope::{Instance, Scope};
 use smv_tree::{Assignment, Constraint, Expr, Place, Section, Specification};
@@ -26,138 +26,138 @@ const ROOM: usize = 4 * (LEVELS + 1);
 /// The node of an expression. One that is stuck is told at this place.
 pub fn find_root(
     scope: &Scope,
-    work: &mut Work,
+    memo: &mut Memo,
     at: usize,
     e: &Expr,
     place: Place,
 ) -> Result<usize, ResolveStop>
-    requires { AllKnown scope.now.program work.old }
-    ensures known { OnOk result (AllKnown scope.now.program work.new) }
-    ensures grows { OnOk result (Grows work.old.nodes work.new.nodes) }
-    ensures finds { FindsRoot scope.now.program work.new.nodes at e.now place result }
+    requires { AllKnown scope.now.program memo.old }
+    ensures known { OnOk result (AllKnown scope.now.program memo.new) }
+    ensures grows { OnOk result (Grows memo.old.nodes memo.new.nodes) }
+    ensures finds { FindsRoot scope.now.program memo.new.nodes at e.now place result }
 {
-    find_named(scope, work, at, e)?;
-    match find(scope, work, ROOM, LEVELS, at, e) {
+    find_named(scope, memo, at, e)?;
+    match find(scope, memo, ROOM, LEVELS, at, e) {
         Ok(found) => Ok(found.node),
-        Err(Halt::Stuck) => Err(ResolveStop::Stuck(place)),
-        Err(Halt::NoMemory) => Err(ResolveStop::NoMemory),
+        Err(ResolveError::Stuck) => Err(ResolveStop::Stuck(place)),
+        Err(ResolveError::NoMemory) => Err(ResolveStop::NoMemory),
     }
 }
 
 /// The items of instances, the first of which has number 0.
 pub fn add_instances(
     scope: &Scope,
-    work: &mut Work,
+    memo: &mut Memo,
     items: &mut Items<Item>,
     tree: &[Instance],
 ) -> Result<(), ResolveStop>
-    requires known { AllKnown scope.now.program work.old }
-    requires stand { AllStand work.old.nodes items.old }
-    ensures known { OnOk result (AllKnown scope.now.program work.new) }
-    ensures stand { OnOk result (AllStand work.new.nodes items.new) }
-    ensures adds { Adds work.old.nodes work.new.nodes items.old items.new (items_below scope.now.program 0 tree.now) result }
+    requires known { AllKnown scope.now.program memo.old }
+    requires stand { AllStand memo.old.nodes items.old }
+    ensures known { OnOk result (AllKnown scope.now.program memo.new) }
+    ensures stand { OnOk result (AllStand memo.new.nodes items.new) }
+    ensures adds { Adds memo.old.nodes memo.new.nodes items.old items.new (items_below scope.now.program 0 tree.now) result }
 {
     for (at, instance) in tree.iter().enumerate() {
-        add_instance(scope, work, items, at, instance)?;
+        add_instance(scope, memo, items, at, instance)?;
     }
     Ok(())
 }
 
 fn add_instance(
     scope: &Scope,
-    work: &mut Work,
+    memo: &mut Memo,
     items: &mut Items<Item>,
     at: usize,
     instance: &Instance,
 ) -> Result<(), ResolveStop>
-    requires known { AllKnown scope.now.program work.old }
-    requires stand { AllStand work.old.nodes items.old }
-    ensures known { OnOk result (AllKnown scope.now.program work.new) }
-    ensures stand { OnOk result (AllStand work.new.nodes items.new) }
-    ensures adds { Adds work.old.nodes work.new.nodes items.old items.new (flat_map (items_in scope.now.program at) (sections_of scope.now.program instance.now.of_module)) result }
+    requires known { AllKnown scope.now.program memo.old }
+    requires stand { AllStand memo.old.nodes items.old }
+    ensures known { OnOk result (AllKnown scope.now.program memo.new) }
+    ensures stand { OnOk result (AllStand memo.new.nodes items.new) }
+    ensures adds { Adds memo.old.nodes memo.new.nodes items.old items.new (flat_map (items_in scope.now.program at) (sections_of scope.now.program instance.now.of_module)) result }
 {
     match scope.program.modules.get(instance.of_module) {
-        None => add_sections(scope, work, items, at, &[]),
-        Some(module) => add_sections(scope, work, items, at, module.sections.as_slice()),
+        None => add_sections(scope, memo, items, at, &[]),
+        Some(module) => add_sections(scope, memo, items, at, module.sections.as_slice()),
     }
 }
 
 fn add_sections(
     scope: &Scope,
-    work: &mut Work,
+    memo: &mut Memo,
     items: &mut Items<Item>,
     at: usize,
     sections: &[Section],
 ) -> Result<(), ResolveStop>
-    requires known { AllKnown scope.now.program work.old }
-    requires stand { AllStand work.old.nodes items.old }
-    ensures known { OnOk result (AllKnown scope.now.program work.new) }
-    ensures stand { OnOk result (AllStand work.new.nodes items.new) }
-    ensures adds { Adds work.old.nodes work.new.nodes items.old items.new (flat_map (items_in scope.now.program at) sections.now) result }
+    requires known { AllKnown scope.now.program memo.old }
+    requires stand { AllStand memo.old.nodes items.old }
+    ensures known { OnOk result (AllKnown scope.now.program memo.new) }
+    ensures stand { OnOk result (AllStand memo.new.nodes items.new) }
+    ensures adds { Adds memo.old.nodes memo.new.nodes items.old items.new (flat_map (items_in scope.now.program at) sections.now) result }
 {
     for section in sections {
-        add_section(scope, work, items, at, section)?;
+        add_section(scope, memo, items, at, section)?;
     }
     Ok(())
 }
 
 fn add_section(
     scope: &Scope,
-    work: &mut Work,
+    memo: &mut Memo,
     items: &mut Items<Item>,
     at: usize,
     section: &Section,
 ) -> Result<(), ResolveStop>
-    requires known { AllKnown scope.now.program work.old }
-    requires stand { AllStand work.old.nodes items.old }
-    ensures known { OnOk result (AllKnown scope.now.program work.new) }
-    ensures stand { OnOk result (AllStand work.new.nodes items.new) }
-    ensures adds { Adds work.old.nodes work.new.nodes items.old items.new (items_in scope.now.program at section.now) result }
+    requires known { AllKnown scope.now.program memo.old }
+    requires stand { AllStand memo.old.nodes items.old }
+    ensures known { OnOk result (AllKnown scope.now.program memo.new) }
+    ensures stand { OnOk result (AllStand memo.new.nodes items.new) }
+    ensures adds { Adds memo.old.nodes memo.new.nodes items.old items.new (items_in scope.now.program at section.now) result }
 {
     match section {
         Section::Variables(..) | Section::Definitions(_) | Section::Constants(_) => {
-            add_assignments(scope, work, items, at, &[])
+            add_assignments(scope, memo, items, at, &[])
         }
-        Section::Assignments(list) => add_assignments(scope, work, items, at, list.as_slice()),
-        Section::Constraint(c) => add_constraint(scope, work, items, at, c),
-        Section::Specification(s) => add_specification(scope, work, items, at, s),
+        Section::Assignments(list) => add_assignments(scope, memo, items, at, list.as_slice()),
+        Section::Constraint(c) => add_constraint(scope, memo, items, at, c),
+        Section::Specification(s) => add_specification(scope, memo, items, at, s),
     }
 }
 
 fn add_assignments(
     scope: &Scope,
-    work: &mut Work,
+    memo: &mut Memo,
     items: &mut Items<Item>,
     at: usize,
     assignments: &[Assignment],
 ) -> Result<(), ResolveStop>
-    requires known { AllKnown scope.now.program work.old }
-    requires stand { AllStand work.old.nodes items.old }
-    ensures known { OnOk result (AllKnown scope.now.program work.new) }
-    ensures stand { OnOk result (AllStand work.new.nodes items.new) }
-    ensures adds { Adds work.old.nodes work.new.nodes items.old items.new (map (resolved_assignment scope.now.program at) assignments.now) result }
+    requires known { AllKnown scope.now.program memo.old }
+    requires stand { AllStand memo.old.nodes items.old }
+    ensures known { OnOk result (AllKnown scope.now.program memo.new) }
+    ensures stand { OnOk result (AllStand memo.new.nodes items.new) }
+    ensures adds { Adds memo.old.nodes memo.new.nodes items.old items.new (map (resolved_assignment scope.now.program at) assignments.now) result }
 {
     for assignment in assignments {
-        add_assignment(scope, work, items, at, assignment)?;
+        add_assignment(scope, memo, items, at, assignment)?;
     }
     Ok(())
 }
 
 fn add_assignment(
     scope: &Scope,
-    work: &mut Work,
+    memo: &mut Memo,
     items: &mut Items<Item>,
     at: usize,
     a: &Assignment,
 ) -> Result<(), ResolveStop>
-    requires known { AllKnown scope.now.program work.old }
-    requires stand { AllStand work.old.nodes items.old }
-    ensures known { OnOk result (AllKnown scope.now.program work.new) }
-    ensures stand { OnOk result (AllStand work.new.nodes items.new) }
-    ensures adds { Adds work.old.nodes work.new.nodes items.old items.new (resolved_assignment scope.now.program at a.now ∷ []) result }
+    requires known { AllKnown scope.now.program memo.old }
+    requires stand { AllStand memo.old.nodes items.old }
+    ensures known { OnOk result (AllKnown scope.now.program memo.new) }
+    ensures stand { OnOk result (AllStand memo.new.nodes items.new) }
+    ensures adds { Adds memo.old.nodes memo.new.nodes items.old items.new (resolved_assignment scope.now.program at a.now ∷ []) result }
 {
-    let target = find_root(scope, work, at, &a.target, a.place)?;
-    let value = find_root(scope, work, at, &a.value, a.place)?;
+    let target = find_root(scope, memo, at, &a.target, a.place)?;
+    let value = find_root(scope, memo, at, &a.value, a.place)?;
     let item = Item {
         at,
         kind: ItemKind::Assignment(a.kind),
@@ -172,18 +172,18 @@ fn add_assignment(
 
 fn add_constraint(
     scope: &Scope,
-    work: &mut Work,
+    memo: &mut Memo,
     items: &mut Items<Item>,
     at: usize,
     c: &Constraint,
 ) -> Result<(), ResolveStop>
-    requires known { AllKnown scope.now.program work.old }
-    requires stand { AllStand work.old.nodes items.old }
-    ensures known { OnOk result (AllKnown scope.now.program work.new) }
-    ensures stand { OnOk result (AllStand work.new.nodes items.new) }
-    ensures adds { Adds work.old.nodes work.new.nodes items.old items.new (resolved_constraint scope.now.program at c.now ∷ []) result }
+    requires known { AllKnown scope.now.program memo.old }
+    requires stand { AllStand memo.old.nodes items.old }
+    ensures known { OnOk result (AllKnown scope.now.program memo.new) }
+    ensures stand { OnOk result (AllStand memo.new.nodes items.new) }
+    ensures adds { Adds memo.old.nodes memo.new.nodes items.old items.new (resolved_constraint scope.now.program at c.now ∷ []) result }
 {
-    let value = find_root(scope, work, at, &c.formula, c.place)?;
+    let value = find_root(scope, memo, at, &c.formula, c.place)?;
     let item = Item {
         at,
         kind: ItemKind::Constraint(c.kind),
@@ -198,18 +198,18 @@ fn add_constraint(
 
 fn add_specification(
     scope: &Scope,
-    work: &mut Work,
+    memo: &mut Memo,
     items: &mut Items<Item>,
     at: usize,
     s: &Specification,
 ) -> Result<(), ResolveStop>
-    requires known { AllKnown scope.now.program work.old }
-    requires stand { AllStand work.old.nodes items.old }
-    ensures known { OnOk result (AllKnown scope.now.program work.new) }
-    ensures stand { OnOk result (AllStand work.new.nodes items.new) }
-    ensures adds { Adds work.old.nodes work.new.nodes items.old items.new (resolved_specification scope.now.program at s.now ∷ []) result }
+    requires known { AllKnown scope.now.program memo.old }
+    requires stand { AllStand memo.old.nodes items.old }
+    ensures known { OnOk result (AllKnown scope.now.program memo.new) }
+    ensures stand { OnOk result (AllStand memo.new.nodes items.new) }
+    ensures adds { Adds memo.old.nodes memo.new.nodes items.old items.new (resolved_specification scope.now.program at s.now ∷ []) result }
 {
-    let value = find_root(scope, work, at, &s.formula, s.place)?;
+    let value = find_root(scope, memo, at, &s.formula, s.place)?;
     let item = Item {
         at,
         kind: ItemKind::Specification(s.kind),

@@ -7,7 +7,7 @@ ghost use Rattle.smv_resolve.specs.Finding.{Grows, AllKnown, IsKept, IsShared};
 ghost use Rattle.smv_resolve.specs.Pending.{AllLead, Leads};
 
 use crate::expressions::find_shared;
-use crate::work::{Work, begin};
+use crate::memo::{Memo, begin};
 use smv_scope::{NameTarget, Scope, Shared, name_target};
 use smv_tree::{Expr, Name, names_in};
 use sqlite_items::Items;
@@ -32,13 +32,13 @@ pub struct Pending<'a> {
 
 /// Finds what an expression names, and what is named there in turn, each after those that it names. Where a name leads nowhere,
 /// too far or to itself, some may be left.
-pub fn find_named(scope: &Scope, work: &mut Work, at: usize, e: &Expr) -> Result<(), AllocError>
-    requires { AllKnown scope.now.program work.old }
-    ensures known { OnOk result (AllKnown scope.now.program work.new) }
-    ensures grows { OnOk result (Grows work.old.nodes work.new.nodes) }
+pub fn find_named(scope: &Scope, memo: &mut Memo, at: usize, e: &Expr) -> Result<(), AllocError>
+    requires { AllKnown scope.now.program memo.old }
+    ensures known { OnOk result (AllKnown scope.now.program memo.new) }
+    ensures grows { OnOk result (Grows memo.old.nodes memo.new.nodes) }
 {
-    let mut pending = Items::new(work.alloc);
-    let mut goes_on = push_names(scope, work, &mut pending, at, e)?;
+    let mut pending = Items::new(memo.alloc);
+    let mut goes_on = push_names(scope, memo, &mut pending, at, e)?;
     'pending: for _ in 0..u64::MAX {
         if !goes_on {
             return Ok(());
@@ -46,7 +46,7 @@ pub fn find_named(scope: &Scope, work: &mut Work, at: usize, e: &Expr) -> Result
         let Some(next) = pending.pop() else {
             return Ok(());
         };
-        goes_on = take_up(scope, work, &mut pending, next)?;
+        goes_on = take_up(scope, memo, &mut pending, next)?;
     }
     Ok(())
 }
@@ -54,41 +54,41 @@ pub fn find_named(scope: &Scope, work: &mut Work, at: usize, e: &Expr) -> Result
 // Finds what is next, or puts on the list what it names. The answer is whether there is more to do.
 fn take_up<'a>(
     scope: &'a Scope,
-    work: &mut Work,
+    memo: &mut Memo,
     pending: &mut Items<Pending<'a>>,
     next: Pending<'a>,
 ) -> Result<bool, AllocError>
-    requires known { AllKnown scope.now.program work.old }
+    requires known { AllKnown scope.now.program memo.old }
     requires lead { AllLead scope.now.program pending.old }
     requires leads { Leads scope.now.program next }
-    ensures known { OnOk result (AllKnown scope.now.program work.new) }
-    ensures grows { OnOk result (Grows work.old.nodes work.new.nodes) }
+    ensures known { OnOk result (AllKnown scope.now.program memo.new) }
+    ensures grows { OnOk result (Grows memo.old.nodes memo.new.nodes) }
     ensures lead { OnOk result (AllLead scope.now.program pending.new) }
 {
     if next.is_begun {
-        return find_next(scope, work, next);
+        return find_next(scope, memo, next);
     }
-    if work.known.contains_key(&next.shared) {
+    if memo.known.contains_key(&next.shared) {
         return Ok(true);
     }
-    begin(work, next.shared)?;
+    begin(memo, next.shared)?;
     pending.push(Pending {
         is_begun: true,
         ..next
     })?;
-    let goes_on = push_names(scope, work, pending, next.at, next.e)?;
+    let goes_on = push_names(scope, memo, pending, next.at, next.e)?;
     Ok(goes_on)
 }
 
 // All that it names is known, and then it is.
-fn find_next(scope: &Scope, work: &mut Work, next: Pending) -> Result<bool, AllocError>
-    requires known { AllKnown scope.now.program work.old }
+fn find_next(scope: &Scope, memo: &mut Memo, next: Pending) -> Result<bool, AllocError>
+    requires known { AllKnown scope.now.program memo.old }
     requires leads { Leads scope.now.program next }
-    ensures known { OnOk result (AllKnown scope.now.program work.new) }
-    ensures grows { OnOk result (Grows work.old.nodes work.new.nodes) }
-    ensures kept { OnOk result (IsKept work.new next.entry.shared) }
+    ensures known { OnOk result (AllKnown scope.now.program memo.new) }
+    ensures grows { OnOk result (Grows memo.old.nodes memo.new.nodes) }
+    ensures kept { OnOk result (IsKept memo.new next.entry.shared) }
 {
-    match find_shared(scope, work, ROOM, ANY_DEPTH, next.shared, next.at, next.e) {
+    match find_shared(scope, memo, ROOM, ANY_DEPTH, next.shared, next.at, next.e) {
         Ok(_) => Ok(true),
         Err(_) => Err(AllocError),
     }
@@ -98,7 +98,7 @@ fn find_next(scope: &Scope, work: &mut Work, next: Pending) -> Result<bool, Allo
 // somewhere, and to nothing that was begun.
 fn push_names<'a>(
     scope: &'a Scope,
-    work: &Work,
+    memo: &Memo,
     pending: &mut Items<Pending<'a>>,
     at: usize,
     e: &'a Expr,
@@ -106,9 +106,9 @@ fn push_names<'a>(
     requires { AllLead scope.now.program pending.old }
     ensures { OnOk result (AllLead scope.now.program pending.new) }
 {
-    let names = names_in(work.alloc, e)?;
+    let names = names_in(memo.alloc, e)?;
     for name in names.as_slice() {
-        if !push_name(scope, work, pending, at, name)? {
+        if !push_name(scope, memo, pending, at, name)? {
             return Ok(false);
         }
     }
@@ -117,7 +117,7 @@ fn push_names<'a>(
 
 fn push_name<'a>(
     scope: &'a Scope,
-    work: &Work,
+    memo: &Memo,
     pending: &mut Items<Pending<'a>>,
     at: usize,
     name: &Name,
@@ -140,7 +140,7 @@ fn push_name<'a>(
                 at: of,
                 number: parameter,
             };
-            push_pending(work, pending, shared, owner, argument)
+            push_pending(memo, pending, shared, owner, argument)
         }
         NameTarget::Defined {
             at: of,
@@ -152,7 +152,7 @@ fn push_name<'a>(
                 at: of,
                 number: definition,
             };
-            push_pending(work, pending, shared, of, body)
+            push_pending(memo, pending, shared, of, body)
         }
         NameTarget::Unknown => Ok(false),
         NameTarget::TooFar => Ok(false),
@@ -160,7 +160,7 @@ fn push_name<'a>(
 }
 
 fn push_pending<'a>(
-    work: &Work,
+    memo: &Memo,
     pending: &mut Items<Pending<'a>>,
     shared: Shared,
     at: usize,
@@ -168,10 +168,10 @@ fn push_pending<'a>(
 ) -> Result<bool, AllocError>
     ensures { OnOk result ((p : Program) → AllLead p pending.old → IsShared p shared at e.now → AllLead p pending.new) }
 {
-    if work.known.contains_key(&shared) {
+    if memo.known.contains_key(&shared) {
         return Ok(true);
     }
-    if work.begun.contains(&shared) {
+    if memo.begun.contains(&shared) {
         return Ok(false);
     }
     pending.push(Pending {

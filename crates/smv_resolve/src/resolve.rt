@@ -6,7 +6,7 @@ ghost use Rattle.smv_resolve.specs.declared.resolve.ResolveStop.TheVariants.{NoM
 
 use crate::first_places::first_place;
 use crate::listing::{add_instances, find_root};
-use crate::work::no_work;
+use crate::memo::empty_memo;
 use crate::{Item, Node};
 use smv_scope::Scope;
 use smv_tree::{Expr, Place};
@@ -50,11 +50,11 @@ impl From<AllocError> for ResolveStop {
 pub fn resolve_items(alloc: Global, scope: &Scope) -> Result<Resolution, ResolveStop>
     ensures { ResolvesItems scope.now.program result }
 {
-    let mut work = no_work(alloc);
+    let mut memo = empty_memo(alloc);
     let mut items = Items::new(alloc);
-    add_instances(scope, &mut work, &mut items, scope.tree.as_slice())?;
+    add_instances(scope, &mut memo, &mut items, scope.tree.as_slice())?;
     Ok(Resolution {
-        nodes: work.nodes,
+        nodes: memo.nodes,
         items,
     })
 }
@@ -68,10 +68,10 @@ pub fn resolve_expression(
 ) -> Result<Single, ResolveStop>
     ensures { ResolvesOne scope.now.program at e.now result }
 {
-    let mut work = no_work(alloc);
-    let root = find_root(scope, &mut work, at, e, first_place(e))?;
+    let mut memo = empty_memo(alloc);
+    let root = find_root(scope, &mut memo, at, e, first_place(e))?;
     Ok(Single {
-        nodes: work.nodes,
+        nodes: memo.nodes,
         root,
     })
 }

@@ -2,15 +2,15 @@
 //! 2.3.1, Variable Declarations). The definitions are in `specs/`.
 #![tactic(auto)]
 
-mod laws;
 mod names;
 mod sizes;
 mod slot;
 mod slots;
+mod slots_and_types;
 mod types;
 
-pub use laws::{names_lead_to_slots, slots_have_types, types_are_types};
 pub use names::slot_name;
 pub use slot::{Holder, Slot};
 pub use slots::slots_of;
+pub use slots_and_types::{names_lead_to_slots, slots_have_types, types_are_types};
 pub use types::types_of;

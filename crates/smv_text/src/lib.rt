@@ -3,15 +3,15 @@
 
 mod comments;
 mod front;
-mod laws;
 mod lexeme;
 mod numbers;
+mod one_tokenization;
 mod runs;
 mod texts;
 mod words;
 mod written;
 
-pub use laws::are_tokens_once;
 pub use lexeme::Lexeme;
+pub use one_tokenization::are_tokens_once;
 pub use texts::tokens;
 pub use written::word_written;

@@ -6,11 +6,11 @@
 mod items;
 mod judged;
 mod kinds;
-mod law;
 mod limits;
 mod notes;
+mod one_judgement;
 mod order;
 mod told;
 
-pub use law::is_judged_once;
+pub use one_judgement::is_judged_once;
 pub use order::check;

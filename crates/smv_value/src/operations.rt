@@ -68,7 +68,7 @@ pub fn apply(operator: Operator, operands: &[Value]) -> Result<Option<Value>, Fa
             [a, b] => Ok(least(*a, *b)),
             _ => Ok(None),
         },
-        Operator::Count => Ok(counted(operands)),
+        Operator::Count => Ok(number_of_true(operands)),
         Operator::Join => match operands {
             [a, b] => Ok(joined(*a, *b)),
             _ => Ok(None),
@@ -137,7 +137,7 @@ fn all_values(operands: &[Value]) -> bool
 }
 
 // `count`
-fn counted(operands: &[Value]) -> Option<Value>
+fn number_of_true(operands: &[Value]) -> Option<Value>
     ensures { result ≡ integer (pos (count_by is_true operands.now)) }
 {
     let count = operands.iter().filter(|v| is_true(**v)).count();

@@ -6,7 +6,7 @@ ghost use Rattle.cert_core.specs.declared.form.Form.TheVariants.{Plain};
 ghost use Rattle.cert_core.specs.Blocks.{LogFits};
 
 use cert_check::{Verdict, check};
-use cert_core::laws::what_is_certified_is_invariant;
+use cert_core::inductive_invariants::what_is_certified_is_invariant;
 use cert_core::{Certificate, Form, MAX_VARS, Part};
 use cert_make::{Made, make};
 use clause_core::{Clauses, Lit, System};

@@ -3,8 +3,8 @@
 #![tactic(auto)]
 
 pub mod judging;
-pub mod laws;
 mod parts;
+pub mod soundness_of_blocks;
 
 pub use bit_clauses::Decided;
 pub use judging::{Verdict, judge};

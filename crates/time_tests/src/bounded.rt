@@ -1,8 +1,8 @@
 //! Tests of operators with bounds: their truth on a word, and how far they look back.
 
 use ltl_meaning::formula::Formula;
-use ltl_meaning::laws::unfoldings;
 use ltl_meaning::node::{BoundedOperator, Node, Window};
+use ltl_meaning::temporal_equivalences::unfoldings;
 use ltl_meaning::word::{AtomSet, Word};
 use ltl_table::table::Table;
 use sqlite_items::Items;

@@ -1,8 +1,8 @@
 //! Tests of how deep past operators nest in a formula, and of the atoms of a word.
 
 use crate::tables::{chain, formula, node};
-use ltl_meaning::laws::{dualities, excluded_middle, expansions};
 use ltl_meaning::node::BinaryOperator;
+use ltl_meaning::temporal_equivalences::{dualities, excluded_middle, expansions};
 use ltl_meaning::word::{AtomSet, Word};
 use sqlite_items::Items;
 use std::alloc::{AllocError, Global};

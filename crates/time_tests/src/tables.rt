@@ -50,7 +50,7 @@ fn leaf_of(letter: u8) -> Option<Node> {
 }
 
 // Two operands and the operator between them, as a chain of one link.
-fn linked(
+fn one_link_chain(
     alloc: Global,
     left: Node,
     operator: BinaryOperator,
@@ -73,7 +73,7 @@ fn joined(
                 return Ok(Node::implies(alloc, left, right)?);
             }
             let operator = binary_of(letter).ok_or("an unknown letter")?;
-            linked(alloc, left, operator, right)
+            one_link_chain(alloc, left, operator, right)
         }
         _ => Err("an operand is missing".into()),
     }

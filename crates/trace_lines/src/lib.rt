@@ -2,11 +2,11 @@
 #![tactic(auto)]
 
 mod entry;
-mod laws;
+mod exact_lines;
 mod reading;
 mod trace;
 
 pub use entry::{Binding, Entry, entry_read, is_trace_line, number_of, pieces};
-pub use laws::is_said_exactly;
+pub use exact_lines::is_said_exactly;
 pub use reading::{ReadStop, Reading, head_row, report_read};
 pub use trace::Trace;

@@ -2,12 +2,12 @@
 //! `specs/`.
 #![tactic(auto)]
 
-mod laws;
 mod reading;
+mod reading_of_values;
 mod symbols;
 mod telling;
 
-pub use laws::what_is_read_of_a_value;
 pub use reading::value_read;
+pub use reading_of_values::what_is_read_of_a_value;
 pub use symbols::Symbols;
 pub use telling::told;

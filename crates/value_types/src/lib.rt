@@ -3,12 +3,12 @@
 #![tactic(auto)]
 
 mod codes;
+mod codes_and_intervals;
 mod interval;
-mod laws;
 mod shown;
 mod value_type;
 
+pub use codes_and_intervals::{what_a_code_is, what_an_interval_holds};
 pub use interval::Interval;
-pub use laws::{what_a_code_is, what_an_interval_holds};
 pub use shown::ShownType;
 pub use value_type::{Element, ValueType};

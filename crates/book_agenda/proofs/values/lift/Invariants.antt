@@ -1,6 +1,6 @@
 use Rattle.std.proofs.Common.{◌≡◌, ℕ, ◌<◌, ◌≤◌, ◌*◌, length}
 use Rattle.clause_core.specs.Assignments.{assignment_of}
-use Rattle.frame_core.specs.Law.{lemma_at, obligation_at}
+use Rattle.frame_core.specs.FrameLaw.{lemma_at, obligation_at}
 use Rattle.book_agenda.specs.Values.{IsLifted, AreFloors, blocked_at}
 use Rattle.book_agenda.proofs.values.lift.Given as goal
 

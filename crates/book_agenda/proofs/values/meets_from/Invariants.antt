@@ -1,6 +1,6 @@
 use Rattle.std.proofs.Common.{◌<◌, ◌≤◌, ℕ}
 use Rattle.clause_core.specs.Assignments.{ClauseTrue, assignment_of}
-use Rattle.frame_core.specs.Law.{lemma_at}
+use Rattle.frame_core.specs.FrameLaw.{lemma_at}
 use Rattle.book_agenda.proofs.values.meets_from.Given as goal
 
 abbrev pub invariant-loop-n : goal.invariant-loop-n

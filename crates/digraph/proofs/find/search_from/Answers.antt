@@ -1,9 +1,9 @@
--- A search begins at a new node; an edge back to the path closes a round.
+-- A search begins at a new node; an edge back to the path closes a cycle.
 use Rattle.std.proofs.Common.{◌≡◌, ◌∙◌, ap, sym, subst, ℕ, List, ◌++◌, ◌∷◌, []}
 use Rattle.digraph.specs.Search.{Searched}
 use Rattle.digraph.specs.declared.mark.Mark.TheVariants as M
 use Rattle.digraph.proofs.Steps.{scanned_start, started, begun, marked, open_new}
-use Rattle.digraph.proofs.Rounds.{round_of}
+use Rattle.digraph.proofs.Rounds.{cycle_of}
 use Rattle.digraph.proofs.find.search_from.Goals as goal
 
 pub loop-top-init : goal.loop-top-init
@@ -22,5 +22,5 @@ returns-in-Some-2 c =
     c.deref.ensures.value ∙ c.in_ok-push-2.ensures.items ∙ ap (λ (p : List ℕ). p ++ c.in-Some.top ∷ []) (ap (λ p. p.items) d.2) in
     let same : c.loop-top.path.items ≡ c.deref.result.now = c.in-Some.ensures.items ∙ sym made in
     let P : List ℕ → Type 0 = λ p. Searched c.args.g.now c.loop-top.marks.items p c.loop-top.done in
-    round_of c.args.g.now c.loop-top.marks.items c.deref.result.now c.pop.new.self.items c.in_ok-round.round c.in-Some.top c.in-Some-2.v c.loop-top.done
-    (subst P same c.loop-top.invariant.at) made d.0 d.1 c.in_ok-round.ensures
+    cycle_of c.args.g.now c.loop-top.marks.items c.deref.result.now c.pop.new.self.items c.in_ok-cycle.cycle c.in-Some.top c.in-Some-2.v c.loop-top.done
+    (subst P same c.loop-top.invariant.at) made d.0 d.1 c.in_ok-cycle.ensures

@@ -1,5 +1,5 @@
 use Rattle.std.proofs.Common.{ap, ◌∙◌}
-use Rattle.frame_core.specs.Law.{FrameState, top_at}
+use Rattle.frame_core.specs.FrameLaw.{FrameState, top_at}
 use Rattle.frame_history.specs.declared.entries.Subject.TheVariants.{Bad}
 use Rattle.frame_book.specs.Picking.{IsLevelOf}
 use Rattle.frame_book.proofs.Turning.{up_to_task}

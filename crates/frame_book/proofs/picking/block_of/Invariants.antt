@@ -1,6 +1,6 @@
 use Rattle.std.proofs.Common.{◌≡◌, ◌<◌, ◌≤◌, ◌+◌, ◌*◌, ℕ, length}
 use Rattle.std.specs.Prelude.{MatchOption}
-use Rattle.frame_core.specs.Law.{obligation_at}
+use Rattle.frame_core.specs.FrameLaw.{obligation_at}
 use Rattle.frame_history.specs.declared.entries.Subject.TheVariants.{Block}
 use Rattle.frame_book.specs.Pages.{state_of}
 use Rattle.frame_book.specs.Picking.{IsOffered, IsNotOffered}

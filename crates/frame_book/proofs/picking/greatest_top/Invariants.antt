@@ -1,5 +1,5 @@
 use Rattle.std.proofs.Common.{◌≡◌, ◌<◌, ◌≤◌, ℕ, length}
-use Rattle.frame_core.specs.Law.{top_at}
+use Rattle.frame_core.specs.FrameLaw.{top_at}
 use Rattle.frame_book.proofs.picking.greatest_top.Given as goal
 
 abbrev pub invariant-loop-j : goal.invariant-loop-j

@@ -1,6 +1,6 @@
 use Rattle.std.proofs.Common.{◌≡◌, true, false, sym, subst}
 use Rattle.std.specs.Prelude.{None}
-use Rattle.frame_core.specs.Law.{FrameState}
+use Rattle.frame_core.specs.FrameLaw.{FrameState}
 use Rattle.frame_core.specs.Changes.{VerdictSays}
 use Rattle.frame_history.specs.History.{BookState}
 use Rattle.frame_book.specs.Pages.{state_of}

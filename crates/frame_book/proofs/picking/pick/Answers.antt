@@ -1,5 +1,5 @@
 use Rattle.std.proofs.Common.{◌≡◌, ◌⊎◌, inl, inr, length, ap, subst, ◌∙◌, arith, below_more}
-use Rattle.frame_core.specs.Law.{FrameState, FramesHold}
+use Rattle.frame_core.specs.FrameLaw.{FrameState, FramesHold}
 use Rattle.frame_history.specs.History.{BookState, IsDecided}
 use Rattle.frame_book.specs.Pages.{state_of}
 use Rattle.frame_book.specs.Picking.{HasNoTask}

@@ -1,6 +1,6 @@
 use Rattle.std.proofs.Common.{◌≡◌, ◌+◌, ap, ◌∙◌}
 use Rattle.frame_core.specs.declared.parts.Lemma.{Lemma}
-use Rattle.frame_core.specs.Law.{FrameState, lemma_at}
+use Rattle.frame_core.specs.FrameLaw.{FrameState, lemma_at}
 use Rattle.frame_history.specs.declared.entries.Subject.TheVariants.{Push}
 use Rattle.frame_book.specs.Picking.{IsLevelOf}
 use Rattle.frame_book.proofs.Turning.{up_to_task}

@@ -1,6 +1,6 @@
 use Rattle.std.proofs.Common.{◌≡◌, inl, inr, ◌-◌, ℕ, sym, subst, arith}
 use Rattle.std.proofs.lemmas.Bool.{cases_eq}
-use Rattle.frame_core.specs.Law.{obligation_at}
+use Rattle.frame_core.specs.FrameLaw.{obligation_at}
 use Rattle.frame_history.specs.declared.entries.Subject.TheVariants.{Block}
 use Rattle.frame_history.specs.History.{BookState}
 use Rattle.frame_book.specs.Pages.{state_of}

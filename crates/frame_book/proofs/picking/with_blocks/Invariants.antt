@@ -1,6 +1,6 @@
 use Rattle.std.proofs.Common.{◌≡◌, ◌⊎◌, ◌<◌, ◌≤◌, ℕ}
 use Rattle.std.specs.Prelude.{Some, None}
-use Rattle.frame_core.specs.Law.{obligation_at}
+use Rattle.frame_core.specs.FrameLaw.{obligation_at}
 use Rattle.frame_history.specs.declared.entries.Subject.TheVariants.{Block}
 use Rattle.frame_book.specs.declared.picking.Task.{Task}
 use Rattle.frame_book.specs.Pages.{state_of}

@@ -1,6 +1,6 @@
 use Rattle.std.proofs.Common.{◌≡◌, inl, inr, ◌<◌, true, false, length, sym, ap, subst, ◌∙◌, arith}
 use Rattle.std.specs.Prelude.{IsSome}
-use Rattle.frame_core.specs.Law.{FrameState, top_at, obligation_at}
+use Rattle.frame_core.specs.FrameLaw.{FrameState, top_at, obligation_at}
 use Rattle.frame_history.specs.History.{BookState}
 use Rattle.frame_book.specs.Pages.{state_of}
 use Rattle.frame_book.proofs.Picked.{no_block}

@@ -2,7 +2,7 @@ use Rattle.std.proofs.Common.{ℕ, subst}
 use Rattle.frame_core.specs.declared.outcomes.Insertion.{Insertion}
 use Rattle.frame_core.specs.declared.outcomes.Insertion.TheVariants as insertion
 use Rattle.frame_core.specs.Facts.{ProvedClause}
-use Rattle.frame_core.specs.Law.{FrameState}
+use Rattle.frame_core.specs.FrameLaw.{FrameState}
 use Rattle.frame_core.specs.Changes.{InsertsSame}
 use Rattle.frame_book.proofs.Accepted.{added_is, held_is}
 use Rattle.frame_book.proofs.settling.block.Goals as goal

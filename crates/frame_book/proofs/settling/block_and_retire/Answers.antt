@@ -2,7 +2,7 @@ use Rattle.std.proofs.Common.{◌≡◌, ℕ, true, List, length, sym, ap, subst
 use Rattle.std.specs.List.{All}
 use Rattle.clause_core.specs.declared.literal.Lit.{Lit}
 use Rattle.frame_core.specs.declared.parts.Lemma.{Lemma}
-use Rattle.frame_core.specs.Law.{FrameState}
+use Rattle.frame_core.specs.FrameLaw.{FrameState}
 use Rattle.frame_core.specs.Facts.{ProvedClause}
 use Rattle.frame_core.specs.Looking.{AreCoveredBy}
 use Rattle.frame_book.specs.Steps.{IsCoveredBy, adds}

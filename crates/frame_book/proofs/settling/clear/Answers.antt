@@ -2,7 +2,7 @@ use Rattle.std.proofs.Common.{subst}
 use Rattle.frame_core.specs.declared.outcomes.Opening.{Opening}
 use Rattle.frame_core.specs.declared.outcomes.Opening.TheVariants as opening
 use Rattle.frame_core.specs.Facts.{ClearLevel}
-use Rattle.frame_core.specs.Law.{FrameState}
+use Rattle.frame_core.specs.FrameLaw.{FrameState}
 use Rattle.frame_core.specs.Changes.{OpensSame}
 use Rattle.frame_book.proofs.Accepted.{opened_is}
 use Rattle.frame_book.proofs.settling.clear.Goals as goal

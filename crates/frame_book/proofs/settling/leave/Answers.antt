@@ -2,7 +2,7 @@ use Rattle.std.proofs.Common.{◌≡◌, ◌-◌, Bool, List, refl, ap, subst, �
 use Rattle.clause_core.specs.Assignments.{assignment_of}
 use Rattle.frame_core.specs.declared.parts.Lemma.{Lemma}
 use Rattle.frame_core.specs.Facts.{FoundStep}
-use Rattle.frame_core.specs.Law.{FrameState, MeetsFrom}
+use Rattle.frame_core.specs.FrameLaw.{FrameState, MeetsFrom}
 use Rattle.frame_book.proofs.Accepted.{left_is}
 use Rattle.frame_book.proofs.settling.leave.Goals as goal
 

@@ -4,7 +4,7 @@ use Rattle.clause_core.specs.Assignments.{assignment_of}
 use Rattle.frame_core.specs.declared.parts.Lemma.{Lemma}
 use Rattle.frame_core.specs.declared.parts.Obligation.{Obligation}
 use Rattle.frame_core.specs.Facts.{FoundState}
-use Rattle.frame_core.specs.Law.{FrameState, InFrame, obligation_at, FramesHold}
+use Rattle.frame_core.specs.FrameLaw.{FrameState, InFrame, obligation_at, FramesHold}
 use Rattle.frame_core.specs.Changes.{with_obligation}
 use Rattle.frame_history.specs.declared.entries.Change.{Change}
 use Rattle.frame_history.specs.declared.entries.Change.TheVariants.{Note}

@@ -2,7 +2,7 @@ use Rattle.std.proofs.Common.{ℕ, subst}
 use Rattle.frame_core.specs.declared.outcomes.Raising.{Raising}
 use Rattle.frame_core.specs.declared.outcomes.Raising.TheVariants as raising
 use Rattle.frame_core.specs.Facts.{ProvedClause}
-use Rattle.frame_core.specs.Law.{FrameState}
+use Rattle.frame_core.specs.FrameLaw.{FrameState}
 use Rattle.frame_core.specs.Changes.{RaisesSame}
 use Rattle.frame_book.proofs.Accepted.{raised_is}
 use Rattle.frame_book.proofs.settling.push.Goals as goal

@@ -1,6 +1,6 @@
 use Rattle.std.proofs.Common.{◌≡◌, ◌≤◌, ◌+◌, List, ◌++◌, true, vec_len}
 use Rattle.std.specs.Prelude.{vec_capacity}
-use Rattle.frame_core.specs.Law.{lemma_at}
+use Rattle.frame_core.specs.FrameLaw.{lemma_at}
 use Rattle.frame_history.specs.declared.entries.Change.{Change}
 use Rattle.frame_book.specs.Steps.{Retires, AreSameLemmas}
 use Rattle.frame_book.proofs.settling.retire.Given as goal

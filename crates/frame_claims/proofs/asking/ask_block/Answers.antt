@@ -3,7 +3,7 @@ use Rattle.std.proofs.lemmas.Result.{IfOk-weaker}
 use Rattle.clause_core.specs.declared.literal.Lit.{Lit}
 use Rattle.clause_core.specs.Literals.{Within}
 use Rattle.frame_core.specs.Facts.{ProvedClause, FoundStep}
-use Rattle.frame_core.specs.Law.{system_at}
+use Rattle.frame_core.specs.FrameLaw.{system_at}
 use Rattle.frame_solver.specs.Firsts.{AllFirstsMeet, negation_of}
 use Rattle.frame_query.specs.Findings.{FindsRelative}
 use Rattle.frame_solver.specs.Paying.{PaysOne, Steps}

@@ -2,7 +2,7 @@ use Rattle.std.proofs.Common.{ℕ, Bool, List, subst}
 use Rattle.std.specs.Prelude.{IfOk}
 use Rattle.clause_core.specs.Assignments.{assignment_of}
 use Rattle.clause_core.specs.Systems.{FirstBits}
-use Rattle.frame_core.specs.Law.{system_at}
+use Rattle.frame_core.specs.FrameLaw.{system_at}
 use Rattle.frame_history.specs.declared.entries.Subject.TheVariants.{Bad, Block, Push}
 use Rattle.frame_claims.specs.Asking.{AnswersBad, AnswersBlock, PaysFor}
 use Rattle.frame_claims.specs.Paying.{MayAskBad, MayAskBlock}

@@ -2,7 +2,7 @@ use Rattle.std.proofs.Common.{◌≡◌, ◌<◌, length, false, subst, arith, b
 use Rattle.std.proofs.lemmas.List.{get_or_read}
 use Rattle.clause_core.specs.Systems.{TransitionSystem}
 use Rattle.frame_core.specs.Differences.{IsSameSystem, DifferAt}
-use Rattle.frame_core.specs.Law.{no_system, system_at}
+use Rattle.frame_core.specs.FrameLaw.{no_system, system_at}
 use Rattle.frame_core.proofs.comparing.first_unlike.Goals as goal
 
 pub loop-j-preserved : goal.loop-j-preserved

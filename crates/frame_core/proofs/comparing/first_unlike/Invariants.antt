@@ -1,6 +1,6 @@
 use Rattle.std.proofs.Common.{◌<◌, ℕ, false}
 use Rattle.frame_core.specs.Differences.{IsSameSystem}
-use Rattle.frame_core.specs.Law.{system_at}
+use Rattle.frame_core.specs.FrameLaw.{system_at}
 use Rattle.frame_core.proofs.comparing.first_unlike.Given as goal
 
 abbrev pub invariant-loop-j : goal.invariant-loop-j

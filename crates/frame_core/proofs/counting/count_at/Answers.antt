@@ -3,7 +3,7 @@ use Rattle.std.specs.List.{count_by}
 use Rattle.std.proofs.lemmas.List.{get_or_read, take_all}
 use Rattle.std.proofs.lemmas.List.Sums.{sum_by_more}
 use Rattle.frame_core.specs.declared.parts.Lemma.{Lemma}
-use Rattle.frame_core.specs.Law.{no_lemma, lemma_at}
+use Rattle.frame_core.specs.FrameLaw.{no_lemma, lemma_at}
 use Rattle.frame_core.specs.Counting.{is_live_at}
 use Rattle.frame_core.proofs.Counts.{counts_as}
 use Rattle.frame_core.proofs.counting.count_at.Goals as goal

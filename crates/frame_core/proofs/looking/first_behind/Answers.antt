@@ -3,7 +3,7 @@ use Rattle.std.specs.List.{All}
 use Rattle.std.proofs.lemmas.List.{get_or_read, take_all}
 use Rattle.std.proofs.lemmas.List.Elements.{All-more}
 use Rattle.frame_core.specs.declared.parts.Parent.{Parent}
-use Rattle.frame_core.specs.Law.{Stands}
+use Rattle.frame_core.specs.FrameLaw.{Stands}
 use Rattle.frame_core.specs.Looking.{no_parent}
 use Rattle.frame_core.proofs.Looked.{kept_stands}
 use Rattle.frame_core.proofs.looking.first_behind.Goals as goal

@@ -1,5 +1,5 @@
 use Rattle.std.proofs.Common.{◌<◌, take, All}
-use Rattle.frame_core.specs.Law.{Stands}
+use Rattle.frame_core.specs.FrameLaw.{Stands}
 use Rattle.frame_core.proofs.looking.first_behind.Given as goal
 
 abbrev pub invariant-loop-k : goal.invariant-loop-k

@@ -1,6 +1,6 @@
 use Rattle.std.proofs.Common.{ℕ, subst}
 use Rattle.std.specs.Result.{IfOk}
-use Rattle.frame_core.specs.Law.{system_at}
+use Rattle.frame_core.specs.FrameLaw.{system_at}
 use Rattle.frame_solver.specs.Paying.{Firsts, Steps}
 use Rattle.frame_query.specs.Trying.{Tries}
 use Rattle.frame_solver.proofs.Paid.{one_left, one_right}

@@ -1,4 +1,4 @@
-use Rattle.frame_core.specs.Law.{system_at}
+use Rattle.frame_core.specs.FrameLaw.{system_at}
 use Rattle.frame_solver.specs.Engines.{known_of}
 use Rattle.frame_query.proofs.Walked.{nothing_new, all_new, failed_broken}
 use Rattle.frame_query.proofs.attempting.attempt_new.Goals as goal

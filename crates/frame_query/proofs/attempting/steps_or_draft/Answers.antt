@@ -2,7 +2,7 @@ use Rattle.std.proofs.Common.{◌≡◌, ◌-◌, ◌∙◌, List, refl, sym, su
 use Rattle.clause_core.specs.declared.literal.Lit.{Lit}
 use Rattle.frame_core.specs.declared.parts.Parent.{Parent}
 use Rattle.frame_core.specs.Facts.{IsPart}
-use Rattle.frame_core.specs.Law.{system_at, AllStand}
+use Rattle.frame_core.specs.FrameLaw.{system_at, AllStand}
 use Rattle.frame_solver.specs.Paying.{Steps}
 use Rattle.frame_solver.specs.Stepping.{Ends}
 use Rattle.frame_query.specs.Trying.{proof_of}

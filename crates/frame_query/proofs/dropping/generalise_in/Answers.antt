@@ -3,7 +3,7 @@ use Rattle.clause_core.specs.declared.literal.Lit.{Lit}
 use Rattle.clause_core.specs.Systems.{TransitionSystem}
 use Rattle.frame_core.specs.declared.parts.Parent.{Parent}
 use Rattle.frame_core.specs.Facts.{IsPart, IsProved, ProvedClause}
-use Rattle.frame_core.specs.Law.{system_at, AllStand}
+use Rattle.frame_core.specs.FrameLaw.{system_at, AllStand}
 use Rattle.frame_query.specs.Dropping.{AllNeeded}
 use Rattle.frame_query.specs.Trying.{proof_of}
 use Rattle.frame_query.proofs.dropping.generalise_in.Goals as goal

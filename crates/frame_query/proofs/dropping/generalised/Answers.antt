@@ -2,7 +2,7 @@ use Rattle.std.proofs.Common.{◌≡◌, ◌<◌, ◌∙◌, ℕ, List, None, re
 use Rattle.std.proofs.lemmas.Bool.{eqb-true, eqb-false}
 use Rattle.clause_core.specs.declared.literal.Lit.{Lit}
 use Rattle.frame_core.specs.Facts.{IsPart}
-use Rattle.frame_core.specs.Law.{system_at}
+use Rattle.frame_core.specs.FrameLaw.{system_at}
 use Rattle.frame_solver.specs.Engines.{known_of}
 use Rattle.frame_query.specs.Trying.{IsPaidSoFar}
 use Rattle.frame_query.proofs.Walked.{way_start, way_end, paid_start, paid_nothing, paid_end, paid_last, paid_more}

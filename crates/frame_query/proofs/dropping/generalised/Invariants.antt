@@ -1,5 +1,5 @@
 use Rattle.std.proofs.Common.{◌≡◌, ◌+◌, length}
-use Rattle.frame_core.specs.Law.{system_at}
+use Rattle.frame_core.specs.FrameLaw.{system_at}
 use Rattle.frame_solver.specs.Groups.{base, step_heads, state_heads, clauses_of}
 use Rattle.frame_solver.specs.Engines.{IsLoaded, known_of}
 use Rattle.frame_query.specs.Trying.{IsGoing, IsPaidSoFar}

@@ -3,7 +3,7 @@ use Rattle.std.proofs.lemmas.Result.{IfOk-from_err, IfOk-weaker}
 use Rattle.clause_core.specs.declared.literal.Lit.{Lit}
 use Rattle.clause_core.specs.Literals.{Within}
 use Rattle.frame_core.specs.Facts.{IsPart, IsProved}
-use Rattle.frame_core.specs.Law.{system_at}
+use Rattle.frame_core.specs.FrameLaw.{system_at}
 use Rattle.frame_solver.specs.Engines.{known_of}
 use Rattle.frame_query.specs.Trying.{proof_of, IsSame, PaysFor, Tries, HintMovesBy, TurnSays}
 use Rattle.frame_query.proofs.Walked.{IsLess, hint_kept, hint_candidate, hint_best, within_part, nothing_new, all_new, hint_less, hint_says}

@@ -4,7 +4,7 @@ use Rattle.std.specs.Option.{IfSome}
 use Rattle.clause_core.specs.declared.literal.Lit.{Lit}
 use Rattle.clause_core.specs.Literals.{Within}
 use Rattle.frame_core.specs.Facts.{IsPart, IsProved}
-use Rattle.frame_core.specs.Law.{system_at}
+use Rattle.frame_core.specs.FrameLaw.{system_at}
 use Rattle.frame_solver.specs.Engines.{known_of}
 use Rattle.frame_query.specs.Dropping.{IsBroken}
 use Rattle.frame_query.specs.Trying.{proof_of, IsOthers, PaysNew, Tries, MovesBy, TurnSays}

@@ -1,7 +1,7 @@
 use Rattle.std.proofs.Common.{false, true, refl, sym, subst}
 use Rattle.clause_core.specs.Systems.{TransitionSystem}
 use Rattle.frame_core.specs.Facts.{IsFound}
-use Rattle.frame_core.specs.Law.{system_at}
+use Rattle.frame_core.specs.FrameLaw.{system_at}
 use Rattle.frame_solver.specs.Firsts.{negation_of}
 use Rattle.frame_solver.specs.Paying.{Firsts}
 use Rattle.frame_query.proofs.Found.{bad_found, flag_same, first_at_none}

@@ -1,5 +1,5 @@
 use Rattle.std.proofs.Common.{List, Bool, subst}
-use Rattle.frame_core.specs.Law.{system_at}
+use Rattle.frame_core.specs.FrameLaw.{system_at}
 use Rattle.frame_solver.specs.Firsts.{negation_of}
 use Rattle.frame_solver.specs.Paying.{Firsts, PaysOne}
 use Rattle.frame_query.proofs.finding.noted_of.Goals as goal

@@ -1,6 +1,6 @@
 use Rattle.std.proofs.Common.{◌++◌, ◌∷◌, [], ◌∙◌, length, take, ap, arith, sym, length-append}
 use Rattle.std.proofs.lemmas.List.{take_more, take_all}
-use Rattle.frame_core.specs.Law.{no_lemma}
+use Rattle.frame_core.specs.FrameLaw.{no_lemma}
 use Rattle.frame_query.proofs.following.follow_adds.Goals as goal
 
 pub lemmas-init : goal.lemmas-init

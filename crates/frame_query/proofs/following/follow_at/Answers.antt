@@ -1,4 +1,4 @@
-use Rattle.frame_core.specs.Law.{lemma_at}
+use Rattle.frame_core.specs.FrameLaw.{lemma_at}
 use Rattle.frame_query.proofs.Followed.{follow_retired}
 use Rattle.frame_query.proofs.following.follow_at.Goals as goal
 

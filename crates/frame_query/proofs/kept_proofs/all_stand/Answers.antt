@@ -2,7 +2,7 @@ use Rattle.std.proofs.Common.{◌≡◌, ◌<◌, ◌≤◌, ℕ, List, length, 
 use Rattle.std.proofs.lemmas.List.{take_all, get_or_default}
 use Rattle.std.proofs.lemmas.List.Elements.{All-more}
 use Rattle.frame_core.specs.declared.parts.Lemma.{Lemma}
-use Rattle.frame_core.specs.Law.{lemma_at, no_lemma}
+use Rattle.frame_core.specs.FrameLaw.{lemma_at, no_lemma}
 use Rattle.frame_query.proofs.kept_proofs.all_stand.Goals as goal
 
 pub numbers-preserved : goal.numbers-preserved

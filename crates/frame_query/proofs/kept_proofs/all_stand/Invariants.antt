@@ -1,5 +1,5 @@
 use Rattle.std.proofs.Common.{◌≤◌, ℕ, take, All}
-use Rattle.frame_core.specs.Law.{lemma_at}
+use Rattle.frame_core.specs.FrameLaw.{lemma_at}
 use Rattle.frame_query.proofs.kept_proofs.all_stand.Given as goal
 
 abbrev pub invariant-numbers : goal.invariant-numbers

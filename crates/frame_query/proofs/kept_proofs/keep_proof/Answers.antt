@@ -1,6 +1,6 @@
 use Rattle.std.proofs.Common.{◌≡◌, ◌<◌, ◌∙◌, length, map, ap, arith}
 use Rattle.frame_core.specs.declared.parts.Parent.{Parent}
-use Rattle.frame_core.specs.Law.{lemma_at}
+use Rattle.frame_core.specs.FrameLaw.{lemma_at}
 use Rattle.frame_query.specs.declared.kept_proofs.KeptProof.{KeptProof}
 use Rattle.frame_query.proofs.Again.{kept_same, kept_more, kept_proof}
 use Rattle.frame_query.proofs.kept_proofs.keep_proof.Goals as goal

@@ -2,7 +2,7 @@ use Rattle.std.proofs.Common.{◌≡◌, ◌+◌, ◌≤◌, ◌∙◌, ℕ, Lis
 use Rattle.std.proofs.lemmas.List.{get_or_default}
 use Rattle.frame_core.specs.declared.parts.Lemma.{Lemma}
 use Rattle.frame_core.specs.Facts.{ProvedClause}
-use Rattle.frame_core.specs.Law.{lemma_at, no_lemma}
+use Rattle.frame_core.specs.FrameLaw.{lemma_at, no_lemma}
 use Rattle.frame_query.specs.KeptProofs.{proof_at}
 use Rattle.frame_query.proofs.Again.{of_push}
 use Rattle.frame_query.proofs.kept_proofs.standing.Goals as goal

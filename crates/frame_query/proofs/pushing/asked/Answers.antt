@@ -2,7 +2,7 @@ use Rattle.std.proofs.Common.{◌≡◌, ◌+◌, ◌∙◌, List, get_or, ap, s
 use Rattle.std.proofs.lemmas.List.{get_or_default}
 use Rattle.clause_core.specs.declared.literal.Lit.{Lit}
 use Rattle.frame_core.specs.declared.parts.Lemma.{Lemma}
-use Rattle.frame_core.specs.Law.{system_at, lemma_at, no_lemma}
+use Rattle.frame_core.specs.FrameLaw.{system_at, lemma_at, no_lemma}
 use Rattle.frame_solver.specs.Firsts.{AllFirstsMeet}
 use Rattle.frame_query.specs.Findings.{FindsRelative}
 use Rattle.frame_query.proofs.pushing.asked.Goals as goal

@@ -1,6 +1,6 @@
 use Rattle.std.proofs.Common.{◌+◌, List, Option, refl, sym, subst}
 use Rattle.clause_core.specs.Systems.{TransitionSystem}
-use Rattle.frame_core.specs.Law.{system_at, lemma_at}
+use Rattle.frame_core.specs.FrameLaw.{system_at, lemma_at}
 use Rattle.frame_solver.specs.Paying.{Steps}
 use Rattle.frame_solver.proofs.Paid.{none_same}
 use Rattle.frame_query.specs.declared.kept_proofs.KeptProof.{KeptProof}

@@ -2,7 +2,7 @@ use Rattle.std.proofs.Common.{map, subst, refl, arith, ◌∙◌}
 use Rattle.std.proofs.lemmas.Result.{IfOk-weaker}
 use Rattle.clause_core.specs.Literals.{negate}
 use Rattle.clause_core.specs.Systems.{TransitionSystem}
-use Rattle.frame_core.specs.Law.{system_at}
+use Rattle.frame_core.specs.FrameLaw.{system_at}
 use Rattle.frame_solver.specs.Groups.{state_heads}
 use Rattle.frame_solver.specs.Firsts.{FindsFirsts, ReadsFirsts}
 use Rattle.frame_solver.specs.Paying.{Firsts as AskFirsts}

@@ -1,6 +1,6 @@
 use Rattle.std.proofs.Common.{refl, sym, subst}
 use Rattle.clause_core.specs.Systems.{TransitionSystem}
-use Rattle.frame_core.specs.Law.{system_at}
+use Rattle.frame_core.specs.FrameLaw.{system_at}
 use Rattle.frame_solver.specs.Paying.{Firsts}
 use Rattle.frame_solver.specs.Recalling.{KnowsFirsts, TellsFirsts}
 use Rattle.frame_solver.proofs.Paid.{none_asked, none_same, one_sub}

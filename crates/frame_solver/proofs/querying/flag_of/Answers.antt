@@ -2,7 +2,7 @@ use Rattle.std.proofs.Common.{◌≡◌, List, refl, sym, ◌∙◌, ap, subst}
 use Rattle.clause_core.specs.declared.literal.Lit.{Lit}
 use Rattle.clause_core.specs.Literals.{Within}
 use Rattle.clause_core.specs.Systems.{TransitionSystem}
-use Rattle.frame_core.specs.Law.{system_at}
+use Rattle.frame_core.specs.FrameLaw.{system_at}
 use Rattle.frame_solver.specs.Firsts.{negation_of, FindsFirsts}
 use Rattle.frame_solver.specs.Paying.{Firsts, PaysOne}
 use Rattle.frame_solver.proofs.Negated.{negation_within, flag_says}

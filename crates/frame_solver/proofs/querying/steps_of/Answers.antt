@@ -1,7 +1,7 @@
 use Rattle.std.proofs.Common.{◌∙◌, refl, sym, subst}
 use Rattle.std.specs.Prelude.{nat_eq}
 use Rattle.clause_core.specs.Systems.{TransitionSystem}
-use Rattle.frame_core.specs.Law.{system_at}
+use Rattle.frame_core.specs.FrameLaw.{system_at}
 use Rattle.frame_solver.specs.Paying.{Steps}
 use Rattle.frame_solver.specs.Recalling.{TellsStep}
 use Rattle.frame_solver.proofs.Paid.{none_asked, none_same, one_sub}

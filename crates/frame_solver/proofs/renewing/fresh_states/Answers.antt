@@ -1,7 +1,7 @@
 use Rattle.std.proofs.Common.{◌≡◌, ℕ, refl, sym, ◌∙◌, ap, subst, arith, length}
 use Rattle.std.proofs.lemmas.List.{length-map}
 use Rattle.sat_core.specs.Queries.{State}
-use Rattle.frame_core.specs.Law.{system_at}
+use Rattle.frame_core.specs.FrameLaw.{system_at}
 use Rattle.frame_solver.specs.Guards.{HoldsGroups}
 use Rattle.frame_solver.specs.Groups.{base, init_group, bad_groups, state_heads}
 use Rattle.frame_solver.proofs.Renewed.{fresh_init, fresh_by}

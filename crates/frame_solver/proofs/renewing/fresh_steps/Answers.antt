@@ -1,7 +1,7 @@
 use Rattle.std.proofs.Common.{◌≡◌, ◌+◌, ◌++◌, [], ◌∷◌, ℕ, refl, sym, ◌∙◌, ap, subst, arith}
 use Rattle.clause_core.specs.Systems.{TransitionSystem}
 use Rattle.sat_core.specs.Queries.{State}
-use Rattle.frame_core.specs.Law.{system_at}
+use Rattle.frame_core.specs.FrameLaw.{system_at}
 use Rattle.frame_solver.specs.Guards.{behind, HoldsGroups}
 use Rattle.frame_solver.specs.Groups.{base, init_group, step_heads}
 use Rattle.frame_solver.proofs.Loaded.{holds_more}

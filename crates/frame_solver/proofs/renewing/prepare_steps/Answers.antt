@@ -2,7 +2,7 @@ use Rattle.std.proofs.Common.{◌≡◌, List, sym, ◌∙◌, subst, arith, len
 use Rattle.std.specs.Prelude.{All, Contains}
 use Rattle.std.proofs.lemmas.Result.{on_ok_weaker}
 use Rattle.clause_core.specs.declared.literal.Lit.{Lit}
-use Rattle.frame_core.specs.Law.{system_at}
+use Rattle.frame_core.specs.FrameLaw.{system_at}
 use Rattle.frame_solver.specs.Groups.{base, step_heads, clauses_of}
 use Rattle.frame_solver.specs.Engines.{IsReady}
 use Rattle.frame_solver.proofs.Framed.{clauses_count}

@@ -1,5 +1,5 @@
 use Rattle.std.proofs.Common.{◌≡◌, ◌∷◌, take}
-use Rattle.frame_core.specs.Law.{system_at}
+use Rattle.frame_core.specs.FrameLaw.{system_at}
 use Rattle.frame_solver.specs.Guards.{HoldsGroups}
 use Rattle.frame_solver.specs.Groups.{init_group, bad_groups}
 use Rattle.frame_solver.proofs.renewing.push_bads.Given as goal

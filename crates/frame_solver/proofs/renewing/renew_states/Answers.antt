@@ -1,5 +1,5 @@
 use Rattle.std.proofs.Common.{refl, arith}
-use Rattle.frame_core.specs.Law.{system_at}
+use Rattle.frame_core.specs.FrameLaw.{system_at}
 use Rattle.frame_solver.specs.Groups.{base, state_heads, clauses_of}
 use Rattle.frame_solver.proofs.Renewed.{fresh_loaded, nothing_known, same_known}
 use Rattle.frame_solver.proofs.renewing.renew_states.Goals as goal

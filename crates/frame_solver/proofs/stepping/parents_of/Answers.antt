@@ -5,7 +5,7 @@ use Rattle.clause_core.specs.Literals.{none_lit}
 use Rattle.clause_core.proofs.Lists.{lit_same}
 use Rattle.frame_core.specs.declared.parts.Parent.{Parent}
 use Rattle.frame_core.specs.declared.parts.Lemma.{Lemma}
-use Rattle.frame_core.specs.Law.{no_lemma}
+use Rattle.frame_core.specs.FrameLaw.{no_lemma}
 use Rattle.frame_solver.specs.Guards.{on}
 use Rattle.frame_solver.specs.Stepping.{AreParents}
 use Rattle.frame_solver.proofs.Cutting.{parents_push, parents_skip}

@@ -6,7 +6,7 @@ use Rattle.std.proofs.lemmas.Result.{IfOk-weaker}
 use Rattle.clause_core.specs.declared.literal.Lit.{Lit}
 use Rattle.clause_core.specs.Systems.{TransitionSystem}
 use Rattle.sat_core.specs.Queries.{State}
-use Rattle.frame_core.specs.Law.{system_at}
+use Rattle.frame_core.specs.FrameLaw.{system_at}
 use Rattle.frame_solver.specs.declared.loading.Engine.{Engine}
 use Rattle.frame_solver.specs.Guards.{off}
 use Rattle.frame_solver.specs.Groups.{base, step_heads, clauses_of}

@@ -1,6 +1,6 @@
 use Rattle.std.proofs.Common.{List, subst, sym}
 use Rattle.clause_core.specs.Systems.{TransitionSystem}
-use Rattle.frame_core.specs.Law.{system_at}
+use Rattle.frame_core.specs.FrameLaw.{system_at}
 use Rattle.frame_solver.specs.Firsts.{AllFirstsMeet}
 use Rattle.frame_query.proofs.Tried.{meets_more}
 use Rattle.frame_tests.proofs.frame_queries.is_proved.Goals as goal

@@ -1,6 +1,6 @@
 use Rattle.std.proofs.Common.{List, sym, ap}
 use Rattle.clause_core.specs.Systems.{TransitionSystem}
-use Rattle.frame_core.specs.Law.{system_at}
+use Rattle.frame_core.specs.FrameLaw.{system_at}
 use Rattle.frame_core.proofs.States.{cut_same}
 use Rattle.frame_tests.proofs.frames.carried.Goals as goal
 

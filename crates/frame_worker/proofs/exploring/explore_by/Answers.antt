@@ -1,7 +1,7 @@
 use Rattle.std.proofs.Common.{◌≡◌, ◌∙◌, ◌<◌, List, length, subst, sym}
 use Rattle.clause_core.specs.Systems.{TransitionSystem}
 use Rattle.effort_purse.specs.Seats.{is_spent, tickets_of}
-use Rattle.frame_core.specs.Law.{AreAlike}
+use Rattle.frame_core.specs.FrameLaw.{AreAlike}
 use Rattle.frame_worker.proofs.Meetings.{told}
 use Rattle.frame_worker.proofs.exploring.explore_by.Goals as goal
 

@@ -3,7 +3,7 @@ use Rattle.clause_core.specs.Systems.{TransitionSystem}
 use Rattle.effort_purse.specs.Plain.{plain_count}
 use Rattle.frame_core.specs.declared.parts.Lemma.{Lemma}
 use Rattle.frame_core.specs.Changes.{IsCut}
-use Rattle.frame_core.specs.Law.{FrameState, system_at}
+use Rattle.frame_core.specs.FrameLaw.{FrameState, system_at}
 use Rattle.prove_ltl.specs.Climbing.{Settles}
 use Rattle.prove_ltl.proofs.climbing.+climb.Goals as goal
 

@@ -1,7 +1,7 @@
 use Rattle.std.proofs.Common.{ℕ, List, [], ap, subst}
 use Rattle.effort_purse.specs.Plain.{plain_count}
 use Rattle.frame_core.specs.declared.parts.Lemma.{Lemma}
-use Rattle.frame_core.specs.Law.{FrameState}
+use Rattle.frame_core.specs.FrameLaw.{FrameState}
 use Rattle.prove_run.specs.declared.answers.Work.{Work}
 use Rattle.prove_ltl.specs.Climbing.{Settles}
 use Rattle.prove_ltl.proofs.climbing.climb_all.Goals as goal

@@ -2,7 +2,7 @@ use Rattle.std.proofs.Common.{◌∙◌, ℕ, Bool, List, length, sym, subst}
 use Rattle.std.proofs.lemmas.Result.{IfOk-weaker}
 use Rattle.effort_purse.specs.Drawing.{numbers_below}
 use Rattle.effort_purse.specs.Plain.{plain_count, plain_spent}
-use Rattle.frame_core.specs.Law.{FrameState}
+use Rattle.frame_core.specs.FrameLaw.{FrameState}
 use Rattle.frame_history.specs.declared.entries.Entry.{Entry}
 use Rattle.frame_worker.specs.Exploring.{IsExplored}
 use Rattle.prove_run.proofs.Finished.{below_long}

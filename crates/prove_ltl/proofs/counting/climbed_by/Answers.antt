@@ -4,7 +4,7 @@ use Rattle.cert_core.specs.Blocks.{Block}
 use Rattle.cert_core.specs.Certificates.{Certifies}
 use Rattle.frame_core.specs.declared.outcomes.Verdict.{Verdict}
 use Rattle.frame_core.specs.Changes.{VerdictSays}
-use Rattle.frame_core.specs.Law.{FrameState}
+use Rattle.frame_core.specs.FrameLaw.{FrameState}
 use Rattle.ltl_lassos.specs.Violating.{NeverViolated}
 use Rattle.prove_run.specs.declared.answers.Work.{Work}
 use Rattle.prove_run.proofs.Invariant.{no_verdict}

@@ -4,7 +4,7 @@ use Rattle.clause_core.specs.Systems.{TransitionSystem}
 use Rattle.effort_purse.specs.Seats.{tickets_of}
 use Rattle.frame_core.specs.declared.parts.Lemma.{Lemma}
 use Rattle.frame_core.specs.Changes.{IsCut}
-use Rattle.frame_core.specs.Law.{FrameState, system_at}
+use Rattle.frame_core.specs.FrameLaw.{FrameState, system_at}
 use Rattle.prove_ltl.specs.declared.answers.LtlDone.{LtlDone}
 use Rattle.prove_ltl.specs.Climbing.{Settles}
 use Rattle.prove_ltl.proofs.together.+climb_together.Goals as goal

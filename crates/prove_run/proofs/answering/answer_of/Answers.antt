@@ -1,6 +1,6 @@
 use Rattle.std.proofs.Common.{ℕ, subst, inl}
 use Rattle.std.specs.Prelude.{Some}
-use Rattle.frame_core.specs.Law.{system_at}
+use Rattle.frame_core.specs.FrameLaw.{system_at}
 use Rattle.frame_core.specs.Runs.{IsBadRun}
 use Rattle.frame_core.specs.Changes.{VerdictSays}
 use Rattle.frame_core.specs.declared.outcomes.Verdict.{Verdict}

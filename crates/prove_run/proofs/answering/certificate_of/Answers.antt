@@ -5,7 +5,7 @@ use Rattle.clause_core.specs.declared.literal.Lit.{Lit}
 use Rattle.clause_core.specs.Literals.{Within}
 use Rattle.clause_core.specs.Systems.{TransitionSystem}
 use Rattle.cert_core.specs.Certificates.{IsInvariant}
-use Rattle.frame_core.specs.Law.{system_at}
+use Rattle.frame_core.specs.FrameLaw.{system_at}
 use Rattle.prove_run.specs.Answers.{CertifySays}
 use Rattle.prove_run.specs.Certifying.{clauses_above}
 use Rattle.prove_run.proofs.Invariant.{invariant_of, above_within}

@@ -1,5 +1,5 @@
 use Rattle.std.proofs.Common.{List, length, subst, sym, refl}
-use Rattle.frame_core.specs.Law.{FrameState}
+use Rattle.frame_core.specs.FrameLaw.{FrameState}
 use Rattle.frame_history.specs.declared.entries.Entry.{Entry}
 use Rattle.frame_book.specs.Book.{BookView}
 use Rattle.frame_worker.specs.Exploring.{IsExplored}

@@ -1,7 +1,7 @@
 use Rattle.std.proofs.Common.{List, [], subst, sym}
 use Rattle.std.specs.Prelude.{◌<◌, ◌≡◌, length, IfOk}
 use Rattle.clause_core.specs.Systems.{TransitionSystem}
-use Rattle.frame_core.specs.Law.{AreAlike}
+use Rattle.frame_core.specs.FrameLaw.{AreAlike}
 use Rattle.frame_query.specs.Findings.{SolverView}
 use Rattle.prove_run.proofs.exploring.solver_of.Goals as goal
 

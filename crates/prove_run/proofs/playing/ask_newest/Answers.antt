@@ -1,7 +1,7 @@
 use Rattle.std.proofs.Common.{◌∙◌, ℕ, Bool, List, ap, sym, subst}
 use Rattle.std.proofs.lemmas.Result.{IfOk-weaker}
 use Rattle.clause_core.specs.declared.literal.Lit.{Lit}
-use Rattle.frame_core.specs.Law.{FrameState}
+use Rattle.frame_core.specs.FrameLaw.{FrameState}
 use Rattle.frame_query.specs.Findings.{SolverView, IsOlder}
 use Rattle.frame_claims.specs.Asking.{AnswersClaim}
 use Rattle.frame_claims.specs.Outcomes.{IsAsked, IsUpToDate, PaysClaim}

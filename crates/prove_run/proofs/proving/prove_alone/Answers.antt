@@ -2,7 +2,7 @@ use Rattle.std.proofs.Common.{◌≡◌, ◌∙◌, ℕ, Bool, true, List, [], a
 use Rattle.clause_core.specs.Systems.{TransitionSystem}
 use Rattle.effort_purse.specs.Drawing.{numbers_below}
 use Rattle.effort_purse.specs.Plain.{plain_count}
-use Rattle.frame_core.specs.Law.{FrameState}
+use Rattle.frame_core.specs.FrameLaw.{FrameState}
 use Rattle.frame_core.specs.declared.parts.Lemma.{Lemma}
 use Rattle.frame_history.specs.declared.entries.Entry.{Entry}
 use Rattle.prove_run.specs.declared.answers.Answer.{Answer}

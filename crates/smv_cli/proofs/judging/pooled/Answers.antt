@@ -7,7 +7,7 @@ use Rattle.clause_core.specs.Systems.{TransitionSystem}
 use Rattle.smv_resolve.specs.declared.item.Item.{Item}
 use Rattle.smv_resolve.specs.declared.node.Node.{Node}
 use Rattle.smv_resolve.specs.Items.{ResolvedItem, item_by}
-use Rattle.frame_core.specs.Law.{system_at}
+use Rattle.frame_core.specs.FrameLaw.{system_at}
 use Rattle.bit_conditions.specs.Asked.{is_invariant}
 use Rattle.smv_cli.specs.Written.{pooled}
 use Rattle.smv_cli.proofs.Pooling.{systems_more}

@@ -12,92 +12,92 @@ use Rattle.smv_resolve.proofs.expressions.+expressions.Goals as goal
 
 pub find-returns-in-Constant-clause-finds : goal.find-returns-in-Constant-clause-finds
 find-returns-in-Constant-clause-finds t c =
-    finds_along c.find_constant.new.work.nodes c.args.depth _ (λ n. levelled c.args.scope.now.program n c.args.at c.args.e.now) c.find_constant.result
+    finds_along c.find_constant.new.memo.nodes c.args.depth _ (λ n. levelled c.args.scope.now.program n c.args.at c.args.e.now) c.find_constant.result
     (λ n d. ap (λ e. levelled c.args.scope.now.program n c.args.at e d) c.in-Constant.is ∙ levelled-constant c.args.scope.now.program c.args.at n d _ _)
     c.find_constant.ensures.finds
 
 pub find-returns-in-Name-clause-finds : goal.find-returns-in-Name-clause-finds
 find-returns-in-Name-clause-finds t c =
-    finds_along c.find_name.new.work.nodes c.args.depth _ (λ n. levelled c.args.scope.now.program n c.args.at c.args.e.now) c.find_name.result
+    finds_along c.find_name.new.memo.nodes c.args.depth _ (λ n. levelled c.args.scope.now.program n c.args.at c.args.e.now) c.find_name.result
     (λ n d. ap (λ e. levelled c.args.scope.now.program n c.args.at e d) c.in-Name.is ∙ levelled-name c.args.scope.now.program c.args.at n d _)
     c.find_name.ensures.finds
 
 pub find-returns-in-Group-clause-finds : goal.find-returns-in-Group-clause-finds
 find-returns-in-Group-clause-finds t c =
-    finds_along c.find_below.new.work.nodes c.args.depth _ (λ n. levelled c.args.scope.now.program n c.args.at c.args.e.now) c.find_below.result
+    finds_along c.find_below.new.memo.nodes c.args.depth _ (λ n. levelled c.args.scope.now.program n c.args.at c.args.e.now) c.find_below.result
     (λ n d. rw (c.get.ensures) (ap (λ e. levelled c.args.scope.now.program n c.args.at e d) c.in-Group.is ∙ levelled-group c.args.scope.now.program c.args.at n d _ _))
     c.find_below.ensures.finds
 
 pub find-returns-in-Next-clause-finds : goal.find-returns-in-Next-clause-finds
 find-returns-in-Next-clause-finds t c =
-    finds_along c.find_next.new.work.nodes c.args.depth _ (λ n. levelled c.args.scope.now.program n c.args.at c.args.e.now) c.find_next.result
+    finds_along c.find_next.new.memo.nodes c.args.depth _ (λ n. levelled c.args.scope.now.program n c.args.at c.args.e.now) c.find_next.result
     (λ n d. rw (c.get-in-Next.ensures) (ap (λ e. levelled c.args.scope.now.program n c.args.at e d) c.in-Next.is ∙ levelled-next c.args.scope.now.program c.args.at n d _ _))
     c.find_next.ensures.finds
 
 pub find-returns-in-Apply-clause-finds : goal.find-returns-in-Apply-clause-finds
 find-returns-in-Apply-clause-finds t c =
-    finds_along c.find_apply.new.work.nodes c.args.depth _ (λ n. levelled c.args.scope.now.program n c.args.at c.args.e.now) c.find_apply.result
+    finds_along c.find_apply.new.memo.nodes c.args.depth _ (λ n. levelled c.args.scope.now.program n c.args.at c.args.e.now) c.find_apply.result
     (λ n d. rw (c.as_slice-in-Apply.ensures, c.as_slice.ensures) (ap (λ e. levelled c.args.scope.now.program n c.args.at e d) c.in-Apply.is ∙ levelled-apply c.args.scope.now.program c.args.at n d _ _ _ _))
     c.find_apply.ensures.finds
 
 pub find-returns-in-Chain-clause-finds : goal.find-returns-in-Chain-clause-finds
 find-returns-in-Chain-clause-finds t c =
-    finds_along c.find_chain.new.work.nodes c.args.depth _ (λ n. levelled c.args.scope.now.program n c.args.at c.args.e.now) c.find_chain.result
+    finds_along c.find_chain.new.memo.nodes c.args.depth _ (λ n. levelled c.args.scope.now.program n c.args.at c.args.e.now) c.find_chain.result
     (λ n d. rw (c.get-in-Chain.ensures, c.as_slice-in-Chain.ensures) (ap (λ e. levelled c.args.scope.now.program n c.args.at e d) c.in-Chain.is ∙ levelled-chain c.args.scope.now.program c.args.at n d _ _))
     c.find_chain.ensures.finds
 
 pub find_target-returns-in-Variable-clause-finds : goal.find_target-returns-in-Variable-clause-finds
 find_target-returns-in-Variable-clause-finds t c =
-    finds_along c.find_variable.new.work.nodes c.args.depth _
+    finds_along c.find_variable.new.memo.nodes c.args.depth _
     (λ k d. resolved_target (λ owner e. opened (followed c.args.scope.now.program k owner e) d) (place_of_start c.args.name.now.start) (name_target c.args.scope.now.program c.args.at c.args.name.now)) c.find_variable.result
     (λ k d. ap (resolved_target (λ owner e. opened (followed c.args.scope.now.program k owner e) d) (place_of_start c.args.name.now.start)) (sym c.in-Variable.ensures) ∙ ap (λ place. Resolved.Slot place c.in-Variable.n) (sym c.place_of_start-place.ensures))
     c.find_variable.ensures.finds
 
 pub find_target-returns-in-Symbol-clause-finds : goal.find_target-returns-in-Symbol-clause-finds
 find_target-returns-in-Symbol-clause-finds t c =
-    finds_along c.find_symbol.new.work.nodes c.args.depth _
+    finds_along c.find_symbol.new.memo.nodes c.args.depth _
     (λ k d. resolved_target (λ owner e. opened (followed c.args.scope.now.program k owner e) d) (place_of_start c.args.name.now.start) (name_target c.args.scope.now.program c.args.at c.args.name.now)) c.find_symbol.result
     (λ k d. ap (resolved_target (λ owner e. opened (followed c.args.scope.now.program k owner e) d) (place_of_start c.args.name.now.start)) (sym c.in-Symbol.ensures) ∙ ap (λ place. Resolved.Constant place (value.Sym c.in-Symbol.n)) (sym c.place_of_start-place.ensures))
     c.find_symbol.ensures.finds
 
 pub find_target-returns-in-Whole-clause-finds : goal.find_target-returns-in-Whole-clause-finds
 find_target-returns-in-Whole-clause-finds t c =
-    finds_along c.find_whole.new.work.nodes c.args.depth _
+    finds_along c.find_whole.new.memo.nodes c.args.depth _
     (λ k d. resolved_target (λ owner e. opened (followed c.args.scope.now.program k owner e) d) (place_of_start c.args.name.now.start) (name_target c.args.scope.now.program c.args.at c.args.name.now)) c.find_whole.result
     (λ k d. ap (resolved_target (λ owner e. opened (followed c.args.scope.now.program k owner e) d) (place_of_start c.args.name.now.start)) (sym c.in-Whole.ensures) ∙ ap (λ place. Resolved.Whole place c.in-Whole.i) (sym c.place_of_start-place.ensures))
     c.find_whole.ensures.finds
 
 pub find_below-returns-then-depth-eq0-clause-finds : goal.find_below-returns-then-depth-eq0-clause-finds
-find_below-returns-then-depth-eq0-clause-finds t c = none_opened c.args.work.now.nodes (λ n. levelled c.args.scope.now.program n c.args.at c.args.e.now) c.args.depth c.if-depth-eq0.true
+find_below-returns-then-depth-eq0-clause-finds t c = none_opened c.args.memo.now.nodes (λ n. levelled c.args.scope.now.program n c.args.at c.args.e.now) c.args.depth c.if-depth-eq0.true
 
 pub find_below-returns-in_err-below-clause-finds : goal.find_below-returns-in_err-below-clause-finds
 find_below-returns-in_err-below-clause-finds t c =
     let p = err_from_is_err_and c.from_residual.result c.from_residual.ensures.1 in
     rw (p.1, p.2)
-    (halts_opened c.find.new.work.nodes c.find.new.work.nodes c.args.depth (λ n. levelled c.args.scope.now.program n c.args.at c.args.e.now) _ (omega arith) c.in_err-below.ensures.finds)
+    (halts_opened c.find.new.memo.nodes c.find.new.memo.nodes c.args.depth (λ n. levelled c.args.scope.now.program n c.args.at c.args.e.now) _ (omega arith) c.in_err-below.ensures.finds)
 
 pub find_below-returns-clause-finds : goal.find_below-returns-clause-finds
 find_below-returns-clause-finds t c =
-    found_opened c.find.new.work.nodes c.args.depth (λ n. levelled c.args.scope.now.program n c.args.at c.args.e.now) c.in_ok-below.below (omega arith) c.in_ok-below.ensures.finds
+    found_opened c.find.new.memo.nodes c.args.depth (λ n. levelled c.args.scope.now.program n c.args.at c.args.e.now) c.in_ok-below.below (omega arith) c.in_ok-below.ensures.finds
 
 pub find_below-returns-in_err-below-clause-follows : goal.find_below-returns-in_err-below-clause-follows
 find_below-returns-in_err-below-clause-follows t c =
     let p = err_from_is_err_and c.from_residual.result c.from_residual.ensures.1 in
     rw (p.1, p.2)
-    (halts_followed c.args.scope.now.program c.find.new.work.nodes c.find.new.work.nodes c.args.depth c.args.at c.args.e.now _ (omega arith) c.in_err-below.ensures.finds)
+    (halts_followed c.args.scope.now.program c.find.new.memo.nodes c.find.new.memo.nodes c.args.depth c.args.at c.args.e.now _ (omega arith) c.in_err-below.ensures.finds)
 
 pub find_below-returns-clause-follows : goal.find_below-returns-clause-follows
 find_below-returns-clause-follows t c =
-    found_followed c.args.scope.now.program c.find.new.work.nodes c.args.depth c.args.at c.args.e.now c.in_ok-below.below (omega arith) c.in_ok-below.ensures.finds
+    found_followed c.args.scope.now.program c.find.new.memo.nodes c.args.depth c.args.at c.args.e.now c.in_ok-below.below (omega arith) c.in_ok-below.ensures.finds
 
 pub find_apply-loop-e-init : goal.find_apply-loop-e-init
-find_apply-loop-e-init t c = record { known = c.requires; grows = Grows-self c.args.work.now.nodes; found = rw (c.new-operands.ensures.items) (found_none c.args.work.now.nodes c.args.depth) }
+find_apply-loop-e-init t c = record { known = c.requires; grows = Grows-self c.args.memo.now.nodes; found = rw (c.new-operands.ensures.items) (found_none c.args.memo.now.nodes c.args.depth) }
 
 pub find_apply-returns-in_err-same-clause-finds : goal.find_apply-returns-in_err-same-clause-finds
 find_apply-returns-in_err-same-clause-finds t c =
     let p = err_from_is_err_and c.from_residual.result c.from_residual.ensures.1 in
     rw (p.1, p.2)
-    (halts_beside (levelled_at c.args.scope.now.program c.args.at) c.args.beside.now c.args.below.now c.args.place c.args.operator c.find.new.work.nodes c.find.new.work.nodes c.args.depth c.loop-e.e-index c.e-item.result _
+    (halts_beside (levelled_at c.args.scope.now.program c.args.at) c.args.beside.now c.args.below.now c.args.place c.args.operator c.find.new.memo.nodes c.find.new.memo.nodes c.args.depth c.loop-e.e-index c.e-item.result _
     c.loop-e-test.true c.e-item.is c.in_err-same.ensures.finds)
 
 pub find_apply-loop-e-preserved : goal.find_apply-loop-e-preserved
@@ -121,7 +121,7 @@ pub find_apply-returns-in_err-next-clause-finds : goal.find_apply-returns-in_err
 find_apply-returns-in_err-next-clause-finds t c =
     let p = err_from_is_err_and c.from_residual-in_err-next.result c.from_residual-in_err-next.ensures.1 in
     rw (p.1, p.2)
-    (halts_lower (levelled_at c.args.scope.now.program c.args.at) c.args.beside.now c.args.below.now c.args.place c.args.operator c.find_below.new.work.nodes c.find_below.new.work.nodes c.args.depth c.loop-lower.lower-index c.lower-item.result _
+    (halts_lower (levelled_at c.args.scope.now.program c.args.at) c.args.beside.now c.args.below.now c.args.place c.args.operator c.find_below.new.memo.nodes c.find_below.new.memo.nodes c.args.depth c.loop-lower.lower-index c.lower-item.result _
     c.loop-lower-test.true c.lower-item.is c.in_err-next.ensures.finds)
 
 pub find_apply-loop-lower-preserved : goal.find_apply-loop-lower-preserved
@@ -147,12 +147,12 @@ find_chain-returns-in_err-start-clause-finds t c =
     let p = err_from_is_err_and c.from_residual.result c.from_residual.ensures.1 in
     rw (p.1, p.2)
     (halts_first (λ (n d : ℕ) (e : Expr). levelled c.args.scope.now.program n c.args.at e d)
-    (λ (n : ℕ). levelled c.args.scope.now.program n c.args.at c.args.first.now) c.args.links.now c.find.new.work.nodes c.find.new.work.nodes c.args.depth _ c.in_err-start.ensures.finds)
+    (λ (n : ℕ). levelled c.args.scope.now.program n c.args.at c.args.first.now) c.args.links.now c.find.new.memo.nodes c.find.new.memo.nodes c.args.depth _ c.in_err-start.ensures.finds)
 
 pub find_chain-loop-link-init : goal.find_chain-loop-link-init
 find_chain-loop-link-init t c = record {
   known = c.in_ok-start.ensures.known;
-  grows = Grows-self c.find.new.work.nodes;
+  grows = Grows-self c.find.new.memo.nodes;
   found = c.in_ok-start.ensures.finds;
 }
 
@@ -161,7 +161,7 @@ find_chain-returns-in_err-right-clause-finds t c =
     let p = err_from_is_err_and c.from_residual-in_err-right.result c.from_residual-in_err-right.ensures.1 in
     rw (p.1, p.2)
     (halts_link (λ (n d : ℕ) (e : Expr). levelled c.args.scope.now.program n c.args.at e d)
-    (λ (n : ℕ). levelled c.args.scope.now.program n c.args.at c.args.first.now) c.args.links.now c.find-in-loop-link.new.work.nodes c.find-in-loop-link.new.work.nodes c.args.depth c.loop-link.link-index c.link-item.result _
+    (λ (n : ℕ). levelled c.args.scope.now.program n c.args.at c.args.first.now) c.args.links.now c.find-in-loop-link.new.memo.nodes c.find-in-loop-link.new.memo.nodes c.args.depth c.loop-link.link-index c.link-item.result _
     c.loop-link-test.true c.link-item.is c.in_err-right.ensures.finds)
 
 pub find_chain-loop-link-preserved : goal.find_chain-loop-link-preserved
@@ -199,33 +199,33 @@ find_target-find_named-requires-in-Defined t c = (
 
 pub find_shared-returns-then-found-depth-clause-finds : goal.find_shared-returns-then-found-depth-clause-finds
 find_shared-returns-then-found-depth-clause-finds t c =
-    found_known c.args.scope.now.program c.args.at c.args.e.now c.args.shared c.requires.leads c.args.work.now.nodes c.args.depth c.in-Some.found c.if-found-depth.true (c.in-Some.ensures.right c.args.scope.now.program c.requires.known)
+    found_known c.args.scope.now.program c.args.at c.args.e.now c.args.shared c.requires.leads c.args.memo.now.nodes c.args.depth c.in-Some.found c.if-found-depth.true (c.in-Some.ensures.right c.args.scope.now.program c.requires.known)
 
 pub find_shared-returns-in-Some-clause-finds : goal.find_shared-returns-in-Some-clause-finds
 find_shared-returns-in-Some-clause-finds t c =
-    stuck_known c.args.scope.now.program c.args.at c.args.e.now c.args.shared c.requires.leads c.args.work.now.nodes c.args.depth c.in-Some.found
+    stuck_known c.args.scope.now.program c.args.at c.args.e.now c.args.shared c.requires.leads c.args.memo.now.nodes c.args.depth c.in-Some.found
     (omega (arith, c.if-found-depth.false)) (c.in-Some.ensures.right c.args.scope.now.program c.requires.known)
 
 pub find_shared-returns-clause-known : goal.find_shared-returns-clause-known
 find_shared-returns-clause-known t c =
-    c.in_ok-keep.ensures.known c.args.scope.now.program c.in_ok-found.ensures.known
-    (known_found c.args.scope.now.program c.args.at c.args.e.now c.args.shared c.requires.leads c.find_below.new.work.nodes c.args.depth c.in_ok-found.found c.in_ok-found.ensures.follows)
+    c.in_ok-insert.ensures.known c.args.scope.now.program c.in_ok-found.ensures.known
+    (known_found c.args.scope.now.program c.args.at c.args.e.now c.args.shared c.requires.leads c.find_below.new.memo.nodes c.args.depth c.in_ok-found.found c.in_ok-found.ensures.follows)
 
 pub find_name-returns-then-depth-levels-clause-finds : goal.find_name-returns-then-depth-levels-clause-finds
 find_name-returns-then-depth-levels-clause-finds t c =
     let f : ℕ → Levelled = λ n. resolved_name c.args.scope.now.program (followed c.args.scope.now.program n) c.args.at c.args.name.now in
-    rw (← c.levels_before-levels.ensures.levels) (none_lowered f c.args.work.now.nodes c.levels_before-levels.result c.args.depth c.if-depth-levels.true)
+    rw (← c.levels_before-levels.ensures.levels) (none_lowered f c.args.memo.now.nodes c.levels_before-levels.result c.args.depth c.if-depth-levels.true)
 
 pub find_name-returns-in_err-found-clause-finds : goal.find_name-returns-in_err-found-clause-finds
 find_name-returns-in_err-found-clause-finds t c =
     let f : ℕ → Levelled = λ n. resolved_name c.args.scope.now.program (followed c.args.scope.now.program n) c.args.at c.args.name.now in
     let p = err_from_is_err_and c.from_residual.result c.from_residual.ensures.1 in
     rw (p.1, p.2)
-    (halts_lowered f c.find_target.new.work.nodes c.find_target.new.work.nodes c.levels_before-levels.result _ c.args.depth _ c.levels_before-levels.ensures.levels
+    (halts_lowered f c.find_target.new.memo.nodes c.find_target.new.memo.nodes c.levels_before-levels.result _ c.args.depth _ c.levels_before-levels.ensures.levels
     (omega (arith, c.if-depth-levels.false)) c.in_err-found.ensures.finds)
 
 pub find_name-returns-clause-finds : goal.find_name-returns-clause-finds
 find_name-returns-clause-finds t c =
     let f : ℕ → Levelled = λ n. resolved_name c.args.scope.now.program (followed c.args.scope.now.program n) c.args.at c.args.name.now in
     rw (← c.levels_before-levels.ensures.levels)
-    (found_lowered f c.find_target.new.work.nodes c.levels_before-levels.result c.args.depth c.in_ok-found.found (omega (arith, c.if-depth-levels.false)) c.in_ok-found.ensures.finds)
+    (found_lowered f c.find_target.new.memo.nodes c.levels_before-levels.result c.args.depth c.in_ok-found.found (omega (arith, c.if-depth-levels.false)) c.in_ok-found.ensures.finds)

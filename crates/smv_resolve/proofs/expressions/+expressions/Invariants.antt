@@ -35,22 +35,22 @@ decreases-find_chain l = 6 * l.room + 2
 -- the chain up to the link
 abbrev pub invariant-find_chain-loop-link : goal.invariant-find_chain-loop-link
 invariant-find_chain-loop-link l = record {
-  known : AllKnown l.scope.program l.work;
-  grows : Grows l.initial.work.nodes l.work.nodes;
-  found : IsFound l.work.nodes l.depth (λ n d. resolved_links (λ (e : Expr). levelled l.scope.program n l.at e d) (levelled l.scope.program n l.at l.first d) (take l.link-index l.links)) l.left;
+  known : AllKnown l.scope.program l.memo;
+  grows : Grows l.initial.memo.nodes l.memo.nodes;
+  found : IsFound l.memo.nodes l.depth (λ n d. resolved_links (λ (e : Expr). levelled l.scope.program n l.at e d) (levelled l.scope.program n l.at l.first d) (take l.link-index l.links)) l.left;
 }
 
 -- the operands so far
 abbrev pub invariant-find_apply-loop-e : goal.invariant-find_apply-loop-e
 invariant-find_apply-loop-e l = record {
-  known : AllKnown l.scope.program l.work;
-  grows : Grows l.initial.work.nodes l.work.nodes;
-  found : AreFound l.work.nodes l.depth (beside_to (levelled_at l.scope.program l.at) l.beside l.below l.e-index) l.operands.items l.height;
+  known : AllKnown l.scope.program l.memo;
+  grows : Grows l.initial.memo.nodes l.memo.nodes;
+  found : AreFound l.memo.nodes l.depth (beside_to (levelled_at l.scope.program l.at) l.beside l.below l.e-index) l.operands.items l.height;
 }
 
 abbrev pub invariant-find_apply-loop-lower : goal.invariant-find_apply-loop-lower
 invariant-find_apply-loop-lower l = record {
-  known : AllKnown l.scope.program l.work;
-  grows : Grows l.fn.work.nodes l.work.nodes;
-  found : AreFound l.work.nodes l.depth (below_to (levelled_at l.scope.program l.at) l.beside l.below l.lower-index) l.operands.items l.height;
+  known : AllKnown l.scope.program l.memo;
+  grows : Grows l.fn.memo.nodes l.memo.nodes;
+  found : AreFound l.memo.nodes l.depth (below_to (levelled_at l.scope.program l.at) l.beside l.below l.lower-index) l.operands.items l.height;
 }

@@ -7,7 +7,7 @@ use Rattle.smv_resolve.proofs.listing.add_assignments.Given as goal
 
 abbrev pub invariant-loop-assignment : goal.invariant-loop-assignment
 invariant-loop-assignment l = record {
-  known : AllKnown l.scope.program l.work;
-  stand : AllStand l.work.nodes l.items;
-  rests : Rests l.initial.work.nodes l.work.nodes l.initial.items l.items (map (resolved_assignment l.scope.program l.at) l.assignments) (map (resolved_assignment l.scope.program l.at) (drop l.assignment-index l.assignments));
+  known : AllKnown l.scope.program l.memo;
+  stand : AllStand l.memo.nodes l.items;
+  rests : Rests l.initial.memo.nodes l.memo.nodes l.initial.items l.items (map (resolved_assignment l.scope.program l.at) l.assignments) (map (resolved_assignment l.scope.program l.at) (drop l.assignment-index l.assignments));
 }

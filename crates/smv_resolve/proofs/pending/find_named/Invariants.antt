@@ -5,7 +5,7 @@ use Rattle.smv_resolve.proofs.pending.find_named.Given as goal
 
 abbrev pub invariant-pending : goal.invariant-pending
 invariant-pending l = record {
-  known : AllKnown l.scope.program l.work;
-  grows : Grows l.initial.work.nodes l.work.nodes;
+  known : AllKnown l.scope.program l.memo;
+  grows : Grows l.initial.memo.nodes l.memo.nodes;
   lead : AllLead l.scope.program l.pending;
 }

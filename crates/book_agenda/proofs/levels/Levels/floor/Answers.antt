@@ -1,7 +1,7 @@
 use Rattle.std.proofs.Common.{◌≡◌, ◌<◌, ◌≤◌, ◌+◌, ◌*◌, ℕ, List, length, sym, subst, arith, slice_index_or}
 use Rattle.std.proofs.lemmas.List.{get_or_read}
 use Rattle.clause_core.specs.Assignments.{assignment_of}
-use Rattle.frame_core.specs.Law.{FrameState, obligation_at}
+use Rattle.frame_core.specs.FrameLaw.{FrameState, obligation_at}
 use Rattle.book_agenda.specs.Values.{IsBlockedTo, blocked_at}
 use Rattle.book_agenda.proofs.levels.Levels.floor.Goals as goal
 

@@ -1,5 +1,5 @@
 use Rattle.std.proofs.Common.{subst}
-use Rattle.frame_core.specs.Law.{FrameState}
+use Rattle.frame_core.specs.FrameLaw.{FrameState}
 use Rattle.book_agenda.specs.Values.{AreBlocked}
 use Rattle.book_agenda.proofs.levels.Levels.follow.Goals as goal
 

@@ -4,7 +4,7 @@ use Rattle.frame_core.specs.declared.parts.Lemma.{Lemma}
 use Rattle.frame_core.specs.declared.outcomes.Insertion.{Insertion}
 use Rattle.frame_core.specs.declared.outcomes.Insertion.TheVariants.{Added}
 use Rattle.frame_core.specs.Facts.{ProvedClause}
-use Rattle.frame_core.specs.Law.{FrameState, lemma_at, obligation_at}
+use Rattle.frame_core.specs.FrameLaw.{FrameState, lemma_at, obligation_at}
 use Rattle.frame_core.specs.Changes.{InsertsSame}
 use Rattle.book_agenda.specs.Values.{AreBlocked, IsLifted, blocked_at}
 use Rattle.book_agenda.proofs.Blocked.{blocked_added, lemma_last}

@@ -3,7 +3,7 @@ use Rattle.clause_core.specs.Assignments.{assignment_of}
 use Rattle.frame_core.specs.declared.outcomes.Raising.{Raising}
 use Rattle.frame_core.specs.declared.outcomes.Raising.TheVariants.{Raised}
 use Rattle.frame_core.specs.Facts.{ProvedClause}
-use Rattle.frame_core.specs.Law.{FrameState, lemma_at, obligation_at, raised_at}
+use Rattle.frame_core.specs.FrameLaw.{FrameState, lemma_at, obligation_at, raised_at}
 use Rattle.frame_core.specs.Changes.{RaisesSame}
 use Rattle.book_agenda.specs.Values.{AreBlocked, IsLifted, blocked_at}
 use Rattle.book_agenda.proofs.Blocked.{blocked_raised}

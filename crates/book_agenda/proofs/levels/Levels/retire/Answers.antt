@@ -1,5 +1,5 @@
 use Rattle.std.proofs.Common.{◌<◌, length, sym, subst}
-use Rattle.frame_core.specs.Law.{FrameState}
+use Rattle.frame_core.specs.FrameLaw.{FrameState}
 use Rattle.frame_core.specs.Changes.{IsCovered}
 use Rattle.book_agenda.specs.Values.{AreBlocked}
 use Rattle.book_agenda.proofs.Blocked.{blocked_retired}

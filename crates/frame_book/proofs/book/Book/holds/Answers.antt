@@ -1,5 +1,5 @@
 use Rattle.std.proofs.Common.{◌≡◌, ap, subst, ◌∙◌}
-use Rattle.frame_core.specs.Law.{FramesHold}
+use Rattle.frame_core.specs.FrameLaw.{FramesHold}
 use Rattle.frame_history.proofs.Keeping.{lemmas_hold}
 use Rattle.frame_book.specs.Book.{BookView, IsBook}
 use Rattle.frame_book.proofs.Picked.{book_systems}

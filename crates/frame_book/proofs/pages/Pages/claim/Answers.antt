@@ -1,6 +1,6 @@
 use Rattle.std.proofs.Common.{◌≡◌, ℕ, true, length, refl, sym, subst}
 use Rattle.std.specs.Prelude.{Some}
-use Rattle.frame_core.specs.Law.{FramesHold}
+use Rattle.frame_core.specs.FrameLaw.{FramesHold}
 use Rattle.frame_history.specs.declared.entries.Subject.{Subject}
 use Rattle.frame_history.specs.History.{BookState, IsClosed, IsLawfulClaim, IsNew}
 use Rattle.frame_book.specs.Claims.{ClaimView, IsOfSubject}

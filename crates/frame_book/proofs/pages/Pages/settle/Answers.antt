@@ -1,6 +1,6 @@
 use Rattle.std.proofs.Common.{◌≡◌, ◌+◌, ◌≤◌, ℕ, List, [], ◌∷◌, ◌++◌, length, set, sym, ap, subst, ◌∙◌, arith}
 use Rattle.std.specs.Prelude.{Some, None, vec_capacity, if◌then◌else◌}
-use Rattle.frame_core.specs.Law.{FrameState, FramesHold}
+use Rattle.frame_core.specs.FrameLaw.{FrameState, FramesHold}
 use Rattle.frame_history.specs.declared.entries.Made.{Made}
 use Rattle.frame_history.specs.declared.entries.Change.{Change}
 use Rattle.frame_history.specs.declared.entries.Entry.{Entry}

@@ -1,6 +1,6 @@
 use Rattle.std.proofs.Common.{◌≡◌, List, [], ◌∷◌, ◌++◌, length, sym, ap, subst, ◌∙◌, arith}
 use Rattle.std.specs.Prelude.{vec_capacity, vec_len}
-use Rattle.frame_core.specs.Law.{FramesHold}
+use Rattle.frame_core.specs.FrameLaw.{FramesHold}
 use Rattle.frame_history.specs.declared.entries.Entry.{Entry}
 use Rattle.frame_history.specs.declared.entries.Entry.TheVariants as entry
 use Rattle.frame_history.specs.History.{IsLawfulClaim}

@@ -1,7 +1,7 @@
 use Rattle.std.proofs.Common.{◌≡◌, ◌<◌, ◌∷◌, [], ◌++◌, ℕ, Bool, List, length, sym, ap, ◌∙◌, subst, arith}
 use Rattle.std.specs.Prelude.{is_none, Option}
 use Rattle.frame_core.specs.declared.parts.Obligation.{Obligation}
-use Rattle.frame_core.specs.Law.{FrameState}
+use Rattle.frame_core.specs.FrameLaw.{FrameState}
 use Rattle.frame_core.specs.Changes.{IsOfSystem, MayHaveParent, with_obligation}
 use Rattle.frame_core.specs.Counting.{IsKept, marked_at}
 use Rattle.frame_core.proofs.Kept.{kept_noted}

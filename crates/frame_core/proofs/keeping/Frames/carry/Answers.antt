@@ -1,7 +1,7 @@
 use Rattle.std.proofs.Common.{◌≡◌, ℕ, List, length, sym, ap, ◌∙◌, subst}
 use Rattle.std.proofs.Math.ListN.{replicate}
 use Rattle.frame_core.specs.declared.parts.Obligation.{Obligation}
-use Rattle.frame_core.specs.Law.{FrameState, system_at}
+use Rattle.frame_core.specs.FrameLaw.{FrameState, system_at}
 use Rattle.frame_core.specs.Changes.{IsCut, fresh}
 use Rattle.frame_core.specs.Counting.{IsKept}
 use Rattle.frame_core.proofs.Kept.{kept_carried}

@@ -1,7 +1,7 @@
 use Rattle.std.proofs.Common.{◌≡◌, ◌-◌, ℕ, List, [], ◌∷◌, ◌++◌, length, false, true, sym, ap, ◌∙◌, refl, subst, arith}
 use Rattle.frame_core.specs.declared.parts.Lemma.{Lemma}
 use Rattle.frame_core.specs.declared.parts.Parent.{Parent}
-use Rattle.frame_core.specs.Law.{FrameState, AllStand}
+use Rattle.frame_core.specs.FrameLaw.{FrameState, AllStand}
 use Rattle.frame_core.specs.Changes.{IsOfSystem, with_lemma}
 use Rattle.frame_core.specs.Counting.{IsKept, more_at}
 use Rattle.frame_core.specs.Looking.{IsBehind}

@@ -1,7 +1,7 @@
 use Rattle.std.proofs.Common.{◌≡◌, ◌<◌, ◌≤◌, ◌+◌, ℕ, List, length, set, true, sym, ap, ◌∙◌, subst, arith}
 use Rattle.std.proofs.lemmas.List.{get_or_read}
 use Rattle.frame_core.specs.declared.parts.Lemma.{Lemma}
-use Rattle.frame_core.specs.Law.{FrameState, AllStand, top_at}
+use Rattle.frame_core.specs.FrameLaw.{FrameState, AllStand, top_at}
 use Rattle.frame_core.specs.Changes.{IsOfSystem}
 use Rattle.frame_core.specs.Counting.{IsKept, AreCounts}
 use Rattle.frame_core.proofs.Kept.{kept_counted, kept_opened}

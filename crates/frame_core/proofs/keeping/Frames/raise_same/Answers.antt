@@ -1,6 +1,6 @@
 use Rattle.std.proofs.Common.{◌≡◌, ◌<◌, ◌-◌, ◌+◌, ℕ, List, length, get_or, ◌^◌, false, true, sym, ap, ◌∙◌, subst, arith}
 use Rattle.frame_core.specs.declared.parts.Lemma.{Lemma}
-use Rattle.frame_core.specs.Law.{FrameState, AllStand, IsAsHigh, lemma_at, raised_at}
+use Rattle.frame_core.specs.FrameLaw.{FrameState, AllStand, IsAsHigh, lemma_at, raised_at}
 use Rattle.frame_core.specs.Changes.{IsOfSystem, with_level}
 use Rattle.frame_core.specs.Counting.{IsKept, more_at, less_at}
 use Rattle.frame_core.proofs.Counts.{counted_raised, more_fits}

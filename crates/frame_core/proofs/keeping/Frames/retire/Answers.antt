@@ -1,6 +1,6 @@
 use Rattle.std.proofs.Common.{◌≡◌, ◌<◌, ℕ, List, length, sym, ap, ◌∙◌, subst}
 use Rattle.frame_core.specs.declared.parts.Lemma.{Lemma}
-use Rattle.frame_core.specs.Law.{FrameState, lemma_at}
+use Rattle.frame_core.specs.FrameLaw.{FrameState, lemma_at}
 use Rattle.frame_core.specs.Changes.{IsCovered, with_retired}
 use Rattle.frame_core.specs.Counting.{IsKept, less_at}
 use Rattle.frame_core.proofs.Kept.{kept_retired}

@@ -4,7 +4,7 @@ use Rattle.std.specs.List.{All}
 use Rattle.std.proofs.lemmas.List.{get_or_read}
 use Rattle.clause_core.specs.Assignments.{ClauseTrue, assignment_of}
 use Rattle.frame_core.specs.declared.parts.Obligation.{Obligation}
-use Rattle.frame_core.specs.Law.{FrameState, FramesHold, system_at, no_obligation, obligation_at, LeadsToBad}
+use Rattle.frame_core.specs.FrameLaw.{FrameState, FramesHold, system_at, no_obligation, obligation_at, LeadsToBad}
 use Rattle.frame_core.specs.Runs.{IsBitRun, IsBadRun}
 use Rattle.frame_core.proofs.Running.{run_one, run_more, run_bad}
 use Rattle.frame_core.proofs.keeping.Frames.run_of.Goals as goal

@@ -1,5 +1,5 @@
 use Rattle.std.proofs.Common.{◌≡◌, ◌<◌, [], ◌∷◌, ◌++◌, length}
-use Rattle.frame_core.specs.Law.{system_at, obligation_at}
+use Rattle.frame_core.specs.FrameLaw.{system_at, obligation_at}
 use Rattle.frame_core.specs.Runs.{IsBitRun}
 use Rattle.frame_core.proofs.keeping.Frames.run_of.Given as goal
 

@@ -2,7 +2,7 @@ use Rattle.std.proofs.Common.{◌≡◌, ◌<◌, ℕ, List, length, get_or, bit
 use Rattle.std.proofs.lemmas.List.{get_or_read}
 use Rattle.frame_core.specs.declared.parts.Lemma.{Lemma}
 use Rattle.frame_core.specs.Facts.{IsPart}
-use Rattle.frame_core.specs.Law.{lemma_at}
+use Rattle.frame_core.specs.FrameLaw.{lemma_at}
 use Rattle.frame_core.proofs.Signed.{part_has_bits}
 use Rattle.frame_core.proofs.lemma_list.Lemmas.may_have.Goals as goal
 

@@ -3,7 +3,7 @@ use Rattle.std.specs.Prelude.{All}
 use Rattle.std.proofs.lemmas.List.{length-take-le}
 use Rattle.clause_core.specs.Literals.{Within}
 use Rattle.frame_core.specs.declared.parts.Lemma.{Lemma}
-use Rattle.frame_core.specs.Law.{system_at}
+use Rattle.frame_core.specs.FrameLaw.{system_at}
 use Rattle.frame_query.specs.Findings.{SolverView, IsOlder}
 use Rattle.frame_query.proofs.Followed.{kept_followed, prefix_older}
 use Rattle.frame_query.proofs.keeping.FrameSolver.follow.Goals as goal

@@ -3,7 +3,7 @@ use Rattle.std.specs.Prelude.{All}
 use Rattle.std.proofs.lemmas.List.Elements.{All-nil}
 use Rattle.clause_core.specs.Literals.{Within}
 use Rattle.frame_core.specs.declared.parts.Lemma.{Lemma}
-use Rattle.frame_core.specs.Law.{system_at}
+use Rattle.frame_core.specs.FrameLaw.{system_at}
 use Rattle.frame_solver.specs.Groups.{base, step_heads, state_heads, clauses_of}
 use Rattle.frame_solver.proofs.Renewed.{fresh_loaded}
 use Rattle.frame_query.specs.KeptProofs.{AreKept}

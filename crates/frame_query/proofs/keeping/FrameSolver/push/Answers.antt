@@ -1,7 +1,7 @@
 use Rattle.std.proofs.Common.{◌+◌, ◌∙◌, List, subst, sym}
 use Rattle.std.specs.Result.{IfOk}
 use Rattle.frame_core.specs.declared.parts.Lemma.{Lemma}
-use Rattle.frame_core.specs.Law.{system_at, lemma_at}
+use Rattle.frame_core.specs.FrameLaw.{system_at, lemma_at}
 use Rattle.frame_solver.specs.Engines.{IsLoaded, known_of}
 use Rattle.frame_solver.specs.Groups.{base, step_heads, clauses_of}
 use Rattle.frame_solver.specs.Firsts.{AllFirstsMeet}

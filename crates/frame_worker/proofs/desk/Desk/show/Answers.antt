@@ -1,5 +1,5 @@
 use Rattle.std.proofs.Common.{refl, ap, ◌∙◌}
-use Rattle.frame_core.specs.Law.{FrameState}
+use Rattle.frame_core.specs.FrameLaw.{FrameState}
 use Rattle.frame_book.specs.Book.{BookView}
 use Rattle.frame_worker.proofs.Books.{BeganWith, follows_desk, up_to_book}
 use Rattle.frame_worker.proofs.desk.Desk.show.Goals as goal

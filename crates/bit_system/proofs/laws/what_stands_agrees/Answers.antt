@@ -1,5 +1,0 @@
-use Rattle.bit_system.proofs.Agreeing.{agreeing}
-use Rattle.bit_system.proofs.laws.what_stands_agrees.Goals as goal
-
-pub returns : goal.returns
-returns c = λ p spec sys stands. agreeing p spec sys stands

@@ -1,5 +1,0 @@
-use Rattle.bit_table.proofs.OfResults.{value_stays}
-use Rattle.bit_table.proofs.laws.what_operators_give.Goals as goal
-
-pub returns : goal.returns
-returns c = value_stays

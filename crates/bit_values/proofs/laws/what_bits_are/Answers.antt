@@ -1,5 +1,0 @@
-use Rattle.bit_values.proofs.OfBits.{bits_are}
-use Rattle.bit_values.proofs.laws.what_bits_are.Goals as goal
-
-pub returns : goal.returns
-returns c = λ t h. bits_are t h

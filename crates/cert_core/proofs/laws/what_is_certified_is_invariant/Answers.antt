@@ -1,5 +1,0 @@
-use Rattle.cert_core.proofs.Shown.{Invariant-from_certifies}
-use Rattle.cert_core.proofs.laws.what_is_certified_is_invariant.Goals as goal
-
-pub returns : goal.returns
-returns c = Invariant-from_certifies

@@ -1,6 +1,0 @@
-use Rattle.frame_core.specs.Law.{system_at}
-use Rattle.frame_core.proofs.Reaching.{holds_within}
-use Rattle.frame_core.proofs.laws.lemmas_hold_in_reached_states.Goals as goal
-
-pub returns : goal.returns
-returns c = λ f h s below. holds_within (system_at f.systems s) f.lemmas (h.lemmas s below)

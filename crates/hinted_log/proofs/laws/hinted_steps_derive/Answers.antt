@@ -1,5 +1,0 @@
-use Rattle.hinted_log.proofs.Follow.{Derives-from_hinted}
-use Rattle.hinted_log.proofs.laws.hinted_steps_derive.Goals as goal
-
-pub returns : goal.returns
-returns c = Derives-from_hinted

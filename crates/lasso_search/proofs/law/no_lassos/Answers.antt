@@ -1,5 +1,0 @@
-use Rattle.lasso_search.proofs.Stretched.{none_violates}
-use Rattle.lasso_search.proofs.law.no_lassos.Goals as goal
-
-pub returns : goal.returns
-returns c = λ sys m f atoms ism gives xs values n l extend lasso none. none_violates sys m f atoms ism gives xs values n l extend lasso none

@@ -1,9 +1,0 @@
-use Rattle.std.proofs.Common.{arith}
-use Rattle.ltl_monitor.proofs.SignalRuns.{counter_grows}
-use Rattle.ltl_monitor.proofs.law.counters.Goals as goal
-
-pub returns-clause-bits : goal.returns-clause-bits
-returns-clause-bits c = λ m old new k is then. omega (arith, is.bits, then.bits)
-
-pub returns-clause-cut : goal.returns-clause-cut
-returns-clause-cut c = λ m old new k is then gives. counter_grows m old new k is then gives

@@ -1,5 +1,0 @@
-use Rattle.ltl_monitor.proofs.SignalRuns.{exact}
-use Rattle.ltl_monitor.proofs.law.signal_runs.Goals as goal
-
-pub returns : goal.returns
-returns c = λ sys m counted f atoms k n ism isc own gives. exact sys m counted f atoms k ism isc own gives n

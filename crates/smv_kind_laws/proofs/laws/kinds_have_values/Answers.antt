@@ -1,5 +1,0 @@
-use Rattle.smv_kind_laws.proofs.Giving.{values_given}
-use Rattle.smv_kind_laws.proofs.laws.kinds_have_values.Goals as goal
-
-pub returns : goal.returns
-returns c = values_given

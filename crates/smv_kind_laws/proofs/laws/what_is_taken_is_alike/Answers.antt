@@ -1,5 +1,0 @@
-use Rattle.smv_kind_laws.proofs.Members.{taken}
-use Rattle.smv_kind_laws.proofs.laws.what_is_taken_is_alike.Goals as goal
-
-pub returns : goal.returns
-returns c = taken

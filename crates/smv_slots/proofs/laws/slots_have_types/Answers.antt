@@ -1,6 +1,0 @@
--- The law of all programs.
-use Rattle.smv_slots.proofs.Counted.{counted, numbered}
-use Rattle.smv_slots.proofs.laws.slots_have_types.Goals as goal
-
-pub returns : goal.returns
-returns c = record { counted = counted; numbered = numbered }

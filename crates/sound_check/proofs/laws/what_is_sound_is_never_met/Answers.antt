@@ -1,5 +1,0 @@
-use Rattle.sound_check.proofs.Meeting.{sound_never_met}
-use Rattle.sound_check.proofs.laws.what_is_sound_is_never_met.Goals as goal
-
-pub returns : goal.returns
-returns c = sound_never_met

@@ -1,5 +1,0 @@
-use Rattle.value_texts.proofs.Codes.{reading}
-use Rattle.value_texts.proofs.laws.what_is_read_of_a_value.Goals as goal
-
-pub returns : goal.returns
-returns c = λ names t typed. reading names t typed
