@@ -764,14 +764,12 @@ ARITY = {'abs': 1, 'max': 2, 'min': 2, 'word1': 1, 'bool': 1, 'signed': 1, 'unsi
 # --- the judge --------------------------------------------------------------------------------------------------------
 
 DEPARTURES = {
-    'wide': 'a limit with a part of more than 64 bits is outside (409; 402 without a detail), never empty (403)',
-    'bounds': 'bounds of temporal operators are judged as operands, and before the kind of the operand',
+    'wide': 'a limit with a part of more than 128 bits is outside (409; 402 without a detail), never empty (403)',
+    'bounds': 'bounds of temporal operators are judged as operands',
     'bracket': 'a constraint that is an element of inner arrays is refused at its first `[`, be it in what was given',
     'input': 'of an input array the element is the input (407), after its index and its kinds; outside there is none',
     'left': 'on the left all kinds (401) are judged before what is no constant or outside (404, 412)',
     'brackets': 'a text with more than 2000 `[ ]` behind one operand ends with status 7',
-    'depth': 'the parenthesis of `init(` and `next(` on the left is no level of an unfolded item',
-    'deep': 'a name that leads through more than 2000 others is no constant',
     'given': 'the indices with which a parameter was given an array are asked where its element is assigned, and sets',
 }
 """Where the program is known to read the rules otherwise than this judge. A difference that one of these explains is
@@ -1004,7 +1002,7 @@ class Judge:
             if isinstance(entry, Assignment):
                 left = self.height(instance, entry.target)
                 left = max([left] + [1 + self.height(instance, index) for _, index in entry.indices])
-                height = max(height, left + (entry.kind != 'now' and 'depth' not in self.known))
+                height = max(height, left + (entry.kind != 'now'))
             if height > DEPTH_LIMIT:
                 raise Refused(310, entry.place)
 
@@ -1051,30 +1049,28 @@ class Judge:
         return meaning.followed + 1 + self.heights[key]
 
     # constants and types
-    def constant(self, instance, node, levels=0):
+    def constant(self, instance, node):
         """The value of a constant expression, or None."""
-        if levels > DEPTH_LIMIT and 'deep' in self.known:
-            return None
         if node.form == 'integer':
             return node.value
         if node.form == 'name':
             meaning = self.meaning(instance, node)
             if meaning.what == 'definition':
-                return self.constant(meaning.of, meaning.value.body, levels + 1)
+                return self.constant(meaning.of, meaning.value.body)
             if meaning.what == 'parameter':
-                return self.constant(meaning.of.owner, meaning.of.arguments[meaning.value], levels + 1)
+                return self.constant(meaning.of.owner, meaning.of.arguments[meaning.value])
             return None
         if node.form == 'unary' and node.value == '-':
-            value = self.constant(instance, node.operands[0], levels)
+            value = self.constant(instance, node.operands[0])
             return None if value is None else -value
         if node.form == 'binary' and node.value in ARITHMETIC:
             spine = []
             while node.form == 'binary' and node.value in ARITHMETIC:
                 spine.append(node)
                 node = node.operands[0]
-            value = self.constant(instance, node, levels)
+            value = self.constant(instance, node)
             for node in reversed(spine):
-                right = self.constant(instance, node.operands[1], levels)
+                right = self.constant(instance, node.operands[1])
                 if value is None or right is None or right == 0 and node.value in ('/', 'mod'):
                     return None
                 if node.value in ('/', 'mod'):
@@ -1086,7 +1082,7 @@ class Judge:
         return None
 
     def is_wide(self, instance, node):
-        """Whether a constant has a part of more than 64 bits, where that is known to matter."""
+        """Whether a constant has a part of more than 128 bits, where that is known to matter."""
         value = self.constant(instance, node)
         if 'wide' not in self.known or value is None or node.form == 'integer':
             return False
@@ -1095,7 +1091,7 @@ class Judge:
             if meaning.what == 'definition':
                 return self.is_wide(meaning.of, meaning.value.body)
             return self.is_wide(meaning.of.owner, meaning.of.arguments[meaning.value])
-        return not -1 << 63 <= value < 1 << 63 or any(self.is_wide(instance, part) for part in node.operands)
+        return not -1 << 127 <= value < 1 << 127 or any(self.is_wide(instance, part) for part in node.operands)
 
     def check_types(self):
         """Declared types; within one declaration the rules come in the order 401, 404, 403, 402, 410, 409."""
@@ -1422,10 +1418,10 @@ class Judge:
     def kind_of_timed(self, instance, node, kind, context, outside):
         values = [self.constant(instance, bound) for bound in node.bounds]
         self.demand(context.temporal, 408, node)
+        self.demand(is_boolean(kind), 401, node)
         if outside:
             self.demand(all(value is not None and value.bit_length() < 64 for value in values), 404, node)
             raise Refused(413, node.place, '%d,%d' % tuple(values))
-        self.demand(is_boolean(kind), 401, node)
         if node.bounds:
             self.demand(None not in values, 404, node)
             if not 0 <= values[0] <= values[1] <= BOUND_LIMIT:

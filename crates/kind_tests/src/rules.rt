@@ -134,12 +134,12 @@ fn selected(high: i64, low: i64) -> Result<Kind, KindRule> {
     kind_given(Operator::Select, &operands)
 }
 
-// A window from `low` to `high` as it is written.
-fn window(low: Option<i64>, high: Option<i64>) -> Result<Kind, KindRule> {
+// A window from `low` to `high` as it is written, over what has this kind.
+fn window(low: Option<i64>, high: Option<i64>, over: Kind) -> Result<Kind, KindRule> {
     let operands = [
         operand(DIGIT, low),
         operand(DIGIT, high),
-        operand(Kind::Boolean, None),
+        operand(over, None),
     ];
     kind_given(Operator::Window(Bounded::Once), &operands)
 }
@@ -178,8 +178,9 @@ fn rules_are_told_in_their_order(rt: HostRuntime) -> Result<(), Fail> {
     );
     assert!(rt; selected(8, 0) == Err(KindRule::BadSelection));
     assert!(rt; bounded(2, 1) == Err(KindRule::BadBound));
-    assert!(rt; window(Some(-1), Some(3)) == Err(KindRule::BadBound));
-    assert!(rt; window(Some(0), None) == Err(KindRule::NotConstant));
+    assert!(rt; window(Some(-1), Some(3), Kind::Boolean) == Err(KindRule::BadBound));
+    assert!(rt; window(Some(0), None, Kind::Boolean) == Err(KindRule::NotConstant));
+    assert!(rt; window(Some(0), None, BYTE) == Err(KindRule::TypeMismatch));
     Ok(())
 }
 

@@ -8,7 +8,7 @@ use std::test::Fail;
 use std::thread::Threads;
 
 // Rules that the type of a declaration breaks.
-const DECLARED: [Case; 20] = [
+const DECLARED: [Case; 23] = [
     (
         "check",
         "MODULE main\nVAR n : 0..3; x : 0..n;\n",
@@ -61,11 +61,17 @@ const DECLARED: [Case; 20] = [
         "-- refused 402 WordWidth at 2:21: -1\n",
         3,
     ),
-    // A width of more than 64 bits is not told.
+    // A width of more than 128 bits is not told.
     (
         "check",
         "MODULE main\nVAR w : word[2147483647 * 2147483647 * 2147483647];\n",
-        "-- refused 402 WordWidth at 2:38\n",
+        "-- refused 402 WordWidth at 2:38: 9903520300447984150353281023\n",
+        3,
+    ),
+    (
+        "check",
+        "MODULE main\nDEFINE m := 2147483647;\nVAR w : word[m * m * m * m * m];\n",
+        "-- refused 402 WordWidth at 3:28\n",
         3,
     ),
     ("check", "MODULE main\nVAR w : word[64 + 64];\n", "", 0),
@@ -101,6 +107,18 @@ const DECLARED: [Case; 20] = [
         "-- slot 0 state x : -2147483648..2147483647\n",
         0,
     ),
+    (
+        "flat",
+        "MODULE main\nDEFINE m := 2147483647;\nVAR x : 0..m * m * m * 3 mod 7;\n",
+        "-- slot 0 state x : 0..3\n",
+        0,
+    ),
+    (
+        "check",
+        "MODULE main\nDEFINE m := 2147483647;\nVAR x : m * m * m..0;\n",
+        "-- refused 403 EmptyRange at 3:15\n",
+        3,
+    ),
     // They are judged declaration by declaration.
     (
         "check",
@@ -124,7 +142,7 @@ const DECLARED: [Case; 20] = [
 ];
 
 // Rules that an operator and its operands break.
-const OPERANDS: [Case; 35] = [
+const OPERANDS: [Case; 37] = [
     (
         "check",
         "MODULE main\nVAR x : 0..3;\nINIT x & TRUE\n",
@@ -264,6 +282,19 @@ const OPERANDS: [Case; 35] = [
         "check",
         "MODULE main\nVAR x : boolean;\nLTLSPEC O [0,256] x\n",
         "-- refused 413 BadBound at 3:9: 0,256\n",
+        3,
+    ),
+    // What the operator stands over comes before its bounds.
+    (
+        "check",
+        "MODULE main\nVAR n : 0..3;\nLTLSPEC F [-1,2] n\n",
+        "-- refused 401 TypeMismatch at 3:9\n",
+        3,
+    ),
+    (
+        "check",
+        "MODULE main\nVAR n : 0..3;\nLTLSPEC F [n,2] n\n",
+        "-- refused 401 TypeMismatch at 3:9\n",
         3,
     ),
     (
@@ -432,6 +463,78 @@ fn wrong_repeated<R: Threads + Wait + Sync>(
 #[test]
 fn levels_are_counted(rt: HostRuntime) -> Result<(), Fail> {
     let wrong = wrong_repeated(&rt, rt.alloc())?;
+    assert_eq!(rt; wrong, None);
+    Ok(())
+}
+
+// A model of as many definitions, each of which is the next and the last of which is 0, with this behind it.
+fn chain(alloc: Global, count: usize, behind: &str) -> Result<String, AllocError> {
+    let mut text = String::new(alloc);
+    text.push_str("MODULE main\nDEFINE\n")?;
+    for n in 1..count {
+        let line = format!(in alloc; "d{n} := d{};\n", n + 1)?;
+        text.push_str(line.as_str())?;
+    }
+    let last = format!(in alloc; "d{count} := 0;\n")?;
+    text.push_str(last.as_str())?;
+    text.push_str(behind)?;
+    Ok(text)
+}
+
+// How many definitions, what stands behind them, what `check` prints, and the status.
+const CHAINED: [(usize, &str, &str, u8); 6] = [
+    // On the left side `[` opens a level, and so does the parenthesis of `init(` and `next(`.
+    (
+        1999,
+        "VAR a : array 0..1 of boolean;\nASSIGN a[d1] := TRUE;\n",
+        "",
+        0,
+    ),
+    (
+        1998,
+        "VAR a : array 0..1 of boolean;\nASSIGN init(a[d1]) := TRUE;\n",
+        "",
+        0,
+    ),
+    (
+        1999,
+        "VAR a : array 0..1 of boolean;\nASSIGN init(a[d1]) := TRUE;\n",
+        "-- refused 310 UnfoldedDepth at 2003:8\n",
+        3,
+    ),
+    (
+        1999,
+        "VAR a : array 0..1 of boolean;\nASSIGN next(a[d1]) := TRUE;\n",
+        "-- refused 310 UnfoldedDepth at 2003:8\n",
+        3,
+    ),
+    // A type is no item: its constants lead as far as there are names.
+    (2001, "VAR x : 0..d1;\n", "", 0),
+    (
+        2001,
+        "VAR x : 0..d1;\nINIT x = d1\n",
+        "-- refused 310 UnfoldedDepth at 2005:1\n",
+        3,
+    ),
+];
+
+// The first of them that is answered otherwise.
+fn wrong_chain<R: Threads + Wait + Sync>(
+    rt: &R,
+    alloc: Global,
+) -> Result<Option<usize>, AllocError> {
+    for (row, (count, behind, want, status)) in CHAINED.iter().enumerate() {
+        let text = chain(alloc, *count, behind)?;
+        if !is_answered(rt, alloc, text, want, *status) {
+            return Ok(Some(row));
+        }
+    }
+    Ok(None)
+}
+
+#[test]
+fn names_are_levels_of_items_alone(rt: HostRuntime) -> Result<(), Fail> {
+    let wrong = wrong_chain(&rt, rt.alloc())?;
     assert_eq!(rt; wrong, None);
     Ok(())
 }

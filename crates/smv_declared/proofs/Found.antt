@@ -11,8 +11,7 @@ use Rattle.smv_value.specs.declared.operator.Division.{Division}
 use Rattle.smv_value.specs.declared.operator.Operator.{Operator}
 use Rattle.smv_value.specs.declared.operator.Operator.TheVariants as operator
 use Rattle.smv_resolve.specs.declared.node.Node.{Node}
-use Rattle.smv_resolve.specs.Resolved.{Operands, Resolved, is_some_stuck, is_stuck, last_of, operands_of, part_at, parts_of, resolved, resolved_by}
-use Rattle.smv_scope.specs.Lookup.{depth_limit}
+use Rattle.smv_resolve.specs.Resolved.{Operands, Resolved, is_some_stuck, is_stuck, last_of, operands_of, part_at, all_levels, parts_of, resolved_by, wholly_resolved}
 use Rattle.smv_resolve.proofs.NodesOf.{levelled-constant}
 use Rattle.smv_resolve.proofs.Parts.{parts_of-next}
 use Rattle.smv_declared.specs.declared.constant.Constant.{Constant}
@@ -52,8 +51,8 @@ pub operated_two : (o : Operator) (parts : List Resolved) (a b : ℕ) (x y : Con
 operated_two o parts a b x y e f = ap (λ c. operated o (c ∷ y ∷ [])) e ∙ ap (λ c. operated o (constant_of (part_at parts a) ∷ c ∷ [])) f
 
 -- a literal
-pub literal : (p : Program) (at : ℕ) (place : Place) (v : Value) → constant_of (resolved p at (expr.Constant place v)) ≡ constant_of_value v
-literal p at place v = ap constant_of (levelled-constant p at depth_limit depth_limit place v)
+pub literal : (p : Program) (at : ℕ) (place : Place) (v : Value) → constant_of (wholly_resolved p at (expr.Constant place v)) ≡ constant_of_value v
+literal p at place v = ap constant_of (levelled-constant p at all_levels all_levels place v)
 
 -- what has a part that is no constant is none
 

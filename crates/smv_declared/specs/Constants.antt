@@ -1,5 +1,5 @@
 -- Constants of types: integers that literals give by `-`, `+`, `*`, `/` and `mod`, through names (NuSMV 2.6 User Manual, 2.1). That
--- each part of one has 64 bits is an own choice of this project.
+-- each part of one has 128 bits is an own choice of this project.
 use Rattle.std.specs.Prelude.{Bool, ◌&&◌, if◌then◌else◌, List, [], ◌∷◌, ℤ, pos, negsuc, neg_ℤ, int_le}
 use Rattle.smv_value.specs.declared.operator.Arithmetic.{Arithmetic}
 use Rattle.smv_value.specs.declared.operator.Division.{Division}
@@ -12,17 +12,17 @@ use Rattle.smv_resolve.specs.Resolved.{Operands, Resolved}
 use Rattle.smv_declared.specs.declared.constant.Constant.{Constant}
 use Rattle.smv_declared.specs.declared.constant.Constant.TheVariants.{NotConstant, Beyond, Integer}
 
-abbrev pub has_64_bits : ℤ → Bool
-has_64_bits z = int_le (negsuc 9223372036854775807) z && int_le z (pos 9223372036854775807)
+abbrev pub has_128_bits : ℤ → Bool
+has_128_bits z = int_le (negsuc 170141183460469231731687303715884105727) z && int_le z (pos 170141183460469231731687303715884105727)
 
 abbrev pub integer : ℤ → Constant
-integer z = if has_64_bits z then Integer z else Beyond
+integer z = if has_128_bits z then Integer z else Beyond
 
 abbrev pub constant_of_value : Value → Constant
 constant_of_value (value.Int z) = Integer z
 constant_of_value other = NotConstant
 
--- of two parts, one of which has more than 64 bits, or is no constant, which counts first
+-- of two parts, one of which has more than 128 bits, or is no constant, which counts first
 abbrev pub beyond : Constant → Constant → Constant
 beyond NotConstant b = NotConstant
 beyond a NotConstant = NotConstant

@@ -62,7 +62,7 @@ abbrev pub empty_range : Place → Constant → Constant → Option Refusal
 empty_range place (Integer low) (Integer high) = if int_lt high low then Some (plain rule.EmptyRange place) else None
 empty_range place low high = None
 
--- a width that no word has; it is told where it has 64 bits
+-- a width that no word has; it is told where it has 128 bits
 abbrev pub no_width : Place → Constant → Option Refusal
 no_width place NotConstant = None
 no_width place Beyond = Some (plain rule.WordWidth place)

@@ -21,7 +21,7 @@ use Rattle.smv_scope.specs.Modules.{sections_of, variables_in}
 use Rattle.smv_scope.specs.Instances.{instances_of}
 use Rattle.smv_scope.specs.Holders.{holds}
 use Rattle.smv_scope.specs.Enumerated.{symbol_number}
-use Rattle.smv_resolve.specs.Resolved.{resolved}
+use Rattle.smv_resolve.specs.Resolved.{wholly_resolved}
 use Rattle.smv_declared.specs.declared.constant.Constant.{Constant}
 use Rattle.smv_declared.specs.declared.constant.Constant.TheVariants.{Integer}
 use Rattle.smv_declared.specs.declared.variable_type.Bounds.{Bounds}
@@ -32,7 +32,7 @@ use Rattle.smv_declared.specs.Constants.{constant_of}
 
 -- what a bound or a width of a type is, in the instance of this number
 abbrev pub bound_of : Program → ℕ → Expr → Constant
-bound_of p at e = constant_of (resolved p at e)
+bound_of p at e = constant_of (wholly_resolved p at e)
 
 -- the number; 0 of what is no constant
 abbrev pub number_of : Constant → ℤ

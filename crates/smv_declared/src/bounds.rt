@@ -50,7 +50,7 @@ fn width_of(alloc: Global, place: Place, width: Constant) -> Result<u32, TextSto
 }
 
 // A number as it is told.
-fn number_text(alloc: Global, z: i64) -> Result<Text, AllocError>
+fn number_text(alloc: Global, z: i128) -> Result<Text, AllocError>
     ensures { IfOk result (λ t. t ≡ signed_decimal z) }
 {
     let text = format!(in alloc; "{z}")?;

@@ -1,7 +1,7 @@
 //! Constants of types, and what operators give of them.
 
 ghost use Rattle.std.specs.Prelude.{◌≡◌, ◌≢◌, ℤ, pos, FitsSigned, SomeIff};
-ghost use Rattle.std.specs.Int.{w64};
+ghost use Rattle.std.specs.Int.{w128};
 ghost use Rattle.smv_value.specs.Results.{divided, sum_of};
 ghost use Rattle.smv_declared.specs.Constants.{beyond, constant_of_value, integer, negated, operated, quotient, summed};
 
@@ -12,16 +12,16 @@ use smv_value::{Arithmetic, Division, Operator, Value};
 pub enum Constant {
     /// It is no constant.
     NotConstant,
-    /// It is one, and some part of it has more than 64 bits.
+    /// It is one, and some part of it has more than 128 bits.
     Beyond,
-    Integer(i64),
+    Integer(i128),
 }
 
 pub(crate) fn constant_of_value(value: Value) -> Constant
     ensures { result ≡ constant_of_value value }
 {
     match value {
-        Value::Int(z) => Constant::Integer(z),
+        Value::Int(z) => Constant::Integer(i128::from(z)),
         Value::Bool(_) | Value::Sym(_) | Value::Word { .. } => Constant::NotConstant,
     }
 }
@@ -66,7 +66,7 @@ fn summed(o: Arithmetic, a: Constant, b: Constant) -> Constant
     }
 }
 
-fn sum_of(o: Arithmetic, a: i64, b: i64) -> Constant
+fn sum_of(o: Arithmetic, a: i128, b: i128) -> Constant
     ensures { result ≡ integer (sum_of o a b) }
 {
     match o {
@@ -90,7 +90,7 @@ fn quotient(o: Division, a: Constant, b: Constant) -> Constant
     }
 }
 
-fn divided(o: Division, a: i64, b: i64) -> Constant
+fn divided(o: Division, a: i128, b: i128) -> Constant
     requires { b ≢ pos 0 }
     ensures { result ≡ integer (divided o a b) }
 {
@@ -104,9 +104,9 @@ fn divided(o: Division, a: i64, b: i64) -> Constant
     }
 }
 
-// The number, where it has 64 bits.
-fn integer_if(number: Option<i64>) -> Constant
-    ensures { (z : ℤ) → SomeIff number (FitsSigned w64 z) z → result ≡ integer z }
+// The number, where it has 128 bits.
+fn integer_if(number: Option<i128>) -> Constant
+    ensures { (z : ℤ) → SomeIff number (FitsSigned w128 z) z → result ≡ integer z }
 {
     match number {
         Some(z) => Constant::Integer(z),
@@ -114,7 +114,7 @@ fn integer_if(number: Option<i64>) -> Constant
     }
 }
 
-// Of two parts, one of which has more than 64 bits or is no constant.
+// Of two parts, one of which has more than 128 bits or is no constant.
 fn beyond(a: Constant, b: Constant) -> Constant
     ensures { result ≡ beyond a b }
 {

@@ -8,7 +8,7 @@ ghost use Rattle.smv_declared.specs.declared.constant.Constant.TheVariants.{NotC
 
 use crate::Constant;
 use crate::constant::{constant_of_value, operated};
-use smv_resolve::{Node, ResolveStop, last, resolve_expression};
+use smv_resolve::{Node, ResolveStop, last, resolve_wholly};
 use smv_scope::Scope;
 use smv_tree::Expr;
 use std::alloc::{AllocError, Global};
@@ -25,7 +25,7 @@ pub(crate) fn bound_of(
     if let Expr::Constant(_, value) = e {
         return Ok(constant_of_value(*value));
     }
-    match resolve_expression(alloc, scope, at, e) {
+    match resolve_wholly(alloc, scope, at, e) {
         Ok(single) => constant_of_node(alloc, single.nodes.as_slice(), single.root),
         Err(ResolveStop::Stuck(_)) => Ok(Constant::NotConstant),
         Err(ResolveStop::NoMemory) => Err(AllocError),

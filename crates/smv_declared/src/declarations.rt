@@ -38,7 +38,7 @@ use value_types::{Element, ValueType};
 /// - `TypeMismatch`: `IVAR` or `FROZENVAR` declares an instance, or the elements of an array are instances. At the module's name.
 /// - `NotConstant`: a bound or a width is no constant. At it.
 /// - `EmptyRange`: the first bound is greater than the second. At the first.
-/// - `WordWidth`: a width is none of 1 to 128. At it, with its value if that has 64 bits.
+/// - `WordWidth`: a width is none of 1 to 128. At it, with its value if that has 128 bits.
 /// - `DuplicateElement`: an element is one of those before it. At it, with its text.
 /// - `IntWidth`: a bound is none of -2147483648 to 2147483647. At it.
 ///

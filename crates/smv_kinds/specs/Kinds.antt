@@ -316,6 +316,10 @@ abbrev pub window : Option ℤ → Option ℤ → Given
 window (Some low) (Some high) = Err rule.BadBound
 window low high = Err rule.NotConstant
 
+-- the same over a formula, whose kind is asked first
+abbrev pub window_over : Kind → Option ℤ → Option ℤ → Given
+window_over k low high = if is_boolean k then window low high else mismatch
+
 -- how many operands
 
 abbrev pub one : (Kind → Given) → List Operand → Given
@@ -370,7 +374,7 @@ kind_given operator.UnsignedConstant = two_told (constant_word false)
 kind_given operator.SignedConstant = two_told (constant_word true)
 kind_given (operator.Temporal o) = λ xs. given (booleans (operands_of_temporal o) xs)
 kind_given (operator.Bounded o low high) = λ xs. bounded_by low high (given (booleans 1 xs))
-kind_given (operator.Window o) = three_told (λ (low high x : Operand). window low.constant high.constant)
+kind_given (operator.Window o) = three_told (λ (low high x : Operand). window_over x.kind low.constant high.constant)
 
 -- `next` of a value has its kind
 abbrev pub next_kind : Kind → Given

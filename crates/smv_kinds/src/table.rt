@@ -1,9 +1,9 @@
 //! The table: the kind of each operator over operands.
 
 ghost use Rattle.std.specs.Prelude.{◌≡◌};
-ghost use Rattle.smv_kinds.specs.Kinds.{bounded_by, given, booleans, kind_given, next_kind, window};
+ghost use Rattle.smv_kinds.specs.Kinds.{bounded_by, given, booleans, kind_given, next_kind, window, window_over};
 
-use crate::joining::{boolean_if, fit, given, joined, set_of, takes};
+use crate::joining::{boolean_if, fit, given, is_boolean, joined, set_of, takes};
 use crate::numbers::{
     absolute, booleans, divided, greatest, inverted, is_ordered, kind_of_count, least, logical,
     negated, operands_of_temporal, summed,
@@ -144,7 +144,7 @@ pub fn kind_given(operator: Operator, operands: &[Operand]) -> Result<Kind, Kind
         Operator::Temporal(o) => given(booleans(operands_of_temporal(o), operands)),
         Operator::Bounded(_, low, high) => bounded(low, high, operands),
         Operator::Window(_) => match operands {
-            [low, high, _] => window(low.constant, high.constant),
+            [low, high, a] => window_over(a.kind, low.constant, high.constant),
             _ => Err(KindRule::TypeMismatch),
         },
     }
@@ -169,6 +169,17 @@ fn window(low: Option<i64>, high: Option<i64>) -> Result<Kind, KindRule>
     match (low, high) {
         (Some(_), Some(_)) => Err(KindRule::BadBound),
         _ => Err(KindRule::NotConstant),
+    }
+}
+
+// The same over a formula, whose kind is asked first.
+fn window_over(kind: Kind, low: Option<i64>, high: Option<i64>) -> Result<Kind, KindRule>
+    ensures { result ≡ window_over kind low high }
+{
+    if is_boolean(kind) {
+        window(low, high)
+    } else {
+        Err(KindRule::TypeMismatch)
     }
 }
 

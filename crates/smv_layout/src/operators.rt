@@ -134,7 +134,7 @@ fn both_bounds(low: Constant, high: Constant) -> Option<(u32, u32)>
     }
 }
 
-fn is_bound(z: i64) -> bool
+fn is_bound(z: i128) -> bool
     ensures { result ≡ is_bound z }
 {
     0 <= z && z <= 4_294_967_295

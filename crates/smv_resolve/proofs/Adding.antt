@@ -12,7 +12,7 @@ use Rattle.smv_resolve.specs.declared.item.ItemKind.TheVariants as item
 use Rattle.smv_resolve.specs.declared.resolve.ResolveStop.{ResolveStop}
 use Rattle.smv_resolve.specs.declared.resolve.ResolveStop.TheVariants as stop
 use Rattle.smv_resolve.specs.Resolved.{Resolved, resolved, part_of, is_stuck}
-use Rattle.smv_resolve.specs.Items.{ResolvedItem, resolved_assignment, target_by, item_by, is_stuck_item, first_stuck}
+use Rattle.smv_resolve.specs.Items.{ResolvedItem, resolved_left, resolved_assignment, target_by, item_by, is_stuck_item, first_stuck}
 use Rattle.smv_resolve.specs.FirstPlaces.{first_place}
 use Rattle.smv_resolve.specs.Finding.{Grows}
 use Rattle.smv_resolve.proofs.Growing.{Grows-two}
@@ -123,17 +123,17 @@ item_is nodes x t v e f =
     ∙ ap (λ (u : Resolved). let r : ResolvedItem = record { at = x.at; kind = x.kind; place = x.place; begins = x.begins; target = t; value = u } in r) f
 
 pub added_assignment : (p : Program) (at : ℕ) (a : Assignment) (old mid new : List Node) (before after : List Item) (target value : ℕ) →
-    Grows old mid → Grows mid new → AllStand old before → IsRoot p mid at a.target target → IsRoot p new at a.value value →
+    Grows old mid → Grows mid new → AllStand old before → IsRoot mid (resolved_left p at a.kind a.target) target → IsRoot new (resolved p at a.value) value →
     after ≡ before ++ record { at = at; kind = item.Assignment a.kind; place = a.place; begins = first_place a.value; target = Some target; value = value } ∷ [] →
     Added old new before after (resolved_assignment p at a ∷ [])
 added_assignment p at a old mid new before after target value g h s t v e =
     let x : Item = record { at = at; kind = item.Assignment a.kind; place = a.place; begins = first_place a.value; target = Some target; value = value } in
     added_one old new before after x (resolved_assignment p at a) (Grows-two g h) s e
-    (item_is new x (Some (resolved p at a.target)) (resolved p at a.value) (ap (λ r. Some r) (h.kept target t.stands ∙ t.is)) v.is)
-    (or_from (is_stuck (resolved p at a.target)) (is_stuck (resolved p at a.value)) t.clear v.clear)
+    (item_is new x (Some (resolved_left p at a.kind a.target)) (resolved p at a.value) (ap (λ r. Some r) (h.kept target t.stands ∙ t.is)) v.is)
+    (or_from (is_stuck (resolved_left p at a.kind a.target)) (is_stuck (resolved p at a.value)) t.clear v.clear)
 
 pub added_plain : (p : Program) (at : ℕ) (kind : ItemKind) (place begins : Place) (e : Expr) (old new : List Node) (before after : List Item) (value : ℕ) →
-    Grows old new → AllStand old before → IsRoot p new at e value →
+    Grows old new → AllStand old before → IsRoot new (resolved p at e) value →
     after ≡ before ++ record { at = at; kind = kind; place = place; begins = begins; target = None; value = value } ∷ [] →
     Added old new before after (record { at = at; kind = kind; place = place; begins = begins; target = None; value = resolved p at e } ∷ [])
 added_plain p at kind place begins e old new before after value g s v f =

@@ -8,7 +8,7 @@ use Rattle.smv_resolve.specs.declared.resolve.Resolution.{Resolution}
 use Rattle.smv_resolve.specs.declared.resolve.Single.{Single}
 use Rattle.smv_resolve.specs.Items.{items_of, item_by, first_stuck}
 use Rattle.smv_resolve.specs.FirstPlaces.{first_place}
-use Rattle.smv_resolve.specs.Resolved.{resolved, part_of, is_stuck}
+use Rattle.smv_resolve.specs.Resolved.{Resolved, resolved, wholly_resolved, part_of, is_stuck}
 
 -- the items of the program, none of which is stuck; or the place of the first that is
 abbrev pub ResolvesItems : Program → Result Resolution ResolveStop → Type 0
@@ -16,8 +16,16 @@ ResolvesItems p (Ok r) = (map (item_by r.nodes) r.items ≡ items_of p) × (firs
 ResolvesItems p (Err (stop.Stuck place)) = first_stuck (items_of p) ≡ Some place
 ResolvesItems p (Err stop.NoMemory) = Unit {0}
 
--- the expression in the instance of this number as one of some nodes; or that it is stuck, told at its first token
+-- an expression as one of some nodes, where it is resolved so; or that it is stuck, told at its first token
+abbrev pub ResolvesTo : Resolved → Expr → Result Single ResolveStop → Type 0
+ResolvesTo r e (Ok single) = part_of single.nodes single.root ≡ r
+ResolvesTo r e (Err (stop.Stuck place)) = (place ≡ first_place e) × (is_stuck r ≡ true)
+ResolvesTo r e (Err stop.NoMemory) = Unit {0}
+
+-- the expression in the instance of this number
 abbrev pub ResolvesOne : Program → ℕ → Expr → Result Single ResolveStop → Type 0
-ResolvesOne p at e (Ok r) = part_of r.nodes r.root ≡ resolved p at e
-ResolvesOne p at e (Err (stop.Stuck place)) = (place ≡ first_place e) × (is_stuck (resolved p at e) ≡ true)
-ResolvesOne p at e (Err stop.NoMemory) = Unit {0}
+ResolvesOne p at e result = ResolvesTo (resolved p at e) e result
+
+-- the same where names are followed as far as they lead
+abbrev pub ResolvesWholly : Program → ℕ → Expr → Result Single ResolveStop → Type 0
+ResolvesWholly p at e result = ResolvesTo (wholly_resolved p at e) e result

@@ -1,11 +1,14 @@
 -- The items of a program: its assignments, constraints and specifications, instance by instance, in the order of the source.
-use Rattle.std.specs.Prelude.{ℕ, ◌+◌, Bool, false, ◌||◌, if◌then◌else◌, List, [], ◌∷◌, ◌++◌, map, Option, None, Some}
+use Rattle.std.specs.Prelude.{ℕ, ◌+◌, ◌-◌, Bool, false, ◌||◌, if◌then◌else◌, List, [], ◌∷◌, ◌++◌, map, Option, None, Some}
 use Rattle.std.specs.List.{flat_map}
 use Rattle.smv_tree.specs.declared.place.Place.{Place}
 use Rattle.smv_tree.specs.declared.tree.Program.{Program}
 use Rattle.smv_tree.specs.declared.tree.Section.{Section}
 use Rattle.smv_tree.specs.declared.tree.Section.TheVariants as section
 use Rattle.smv_tree.specs.declared.tree.Assignment.{Assignment}
+use Rattle.smv_tree.specs.declared.tree.AssignmentKind.{AssignmentKind}
+use Rattle.smv_tree.specs.declared.tree.AssignmentKind.TheVariants as assigned
+use Rattle.smv_tree.specs.declared.tree.Expr.{Expr}
 use Rattle.smv_tree.specs.declared.tree.Constraint.{Constraint}
 use Rattle.smv_tree.specs.declared.tree.Specification.{Specification}
 use Rattle.smv_scope.specs.declared.instance.Instance.{Instance}
@@ -15,8 +18,9 @@ use Rattle.smv_resolve.specs.declared.item.ItemKind.TheVariants as item
 use Rattle.smv_resolve.specs.declared.node.Node.{Node}
 use Rattle.smv_scope.specs.Modules.{sections_of}
 use Rattle.smv_scope.specs.Instances.{instances_of}
+use Rattle.smv_scope.specs.Lookup.{depth_limit}
 use Rattle.smv_resolve.specs.FirstPlaces.{first_place}
-use Rattle.smv_resolve.specs.Resolved.{Resolved, resolved, part_of, is_stuck}
+use Rattle.smv_resolve.specs.Resolved.{Resolved, resolved, levelled, part_of, is_stuck}
 
 -- An item with its expressions resolved: the instance that it stands in, what it is, its place, where its value begins, what it
 -- assigns, if it assigns something, and the value that is assigned, asked for or claimed.
@@ -28,9 +32,17 @@ pub record ResolvedItem : Type 0 where
   pub target : Option Resolved
   pub value : Resolved
 
+-- how many levels may be opened in what is assigned, since `init(` and `next(` open one before it
+abbrev pub left_levels : AssignmentKind → ℕ
+left_levels assigned.Current = depth_limit
+left_levels other = depth_limit - 1
+
+abbrev pub resolved_left : Program → ℕ → AssignmentKind → Expr → Resolved
+resolved_left p at kind e = levelled p depth_limit at e (left_levels kind)
+
 abbrev pub resolved_assignment : Program → ℕ → Assignment → ResolvedItem
 resolved_assignment p at a =
-    record { at = at; kind = item.Assignment a.kind; place = a.place; begins = first_place a.value; target = Some (resolved p at a.target); value = resolved p at a.value }
+    record { at = at; kind = item.Assignment a.kind; place = a.place; begins = first_place a.value; target = Some (resolved_left p at a.kind a.target); value = resolved p at a.value }
 
 abbrev pub resolved_constraint : Program → ℕ → Constraint → ResolvedItem
 resolved_constraint p at c = record { at = at; kind = item.Constraint c.kind; place = c.place; begins = first_place c.formula; target = None; value = resolved p at c.formula }

@@ -1,26 +1,24 @@
 -- What is kept while items are listed, and what is promised of each.
 use Rattle.std.specs.Prelude.{◌≡◌, ℕ, ◌<◌, true, false, List, [], ◌∷◌, ◌++◌, length, map, Option, None, Some, Result, Ok, Err}
 use Rattle.smv_tree.specs.declared.place.Place.{Place}
-use Rattle.smv_tree.specs.declared.tree.Program.{Program}
-use Rattle.smv_tree.specs.declared.tree.Expr.{Expr}
 use Rattle.smv_resolve.specs.declared.node.Node.{Node}
 use Rattle.smv_resolve.specs.declared.item.Item.{Item}
 use Rattle.smv_resolve.specs.declared.resolve.ResolveStop.{ResolveStop}
 use Rattle.smv_resolve.specs.declared.resolve.ResolveStop.TheVariants as stop
-use Rattle.smv_resolve.specs.Resolved.{resolved, part_of, is_stuck}
+use Rattle.smv_resolve.specs.Resolved.{Resolved, part_of, is_stuck}
 use Rattle.smv_resolve.specs.Items.{ResolvedItem, item_by, first_stuck}
 
--- the node is the expression, no part of which is stuck
-pub record IsRoot (p : Program) (nodes : List Node) (at : ℕ) (e : Expr) (n : ℕ) : Type 0 where
+-- the node is this expression, no part of which is stuck
+pub record IsRoot (nodes : List Node) (r : Resolved) (n : ℕ) : Type 0 where
   pub stands : n < length nodes
-  pub is : part_of nodes n ≡ resolved p at e
-  pub clear : is_stuck (resolved p at e) ≡ false
+  pub is : part_of nodes n ≡ r
+  pub clear : is_stuck r ≡ false
 
 -- the node of an expression; or that it is stuck, told at this place
-abbrev pub FindsRoot : Program → List Node → ℕ → Expr → Place → Result ℕ ResolveStop → Type 0
-FindsRoot p nodes at e place (Ok n) = IsRoot p nodes at e n
-FindsRoot p nodes at e place (Err (stop.Stuck told)) = (told ≡ place) × (is_stuck (resolved p at e) ≡ true)
-FindsRoot p nodes at e place (Err stop.NoMemory) = Unit {0}
+abbrev pub FindsRoot : List Node → Resolved → Place → Result ℕ ResolveStop → Type 0
+FindsRoot nodes r place (Ok n) = IsRoot nodes r n
+FindsRoot nodes r place (Err (stop.Stuck told)) = (told ≡ place) × (is_stuck r ≡ true)
+FindsRoot nodes r place (Err stop.NoMemory) = Unit {0}
 
 abbrev pub StandsTarget : List Node → Option ℕ → Type 0
 StandsTarget nodes None = Unit {0}

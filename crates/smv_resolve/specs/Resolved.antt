@@ -111,6 +111,14 @@ levelled p names at e = resolved_over p (followed p names) at e
 abbrev pub resolved : Program → ℕ → Expr → Resolved
 resolved p at e = levelled p depth_limit at e depth_limit
 
+-- more levels than any memory holds
+abbrev pub all_levels : ℕ
+all_levels = 18446744073709551615
+
+-- an expression in the instance of this number, where names are followed as far as they lead
+abbrev pub wholly_resolved : Program → ℕ → Expr → Resolved
+wholly_resolved p at e = levelled p all_levels at e all_levels
+
 -- some part is stuck
 abbrev mutual
   pub is_stuck : Resolved → Bool

@@ -16,5 +16,7 @@ mod tables;
 pub use first_places::first_place;
 pub use item::{Item, ItemKind};
 pub use node::{Naming, Node};
-pub use resolve::{Resolution, ResolveStop, Single, resolve_expression, resolve_items};
+pub use resolve::{
+    Resolution, ResolveStop, Single, resolve_expression, resolve_items, resolve_wholly,
+};
 pub use tables::{first, last};

@@ -1,10 +1,12 @@
 //! The items of a program.
 
-ghost use Rattle.std.specs.Prelude.{◌≡◌, [], ◌∷◌, map, OnOk};
+ghost use Rattle.std.specs.Prelude.{◌≡◌, ℕ, ◌≤◌, [], ◌∷◌, map, OnOk};
 ghost use Rattle.std.specs.List.{flat_map};
 ghost use Rattle.smv_resolve.specs.Finding.{Grows, AllKnown};
+ghost use Rattle.smv_scope.specs.Lookup.{depth_limit};
 ghost use Rattle.smv_scope.specs.Modules.{sections_of};
-ghost use Rattle.smv_resolve.specs.Items.{resolved_assignment, resolved_constraint, resolved_specification, items_in, items_below};
+ghost use Rattle.smv_resolve.specs.Resolved.{resolved, levelled, wholly_resolved};
+ghost use Rattle.smv_resolve.specs.Items.{left_levels, resolved_left, resolved_assignment, resolved_constraint, resolved_specification, items_in, items_below};
 ghost use Rattle.smv_resolve.specs.Listing.{FindsRoot, AllStand, Adds};
 
 use crate::expressions::find;
@@ -13,7 +15,7 @@ use crate::memo::{Memo, ResolveError};
 use crate::pending::find_named;
 use crate::{Item, ItemKind, ResolveStop};
 use smv_scope::{Instance, Scope};
-use smv_tree::{Assignment, Constraint, Expr, Place, Section, Specification};
+use smv_tree::{Assignment, AssignmentKind, Constraint, Expr, Place, Section, Specification};
 use sqlite_items::Items;
 
 // So many levels may be open at one place of an expression, those of what names stand for among them.
@@ -34,10 +36,72 @@ pub fn find_root(
     requires { AllKnown scope.now.program memo.old }
     ensures known { OnOk result (AllKnown scope.now.program memo.new) }
     ensures grows { OnOk result (Grows memo.old.nodes memo.new.nodes) }
-    ensures finds { FindsRoot scope.now.program memo.new.nodes at e.now place result }
+    ensures finds { FindsRoot memo.new.nodes (resolved scope.now.program at e.now) place result }
+{
+    find_within(scope, memo, LEVELS, at, e, place)
+}
+
+/// The same where names are followed as far as they lead.
+pub fn find_wholly(
+    scope: &Scope,
+    memo: &mut Memo,
+    at: usize,
+    e: &Expr,
+    place: Place,
+) -> Result<usize, ResolveStop>
+    requires { AllKnown scope.now.program memo.old }
+    ensures known { OnOk result (AllKnown scope.now.program memo.new) }
+    ensures grows { OnOk result (Grows memo.old.nodes memo.new.nodes) }
+    ensures finds { FindsRoot memo.new.nodes (wholly_resolved scope.now.program at e.now) place result }
+{
+    find_within(scope, memo, usize::MAX, at, e, place)
+}
+
+// What is assigned: `init(` and `next(` open a level before it.
+fn find_left(
+    scope: &Scope,
+    memo: &mut Memo,
+    at: usize,
+    kind: AssignmentKind,
+    e: &Expr,
+    place: Place,
+) -> Result<usize, ResolveStop>
+    requires { AllKnown scope.now.program memo.old }
+    ensures known { OnOk result (AllKnown scope.now.program memo.new) }
+    ensures grows { OnOk result (Grows memo.old.nodes memo.new.nodes) }
+    ensures finds { FindsRoot memo.new.nodes (resolved_left scope.now.program at kind e.now) place result }
+{
+    find_within(scope, memo, left_levels(kind), at, e, place)
+}
+
+// How many levels may be opened in what is assigned.
+fn left_levels(kind: AssignmentKind) -> usize
+    ensures levels { result ≡ left_levels kind }
+    ensures few { result ≤ depth_limit }
+{
+    match kind {
+        AssignmentKind::Current => LEVELS,
+        AssignmentKind::Init => LEVELS - 1,
+        AssignmentKind::Next => LEVELS - 1,
+    }
+}
+
+// The node of an expression, where so many levels may be opened.
+fn find_within(
+    scope: &Scope,
+    memo: &mut Memo,
+    levels: usize,
+    at: usize,
+    e: &Expr,
+    place: Place,
+) -> Result<usize, ResolveStop>
+    requires { AllKnown scope.now.program memo.old }
+    ensures known { OnOk result (AllKnown scope.now.program memo.new) }
+    ensures grows { OnOk result (Grows memo.old.nodes memo.new.nodes) }
+    ensures finds { (names : ℕ) → levels ≤ names → FindsRoot memo.new.nodes (levelled scope.now.program names at e.now levels) place result }
 {
     find_named(scope, memo, at, e)?;
-    match find(scope, memo, ROOM, LEVELS, at, e) {
+    match find(scope, memo, ROOM, levels, at, e) {
         Ok(found) => Ok(found.node),
         Err(ResolveError::Stuck) => Err(ResolveStop::Stuck(place)),
         Err(ResolveError::NoMemory) => Err(ResolveStop::NoMemory),
@@ -156,7 +220,7 @@ fn add_assignment(
     ensures stand { OnOk result (AllStand memo.new.nodes items.new) }
     ensures adds { Adds memo.old.nodes memo.new.nodes items.old items.new (resolved_assignment scope.now.program at a.now ∷ []) result }
 {
-    let target = find_root(scope, memo, at, &a.target, a.place)?;
+    let target = find_left(scope, memo, at, a.kind, &a.target, a.place)?;
     let value = find_root(scope, memo, at, &a.value, a.place)?;
     let item = Item {
         at,

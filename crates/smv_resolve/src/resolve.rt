@@ -1,11 +1,11 @@
 //! Expressions without names.
 
 ghost use Rattle.std.specs.Prelude.{◌≡◌};
-ghost use Rattle.smv_resolve.specs.Answers.{ResolvesItems, ResolvesOne};
+ghost use Rattle.smv_resolve.specs.Answers.{ResolvesItems, ResolvesOne, ResolvesWholly};
 ghost use Rattle.smv_resolve.specs.declared.resolve.ResolveStop.TheVariants.{NoMemory};
 
 use crate::first_places::first_place;
-use crate::listing::{add_instances, find_root};
+use crate::listing::{add_instances, find_root, find_wholly};
 use crate::memo::empty_memo;
 use crate::{Item, Node};
 use smv_scope::Scope;
@@ -70,6 +70,23 @@ pub fn resolve_expression(
 {
     let mut memo = empty_memo(alloc);
     let root = find_root(scope, &mut memo, at, e, first_place(e))?;
+    Ok(Single {
+        nodes: memo.nodes,
+        root,
+    })
+}
+
+/// The same where names are followed as far as they lead.
+pub fn resolve_wholly(
+    alloc: Global,
+    scope: &Scope,
+    at: usize,
+    e: &Expr,
+) -> Result<Single, ResolveStop>
+    ensures { ResolvesWholly scope.now.program at e.now result }
+{
+    let mut memo = empty_memo(alloc);
+    let root = find_wholly(scope, &mut memo, at, e, first_place(e))?;
     Ok(Single {
         nodes: memo.nodes,
         root,

@@ -25,7 +25,7 @@ use Rattle.smv_kinds.specs.declared.kind.KindRule.TheVariants as rule
 use Rattle.smv_kinds.specs.declared.kind.Operand.{Operand}
 use Rattle.smv_kinds.specs.Constants.{constant_given, integer_in}
 use Rattle.smv_kinds.specs.Contexts.{kind_in_context, makes_set, takes_sets}
-use Rattle.smv_kinds.specs.Kinds.{Given, booleans, bounded_by, given, greatest_bound, inverted, is_boolean, kind_given, kind_if, kind_of_value, logical, next_kind, operands_of_temporal, takes, three_told, window}
+use Rattle.smv_kinds.specs.Kinds.{Given, booleans, bounded_by, given, greatest_bound, inverted, is_boolean, kind_given, kind_if, kind_of_value, logical, mismatch, next_kind, operands_of_temporal, takes, three_told, window, window_over}
 use Rattle.smv_kind_laws.specs.Values.{is_of_kind}
 use Rattle.smv_kind_laws.proofs.Told.{next_is_same, value_has_kind}
 use Rattle.smv_resolve.specs.declared.item.ItemKind.{ItemKind}
@@ -194,12 +194,16 @@ no_bounds None d e = false≢true e
 no_bounds (Some low) None e = false≢true e
 no_bounds (Some low) (Some high) e = false≢true e
 
+no_window_over : (c d : Option ℤ) (b : Bool) → is_boolean (kind_in (cond b (window c d) mismatch)) ≡ true → ⊥
+no_window_over c d true e = no_bounds c d e
+no_window_over c d false e = false≢true e
+
 -- bounds that are not told have no kind
-no_window : (xs : List Operand) → is_boolean (kind_in (three_told (λ low high x. window low.constant high.constant) xs)) ≡ true → ⊥
+no_window : (xs : List Operand) → is_boolean (kind_in (three_told (λ low high x. window_over x.kind low.constant high.constant) xs)) ≡ true → ⊥
 no_window [] e = false≢true e
 no_window (x ∷ []) e = false≢true e
 no_window (x ∷ y ∷ []) e = false≢true e
-no_window (x ∷ y ∷ z ∷ []) e = no_bounds x.constant y.constant e
+no_window (x ∷ y ∷ z ∷ []) e = no_window_over x.constant y.constant (is_boolean z.kind) e
 no_window (x ∷ y ∷ z ∷ t ∷ xs) e = false≢true e
 
 over_booleans : (o : Operator) (xs : List Operand) → is_over_formulas o ≡ true → is_boolean (kind_in (kind_given o xs)) ≡ true → all_booleans xs ≡ true
