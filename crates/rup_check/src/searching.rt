@@ -8,7 +8,7 @@ ghost use Rattle.hinted_log.specs.Hints.{FollowsBy, IsOpen};
 ghost use Rattle.rup_check.specs.Chains.{before, units_of, IsClear};
 ghost use Rattle.rup_check.specs.Searches.{SearchSays, FoundSays, NextSays, AllHintsSay, HintsSay};
 
-use crate::chains::{assume_open, clause_at, follows_by};
+use crate::chains::{assume_open, clause_at, clear, follows_by};
 use crate::checking::Hints;
 use crate::finder::Finder;
 use crate::passes::Pass;
@@ -134,7 +134,7 @@ fn hint_next(
     if !assume_open(values, step) {
         return Ok(true);
     }
-    values.fill(0);
+    clear(values, step);
     if !hints_of(values, clauses, units, hinted.steps(), finder, step, found)? {
         return Ok(false);
     }
