@@ -82,7 +82,7 @@ fn walk(
 }
 
 // Leaves the variables of the clause unset.
-fn clear(values: &mut [u8], c: &[Lit])
+pub(crate) fn clear(values: &mut [u8], c: &[Lit])
     requires { Within (length values.old) c.now }
     ensures { Cleared values.old c.now values.new }
 {

@@ -9,6 +9,7 @@ ghost use Rattle.rup_check.specs.Chains.{units_of, HintedVerdict};
 ghost use Rattle.rup_check.specs.Searches.{Covers, HintsSay};
 ghost use Rattle.rup_check.specs.Verdicts.{VerdictSays};
 
+use crate::finder::Finder;
 use crate::following::follows;
 use crate::searching::{find_hints, hint_all};
 use crate::steps::check_steps;
@@ -40,6 +41,8 @@ pub enum Hints {
 #[derive(Drop)]
 pub struct Checker {
     values: Vec<u8>,
+    // What looks for hints, kept for the next log. Contracts do not see it: what it finds is tried.
+    finder: Finder,
 }
 
 impl Model for Checker {
@@ -57,12 +60,16 @@ impl Model for Checker {
 }
 
 impl Checker {
-    /// A checker for clauses over the variables below `vars`: one byte for each.
+    /// A checker for clauses over the variables below `vars`: one byte for each. The first look for hints takes
+    /// more, in proportion to the variables and the clauses, and keeps it for the next.
     pub fn new(alloc: Global, vars: usize) -> Result<Checker, AllocError>
         ensures { IfOk result (λ c. c ≡ vars) }
     {
         let values = vec![in alloc; 0; vars]?;
-        Ok(Checker { values })
+        Ok(Checker {
+            values,
+            finder: Finder::new(alloc),
+        })
     }
 
     /// Whether the log derives the empty clause from the clauses: `Yes` exactly where it does, and `No`
@@ -113,7 +120,14 @@ impl Checker {
         ensures vars { self.new ≡ self.old }
         ensures says { IfOk result (HintsSay self.old (clauses.now ++ units_of units.now) log.now) }
     {
-        let found = find_hints(alloc, &mut self.values, clauses, units, log);
+        let found = find_hints(
+            alloc,
+            &mut self.values,
+            &mut self.finder,
+            clauses,
+            units,
+            log,
+        );
         self.values.fill(0);
         found
     }
@@ -132,7 +146,7 @@ impl Checker {
         ensures says { IfOk result (λ h. IsHinted self.old clauses.now h) }
         ensures covers { IfOk result (λ h. Covers h.steps log.now) }
     {
-        let found = hint_all(alloc, &mut self.values, clauses, &[], log);
+        let found = hint_all(alloc, &mut self.values, &mut self.finder, clauses, &[], log);
         self.values.fill(0);
         match found? {
             Hints::Found(hinted) => Ok(hinted),

@@ -6,8 +6,10 @@ mod chains;
 pub mod checking;
 mod finder;
 mod following;
+mod links;
 mod passes;
 mod searching;
 mod steps;
+mod trail;
 
 pub use checking::{Checker, Hints, Verdict};

@@ -8,7 +8,7 @@ ghost use Rattle.hinted_log.specs.Hints.{FollowsBy, IsOpen};
 ghost use Rattle.rup_check.specs.Chains.{before, units_of, IsClear};
 ghost use Rattle.rup_check.specs.Searches.{SearchSays, FoundSays, NextSays, AllHintsSay, HintsSay};
 
-use crate::chains::{assume_open, clause_at, follows_by};
+use crate::chains::{assume_open, clause_at, clear, follows_by};
 use crate::checking::Hints;
 use crate::finder::Finder;
 use crate::passes::Pass;
@@ -101,8 +101,7 @@ fn hints_of(
     requires free { IsOpen step.now }
     ensures { IfOk result (λ b. MatchBool b (FollowsBy (before clauses.now units.now steps.now (length steps.now)) step.now found.new.items) (Follows (before clauses.now units.now steps.now (length steps.now)) step.now → ⊥)) }
 {
-    finder.find(values, clauses, units, steps, step, found)?;
-    values.fill(0);
+    finder.find(clauses, units, steps, step, found)?;
     let count = steps.len();
     if follows_by(values, clauses, units, steps, count, step, found) {
         return Ok(true);
@@ -135,7 +134,7 @@ fn hint_next(
     if !assume_open(values, step) {
         return Ok(true);
     }
-    values.fill(0);
+    clear(values, step);
     if !hints_of(values, clauses, units, hinted.steps(), finder, step, found)? {
         return Ok(false);
     }
@@ -148,6 +147,7 @@ fn hint_next(
 pub(crate) fn hint_all(
     alloc: Global,
     values: &mut [u8],
+    finder: &mut Finder,
     clauses: &Clauses,
     units: &[Lit],
     log: &Log,
@@ -159,9 +159,7 @@ pub(crate) fn hint_all(
     let n = log.len();
     let mut hinted = Hinted::new(alloc);
     let mut found = Vec::new(alloc);
-    let mut finder = Finder::new(alloc, values.len())?;
-    finder.add_all(clauses)?;
-    finder.add_units(units)?;
+    finder.begin(values.len(), clauses, units)?;
     for k in 0..n {
         let step = log.get(k);
         if !is_within(step, values.len()) {
@@ -172,7 +170,7 @@ pub(crate) fn hint_all(
             clauses,
             units,
             &mut hinted,
-            &mut finder,
+            finder,
             step,
             &mut found,
         )? {
@@ -186,6 +184,7 @@ pub(crate) fn hint_all(
 pub(crate) fn find_hints(
     alloc: Global,
     values: &mut [u8],
+    finder: &mut Finder,
     clauses: &Clauses,
     units: &[Lit],
     log: &Log,
@@ -195,7 +194,7 @@ pub(crate) fn find_hints(
     ensures { IfOk result (HintsSay (length values.old) (clauses.now ++ units_of units.now) log.now) }
 {
     let n = log.len();
-    match hint_all(alloc, values, clauses, units, log)? {
+    match hint_all(alloc, values, finder, clauses, units, log)? {
         Hints::No { step } => Ok(Hints::No { step }),
         Hints::Found(hinted) => {
             if n == 0 {

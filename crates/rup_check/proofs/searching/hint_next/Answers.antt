@@ -15,7 +15,7 @@ pub hints_of-requires-clause-within : goal.hints_of-requires-clause-within
 hints_of-requires-clause-within c =
     let n = length c.args.values.now in
     let s = c.steps.result.now in
-    let same : n ≡ length c.fill-2.new.self = omega arith in
+    let same : n ≡ length c.clear.new.values = omega arith in
     let P : ℕ → Type 0 = λ n. All (Within n) (before c.args.clauses.now c.args.units.now s (length s)) in
     let Q : List (List Lit) → Type 0 = All (Within n) in
     let kept : Q s = subst Q (sym c.steps.ensures.value) c.requires.in_steps in
