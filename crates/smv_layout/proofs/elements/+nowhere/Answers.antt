@@ -6,8 +6,8 @@ use Rattle.smv_layout.proofs.Places.{IsNode_along}
 use Rattle.smv_layout.proofs.Standing.{AreNodes_two, IsNode_grown, subscripts_first, subscripts_kept, subscripts_rest}
 use Rattle.smv_layout.proofs.elements.+nowhere.Goals as goal
 
-pub push_nowhere-push_outside-requires : goal.push_nowhere-push_outside-requires
-push_nowhere-push_outside-requires t c =
+pub push_nowhere-push_beyond-requires : goal.push_nowhere-push_beyond-requires
+push_nowhere-push_beyond-requires t c =
     let e = c.in-Some.ensures.cases in
     let f = c.in-Some-split_first.ensures.cases in
     let first = subscripts_first c.args.nodes.now c.args.subscripts.now c.in-Some-split_first.subscript.now c.in-Some-split_first.further.now f.0 c.requires in
