@@ -48,7 +48,7 @@ module _ (vs : List VariableType) (place : Place) (nodes : List Node) (array : S
 
   counted : (v : VariableType) → element_laid vs place (more (Some v)) (Some v) ≡ made (Some v)
   counted v =
-      ap (λ k. element_laid vs place (subscripted place (dimension_at (Some v) k) (subarray_by nodes array) (subscript_by nodes x)) (Some v)) (length-map array.subscripts (subscript_by nodes))
+      ap (λ k. element_laid vs place (subscripted place (dimension_at (Some v) k) (subarray_by nodes array) (subscript_by nodes x)) (Some v)) (sym (length-map array.subscripts (subscript_by nodes)))
 
   -- there is no such variable
   pub indexed_nowhere : None ≡ slice_get vs array.variable →
