@@ -767,7 +767,8 @@ ARITY = {'abs': 1, 'max': 2, 'min': 2, 'word1': 1, 'bool': 1, 'signed': 1, 'unsi
 
 DEPARTURES = {
     'wide': 'a limit with a part of more than 64 bits is outside (409; 402 without a detail), never empty (403)',
-    'bounds': 'bounds of temporal operators that are no constants or no bounds are told before the kind of the operand',
+    'bounds': 'bounds of temporal operators that have no 32 bits are told before the kind of the operand, and one with a '
+              'part of more than 32 bits is no constant',
     'brackets': 'a text with more than 2000 `[ ]` behind one operand ends with status 7',
     'depth': 'the parenthesis of `init(` and `next(` on the left is no level of an unfolded item',
     'deep': 'a name that leads through more than 2000 others is no constant',
@@ -1085,15 +1086,20 @@ class Judge:
 
     def is_wide(self, instance, node):
         """Whether a constant has a part of more than 64 bits, where that is known to matter."""
+        return 'wide' in self.known and self.has_part_over(64, instance, node)
+
+    def has_part_over(self, bits, instance, node):
+        """Whether a constant has a part of more than so many bits."""
         value = self.constant(instance, node)
-        if 'wide' not in self.known or value is None or node.form == 'integer':
+        if value is None or node.form == 'integer':
             return False
         if node.form == 'name':
             meaning = self.meaning(instance, node)
             if meaning.what == 'definition':
-                return self.is_wide(meaning.of, meaning.value.body)
-            return self.is_wide(meaning.of.owner, meaning.of.arguments[meaning.value])
-        return not -1 << 63 <= value < 1 << 63 or any(self.is_wide(instance, part) for part in node.operands)
+                return self.has_part_over(bits, meaning.of, meaning.value.body)
+            return self.has_part_over(bits, meaning.of.owner, meaning.of.arguments[meaning.value])
+        limit = 1 << bits - 1
+        return not -limit <= value < limit or any(self.has_part_over(bits, instance, part) for part in node.operands)
 
     def check_types(self):
         """Declared types; within one declaration the rules come in the order 401, 404, 403, 402, 410, 409."""
@@ -1375,7 +1381,8 @@ class Judge:
         values = [self.constant(instance, bound) for bound in node.bounds]
         self.demand(context.temporal, 408, node)
         if outside:
-            self.demand(all(value is not None and value.bit_length() < 64 for value in values), 404, node)
+            self.demand(None not in values, 404, node)
+            self.demand(not any(self.has_part_over(32, instance, bound) for bound in node.bounds), 404, node)
             raise Refused(413, node.place, '%d,%d' % tuple(values))
         self.demand(is_boolean(kind), 401, node)
         if node.bounds:

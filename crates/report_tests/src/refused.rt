@@ -384,8 +384,8 @@ const ARRAYS: [Case; 22] = [
     ),
     (
         "check",
-        "MODULE main\nVAR x : boolean;\nLTLSPEC F [2147483647 * 4, 0] x\n",
-        "-- refused 413 BadBound at 3:9: 8589934588,0\n",
+        "MODULE main\nVAR x : boolean;\nLTLSPEC F [-1, 0] x\n",
+        "-- refused 413 BadBound at 3:9: -1,0\n",
         3,
     ),
     (
