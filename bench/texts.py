@@ -765,12 +765,8 @@ ARITY = {'abs': 1, 'max': 2, 'min': 2, 'word1': 1, 'bool': 1, 'signed': 1, 'unsi
 
 DEPARTURES = {
     'wide': 'a limit with a part of more than 128 bits is outside (409; 402 without a detail), never empty (403)',
-    'bounds': 'bounds of temporal operators are judged as operands',
-    'bracket': 'a constraint that is an element of inner arrays is refused at its first `[`, be it in what was given',
-    'input': 'of an input array the element is the input (407), after its index and its kinds; outside there is none',
-    'left': 'on the left all kinds (401) are judged before what is no constant or outside (404, 412)',
+    'bounds': 'a bound of a temporal operator with a part of more than 32 bits is no constant',
     'brackets': 'a text with more than 2000 `[ ]` behind one operand ends with status 7',
-    'given': 'the indices with which a parameter was given an array are asked where its element is assigned, and sets',
 }
 """Where the program is known to read the rules otherwise than this judge. A difference that one of these explains is
 counted by its name, and kept with `--strict` alone."""
@@ -1083,15 +1079,20 @@ class Judge:
 
     def is_wide(self, instance, node):
         """Whether a constant has a part of more than 128 bits, where that is known to matter."""
+        return 'wide' in self.known and self.has_part_over(128, instance, node)
+
+    def has_part_over(self, bits, instance, node):
+        """Whether a constant has a part of more than so many bits."""
         value = self.constant(instance, node)
-        if 'wide' not in self.known or value is None or node.form == 'integer':
+        if value is None or node.form == 'integer':
             return False
         if node.form == 'name':
             meaning = self.meaning(instance, node)
             if meaning.what == 'definition':
-                return self.is_wide(meaning.of, meaning.value.body)
-            return self.is_wide(meaning.of.owner, meaning.of.arguments[meaning.value])
-        return not -1 << 127 <= value < 1 << 127 or any(self.is_wide(instance, part) for part in node.operands)
+                return self.has_part_over(bits, meaning.of, meaning.value.body)
+            return self.has_part_over(bits, meaning.of.owner, meaning.of.arguments[meaning.value])
+        limit = 1 << bits - 1
+        return not -limit <= value < limit or any(self.has_part_over(bits, instance, part) for part in node.operands)
 
     def check_types(self):
         """Declared types; within one declaration the rules come in the order 401, 404, 403, 402, 410, 409."""
@@ -1183,46 +1184,24 @@ class Judge:
         """The kind of what is assigned; refuses what is not assignable."""
         meaning = self.meaning(instance, entry.target)
         kind = self.kind_of_left_name(meaning, bool(entry.indices))
-        asked = []
         for place, index in entry.indices:
             limits = self.indexed(kind, self.kind(instance, index, LEFT), place)
-            asked.append((place, self.constant(instance, index), limits))
-            if 'left' not in self.known:
-                self.demand_element(asked.pop())
+            self.demand_element(place, self.constant(instance, index), limits)
             kind = limits[2]
-        if entry.indices and 'given' in self.known:
-            asked = self.given_indices(meaning) + asked
         if kind.form in ('array', 'instance'):
             raise Refused(401, entry.place)
-        for index in asked:
-            self.demand_element(index)
         section = self.assigned_section(meaning)
         if section == 'VAR' or section == 'FROZENVAR' and entry.kind == 'init':
             return kind
         raise Refused(411, entry.place)
 
     @staticmethod
-    def demand_element(asked):
+    def demand_element(place, value, limits):
         """An index on the left is a constant and one of the array."""
-        place, value, limits = asked
         if value is None:
             raise Refused(404, place)
         if not limits[0] <= value <= limits[1]:
             raise Refused(412, place)
-
-    def given_indices(self, meaning):
-        """The indices with which a parameter was given an array, from the outermost giver on."""
-        asked = []
-        while meaning.what == 'parameter':
-            node, owner = meaning.of.arguments[meaning.value], meaning.of.owner
-            while node.form == 'index':
-                limits = self.indexed(self.kind(owner, node.operands[0], GIVEN), integers(0, 0), node.place)
-                asked.insert(0, (node.place, self.constant(owner, node.operands[1]), limits))
-                node = node.operands[0]
-            if node.form != 'name':
-                return []
-            meaning = self.meaning(owner, node)
-        return asked
 
     def kind_of_left_name(self, meaning, has_index):
         """The kind of what the name on the left leads to; what a parameter was given is judged."""
@@ -1231,8 +1210,7 @@ class Judge:
         if meaning.what == 'variable':
             return self.type_kind(self.types[meaning.of, meaning.value.name])
         if meaning.what == 'parameter':
-            context = LEFT if has_index and 'given' in self.known else GIVEN
-            return self.kind(meaning.of.owner, meaning.of.arguments[meaning.value], context)
+            return self.kind(meaning.of.owner, meaning.of.arguments[meaning.value], GIVEN)
         if meaning.what == 'symbol' or not has_index:
             return kind_of('discrete', symbols=True)
         return self.kind_of_definition(meaning, LEFT)
@@ -1359,13 +1337,8 @@ class Judge:
         if form == 'index':
             base = self.kind(instance, node.operands[0], below)
             number = self.kind(instance, node.operands[1], below)
-            kind = self.indexed(base, number, node.place)[2]
-            if 'input' in self.known and kind.form != 'array' and not context.inputs:
-                self.demand_no_input(instance, node)
-            if 'bracket' in self.known and is_root and not is_boolean(kind):
-                raise Refused(401, self.root_variable(instance, node)[0][-1])
-            return self.finish(node, kind, is_root)
-        outside = self.judge_bounds(instance, node, context) if 'bounds' in self.known else False
+            return self.finish(node, self.indexed(base, number, node.place)[2], is_root)
+        outside = self.are_no_bounds(instance, node) if 'bounds' in self.known else False
         kinds = [self.kind(instance, operand, below) for operand in node.operands]
         if form == 'set':
             self.demand(context.sets, 405, node)
@@ -1397,30 +1370,13 @@ class Judge:
             return self.finish(node, kind_of('word', False, high - low + 1), is_root)
         return self.kind_of_call(instance, node, kinds, is_root)
 
-    def root_variable(self, instance, node):
-        """The places of all `[` of an element, the last in the text first; the variable's name, and what it means."""
-        brackets = []
-        while True:
-            if node.form == 'index':
-                brackets.append(node.place)
-                node = node.operands[0]
-                continue
-            meaning = self.meaning(instance, node) if node.form == 'name' else None
-            if meaning is None or meaning.what != 'parameter':
-                return brackets, node, meaning
-            instance, node = meaning.of.owner, meaning.of.arguments[meaning.value]
-
-    def demand_no_input(self, instance, node):
-        _, name, meaning = self.root_variable(instance, node)
-        if meaning and meaning.what == 'variable' and self.elements(instance, node)[0]:
-            self.demand(meaning.value.section != 'IVAR', 407, name)
-
     def kind_of_timed(self, instance, node, kind, context, outside):
         values = [self.constant(instance, bound) for bound in node.bounds]
         self.demand(context.temporal, 408, node)
         self.demand(is_boolean(kind), 401, node)
         if outside:
-            self.demand(all(value is not None and value.bit_length() < 64 for value in values), 404, node)
+            self.demand(None not in values, 404, node)
+            self.demand(not any(self.has_part_over(32, instance, bound) for bound in node.bounds), 404, node)
             raise Refused(413, node.place, '%d,%d' % tuple(values))
         if node.bounds:
             self.demand(None not in values, 404, node)
@@ -1428,14 +1384,11 @@ class Judge:
                 raise Refused(413, node.place, '%d,%d' % tuple(values))
         return BOOLEAN
 
-    def judge_bounds(self, instance, node, context):
-        """Bounds as the program is known to judge them: as operands, where one is out of 32 bits. Gives whether."""
+    def are_no_bounds(self, instance, node):
+        """Whether a bound is no constant of 32 bits without a sign."""
         values = [self.constant(instance, bound) for bound in node.bounds]
-        outside = any(value is None or not 0 <= value < 1 << 32 for value in values) \
+        return any(value is None or not 0 <= value < 1 << 32 for value in values) \
             or any(self.is_wide(instance, bound) for bound in node.bounds)
-        for bound in node.bounds if outside else ():
-            self.kind(instance, bound, context._replace(temporal=False))
-        return outside
 
     def kind_of_name(self, instance, node, context):
         meaning = self.meaning(instance, node)
@@ -1445,8 +1398,7 @@ class Judge:
             return kind_of('discrete', symbols=True)
         if meaning.what == 'variable':
             kind = self.type_kind(self.types[meaning.of, meaning.value.name])
-            if 'input' not in self.known or kind.form != 'array':
-                self.demand(context.inputs or meaning.value.section != 'IVAR', 407, node)
+            self.demand(context.inputs or meaning.value.section != 'IVAR', 407, node)
             return kind
         below = context._replace(next=False, temporal=False)
         key = (meaning.of, meaning.what, meaning.value, below)

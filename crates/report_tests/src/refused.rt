@@ -1,5 +1,5 @@
-//! Refusals through the top call, with the examples of docs/LANGUAGE.md: of declared types and of operands, at the edges of what is
-//! refused, and in the order of the rules. Also each beginning of a source, and the first line of a certificate.
+//! Refusals through the top call, with the examples of docs/LANGUAGE.md: of declared types, of operands and of arrays, at the edges
+//! of what is refused, and in the order of the rules. Also each beginning of a source, and the first line of a certificate.
 use crate::reports::{Case, first_wrong};
 use smv_cli::run_over_bytes;
 use std::alloc::{AllocError, Global};
@@ -373,6 +373,147 @@ const OPERANDS: [Case; 37] = [
     ),
 ];
 
+// Arrays: those of inputs, bounds of temporal operators, roots, and what is assigned.
+const ARRAYS: [Case; 22] = [
+    // The name of an input array comes before its indices, wherever they lead.
+    (
+        "check",
+        "MODULE main\nIVAR va : array 0..3 of boolean;\nJUSTICE va[7]\n",
+        "-- refused 407 InputHere at 3:9\n",
+        3,
+    ),
+    (
+        "check",
+        "MODULE main\nIVAR va : array 0..3 of boolean;\nVAR i : 0..3;\nINIT va[next(i)]\n",
+        "-- refused 407 InputHere at 4:6\n",
+        3,
+    ),
+    (
+        "check",
+        "MODULE main\nIVAR va : array 0..3 of boolean;\nINIT va = 1\n",
+        "-- refused 407 InputHere at 3:6\n",
+        3,
+    ),
+    (
+        "check",
+        "MODULE main\nIVAR va : array 0..1 of array 0..1 of boolean;\nVAR b : boolean;\nINVAR b & va[0][TRUE]\n",
+        "-- refused 407 InputHere at 4:11\n",
+        3,
+    ),
+    (
+        "check",
+        "MODULE main\nIVAR va : array 0..3 of boolean;\nVAR k : m(va);\nMODULE m(p)\nINIT p[9]\n",
+        "-- refused 407 InputHere at 3:11\n",
+        3,
+    ),
+    // Bounds are judged by no other rule.
+    (
+        "check",
+        "MODULE main\nVAR x : boolean;\nDEFINE s := {1};\nLTLSPEC F [s, 2] x\n",
+        "-- refused 404 NotConstant at 4:9\n",
+        3,
+    ),
+    (
+        "check",
+        "MODULE main\nVAR x : boolean;\nLTLSPEC F [-1, 0] x\n",
+        "-- refused 413 BadBound at 3:9: -1,0\n",
+        3,
+    ),
+    (
+        "check",
+        "MODULE main\nVAR x : boolean;\nDEFINE s := {1};\nLTLSPEC F [s, 1] next(x)\n",
+        "-- refused 406 NextHere at 4:18\n",
+        3,
+    ),
+    // A root that is an element stands at its last `[`.
+    (
+        "check",
+        "MODULE main\nVAR c : array 0..1 of array 0..1 of 0..3;\nINIT c[0][1]\n",
+        "-- refused 401 TypeMismatch at 3:10\n",
+        3,
+    ),
+    (
+        "check",
+        "MODULE main\nVAR c : array 0..1 of array 0..1 of 0..3; i : 0..1;\nINIT c[i][i]\n",
+        "-- refused 401 TypeMismatch at 3:10\n",
+        3,
+    ),
+    (
+        "check",
+        "MODULE main\nVAR c : array 0..1 of array 0..1 of 0..3; k : m(c[0]);\nMODULE m(p)\nINVAR p[1]\n",
+        "-- refused 401 TypeMismatch at 4:8\n",
+        3,
+    ),
+    // On the left side each index is judged in turn.
+    (
+        "check",
+        "MODULE main\nVAR c : array 0..1 of array 0..1 of 0..3; i : 0..1;\nASSIGN init(c[i][TRUE]) := 0;\n",
+        "-- refused 404 NotConstant at 3:14\n",
+        3,
+    ),
+    (
+        "check",
+        "MODULE main\nVAR c : array 0..1 of array 0..1 of 0..3;\nASSIGN init(c[7]) := 0;\n",
+        "-- refused 412 BadSelection at 3:14\n",
+        3,
+    ),
+    (
+        "check",
+        "MODULE main\nVAR c : array 0..1 of array 0..1 of 0..3; i : 0..1;\nASSIGN init(c[i]) := 0;\n",
+        "-- refused 404 NotConstant at 3:14\n",
+        3,
+    ),
+    (
+        "check",
+        "MODULE main\nVAR c : array 0..1 of array 0..1 of 0..3;\nASSIGN init(c[1]) := 0;\n",
+        "-- refused 401 TypeMismatch at 3:8\n",
+        3,
+    ),
+    (
+        "check",
+        "MODULE main\nVAR c : array 0..1 of array 0..1 of 0..3;\nASSIGN init(c[0][2][TRUE]) := 0;\n",
+        "-- refused 412 BadSelection at 3:17\n",
+        3,
+    ),
+    (
+        "check",
+        "MODULE main\nVAR c : array 0..1 of array 0..1 of 0..3;\nDEFINE d := c[0][{0}];\nASSIGN init(d[0]) := 0;\n",
+        "-- refused 405 SetHere at 3:18\n",
+        3,
+    ),
+    // What a parameter was given is judged as it was given.
+    (
+        "check",
+        "MODULE main\nVAR c : array 0..1 of array 0..1 of 0..3; i : 0..1; k : m(c[i]);\nMODULE m(p)\nASSIGN init(p[1]) := 0;\n",
+        "-- refused 411 NotAssignable at 4:8\n",
+        3,
+    ),
+    (
+        "check",
+        "MODULE main\nVAR c : array 0..1 of array 0..1 of 0..3; k : m(c[7]);\nMODULE m(p)\nASSIGN init(p[1]) := 0;\n",
+        "-- refused 411 NotAssignable at 4:8\n",
+        3,
+    ),
+    (
+        "check",
+        "MODULE main\nVAR c : array 0..1 of array 0..1 of 0..3; k : m(c[7]);\nMODULE m(p)\nASSIGN init(p[2]) := 0;\n",
+        "-- refused 412 BadSelection at 4:14\n",
+        3,
+    ),
+    (
+        "check",
+        "MODULE main\nVAR c : array 0..1 of array 0..1 of 0..3; k : m(c[{0}]);\nMODULE m(p)\nASSIGN init(p[1]) := 0;\n",
+        "-- refused 401 TypeMismatch at 2:50\n",
+        3,
+    ),
+    (
+        "check",
+        "MODULE main\nVAR c : array 0..1 of array 0..1 of 0..3; k : m(c[1]);\nMODULE m(p)\nASSIGN init(p[1]) := 0;\n",
+        "",
+        0,
+    ),
+];
+
 #[test]
 fn declared_types_are_judged(rt: HostRuntime) -> Result<(), Fail> {
     let wrong = first_wrong(&rt, rt.alloc(), &DECLARED)?;
@@ -383,6 +524,13 @@ fn declared_types_are_judged(rt: HostRuntime) -> Result<(), Fail> {
 #[test]
 fn operands_are_judged(rt: HostRuntime) -> Result<(), Fail> {
     let wrong = first_wrong(&rt, rt.alloc(), &OPERANDS)?;
+    assert_eq!(rt; wrong, None);
+    Ok(())
+}
+
+#[test]
+fn arrays_are_judged(rt: HostRuntime) -> Result<(), Fail> {
+    let wrong = first_wrong(&rt, rt.alloc(), &ARRAYS)?;
     assert_eq!(rt; wrong, None);
     Ok(())
 }

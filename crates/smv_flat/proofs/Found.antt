@@ -43,10 +43,13 @@ found_so slots nodes k (node.Named place naming.Given a) is =
     named_found slots nodes k a (slice_get_within nodes k (node.Named place naming.Given a) is) (slot_of_node slots nodes k (node.Named place naming.Given a) is)
 found_so slots nodes k (node.Named place naming.Element a) is =
     named_found slots nodes k a (slice_get_within nodes k (node.Named place naming.Element a) is) (slot_of_node slots nodes k (node.Named place naming.Element a) is)
+found_so slots nodes k (node.Named place (naming.Array name first) a) is =
+    named_found slots nodes k a (slice_get_within nodes k (node.Named place (naming.Array name first) a) is) (slot_of_node slots nodes k (node.Named place (naming.Array name first) a) is)
 found_so slots nodes k (node.Operand a) is = named_found slots nodes k a (slice_get_within nodes k (node.Operand a) is) (slot_of_node slots nodes k (node.Operand a) is)
 found_so slots nodes k (node.Constant place b) is = slot_of_node slots nodes k (node.Constant place b) is
 found_so slots nodes k (node.Whole place i) is = slot_of_node slots nodes k (node.Whole place i) is
 found_so slots nodes k (node.Named place naming.Defined a) is = slot_of_node slots nodes k (node.Named place naming.Defined a) is
+found_so slots nodes k (node.Named place naming.Passed a) is = slot_of_node slots nodes k (node.Named place naming.Passed a) is
 found_so slots nodes k (node.Next place a) is = slot_of_node slots nodes k (node.Next place a) is
 found_so slots nodes k (node.Apply place o count) is = slot_of_node slots nodes k (node.Apply place o count) is
 found_so slots nodes k (node.Link place o a b) is = slot_of_node slots nodes k (node.Link place o a b) is

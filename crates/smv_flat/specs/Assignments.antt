@@ -31,14 +31,16 @@ pub record SlotAssignment : Type 0 where
   pub place : Place
   pub value : Resolved
 
--- the slot that an expression is: itself, as what a parameter was given, or as an element; there are so many slots
+-- the slot that an expression is: itself, as what a parameter was given, or as an element of an array; there are so many slots
 abbrev pub assigned_slot : ℕ → Resolved → Option ℕ
 assigned_slot slots (Resolved.Constant place b) = None
 assigned_slot slots (Resolved.Slot place n) = if nat_lt n slots then Some n else None
 assigned_slot slots (Resolved.Whole place i) = None
 assigned_slot slots (Resolved.Named place naming.Given r) = assigned_slot slots r
 assigned_slot slots (Resolved.Named place naming.Element r) = assigned_slot slots r
+assigned_slot slots (Resolved.Named place (naming.Array name first) r) = assigned_slot slots r
 assigned_slot slots (Resolved.Named place naming.Defined r) = None
+assigned_slot slots (Resolved.Named place naming.Passed r) = None
 assigned_slot slots (Resolved.Next place r) = None
 assigned_slot slots (Resolved.Apply place o rs) = None
 assigned_slot slots Resolved.Stuck = None

@@ -21,6 +21,7 @@ abbrev pub found_in : ℕ → ℕ → Node → Found
 found_in slots k (node.Slot place n) = if nat_lt n slots then found.Slot n else found.Nothing
 found_in slots k (node.Named place naming.Given a) = if nat_lt a k then found.Below a else found.Nothing
 found_in slots k (node.Named place naming.Element a) = if nat_lt a k then found.Below a else found.Nothing
+found_in slots k (node.Named place (naming.Array name first) a) = if nat_lt a k then found.Below a else found.Nothing
 found_in slots k (node.Operand a) = if nat_lt a k then found.Below a else found.Nothing
 found_in slots k other = found.Nothing
 

@@ -109,9 +109,8 @@ fn found_in(slots: usize, k: usize, node: Node) -> Found
 {
     match node {
         Node::Slot(_, n) if n < slots => Found::Slot(n),
-        Node::Named(_, Naming::Given | Naming::Element, a) | Node::Operand(a) if a < k => {
-            Found::Below(a)
-        }
+        Node::Named(_, Naming::Given | Naming::Element | Naming::Array(..), a) | Node::Operand(a)
+            if a < k => Found::Below(a),
         _ => Found::Nothing,
     }
 }

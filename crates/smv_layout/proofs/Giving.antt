@@ -16,7 +16,7 @@ use Rattle.smv_layout.proofs.Standing.{subscripts_kept, subscripts_stand}
 -- one index more
 pub given_more : (old mid new : List Node) (place : Place) (xs given after : List SubscriptNode) (i node : ℕ) (x : SubscriptNode) → SubscriptsStand old xs → Grows old mid → Grows mid new →
     i < length xs → x ≡ get_or xs i x → AreSubscripts mid given (map (subscript_given place) (map (subscript_by old) (take i xs))) →
-    IsNode new node (Resolved.Named place naming.Given (part_of mid x.node)) → after ≡ given ++ record { place = x.place; node = node; constant = x.constant } ∷ [] →
+    IsNode new node (Resolved.Named place naming.Passed (part_of mid x.node)) → after ≡ given ++ record { place = x.place; node = node; constant = x.constant } ∷ [] →
     AreSubscripts new after (map (subscript_given place) (map (subscript_by old) (take (i + 1) xs)))
 given_more old mid new place xs given after i node x s g h l e a n is =
     let y : SubscriptNode = record { place = x.place; node = node; constant = x.constant } in
@@ -31,7 +31,7 @@ given_more old mid new place xs given after i node x s g h l e a n is =
       are =
           map-append (subscript_by new) given (y ∷ [])
           ∙ ap (λ (ys : List Subscript). ys ++ subscript_by new y ∷ []) (subscripts_kept mid new h given a.stand ∙ a.are)
-          ∙ ap (λ (r : Resolved). let z : Subscript = record { place = x.place; index = r; constant = x.constant } in before ++ z ∷ []) (n.is ∙ ap (λ (r : Resolved). Resolved.Named place naming.Given r) (g.kept x.node low))
+          ∙ ap (λ (r : Resolved). let z : Subscript = record { place = x.place; index = r; constant = x.constant } in before ++ z ∷ []) (n.is ∙ ap (λ (r : Resolved). Resolved.Named place naming.Passed r) (g.kept x.node low))
           ∙ sym more;
     } in
     subst (λ (ys : List SubscriptNode). AreSubscripts new ys (map (subscript_given place) (map (subscript_by old) (take (i + 1) xs)))) (sym is) whole

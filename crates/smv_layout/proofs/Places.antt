@@ -1,6 +1,8 @@
 -- Elements by their dimensions and indices.
-use Rattle.std.proofs.Common.{◌≡◌, ℕ, suc, ◌+◌, ◌*◌, ◌<◌, List, [], ◌∷◌, ◌++◌, length, get_or, map, take, false, Some, None, refl, sym, ap, subst, ◌∙◌, arith, append_assoc}
+use Rattle.std.proofs.Common.{◌≡◌, ℕ, suc, ◌+◌, ◌*◌, ◌<◌, List, [], ◌∷◌, ◌++◌, length, get_or, map, take, true, false, Some, None, refl, sym, ap, subst, ◌∙◌, arith, append_assoc}
 use Rattle.std.specs.Prelude.{ℤ}
+use Rattle.std.specs.Option.{is_some}
+use Rattle.std.proofs.lemmas.Bool.{cond-true, cond-false}
 use Rattle.std.proofs.lemmas.List.{take_more}
 use Rattle.std.proofs.lemmas.Grind.{flat_map-append}
 use Rattle.value_types.specs.declared.value_type.ValueType.{ValueType}
@@ -14,7 +16,7 @@ use Rattle.smv_resolve.specs.Resolved.{Resolved, operands_of}
 use Rattle.smv_declared.specs.declared.variable_type.Bounds.{Bounds}
 use Rattle.smv_declared.specs.Types.{size_of}
 use Rattle.smv_layout.specs.declared.laid.SubscriptNode.{SubscriptNode}
-use Rattle.smv_layout.specs.Arrays.{Subscript, at_index, at_position, choice, element, index_at, is_index, never, nowhere, position_in, spanning, turns, turns_to}
+use Rattle.smv_layout.specs.Arrays.{Subscript, at_index, at_position, choice, element, index_at, is_index, is_inside, never, nowhere, position_in, spanning, turns, turns_to}
 use Rattle.smv_layout.specs.Nodes.{AreNodes, IsNode, subscript_by}
 use Rattle.smv_layout.proofs.Standing.{AreNodes_push}
 
@@ -52,6 +54,17 @@ module _ (t : ValueType) (place : Place) where
   nowhere_both ds nodes xs d below x further e f =
       ap (λ (bs : List Bounds). nowhere t place bs (map (subscript_by nodes) (x ∷ further))) (sym e) ∙ ap (λ (ys : List SubscriptNode). nowhere t place ds (map (subscript_by nodes) ys)) (sym f)
 
+  -- what stands at no index is marked where the next index is a constant inside
+  pub nowhere_inside : (d : Bounds) (ds : List Bounds) (x : Subscript) (xs : List Subscript) → is_inside (Some d) x.constant ≡ true →
+      Resolved.Named x.place naming.Element (nowhere t x.place ds xs) ≡ nowhere t place (d ∷ ds) (x ∷ xs)
+  nowhere_inside d ds x xs inside =
+      sym (cond-true (is_inside (Some d) x.constant) (Resolved.Named x.place naming.Element (nowhere t x.place ds xs)) (choice x.place (is_index x d.low ∷ nowhere t x.place ds xs ∷ [])) inside)
+
+  pub nowhere_outside : (d : Bounds) (ds : List Bounds) (x : Subscript) (xs : List Subscript) → is_inside (Some d) x.constant ≡ false →
+      choice x.place (is_index x d.low ∷ nowhere t x.place ds xs ∷ []) ≡ nowhere t place (d ∷ ds) (x ∷ xs)
+  nowhere_outside d ds x xs outside =
+      sym (cond-false (is_inside (Some d) x.constant) (Resolved.Named x.place naming.Element (nowhere t x.place ds xs)) (choice x.place (is_index x d.low ∷ nowhere t x.place ds xs ∷ [])) outside)
+
   -- the index is no constant, outside, or inside
   pub element_chosen : (d : Bounds) (ds : List Bounds) (x : Subscript) (xs : List Subscript) (first : ℕ) → x.constant ≡ None →
       choice x.place (turns x d (λ k. element t place ds xs (first + k * size_of ds))) ≡ element t place (d ∷ ds) (x ∷ xs) first
@@ -59,9 +72,11 @@ module _ (t : ValueType) (place : Place) where
       ap (at_index x d (λ k. element t place ds xs (first + k * size_of ds)) (nowhere t place (d ∷ ds) (x ∷ xs))) (sym e)
 
   pub element_outside : (d : Bounds) (ds : List Bounds) (x : Subscript) (xs : List Subscript) (first : ℕ) (z : ℤ) → x.constant ≡ Some z → None ≡ position_in d z →
-      nowhere t place (d ∷ ds) (x ∷ xs) ≡ element t place (d ∷ ds) (x ∷ xs) first
+      choice x.place (is_index x d.low ∷ nowhere t x.place ds xs ∷ []) ≡ element t place (d ∷ ds) (x ∷ xs) first
   element_outside d ds x xs first z e f =
-      ap (at_position x (λ k. element t place ds xs (first + k * size_of ds)) (nowhere t place (d ∷ ds) (x ∷ xs))) f
+      let outside : is_inside (Some d) x.constant ≡ false = ap (is_inside (Some d)) e ∙ ap is_some (sym f) in
+      sym (cond-false (is_inside (Some d) x.constant) (Resolved.Named x.place naming.Element (nowhere t x.place ds xs)) (choice x.place (is_index x d.low ∷ nowhere t x.place ds xs ∷ [])) outside)
+      ∙ ap (at_position x (λ k. element t place ds xs (first + k * size_of ds)) (nowhere t place (d ∷ ds) (x ∷ xs))) f
       ∙ ap (at_index x d (λ k. element t place ds xs (first + k * size_of ds)) (nowhere t place (d ∷ ds) (x ∷ xs))) (sym e)
 
   pub element_inside : (d : Bounds) (ds : List Bounds) (x : Subscript) (xs : List Subscript) (first : ℕ) (z : ℤ) (k : ℕ) → x.constant ≡ Some z → Some k ≡ position_in d z →

@@ -1,5 +1,5 @@
 -- What stands for expressions stays so when nodes are added.
-use Rattle.std.proofs.Common.{◌≡◌, ℕ, ◌<◌, List, [], ◌∷◌, ◌++◌, length, map, Some, slice_get, Result, IfOk, refl, sym, ap, subst, ◌∙◌, arith, length-append}
+use Rattle.std.proofs.Common.{◌≡◌, ℕ, ◌<◌, ◌≤◌, List, [], ◌∷◌, ◌++◌, length, map, Some, slice_get, Result, IfOk, refl, sym, ap, subst, ◌∙◌, arith, length-append}
 use Rattle.std.specs.List.{All}
 use Rattle.std.proofs.lemmas.List.{map-append}
 use Rattle.std.proofs.lemmas.List.Elements.{All-cons, All-head, All-nil, All-push, All-tail, All-weaker}
@@ -16,7 +16,7 @@ use Rattle.smv_layout.specs.declared.laid.LaidNode.TheVariants as node
 use Rattle.smv_layout.specs.declared.laid.SubarrayNode.{SubarrayNode}
 use Rattle.smv_layout.specs.declared.laid.SubscriptNode.{SubscriptNode}
 use Rattle.smv_layout.specs.Arrays.{Subscript}
-use Rattle.smv_layout.specs.Layout.{Laid, Subarray, value_of, variable_laid}
+use Rattle.smv_layout.specs.Layout.{Laid, Subarray, array_of, value_of, variable_laid}
 use Rattle.smv_layout.specs.Nodes.{AllStand, AreLaid, AreNodes, AreSubscripts, IsLaid, IsNode, Stands, SubscriptsStand, entry_by, laid_at, laid_by, node_of, subscript_by}
 
 -- two functions that agree where P holds
@@ -164,3 +164,8 @@ array_laid nodes variable place xs n ys r s x = record {
 pub variable_bare : (first : ℕ) (place : Place) (n : ℕ) (ds : List Bounds) → length ds < 1 → Laid.Value (Resolved.Slot place first) ≡ variable_laid first place n ds
 variable_bare first place n [] l = refl
 variable_bare first place n (d ∷ ds) l = absurd (omega (arith, l))
+
+-- a variable that is an array
+pub variable_array : (first : ℕ) (place : Place) (n : ℕ) (ds : List Bounds) → 1 ≤ length ds → Laid.Array (array_of first place n) ≡ variable_laid first place n ds
+variable_array first place n [] l = absurd (omega (arith, l))
+variable_array first place n (d ∷ ds) l = refl

@@ -1,7 +1,8 @@
 -- Elements of arrays as expressions over slots (NuSMV 2.6 User Manual, 2.1.6, Array Types; 2.2.3, Index Subscript Operator). The
 -- elements of an array have slots one behind the other, the last index fastest.
-use Rattle.std.specs.Prelude.{ℕ, zero, suc, ◌+◌, ◌*◌, nat_lt, ◌&&◌, if◌then◌else◌, false, List, [], ◌∷◌, ◌++◌, Option, None, Some, ℤ, pos, ◌+ℤ◌, ◌-ℤ◌, int_le, map}
+use Rattle.std.specs.Prelude.{ℕ, zero, suc, ◌+◌, ◌*◌, nat_lt, Bool, ◌&&◌, if◌then◌else◌, false, List, [], ◌∷◌, ◌++◌, Option, None, Some, ℤ, pos, ◌+ℤ◌, ◌-ℤ◌, int_le, map}
 use Rattle.std.specs.List.{flat_map}
+use Rattle.std.specs.Option.{is_some}
 use Rattle.smv_value.specs.declared.operator.Operator.TheVariants as operator
 use Rattle.smv_value.specs.declared.value.Value.{Value}
 use Rattle.smv_value.specs.declared.value.Value.TheVariants as value
@@ -29,6 +30,11 @@ index_at d k = d.low +ℤ pos k
 -- the position of an index in a dimension, if it is one of that dimension
 abbrev pub position_in : Bounds → ℤ → Option ℕ
 position_in d z = if int_le d.low z && nat_lt (natural (z -ℤ d.low)) d.count then Some (natural (z -ℤ d.low)) else None
+
+-- an index is a constant, and one of its dimension
+abbrev pub is_inside : Option Bounds → Option ℤ → Bool
+is_inside (Some d) (Some z) = is_some (position_in d z)
+is_inside d z = false
 
 -- The condition that an index is this integer. An index has to be one integer.
 abbrev pub is_index : Subscript → ℤ → Resolved
@@ -63,7 +69,10 @@ never place vs = flat_map (λ v. Resolved.Constant place (value.Bool false) ∷ 
 -- What an index outside its dimension leads to, where these dimensions and indices are left: it has the kind of an element of this
 -- type, and no value. Each index that is left has to be an integer.
 abbrev pub nowhere : ValueType → Place → List Bounds → List Subscript → Resolved
-nowhere t place (d ∷ ds) (x ∷ xs) = choice x.place (is_index x d.low ∷ nowhere t x.place ds xs ∷ [])
+nowhere t place (d ∷ ds) (x ∷ xs) =
+    if is_inside (Some d) x.constant
+    then Resolved.Named x.place naming.Element (nowhere t x.place ds xs)
+    else choice x.place (is_index x d.low ∷ nowhere t x.place ds xs ∷ [])
 nowhere t place ds xs = choice place (never place (spanning t))
 
 -- what stands at this position; or, where there is none, what stands at none

@@ -19,7 +19,7 @@ use Rattle.smv_declared.specs.declared.variable_type.VariableType.{VariableType}
 use Rattle.smv_declared.specs.Constants.{constants_of}
 use Rattle.smv_declared.specs.Types.{variable_types_of}
 use Rattle.smv_slots.specs.Slots.{first_slot}
-use Rattle.smv_layout.specs.Arrays.{Subscript, element}
+use Rattle.smv_layout.specs.Arrays.{Subscript, element, is_inside}
 use Rattle.smv_layout.specs.Indices.{indices_of}
 
 -- An array without all its indices: the number of the variable, the place of its name, the indices that it has, and what stands for
@@ -44,13 +44,22 @@ values_of xs = operands_of (map value_of xs)
 
 -- Variables.
 
--- an array without indices
-abbrev pub array_of : Place → ℕ → Subarray
-array_of place n = record { variable = n; place = place; subscripts = []; whole = Resolved.Apply place operator.WholeArray Operands.End }
+-- An array, or an element of one: the name of the array stands at `place`, and its first element has the slot `first`.
+abbrev pub in_array : Place → Place → ℕ → Resolved → Resolved
+in_array at place first r = Resolved.Named at (naming.Array place first) r
+
+-- an array without indices, whose first element has the slot `first`
+abbrev pub array_of : ℕ → Place → ℕ → Subarray
+array_of first place n = record {
+  variable = n;
+  place = place;
+  subscripts = [];
+  whole = in_array place place first (Resolved.Apply place operator.WholeArray Operands.End);
+}
 
 abbrev pub variable_laid : ℕ → Place → ℕ → List Bounds → Laid
 variable_laid first place n [] = Laid.Value (Resolved.Slot place first)
-variable_laid first place n (d ∷ ds) = Laid.Array (array_of place n)
+variable_laid first place n (d ∷ ds) = Laid.Array (array_of first place n)
 
 abbrev pub slot_laid : List VariableType → Place → ℕ → Option VariableType → Laid
 slot_laid vs place n None = Laid.Value (Resolved.Slot place n)
@@ -58,9 +67,9 @@ slot_laid vs place n (Some v) = variable_laid (first_slot vs n) place n v.dimens
 
 -- Names.
 
--- what stands in a parameter's place
+-- an index of what stands in a parameter's place
 abbrev pub subscript_given : Place → Subscript → Subscript
-subscript_given place x = record { place = x.place; index = Resolved.Named place naming.Given x.index; constant = x.constant }
+subscript_given place x = record { place = x.place; index = Resolved.Named place naming.Passed x.index; constant = x.constant }
 
 abbrev pub array_given : Place → Subarray → Subarray
 array_given place a = record {
@@ -77,25 +86,35 @@ named place n x = Laid.Value (Resolved.Named place n (value_of x))
 
 -- Indices.
 
--- an array with one index more
-abbrev pub subscripted : Place → Subarray → Subscript → Subarray
-subscripted place a x = record {
+-- the dimension of this number, if the variable has it
+abbrev pub dimension_at : Option VariableType → ℕ → Option Bounds
+dimension_at None k = None
+dimension_at (Some v) k = slice_get v.dimensions k
+
+-- An index of this dimension where no element is meant: a constant inside is one of an element here, too.
+abbrev pub index_in : Option Bounds → Subscript → Resolved
+index_in d x = if is_inside d x.constant then Resolved.Named x.place naming.Element x.index else x.index
+
+-- an array with one index more, of this dimension
+abbrev pub subscripted : Place → Option Bounds → Subarray → Subscript → Subarray
+subscripted place d a x = record {
   variable = a.variable;
   place = a.place;
   subscripts = a.subscripts ++ x ∷ [];
-  whole = Resolved.Apply place operator.Index (operands_of (a.whole ∷ x.index ∷ []));
+  whole = Resolved.Apply place operator.Index (operands_of (a.whole ∷ index_in d x ∷ []));
 }
 
--- an element, where there is an index for each dimension
-abbrev pub element_laid : List VariableType → Subarray → Option VariableType → Laid
-element_laid vs a None = Laid.Array a
-element_laid vs a (Some v) =
+-- an element, where there is an index for each dimension; it stands where its last index does
+abbrev pub element_laid : List VariableType → Place → Subarray → Option VariableType → Laid
+element_laid vs place a None = Laid.Array a
+element_laid vs place a (Some v) =
     if length a.subscripts == length v.dimensions
-    then Laid.Value (element v.element a.place v.dimensions a.subscripts (first_slot vs a.variable))
+    then Laid.Value (in_array place a.place (first_slot vs a.variable) (element v.element a.place v.dimensions a.subscripts (first_slot vs a.variable)))
     else Laid.Array a
 
 abbrev pub indexed : List VariableType → Place → Subarray → Subscript → Laid
-indexed vs place a x = element_laid vs (subscripted place a x) (slice_get vs a.variable)
+indexed vs place a x =
+    element_laid vs place (subscripted place (dimension_at (slice_get vs a.variable) (length a.subscripts)) a x) (slice_get vs a.variable)
 
 -- An index of an array, where `constant` is the integer that it is. What is no array has no index, and is refused with one.
 abbrev pub index_laid : List VariableType → Place → Option ℤ → List Laid → Laid

@@ -5,8 +5,9 @@ ghost use Rattle.smv_value.specs.declared.operator.Operator.TheVariants as opera
 ghost use Rattle.smv_value.specs.declared.value.Value.TheVariants as value;
 ghost use Rattle.smv_resolve.specs.Resolved.{Resolved, operands_of};
 ghost use Rattle.smv_resolve.specs.Finding.{Grows};
+ghost use Rattle.smv_tree.specs.declared.place.Place.{Place};
 ghost use Rattle.smv_declared.specs.Types.{size_of};
-ghost use Rattle.smv_layout.specs.Arrays.{choice, element, index_at, is_index, never, nowhere, position_in, spanning, turns};
+ghost use Rattle.smv_layout.specs.Arrays.{choice, element, index_at, is_index, is_inside, never, nowhere, position_in, spanning, turns};
 ghost use Rattle.smv_layout.specs.Nodes.{AreNodes, IsNode, SubscriptsStand, subscript_by};
 
 use crate::laid::SubscriptNode;
@@ -162,7 +163,7 @@ fn push_nowhere(
                 Ok(n)
             }
             Some((subscript, further)) => {
-                let n = push_outside(alloc, nodes, t, *dimension, below, *subscript, further)?;
+                let n = push_beyond(alloc, nodes, t, *dimension, below, *subscript, further)?;
                 Ok(n)
             }
         },
@@ -170,6 +171,33 @@ fn push_nowhere(
 }
 
 // The same where there is a dimension and an index for it.
+#[cycle(nowhere)]
+fn push_beyond(
+    alloc: Global,
+    nodes: &mut Items<Node>,
+    t: &ValueType,
+    dimension: Bounds,
+    below: &[Bounds],
+    subscript: SubscriptNode,
+    further: &[SubscriptNode],
+) -> Result<usize, AllocError>
+    requires index { subscript.node < length nodes.old }
+    requires further { SubscriptsStand nodes.old further.now }
+    ensures grows { OnOk result (Grows nodes.old nodes.new) }
+    ensures node { IfOk result (λ n. (place : Place) → IsNode nodes.new n (nowhere t.now place (dimension ∷ below.now)
+        (subscript_by nodes.old subscript ∷ map (subscript_by nodes.old) further.now))) }
+{
+    if is_inside(Some(dimension), subscript.constant) {
+        let inner = push_nowhere(alloc, nodes, t, subscript.place, below, further)?;
+        let n = push(nodes, Node::Named(subscript.place, Naming::Element, inner))?;
+        Ok(n)
+    } else {
+        let n = push_outside(alloc, nodes, t, dimension, below, subscript, further)?;
+        Ok(n)
+    }
+}
+
+// The same where the index is no constant, or outside.
 #[cycle(nowhere)]
 fn push_outside(
     alloc: Global,
@@ -299,6 +327,16 @@ fn index_at(dimension: Bounds, position: usize) -> Result<Value, AllocError>
     match i64::from(dimension.low).checked_add(offset) {
         Some(index) => Ok(Value::Int(index)),
         None => Err(AllocError),
+    }
+}
+
+/// An index is a constant, and one of its dimension.
+pub(crate) fn is_inside(dimension: Option<Bounds>, constant: Option<i64>) -> bool
+    ensures { result ≡ is_inside dimension constant }
+{
+    match (dimension, constant) {
+        (Some(dimension), Some(index)) => position_in(dimension, index).is_some(),
+        _ => false,
     }
 }
 

@@ -163,22 +163,27 @@ fn lay_out_variable(
         None => push_value(nodes, Node::Slot(place, n)),
         Some(variable) => match variable.dimensions.as_slice() {
             [] => push_value(nodes, Node::Slot(place, first_at(firsts, n))),
-            [..] => push_array(alloc, nodes, place, n),
+            [..] => push_array(alloc, nodes, place, n, first_at(firsts, n)),
         },
     }
 }
 
-// An array without indices.
+// An array without indices, whose first element has the slot `first`.
 fn push_array(
     alloc: Global,
     nodes: &mut Items<Node>,
     place: Place,
     n: usize,
+    first: usize,
 ) -> Result<LaidNode, AllocError>
     ensures grows { OnOk result (Grows nodes.old nodes.new) }
-    ensures laid { IfOk result (λ x. IsLaid nodes.new x (Laid.Array (array_of place n))) }
+    ensures laid { IfOk result (λ x. IsLaid nodes.new x (Laid.Array (array_of first place n))) }
 {
-    let whole = push(nodes, Node::Apply(place, Operator::WholeArray, 0))?;
+    let array = push(nodes, Node::Apply(place, Operator::WholeArray, 0))?;
+    let whole = push(
+        nodes,
+        Node::Named(place, Naming::Array(place, first), array),
+    )?;
     Ok(LaidNode::Array(SubarrayNode {
         variable: n,
         place,
@@ -202,7 +207,7 @@ fn lay_out_name(
 {
     match naming {
         Naming::Given => lay_out_given(alloc, nodes, entries, place, a),
-        Naming::Defined | Naming::Element => {
+        Naming::Defined | Naming::Element | Naming::Array(..) | Naming::Passed => {
             let inner = value_at(nodes, entries, a);
             push_value(nodes, Node::Named(place, naming, inner))
         }
@@ -265,7 +270,7 @@ fn give_subscripts(
 {
     let mut given = Items::new(alloc);
     for x in subscripts {
-        let node = push(nodes, Node::Named(place, Naming::Given, x.node))?;
+        let node = push(nodes, Node::Named(place, Naming::Passed, x.node))?;
         given.push(SubscriptNode {
             place: x.place,
             node,

@@ -5,18 +5,18 @@ ghost use Rattle.std.specs.List.{All};
 ghost use Rattle.smv_resolve.specs.Resolved.{Resolved};
 ghost use Rattle.smv_resolve.specs.Finding.{Grows};
 ghost use Rattle.smv_layout.specs.declared.laid.LaidNode.TheVariants.{Array as LaidArray};
-ghost use Rattle.smv_layout.specs.Layout.{Laid, applied, both_bounds, bounded, bounds_in, is_bound, index_laid, indexed, subscripted, values_of};
-ghost use Rattle.smv_layout.specs.Nodes.{IsLaid, Stands, laid_by, subarray_by, subscript_by};
+ghost use Rattle.smv_layout.specs.Layout.{Laid, applied, both_bounds, bounded, bounds_in, dimension_at, index_in, is_bound, index_laid, indexed, subscripted, values_of};
+ghost use Rattle.smv_layout.specs.Nodes.{IsLaid, IsNode, Stands, laid_by, subarray_by, subscript_by};
 ghost use Rattle.smv_layout.specs.Sizes.{first_slots};
 
-use crate::elements::push_element;
+use crate::elements::{is_inside, push_element};
 use crate::entries::{push_value, value_of, values_of};
 use crate::indices::index_at;
 use crate::laid::{LaidNode, SubarrayNode, SubscriptNode};
 use crate::nodes::{push, push_apply};
 use crate::sizes::first_at;
-use smv_declared::{Constant, VariableType};
-use smv_resolve::Node;
+use smv_declared::{Bounds, Constant, VariableType};
+use smv_resolve::{Naming, Node};
 use smv_tree::Place;
 use smv_value::{Bounded, Operator};
 use sqlite_items::{Items, at};
@@ -187,28 +187,60 @@ fn push_indexed(
     let mut subscripts = Items::from_slice(alloc, array.subscripts.as_slice())?;
     subscripts.push(subscript)?;
     match at(variables, array.variable) {
-        None => push_subarray(nodes, place, array, subscript, subscripts),
+        None => push_subarray(nodes, place, None, array, subscript, subscripts),
         Some(variable) => if variable.dimensions.len() == subscripts.len() {
-            let n = push_element(
+            let first = first_at(firsts, array.variable);
+            let element = push_element(
                 alloc,
                 nodes,
                 &variable.element,
                 array.place,
                 variable.dimensions.as_slice(),
                 subscripts.as_slice(),
-                first_at(firsts, array.variable),
+                first,
             )?;
+            let naming = Naming::Array(array.place, first);
+            let n = push(nodes, Node::Named(place, naming, element))?;
             Ok(LaidNode::Value(n))
         } else {
-            push_subarray(nodes, place, array, subscript, subscripts)
+            let dimension = dimension_at(variable, array.subscripts.len());
+            push_subarray(nodes, place, dimension, array, subscript, subscripts)
         },
     }
 }
 
-// An array with one index more, of these indices.
+// The dimension of this number, if the variable has it.
+fn dimension_at(variable: &VariableType, k: usize) -> Option<Bounds>
+    ensures { result ≡ dimension_at (Some variable.now) k }
+{
+    match at(variable.dimensions.as_slice(), k) {
+        None => None,
+        Some(dimension) => Some(*dimension),
+    }
+}
+
+// An index of this dimension, where no element is meant.
+fn push_index(
+    nodes: &mut Items<Node>,
+    dimension: Option<Bounds>,
+    x: SubscriptNode,
+) -> Result<usize, AllocError>
+    requires { x.node < length nodes.old }
+    ensures grows { OnOk result (Grows nodes.old nodes.new) }
+    ensures node { IfOk result (λ n. IsNode nodes.new n (index_in dimension (subscript_by nodes.old x))) }
+{
+    if is_inside(dimension, x.constant) {
+        push(nodes, Node::Named(x.place, Naming::Element, x.node))
+    } else {
+        Ok(x.node)
+    }
+}
+
+// An array with one index more, of this dimension and these indices.
 fn push_subarray(
     nodes: &mut Items<Node>,
     place: Place,
+    dimension: Option<Bounds>,
     array: &SubarrayNode,
     subscript: SubscriptNode,
     subscripts: Items<SubscriptNode>,
@@ -217,9 +249,10 @@ fn push_subarray(
     requires index { subscript.node < length nodes.old }
     requires subscripts { subscripts ≡ array.now.subscripts ++ subscript ∷ [] }
     ensures grows { OnOk result (Grows nodes.old nodes.new) }
-    ensures laid { IfOk result (λ x. IsLaid nodes.new x (Laid.Array (subscripted place (subarray_by nodes.old array.now) (subscript_by nodes.old subscript)))) }
+    ensures laid { IfOk result (λ x. IsLaid nodes.new x (Laid.Array (subscripted place dimension (subarray_by nodes.old array.now) (subscript_by nodes.old subscript)))) }
 {
-    let link = Node::Link(place, Operator::Index, array.whole, subscript.node);
+    let index = push_index(nodes, dimension, subscript)?;
+    let link = Node::Link(place, Operator::Index, array.whole, index);
     let whole = push(nodes, link)?;
     Ok(LaidNode::Array(SubarrayNode {
         variable: array.variable,

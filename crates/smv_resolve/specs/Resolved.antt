@@ -25,7 +25,8 @@ mutual
     Slot : Place → (n : ℕ) → Resolved
     -- the instance of this number, which has no value
     Whole : Place → (at : ℕ) → Resolved
-    -- what a parameter was given, or the body of a definition; where slots are laid out, also the slot of an element of an array
+    -- what a parameter was given, or the body of a definition; where slots are laid out, also an array, an element of one, and an
+    -- index with which a parameter was given one
     Named : Place → Naming → Resolved → Resolved
     Next : Place → Resolved → Resolved
     Apply : Place → Operator → Operands → Resolved

@@ -1,13 +1,13 @@
 -- What is told and noted of nodes, with one node more.
-use Rattle.std.proofs.Common.{◌≡◌, ℕ, zero, suc, ◌+◌, ◌-◌, ◌<◌, List, map, [], ◌∷◌, ◌++◌, length, drop, take, slice_index_or, None, false, refl, sym, ap, subst, ◌∙◌, arith, length-append}
+use Rattle.std.proofs.Common.{◌≡◌, ℕ, zero, suc, ◌+◌, ◌-◌, ◌<◌, ◌≤◌, List, map, [], ◌∷◌, ◌++◌, length, drop, take, slice_index_or, None, false, refl, sym, ap, subst, ◌∙◌, arith, length-append}
 use Rattle.std.proofs.lemmas.List.{map-append}
 use Rattle.smv_tree.specs.declared.place.Place.{Place}
 use Rattle.smv_tree.specs.declared.refusal.Refusal.{Refusal}
-use Rattle.std.proofs.Common.{Option, Some}
+use Rattle.std.proofs.Common.{Bool, Option, Some, true}
 use Rattle.std.specs.Option.{is_some}
 use Rattle.smv_value.specs.declared.operator.Operator.{Operator}
 use Rattle.smv_value.specs.declared.operator.Operator.TheVariants as operator
-use Rattle.smv_value.specs.declared.value.FaultRule.{FaultRule}
+use Rattle.smv_value.specs.declared.value.FaultRule.TheVariants as fault
 use Rattle.value_types.specs.declared.value_type.ValueType.{ValueType}
 use Rattle.smv_kinds.specs.declared.kind.Operand.{Operand}
 use Rattle.smv_slots.specs.declared.slot.Slot.{Slot}
@@ -15,13 +15,14 @@ use Rattle.smv_resolve.specs.declared.node.Node.{Node}
 use Rattle.smv_resolve.specs.Resolved.{Resolved, last_of, operands_of, part_at, parts_of, resolved_by}
 use Rattle.smv_resolve.proofs.Parts.{parts_of-next}
 use Rattle.smv_verdicts.specs.Verdicts.{or_else}
+use Rattle.smv_types.specs.declared.judged.Indexing.{Indexing}
 use Rattle.smv_types.specs.declared.judged.Judged.{Judged}
 use Rattle.smv_types.specs.declared.judged.Notes.{Notes}
 use Rattle.smv_kinds.specs.Constants.{constant_given}
 use Rattle.smv_kinds.specs.Kinds.{kind_given}
 use Rattle.smv_tree.specs.declared.tree.AssignmentKind.TheVariants as side
-use Rattle.smv_types.specs.Kinds.{Context, all_told, inner_refusal, is_assignable, is_chosen_by_constant, kind_in, kind_refusal, of_kind, place_of, operands_refusal, told, under_operand}
-use Rattle.smv_types.specs.Judged.{AreJudged, AreNotes, IsJudged, Tells, judged_at, nothing, told_at}
+use Rattle.smv_types.specs.Kinds.{Context, all_told, chosen_refusal, defined_refusal, indexing_of, inner_refusal, is_assignable, kind_in, kind_refusal, of_kind, place_of, operands_refusal, told, under_operand, unless_bound, waiting_refusal}
+use Rattle.smv_types.specs.Judged.{AreJudged, AreNotes, IsJudged, Tells, judged_at, no_indexing, nothing, told_at}
 
 -- what is told, as a list
 
@@ -65,6 +66,14 @@ module _ (slots : List Slot) (types : List ValueType) where
       let right : y ≡ of_part (part_at parts b) = f ∙ ap (λ xs. told_at xs b) h ∙ told_part parts b in
       ap (λ z. applied o (z ∷ y ∷ [])) left ∙ ap (λ z. applied o (of_part (part_at parts a) ∷ z ∷ [])) right
 
+-- what is said of an index, over its first operand
+
+abbrev pub subscript_indexing : Bool → Indexing → Indexing
+subscript_indexing constant first = record { by_constant = constant; passed = first.passed; asked = false; within = false }
+
+abbrev pub equal_indexing : Indexing → Indexing
+equal_indexing first = record { by_constant = first.by_constant; passed = first.passed; asked = true; within = false }
+
 -- what is noted, by numbers
 
 -- what holds at each number holds with one element more
@@ -86,7 +95,8 @@ of_nothing slots types = record {
   place = refl;
   notes = record { step = refl; step_set = refl; name = refl; name_set = refl; state = refl; state_set = refl; path = refl };
   inner = refl;
-  constant = refl;
+  defined = refl;
+  indexing = refl;
   init = refl;
   later = refl;
 }
@@ -146,10 +156,11 @@ judged_any slots types rs js h k d within = rw (default_same js k d nothing with
 
 -- what cannot be assigned
 pub unassigned : (slots : List Slot) (types : List ValueType) (r : Resolved) (j : Judged) (place : Place) (notes : Notes) →
-    j ≡ record { place = place; notes = notes; inner = None; chosen_by_constant = false; takes_init = false; takes_later = false } → place ≡ place_of r → AreNotes (λ c. kind_refusal slots types c r) notes →
-    inner_refusal slots types r ≡ None → is_chosen_by_constant slots types r ≡ false → is_assignable slots side.Init r ≡ false → is_assignable slots side.Next r ≡ false → IsJudged slots types r j
-unassigned slots types r j place notes is at noted inner constant init later =
-    rw is (record { place = at; notes = noted; inner = sym inner; constant = sym constant; init = sym init; later = sym later })
+    j ≡ record { place = place; notes = notes; inner = None; defined = None; indexing = no_indexing; takes_init = false; takes_later = false } → place ≡ place_of r → AreNotes (λ c. kind_refusal slots types c r) notes →
+    inner_refusal slots types r ≡ None → defined_refusal slots types r ≡ None → indexing_of slots types r ≡ no_indexing → is_assignable slots side.Init r ≡ false →
+    is_assignable slots side.Next r ≡ false → IsJudged slots types r j
+unassigned slots types r j place notes is at noted inner defined indexing init later =
+    rw is (record { place = at; notes = noted; inner = sym inner; defined = sym defined; indexing = sym indexing; init = sym init; later = sym later })
 
 -- what is told of all is told of the last
 pub last_tells : (slots : List Slot) (types : List ValueType) (count : ℕ) (rs : List Resolved) (xs : List Operand) (js : List Judged) → Tells slots types rs xs js →
@@ -184,22 +195,46 @@ two_tell slots types parts xs js h a b =
       judged = two_judged slots types (part_at parts a) (part_at parts b) (judged_at js a) (judged_at js b) (h.judged.each a) (h.judged.each b);
     }
 
--- an index that is a constant, in the first operand
+-- what an operator says of an index is what its first operand does
 
-pub subscript_chosen : (slots : List Slot) (types : List ValueType) (place : Place) (rs : List Resolved) →
-    is_some (told slots types (part_at rs 0)).constant ≡ is_chosen_by_constant slots types (Resolved.Apply place operator.Subscript (operands_of rs))
-subscript_chosen slots types place [] = refl
-subscript_chosen slots types place (r ∷ rs) = refl
+pub subscript_says : (slots : List Slot) (types : List ValueType) (place : Place) (rs : List Resolved) →
+    subscript_indexing (is_some (told slots types (part_at rs 0)).constant) (indexing_of slots types (part_at rs 0)) ≡ indexing_of slots types (Resolved.Apply place operator.Subscript (operands_of rs))
+subscript_says slots types place [] = refl
+subscript_says slots types place (r ∷ rs) = refl
 
-pub equal_chosen : (slots : List Slot) (types : List ValueType) (place : Place) (rs : List Resolved) →
-    is_chosen_by_constant slots types (part_at rs 0) ≡ is_chosen_by_constant slots types (Resolved.Apply place operator.Equal (operands_of rs))
-equal_chosen slots types place [] = refl
-equal_chosen slots types place (r ∷ rs) = refl
+pub equal_says : (slots : List Slot) (types : List ValueType) (place : Place) (rs : List Resolved) →
+    equal_indexing (indexing_of slots types (part_at rs 0)) ≡ indexing_of slots types (Resolved.Apply place operator.Equal (operands_of rs))
+equal_says slots types place [] = refl
+equal_says slots types place (r ∷ rs) = refl
 
-pub choice_chosen : (slots : List Slot) (types : List ValueType) (place : Place) (rule : FaultRule) (rs : List Resolved) →
-    is_chosen_by_constant slots types (part_at rs 0) ≡ is_chosen_by_constant slots types (Resolved.Apply place (operator.Choice rule) (operands_of rs))
-choice_chosen slots types place rule [] = refl
-choice_chosen slots types place rule (r ∷ rs) = refl
+-- what operands break on a left side
+
+module _ (slots : List Slot) (types : List ValueType) (place : Place) where
+  pub index_few : (rs : List Resolved) → length rs < 2 → inner_refusal slots types (Resolved.Apply place operator.Index (operands_of rs)) ≡ None
+  index_few [] l = refl
+  index_few (r ∷ []) l = refl
+  index_few (r ∷ s ∷ rs) l = absurd (omega arith)
+
+  pub index_both : (rs : List Resolved) → 2 ≤ length rs →
+      or_else (defined_refusal slots types (part_at rs 0)) (or_else (inner_refusal slots types (part_at rs 0)) (waiting_refusal slots types place (part_at rs 0) (part_at rs 1)))
+      ≡ inner_refusal slots types (Resolved.Apply place operator.Index (operands_of rs))
+  index_both [] l = absurd (omega arith)
+  index_both (r ∷ []) l = absurd (omega arith)
+  index_both (r ∷ s ∷ rs) l = refl
+
+  pub choice_few : (rs : List Resolved) → length rs < 2 → inner_refusal slots types (Resolved.Apply place (operator.Choice fault.IndexOutside) (operands_of rs)) ≡ None
+  choice_few [] l = refl
+  choice_few (r ∷ []) l = refl
+  choice_few (r ∷ s ∷ rs) l = absurd (omega arith)
+
+  pub choice_both : (rs : List Resolved) → 2 ≤ length rs →
+      chosen_refusal slots types place (part_at rs 0) (inner_refusal slots types (part_at rs 1)) ≡ inner_refusal slots types (Resolved.Apply place (operator.Choice fault.IndexOutside) (operands_of rs))
+  choice_both [] l = absurd (omega arith)
+  choice_both (r ∷ []) l = absurd (omega arith)
+  choice_both (r ∷ s ∷ rs) l = refl
+
+pub one_of_three : {a b c x y z : Option Refusal} → a ≡ x → b ≡ y → c ≡ z → or_else a (or_else b c) ≡ or_else x (or_else y z)
+one_of_three e f g = rw (e, f, g) refl
 
 -- the first refusal of operands, with one more
 
@@ -212,20 +247,23 @@ last_of_all None = refl
 last_of_all (Some r) = refl
 
 module _ (slots : List Slot) (types : List ValueType) (o : Operator) (c : Context) where
+  -- what an operand of this number breaks
+  abbrev broken : ℕ → Resolved → Option Refusal
+  broken n r = unless_bound o n (kind_refusal slots types (under_operand o n c) r)
+
   operand_more : (n : ℕ) (rs : List Resolved) (k : ℕ) → k < length rs →
-      operands_refusal slots types o n c (operands_of (take (k + 1) rs))
-      ≡ or_else (operands_refusal slots types o n c (operands_of (take k rs))) (kind_refusal slots types (under_operand o (n + k) c) (part_at rs k))
+      operands_refusal slots types o n c (operands_of (take (k + 1) rs)) ≡ or_else (operands_refusal slots types o n c (operands_of (take k rs))) (broken (n + k) (part_at rs k))
   operand_more n [] k l = absurd (omega arith)
   operand_more n (r ∷ rs) zero l =
       let here : n ≡ n + 0 = omega arith in
-      last_of_all (kind_refusal slots types (under_operand o n c) r) ∙ ap (λ m. kind_refusal slots types (under_operand o m c) r) here
+      last_of_all (broken n r) ∙ ap (λ m. broken m r) here
   operand_more n (r ∷ rs) (suc k) l =
       let here : n + 1 + k ≡ n + suc k = omega arith in
       let up : suc k + 1 ≡ suc (k + 1) = omega arith in
       ap (λ m. operands_refusal slots types o n c (operands_of (take m (r ∷ rs)))) up
-      ∙ ap (or_else (kind_refusal slots types (under_operand o n c) r)) (operand_more (n + 1) rs k (omega arith))
-      ∙ or_else_both (kind_refusal slots types (under_operand o n c) r) (operands_refusal slots types o (n + 1) c (operands_of (take k rs))) (kind_refusal slots types (under_operand o (n + 1 + k) c) (part_at rs k))
-      ∙ ap (λ m. or_else (operands_refusal slots types o n c (operands_of (take (suc k) (r ∷ rs)))) (kind_refusal slots types (under_operand o m c) (part_at rs k))) here
+      ∙ ap (or_else (broken n r)) (operand_more (n + 1) rs k (omega arith))
+      ∙ or_else_both (broken n r) (operands_refusal slots types o (n + 1) c (operands_of (take k rs))) (broken (n + 1 + k) (part_at rs k))
+      ∙ ap (λ m. or_else (operands_refusal slots types o n c (operands_of (take (suc k) (r ∷ rs)))) (broken m (part_at rs k))) here
 
 -- notes of what is the same in each context
 pub notes_same : (f g : Context → Option Refusal) (n : Notes) → ((c : Context) → f c ≡ g c) → AreNotes f n → AreNotes g n
@@ -240,11 +278,11 @@ notes_same f g n same h = record {
 }
 
 pub notes_more : (slots : List Slot) (types : List ValueType) (o : Operator) (rs : List Resolved) (k : ℕ) (new : Notes) → k < length rs →
-    AreNotes (λ c. or_else (operands_refusal slots types o 0 c (operands_of (take k rs))) (kind_refusal slots types (under_operand o k c) (part_at rs k))) new →
+    AreNotes (λ c. or_else (operands_refusal slots types o 0 c (operands_of (take k rs))) (unless_bound o k (kind_refusal slots types (under_operand o k c) (part_at rs k)))) new →
     AreNotes (λ c. operands_refusal slots types o 0 c (operands_of (take (k + 1) rs))) new
 notes_more slots types o rs k new within h =
-    notes_same (λ c. or_else (operands_refusal slots types o 0 c (operands_of (take k rs))) (kind_refusal slots types (under_operand o k c) (part_at rs k)))
+    notes_same (λ c. or_else (operands_refusal slots types o 0 c (operands_of (take k rs))) (unless_bound o k (kind_refusal slots types (under_operand o k c) (part_at rs k))))
     (λ c. operands_refusal slots types o 0 c (operands_of (take (k + 1) rs))) new
     (λ c. let zero_first : 0 + k ≡ k = omega arith in
-    ap (λ m. or_else (operands_refusal slots types o 0 c (operands_of (take k rs))) (kind_refusal slots types (under_operand o m c) (part_at rs k))) (sym zero_first)
+    ap (λ m. or_else (operands_refusal slots types o 0 c (operands_of (take k rs))) (unless_bound o m (kind_refusal slots types (under_operand o m c) (part_at rs k)))) (sym zero_first)
     ∙ sym (operand_more slots types o c 0 rs k within)) h

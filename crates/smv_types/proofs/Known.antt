@@ -46,7 +46,7 @@ use Rattle.smv_meaning.specs.Values.{outcome, outcome_in, outcomes}
 use Rattle.smv_meaning.specs.Formulas.{are_known_formulas, is_known, is_known_formula, is_over_formulas, is_propositional, is_temporal}
 use Rattle.smv_meaning.specs.Runs.{AllKnown as AllItemsKnown, are_inputs, is_given, is_known_by, is_known_item, is_single as has_one, is_state}
 use Rattle.smv_verdicts.specs.Verdicts.{first_of, or_else}
-use Rattle.smv_types.specs.Kinds.{Context, all_told, assignment_refusal, at_root, context_of_side, formula_refusal, has_values, inner_refusal, input_here, is_assignable, is_input_slot, item_refusal, kind_in, kind_of_slot, kind_refusal, kinds_broken, left_refusal, misused, next_broken, next_here, no_taker, no_value, of_kind, of_path, of_state, of_step, operands_refusal, place_of, refusal_by_kind, slot_takes, takes_assignment, target_refusal, temporal_at, temporal_here, told, under_element, under_name, under_next, under_operand}
+use Rattle.smv_types.specs.Kinds.{Context, all_told, assignment_refusal, at_root, context_of_side, formula_refusal, has_values, inner_refusal, input_here, is_assignable, is_bound, is_input_slot, item_refusal, kind_in, kind_of_slot, kind_refusal, kinds_broken, left_refusal, misused, next_broken, next_here, no_taker, no_value, of_kind, of_path, of_state, of_step, operands_refusal, place_of, refusal_by_kind, slot_takes, takes_assignment, target_refusal, temporal_at, temporal_here, told, under_element, under_name, under_next, under_operand, unless_bound}
 use Rattle.smv_types.specs.Judged.{of_name}
 use Rattle.smv_types.proofs.Evaluated.{AllKnown, Fits, Has, Known, constant_fits}
 use Rattle.smv_types.proofs.Gathered.{applied_fits, array_unset, array_unvalued, boolean_value, makes_array, takes_parts}
@@ -219,6 +219,20 @@ over_booleans (operator.Bounded o low high) xs v e = counted_booleans 1 xs (boun
 over_booleans (operator.Window o) xs v e = absurd (no_window xs e)
 over_booleans other xs v e = absurd (false≢true v)
 
+-- No operand is a bound that stays as it is written where the operator is not temporal, and where it gives a boolean.
+
+timeless_bound : (o : Operator) (k : ℕ) → is_temporal o ≡ false → is_bound o k ≡ false
+timeless_bound (operator.Window o) k e = absurd (false≢true (sym e))
+timeless_bound other k e = refl
+
+boolean_bound : (o : Operator) (xs : List Operand) (k : ℕ) → is_boolean (kind_in (kind_given o xs)) ≡ true → is_bound o k ≡ false
+boolean_bound (operator.Window o) xs k e = absurd (no_window xs e)
+boolean_bound other xs k e = refl
+
+judged_free : (b : Bool) (x : Option Refusal) → b ≡ false → cond b None x ≡ None → x ≡ None
+judged_free true x f e = absurd (false≢true (sym f))
+judged_free false x f e = e
+
 module _ (p : Program) (typed : list_all is_type (types_of p) ≡ true) where
   abbrev S : List Slot
   S = slots_of p
@@ -297,6 +311,9 @@ module _ (p : Program) (typed : list_all is_type (types_of p) ≡ true) where
     known (Resolved.Whole place i) c s u t plain e h = inr (refl, refl)
     known (Resolved.Named place naming.Given r) c s u t plain e h = known r (under_name c) s u t refl e (below_name c s u t h)
     known (Resolved.Named place naming.Element r) c s u t plain e h = known r (under_element c) s u t refl e (below_element c s u t h)
+    known (Resolved.Named place naming.Passed r) c s u t plain e h = known r (under_name c) s u t refl e (below_name c s u t h)
+    known (Resolved.Named place (naming.Array name first) r) c s u t plain e h =
+        known r (under_element c) s u t refl (second_none (input_here c name (is_input_slot (slice_get S first))) _ e) (below_element c s u t h)
     known (Resolved.Named place naming.Defined r) c s u t plain e h = known r (under_name c) s u t refl (first_none (kind_refusal S T (under_name c) r) _ e) (below_name c s u t h)
     known (Resolved.Next place r) c s u t plain e h =
         let inner = kind_refusal S T (under_next c) r in
@@ -307,17 +324,19 @@ module _ (p : Program) (typed : list_all is_type (types_of p) ≡ true) where
     known (Resolved.Apply place o rs) c s u t plain e h =
         let inner = operands_refusal S T o 0 c rs in
         let own = second_none inner _ e in
-        apply_known c place o (all_told S T rs) (outcomes S s u t rs) (not_temporal c place o plain (first_none (temporal_here c place o) _ own)) (second_none (temporal_here c place o) _ own)
-        (knowns rs o 0 c s u t plain (first_none inner _ e) h)
+        let timeless = not_temporal c place o plain (first_none (temporal_here c place o) _ own) in
+        apply_known c place o (all_told S T rs) (outcomes S s u t rs) timeless (second_none (temporal_here c place o) _ own)
+        (knowns rs o 0 c s u t plain (λ k. timeless_bound o k timeless) (first_none inner _ e) h)
     known Resolved.Stuck c s u t plain e h = inr (refl, refl)
 
-    knowns : (rs : Operands) (o : Operator) (k : ℕ) (c : Context) (s u t : List Value) → c.temporal ≡ false → operands_refusal S T o k c rs ≡ None → Serves c s u t →
-        AllKnown (all_told S T rs) (outcomes S s u t rs)
-    knowns Operands.End o k c s u t plain e h = tt
-    knowns (Operands.With r rs) o k c s u t plain e h = (
-      known r (under_operand o k c) s u t (stays_plain c.temporal (is_over_formulas o) plain) (first_none (kind_refusal S T (under_operand o k c) r) _ e) (below_operand o k c s u t h),
-      knowns rs o (k + 1) c s u t plain (second_none (kind_refusal S T (under_operand o k c) r) _ e) h,
-    )
+    knowns : (rs : Operands) (o : Operator) (k : ℕ) (c : Context) (s u t : List Value) → c.temporal ≡ false → ((j : ℕ) → is_bound o j ≡ false) → operands_refusal S T o k c rs ≡ None →
+        Serves c s u t → AllKnown (all_told S T rs) (outcomes S s u t rs)
+    knowns Operands.End o k c s u t plain free e h = tt
+    knowns (Operands.With r rs) o k c s u t plain free e h =
+        let here = kind_refusal S T (under_operand o k c) r in (
+          known r (under_operand o k c) s u t (stays_plain c.temporal (is_over_formulas o) plain) (judged_free (is_bound o k) here (free k) (first_none (unless_bound o k here) _ e)) (below_operand o k c s u t h),
+          knowns rs o (k + 1) c s u t plain free (second_none (unless_bound o k here) _ e) h,
+        )
 
   -- Temporal formulas: what stands under propositions and temporal operators is TRUE, FALSE or a fault.
 
@@ -333,7 +352,8 @@ module _ (p : Program) (typed : list_all is_type (types_of p) ≡ true) where
   plain_operands (Operands.With r rs) o k over =
       let here : kind_refusal S T (under_operand o k of_path) r ≡ kind_refusal S T (under_operand o k (of_name false)) r =
       ap (λ b. kind_refusal S T (inside b (takes_sets o k false)) r) over in
-      ap (λ x. or_else x (operands_refusal S T o (k + 1) of_path rs)) here ∙ ap (or_else (kind_refusal S T (under_operand o k (of_name false)) r)) (plain_operands rs o (k + 1) over)
+      ap (λ x. or_else (unless_bound o k x) (operands_refusal S T o (k + 1) of_path rs)) here
+      ∙ ap (or_else (unless_bound o k (kind_refusal S T (under_operand o k (of_name false)) r))) (plain_operands rs o (k + 1) over)
 
   path_operand : (r : Resolved) (o : Operator) (k : ℕ) → is_over_formulas o ≡ true → kind_refusal S T (under_operand o k of_path) r ≡ kind_refusal S T of_path r
   path_operand r o k over =
@@ -354,6 +374,9 @@ module _ (p : Program) (typed : list_all is_type (types_of p) ≡ true) where
     formula_parts (Resolved.Whole place i) s u e b h = absurd (false≢true b)
     formula_parts (Resolved.Named place naming.Given r) s u e b h = plain_part r s u e b h
     formula_parts (Resolved.Named place naming.Element r) s u e b h = plain_part r s u e b h
+    formula_parts (Resolved.Named place naming.Passed r) s u e b h = plain_part r s u e b h
+    formula_parts (Resolved.Named place (naming.Array name first) r) s u e b h =
+        plain_part r s u (second_none (input_here of_path name (is_input_slot (slice_get S first))) _ e) b h
     formula_parts (Resolved.Named place naming.Defined r) s u e b h = plain_part r s u (first_none (kind_refusal S T (of_name false) r) _ e) b h
     formula_parts (Resolved.Next place r) s u e b h =
         let broken = next_broken place (next_kind (told S T r).kind) in
@@ -363,7 +386,7 @@ module _ (p : Program) (typed : list_all is_type (types_of p) ≡ true) where
     formula_parts (Resolved.Apply place o rs) s u e b h = elim (cases_Bool (is_over_formulas o)) [
       | inl over ↦
           let operands = first_none (operands_refusal S T o 0 of_path rs) _ e in
-          rw over (formulas_parts rs o 0 over s u operands (over_booleans o (all_told S T rs) over b) h)
+          rw over (formulas_parts rs o 0 over (λ k. boolean_bound o (all_told S T rs) k b) s u operands (over_booleans o (all_told S T rs) over b) h)
       | inr plain ↦
           let inner = operands_refusal S T o 0 of_path rs in
           let operands : operands_refusal S T o 0 (of_name false) rs ≡ None = sym (plain_operands rs o 0 plain) ∙ first_none inner _ e in
@@ -374,14 +397,15 @@ module _ (p : Program) (typed : list_all is_type (types_of p) ≡ true) where
     ]
     formula_parts Resolved.Stuck s u e b h = absurd (false≢true b)
 
-    formulas_parts : (rs : Operands) (o : Operator) (k : ℕ) → is_over_formulas o ≡ true → (s u : List Value) → operands_refusal S T o k of_path rs ≡ None → all_booleans (all_told S T rs) ≡ true → Serves of_path s u [] →
-        are_known_formulas S s u rs ≡ true
-    formulas_parts Operands.End o k over s u e b h = refl
-    formulas_parts (Operands.With r rs) o k over s u e b h =
+    formulas_parts : (rs : Operands) (o : Operator) (k : ℕ) → is_over_formulas o ≡ true → ((j : ℕ) → is_bound o j ≡ false) → (s u : List Value) → operands_refusal S T o k of_path rs ≡ None →
+        all_booleans (all_told S T rs) ≡ true → Serves of_path s u [] → are_known_formulas S s u rs ≡ true
+    formulas_parts Operands.End o k over free s u e b h = refl
+    formulas_parts (Operands.With r rs) o k over free s u e b h =
         let q = and_parts (is_boolean (told S T r).kind) (all_booleans (all_told S T rs)) b in
-        let here = sym (path_operand r o k over) ∙ first_none (kind_refusal S T (under_operand o k of_path) r) _ e in
+        let inner = kind_refusal S T (under_operand o k of_path) r in
+        let here = sym (path_operand r o k over) ∙ judged_free (is_bound o k) inner (free k) (first_none (unless_bound o k inner) _ e) in
         both_true (is_known_formula S s u r) (are_known_formulas S s u rs) (formula_parts r s u here q.0 h)
-        (formulas_parts rs o (k + 1) over s u (second_none (kind_refusal S T (under_operand o k of_path) r) _ e) q.1 h)
+        (formulas_parts rs o (k + 1) over free s u (second_none (unless_bound o k inner) _ e) q.1 h)
 
   -- what is assigned has one value
   state_slot : (which : AssignmentKind) (k : VariableKind) → takes_assignment which k ≡ true → is_input k ≡ true → ⊥
@@ -409,6 +433,8 @@ module _ (p : Program) (typed : list_all is_type (types_of p) ≡ true) where
   target_single (Resolved.Named place naming.Defined r) which s takes valued state = absurd (false≢true takes)
   target_single (Resolved.Next place r) which s takes valued state = absurd (false≢true takes)
   target_single (Resolved.Named place naming.Element r) which s takes valued state = target_single r which s takes valued state
+  target_single (Resolved.Named place (naming.Array name first) r) which s takes valued state = target_single r which s takes valued state
+  target_single (Resolved.Named place naming.Passed r) which s takes valued state = absurd (false≢true takes)
   target_single (Resolved.Apply place o rs) which s takes valued state = elim (cases_Bool (makes_array o)) [
     | inl array ↦ absurd (true_false (has_values (kind_in (kind_given o (all_told S T rs)))) valued (array_unvalued o (all_told S T rs) array))
     | inr other ↦ absurd (false≢true (sym (array_assigned place o rs which other) ∙ takes))

@@ -8,11 +8,12 @@ use Rattle.smv_kinds.specs.declared.kind.Operand.{Operand}
 use Rattle.smv_kinds.specs.declared.kind.Kind.TheVariants as kind
 use Rattle.smv_slots.specs.declared.slot.Slot.{Slot}
 use Rattle.smv_resolve.specs.Resolved.{Resolved, part_at}
+use Rattle.smv_types.specs.declared.judged.Indexing.{Indexing}
 use Rattle.smv_types.specs.declared.judged.Judged.{Judged}
 use Rattle.smv_types.specs.declared.judged.Notes.{Notes}
 use Rattle.smv_types.specs.declared.judged.Violation.{Violation}
 use Rattle.smv_types.specs.declared.items.Part.{Part}
-use Rattle.smv_types.specs.Kinds.{Context, of_state, of_step, of_path, under_name, bounds_text, inner_refusal, is_assignable, is_chosen_by_constant, kind_refusal, of_kind, place_of, told}
+use Rattle.smv_types.specs.Kinds.{Context, of_state, of_step, of_path, under_name, bounds_text, defined_refusal, indexing_of, inner_refusal, is_assignable, kind_refusal, of_kind, place_of, told}
 
 abbrev pub detail_of : Option (ℤ × ℤ) → Option (List ℕ)
 detail_of None = None
@@ -42,16 +43,21 @@ pub record IsJudged (slots : List Slot) (types : List ValueType) (r : Resolved) 
   pub place : j.place ≡ place_of r
   pub notes : AreNotes (λ c. kind_refusal slots types c r) j.notes
   pub inner : as_refusal j.inner ≡ inner_refusal slots types r
-  pub constant : j.chosen_by_constant ≡ is_chosen_by_constant slots types r
+  pub defined : as_refusal j.defined ≡ defined_refusal slots types r
+  pub indexing : j.indexing ≡ indexing_of slots types r
   pub init : j.takes_init ≡ is_assignable slots side.Init r
   pub later : j.takes_later ≡ is_assignable slots side.Next r
 
 abbrev pub no_notes : Notes
 no_notes = record { step = None; step_set = None; name = None; name_set = None; state = None; state_set = None; path = None }
 
+-- what asks no index
+abbrev pub no_indexing : Indexing
+no_indexing = record { by_constant = false; passed = false; asked = false; within = false }
+
 -- what is noted of nothing
 abbrev pub nothing : Judged
-nothing = record { place = start; notes = no_notes; inner = None; chosen_by_constant = false; takes_init = false; takes_later = false }
+nothing = record { place = start; notes = no_notes; inner = None; defined = None; indexing = no_indexing; takes_init = false; takes_later = false }
 
 -- what is noted at this number
 abbrev pub judged_at : List Judged → ℕ → Judged

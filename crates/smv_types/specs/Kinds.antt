@@ -38,6 +38,7 @@ use Rattle.smv_tree.specs.declared.tree.SpecificationKind.{SpecificationKind}
 use Rattle.smv_tree.specs.declared.tree.SpecificationKind.TheVariants as claim
 use Rattle.smv_tree.specs.Places.{start}
 use Rattle.smv_slots.specs.declared.slot.Slot.{Slot}
+use Rattle.smv_types.specs.declared.judged.Indexing.{Indexing}
 use Rattle.smv_declared.specs.Types.{most_slots, slot_count}
 use Rattle.smv_slots.specs.Slots.{slots_of, is_input}
 use Rattle.smv_resolve.specs.declared.item.ItemKind.{ItemKind}
@@ -217,6 +218,15 @@ abbrev pub next_broken : Place → Given → Option Refusal
 next_broken place (Ok k) = None
 next_broken place (Err r) = Some (plain (rule_of r) place)
 
+-- Bounds that stay as they are written are none, and their operator is refused: they are not judged themselves.
+abbrev pub is_bound : Operator → ℕ → Bool
+is_bound (operator.Window o) k = nat_lt k 2
+is_bound other k = false
+
+-- what an operand of this number breaks, if it is no such bound
+abbrev pub unless_bound : Operator → ℕ → Option Refusal → Option Refusal
+unless_bound o k broken = if is_bound o k then None else broken
+
 -- what is no value: an integer of more than 32 bits, which no source has
 abbrev pub constant_here : Place → Value → Option Refusal
 constant_here place v = if is_value v then None else Some (plain rule.IntWidth place)
@@ -232,14 +242,18 @@ place_of (Resolved.Apply place o rs) = place
 place_of Resolved.Stuck = start
 
 -- The first refusal in an expression: operands before their operator, from left to right; at an operator contexts before kinds.
--- What a definition stands for has to have values, and is refused at its own place where it is an instance.
+-- What a definition stands for has to have values, and is refused at its own place where it is an instance. The name of an array
+-- comes before the indices: where no input may stand, that of an array of inputs is refused, whatever the indices are.
 abbrev mutual
   pub kind_refusal : List Slot → List ValueType → Context → Resolved → Option Refusal
   kind_refusal slots types c (Resolved.Constant place v) = constant_here place v
   kind_refusal slots types c (Resolved.Slot place n) = input_here c place (is_input_slot (slice_get slots n))
   kind_refusal slots types c (Resolved.Whole place i) = None
   kind_refusal slots types c (Resolved.Named place naming.Given r) = kind_refusal slots types (under_name c) r
+  kind_refusal slots types c (Resolved.Named place naming.Passed r) = kind_refusal slots types (under_name c) r
   kind_refusal slots types c (Resolved.Named place naming.Element r) = kind_refusal slots types (under_element c) r
+  kind_refusal slots types c (Resolved.Named place (naming.Array name first) r) =
+      or_else (input_here c name (is_input_slot (slice_get slots first))) (kind_refusal slots types (under_element c) r)
   kind_refusal slots types c (Resolved.Named place naming.Defined r) =
       or_else (kind_refusal slots types (under_name c) r) (no_value (place_of r) (told slots types r).kind)
   kind_refusal slots types c (Resolved.Next place r) =
@@ -253,7 +267,7 @@ abbrev mutual
   pub operands_refusal : List Slot → List ValueType → Operator → ℕ → Context → Operands → Option Refusal
   operands_refusal slots types o k c Operands.End = None
   operands_refusal slots types o k c (Operands.With r rs) =
-      or_else (kind_refusal slots types (under_operand o k c) r) (operands_refusal slots types o (k + 1) c rs)
+      or_else (unless_bound o k (kind_refusal slots types (under_operand o k c) r)) (operands_refusal slots types o (k + 1) c rs)
 
 -- a variable of this kind may be assigned so: a frozen one by `init` alone (manual 2.3.8, ASSIGN Constraint)
 abbrev pub takes_assignment : AssignmentKind → VariableKind → Bool
@@ -274,6 +288,7 @@ is_assignable slots which (Resolved.Slot place n) = slot_takes which (slice_get 
 is_assignable slots which (Resolved.Whole place i) = true
 is_assignable slots which (Resolved.Named place naming.Given r) = is_assignable slots which r
 is_assignable slots which (Resolved.Named place naming.Element r) = is_assignable slots which r
+is_assignable slots which (Resolved.Named place (naming.Array name first) r) = is_assignable slots which r
 is_assignable slots which (Resolved.Apply place operator.WholeArray rs) = true
 is_assignable slots which (Resolved.Apply place operator.Index rs) = true
 is_assignable slots which other = false
@@ -282,26 +297,72 @@ is_assignable slots which other = false
 abbrev pub is_chosen_by_constant : List Slot → List ValueType → Resolved → Bool
 is_chosen_by_constant slots types (Resolved.Apply place operator.Subscript (Operands.With r rs)) = is_some (told slots types r).constant
 is_chosen_by_constant slots types (Resolved.Apply place operator.Equal (Operands.With r rs)) = is_chosen_by_constant slots types r
-is_chosen_by_constant slots types (Resolved.Apply place (operator.Choice rule) (Operands.With r rs)) = is_chosen_by_constant slots types r
 is_chosen_by_constant slots types other = false
+
+-- an index with which a parameter was given an array, or a part of the choice of an element by one
+abbrev pub is_passed : Resolved → Bool
+is_passed (Resolved.Named place naming.Passed r) = true
+is_passed (Resolved.Apply place operator.Subscript (Operands.With r rs)) = is_passed r
+is_passed (Resolved.Apply place operator.Equal (Operands.With r rs)) = is_passed r
+is_passed other = false
+
+-- the condition that an index is an integer
+abbrev pub asks_index : Resolved → Bool
+asks_index (Resolved.Apply place operator.Equal rs) = true
+asks_index other = false
+
+-- an index of an array that waits for more is a constant, and one of its dimension
+abbrev pub is_within : Resolved → Bool
+is_within (Resolved.Named place naming.Element r) = true
+is_within other = false
+
+abbrev pub indexing_of : List Slot → List ValueType → Resolved → Indexing
+indexing_of slots types r =
+    record { by_constant = is_chosen_by_constant slots types r; passed = is_passed r; asked = asks_index r; within = is_within r }
 
 -- An index on a left side is a constant, and one of the array.
 abbrev pub index_rule : Bool → Rule
 index_rule false = rule.NotConstant
 index_rule true = rule.BadSelection
 
+abbrev pub not_within : Place → Bool → Bool → Option Refusal
+not_within place within constant = if within then None else Some (plain (index_rule constant) place)
+
 -- What may stand in what a parameter was given and in an index, on a left side: no `next`. A left side is in no context else.
 abbrev pub on_the_left : Bool → Context
 on_the_left set = under_name (of_step set)
 
--- What a parameter was given is judged on a left side, too, and so is an index.
+-- a definition that has an index on a left side is judged
+abbrev pub defined_refusal : List Slot → List ValueType → Resolved → Option Refusal
+defined_refusal slots types (Resolved.Named place naming.Defined r) = kind_refusal slots types (on_the_left false) (Resolved.Named place naming.Defined r)
+defined_refusal slots types other = None
+
+-- An index of an array that waits for more: where the array is broken by none, the index is judged, then the two by their kinds;
+-- and it is a constant, and one of the array.
+abbrev pub waiting_refusal : List Slot → List ValueType → Place → Resolved → Resolved → Option Refusal
+waiting_refusal slots types place a i =
+    or_else (kind_refusal slots types (on_the_left false) i)
+    (or_else (kinds_broken place operator.Index (told slots types a ∷ told slots types i ∷ []) (kind_in_context false operator.Index (told slots types a ∷ told slots types i ∷ [])))
+    (not_within place (is_within i) (is_some (told slots types i).constant)))
+
+-- An index by which an element is chosen: where a parameter was given it, it is judged as what it was given, and then those that
+-- follow are; any other is refused, since it is no constant, or none of the array.
+abbrev pub chosen_refusal : List Slot → List ValueType → Place → Resolved → Option Refusal → Option Refusal
+chosen_refusal slots types place condition inner =
+    if is_passed condition then or_else (kind_refusal slots types (on_the_left true) condition) inner
+    else if asks_index condition
+    then or_else (kind_refusal slots types (on_the_left false) condition) (Some (plain (index_rule (is_chosen_by_constant slots types condition)) place))
+    else None
+
+-- What a parameter was given is judged on a left side, too, and so is each index, from left to right.
 abbrev pub inner_refusal : List Slot → List ValueType → Resolved → Option Refusal
 inner_refusal slots types (Resolved.Named place naming.Given r) = kind_refusal slots types (on_the_left true) r
 inner_refusal slots types (Resolved.Named place naming.Element r) = inner_refusal slots types r
-inner_refusal slots types (Resolved.Apply place operator.Index rs) = kind_refusal slots types (on_the_left false) (Resolved.Apply place operator.Index rs)
-inner_refusal slots types (Resolved.Apply place (operator.Choice fault.IndexOutside) rs) =
-    let e = Resolved.Apply place (operator.Choice fault.IndexOutside) rs in
-    or_else (kind_refusal slots types (on_the_left false) e) (Some (plain (index_rule (is_chosen_by_constant slots types e)) place))
+inner_refusal slots types (Resolved.Named place (naming.Array name first) r) = inner_refusal slots types r
+inner_refusal slots types (Resolved.Apply place operator.Index (Operands.With a (Operands.With i rs))) =
+    or_else (defined_refusal slots types a) (or_else (inner_refusal slots types a) (waiting_refusal slots types place a i))
+inner_refusal slots types (Resolved.Apply place (operator.Choice fault.IndexOutside) (Operands.With condition (Operands.With r rs))) =
+    chosen_refusal slots types place condition (inner_refusal slots types r)
 inner_refusal slots types other = None
 
 -- told at the left side, with which the assignment begins

@@ -39,6 +39,19 @@ pub struct Notes {
     pub path: Option<Violation>,
 }
 
+/// What an expression says of the index of an element.
+#[derive(Clone, Copy, Debug)]
+pub struct Indexing {
+    /// It is a part of the choice of an element, by an index that is a constant.
+    pub by_constant: bool,
+    /// It is an index with which a parameter was given an array, or a part of the choice of an element by one.
+    pub passed: bool,
+    /// It asks whether an index is an integer.
+    pub asked: bool,
+    /// It is a constant index of an array that waits for more, and one of its dimension.
+    pub within: bool,
+}
+
 /// What is noted of an expression.
 #[derive(Clone, Copy, Debug)]
 pub struct Judged {
@@ -46,8 +59,9 @@ pub struct Judged {
     pub notes: Notes,
     /// The first rule that it breaks on the left side of an assignment, in what a parameter was given and in indices.
     pub inner: Option<Violation>,
-    /// It is an element, or a part of the choice of one, by an index that is a constant.
-    pub chosen_by_constant: bool,
+    /// The first rule that it breaks where it is a definition that has an index on a left side.
+    pub defined: Option<Violation>,
+    pub indexing: Indexing,
     /// It may be assigned by `init`.
     pub takes_init: bool,
     /// It may be assigned otherwise.

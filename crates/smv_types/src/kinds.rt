@@ -1,6 +1,7 @@
 //! The rules of kinds and contexts, over nodes.
 
-ghost use Rattle.std.specs.Prelude.{◌≡◌, ℕ, List, [], IfOk, None, Some, false};
+ghost use Rattle.std.specs.Prelude.{◌≡◌, ℕ, List, [], IfOk, None, Option, Some, false, slice_get};
+ghost use Rattle.smv_tree.specs.declared.refusal.Refusal.{Refusal};
 ghost use Rattle.smv_tree.specs.declared.tree.AssignmentKind.TheVariants as side;
 ghost use Rattle.value_types.specs.declared.value_type.ValueType.{ValueType};
 ghost use Rattle.smv_kinds.specs.Contexts.{kind_in_context};
@@ -10,14 +11,16 @@ ghost use Rattle.smv_slots.specs.Slots.{is_input};
 ghost use Rattle.smv_resolve.specs.declared.node.Naming.TheVariants as naming;
 ghost use Rattle.smv_resolve.specs.Resolved.{Operands, Resolved, Resolved as R, operands_of, parts_of, resolved_by};
 ghost use Rattle.smv_tree.specs.declared.place.Place.{Place};
+ghost use Rattle.smv_value.specs.declared.operator.Operator.TheVariants as operator;
+ghost use Rattle.smv_value.specs.declared.value.FaultRule.TheVariants as fault;
 ghost use Rattle.smv_verdicts.specs.Verdicts.{plain};
-ghost use Rattle.smv_types.specs.Judged.{AreJudged, AreNotes, IsJudged, Tells, as_refusal, judged_at};
-ghost use Rattle.smv_types.specs.Kinds.{bounds_told, both as both_bounds, broken_by, constant_here, has_values, index_rule, inner_refusal, input_here, is_assignable, is_chosen_by_constant, kind_refusal, kinds_broken, next_broken, no_value, operands_refusal, rule_of, takes_assignment, told};
+ghost use Rattle.smv_types.specs.Judged.{AreJudged, AreNotes, IsJudged, Tells, as_refusal, judged_at, no_indexing};
+ghost use Rattle.smv_types.specs.Kinds.{bounds_told, both as both_bounds, broken_by, chosen_refusal, constant_here, has_values, index_rule, indexing_of, inner_refusal, input_here, is_assignable, is_input_slot, kinds_broken, next_broken, no_value, not_within, operands_refusal, rule_of, takes_assignment, told, waiting_refusal};
 
-use crate::judged::{Judged, Notes, Violation};
+use crate::judged::{Indexing, Judged, Notes, Violation};
 use crate::notes::{
-    both, by_sets, everywhere, first, input_here, next_here, temporal_here, under_element,
-    under_name, under_next, under_operand,
+    as_operand, both, by_sets, everywhere, first, input_here, next_here, temporal_here,
+    under_element, under_name, under_next,
 };
 use crate::told::{kinds_of, told, told_at};
 use smv_kinds::{Kind, KindRule, Operand, kind_in_context, next_kind};
@@ -67,6 +70,7 @@ fn judge(slots: &[Slot], node: Node, operands: &[Operand], table: &[Judged]) -> 
         Node::Whole(place, _) => judge_whole(place),
         Node::Named(place, naming, a) => {
             judge_named(
+                slots,
                 place,
                 naming,
                 judged_at(table, a),
@@ -98,15 +102,28 @@ pub(crate) fn judged_at(table: &[Judged], k: usize) -> Judged
 
 // What is noted of what cannot be assigned.
 fn noted(place: Place, notes: Notes) -> Judged
-    ensures { result ≡ record { place = place; notes = notes; inner = None; chosen_by_constant = false; takes_init = false; takes_later = false } }
+    ensures { result ≡ record { place = place; notes = notes; inner = None; defined = None; indexing = no_indexing; takes_init = false; takes_later = false } }
 {
     Judged {
         place,
         notes,
         inner: None,
-        chosen_by_constant: false,
+        defined: None,
+        indexing: no_indexing(),
         takes_init: false,
         takes_later: false,
+    }
+}
+
+// What asks no index.
+fn no_indexing() -> Indexing
+    ensures { result ≡ no_indexing }
+{
+    Indexing {
+        by_constant: false,
+        passed: false,
+        asked: false,
+        within: false,
     }
 }
 
@@ -150,7 +167,8 @@ fn judge_slot_of(place: Place, kind: VariableKind) -> Judged
     ensures place { result.place ≡ place }
     ensures notes { AreNotes (λ c. input_here c place (is_input kind)) result.notes }
     ensures inner { result.inner ≡ None }
-    ensures constant { result.chosen_by_constant ≡ false }
+    ensures defined { result.defined ≡ None }
+    ensures indexing { result.indexing ≡ no_indexing }
     ensures init { result.takes_init ≡ takes_assignment side.Init kind }
     ensures later { result.takes_later ≡ takes_assignment side.Next kind }
 {
@@ -169,13 +187,15 @@ fn judge_slot_of(place: Place, kind: VariableKind) -> Judged
 }
 
 // What a name stands for, which is of this kind.
-fn judge_named(place: Place, naming: Naming, a: Judged, kind: Kind) -> Judged
-    ensures { (slots : List Slot) (types : List ValueType) (r : Resolved) → IsJudged slots types r a → kind ≡ (told slots types r).kind → IsJudged slots types (R.Named place naming r) result }
+fn judge_named(slots: &[Slot], place: Place, naming: Naming, a: Judged, kind: Kind) -> Judged
+    ensures { (types : List ValueType) (r : Resolved) → IsJudged slots.now types r a → kind ≡ (told slots.now types r).kind → IsJudged slots.now types (R.Named place naming r) result }
 {
     match naming {
         Naming::Given => judge_given(place, a),
         Naming::Defined => judge_defined(place, a, kind),
         Naming::Element => judge_element(place, a),
+        Naming::Array(name, first) => judge_array(slots, place, name, first, a),
+        Naming::Passed => judge_passed(place, a),
     }
 }
 
@@ -184,12 +204,10 @@ fn judge_given(place: Place, a: Judged) -> Judged
     ensures { (slots : List Slot) (types : List ValueType) (r : Resolved) → IsJudged slots types r a → IsJudged slots types (R.Named place naming.Given r) result }
 {
     Judged {
-        place,
-        notes: under_name(a.notes),
         inner: a.notes.name_set,
-        chosen_by_constant: false,
         takes_init: a.takes_init,
         takes_later: a.takes_later,
+        ..noted(place, under_name(a.notes))
     }
 }
 
@@ -198,10 +216,50 @@ fn judge_element(place: Place, a: Judged) -> Judged
     ensures { (slots : List Slot) (types : List ValueType) (r : Resolved) → IsJudged slots types r a → IsJudged slots types (R.Named place naming.Element r) result }
 {
     Judged {
-        place,
-        notes: under_element(a.notes),
-        chosen_by_constant: false,
-        ..a
+        inner: a.inner,
+        indexing: Indexing {
+            within: true,
+            ..no_indexing()
+        },
+        takes_init: a.takes_init,
+        takes_later: a.takes_later,
+        ..noted(place, under_element(a.notes))
+    }
+}
+
+// An array or an element of one, where this is the place of the array's name, and the slot of its first element.
+fn judge_array(slots: &[Slot], place: Place, name: Place, first: usize, a: Judged) -> Judged
+    ensures { (types : List ValueType) (r : Resolved) → IsJudged slots.now types r a → IsJudged slots.now types (R.Named place (naming.Array name first) r) result }
+{
+    let named = input_here(name, is_input_at(slots, first));
+    Judged {
+        inner: a.inner,
+        takes_init: a.takes_init,
+        takes_later: a.takes_later,
+        ..noted(place, both(named, under_element(a.notes)))
+    }
+}
+
+// The slot of this number is an input.
+fn is_input_at(slots: &[Slot], n: usize) -> bool
+    ensures { result ≡ is_input_slot (slice_get slots.now n) }
+{
+    match slots.get(n) {
+        None => false,
+        Some(slot) => slot.kind == VariableKind::Input,
+    }
+}
+
+// An index with which a parameter was given an array.
+fn judge_passed(place: Place, a: Judged) -> Judged
+    ensures { (slots : List Slot) (types : List ValueType) (r : Resolved) → IsJudged slots types r a → IsJudged slots types (R.Named place naming.Passed r) result }
+{
+    Judged {
+        indexing: Indexing {
+            passed: true,
+            ..no_indexing()
+        },
+        ..noted(place, under_name(a.notes))
     }
 }
 
@@ -210,7 +268,11 @@ fn judge_defined(place: Place, a: Judged, kind: Kind) -> Judged
     ensures { (slots : List Slot) (types : List ValueType) (r : Resolved) → IsJudged slots types r a → kind ≡ (told slots types r).kind → IsJudged slots types (R.Named place naming.Defined r) result }
 {
     let whole = everywhere(no_value(a.place, kind));
-    noted(place, both(under_name(a.notes), whole))
+    let notes = both(under_name(a.notes), whole);
+    Judged {
+        defined: notes.name,
+        ..noted(place, notes)
+    }
 }
 
 // A place where a value is wanted, and there is none.
@@ -267,15 +329,13 @@ fn judge_apply(place: Place, operator: Operator, operands: &[Operand], table: &[
         kinds_broken(place, operator, true, operands),
     );
     let notes = both(inside, both(temporal_here(place, operator), kinds));
-    let chosen_by_constant = is_chosen_by_constant(operator, operands, table);
     let is_array = is_array(operator);
     Judged {
-        place,
-        notes,
-        inner: inner_of(place, operator, notes, chosen_by_constant),
-        chosen_by_constant,
+        inner: inner_of(place, operator, operands, table),
+        indexing: indexing_of(operator, operands, table),
         takes_init: is_array,
         takes_later: is_array,
+        ..noted(place, notes)
     }
 }
 
@@ -290,35 +350,110 @@ fn is_array(operator: Operator) -> bool
     }
 }
 
-// The index by which an element is chosen is a constant, over what is told and noted of operands.
-fn is_chosen_by_constant(operator: Operator, operands: &[Operand], table: &[Judged]) -> bool
+// What an operator says of the index of an element, over what is told and noted of operands.
+fn indexing_of(operator: Operator, operands: &[Operand], table: &[Judged]) -> Indexing
     ensures { (slots : List Slot) (types : List ValueType) (place : Place) (rs : List Resolved) → Tells slots types rs operands.now table.now
-        → result ≡ is_chosen_by_constant slots types (R.Apply place operator (operands_of rs)) }
+        → result ≡ indexing_of slots types (R.Apply place operator (operands_of rs)) }
 {
+    let first = judged_at(table, 0).indexing;
     match operator {
-        Operator::Subscript => told_at(operands, 0).constant.is_some(),
-        Operator::Equal => judged_at(table, 0).chosen_by_constant,
-        Operator::Choice(_) => judged_at(table, 0).chosen_by_constant,
-        _ => false,
+        Operator::Subscript => Indexing {
+            by_constant: told_at(operands, 0).constant.is_some(),
+            passed: first.passed,
+            ..no_indexing()
+        },
+        Operator::Equal => Indexing {
+            by_constant: first.by_constant,
+            passed: first.passed,
+            asked: true,
+            within: false,
+        },
+        _ => no_indexing(),
     }
 }
 
-// What an operator breaks on a left side, where these are its notes.
+// What an operator breaks on a left side, over what is told and noted of its operands.
 fn inner_of(
     place: Place,
     operator: Operator,
-    notes: Notes,
-    chosen_by_constant: bool,
+    operands: &[Operand],
+    table: &[Judged],
 ) -> Option<Violation>
-    ensures { (slots : List Slot) (types : List ValueType) (rs : Operands) → AreNotes (λ c. kind_refusal slots types c (R.Apply place operator rs)) notes
-        → chosen_by_constant ≡ is_chosen_by_constant slots types (R.Apply place operator rs) → as_refusal result ≡ inner_refusal slots types (R.Apply place operator rs) }
+    ensures { (slots : List Slot) (types : List ValueType) (rs : List Resolved) → Tells slots types rs operands.now table.now
+        → as_refusal result ≡ inner_refusal slots types (R.Apply place operator (operands_of rs)) }
 {
     match operator {
-        Operator::Index => notes.name,
-        Operator::Choice(FaultRule::IndexOutside) => {
-            first(notes.name, Some(outside(place, chosen_by_constant)))
-        }
+        Operator::Index => inner_of_index(place, operands, table),
+        Operator::Choice(FaultRule::IndexOutside) => inner_of_choice(place, table),
         _ => None,
+    }
+}
+
+// What an array that waits for more indices breaks there.
+fn inner_of_index(place: Place, operands: &[Operand], table: &[Judged]) -> Option<Violation>
+    ensures { (slots : List Slot) (types : List ValueType) (rs : List Resolved) → Tells slots types rs operands.now table.now
+        → as_refusal result ≡ inner_refusal slots types (R.Apply place operator.Index (operands_of rs)) }
+{
+    if table.len() < 2 {
+        return None;
+    }
+    let array = judged_at(table, 0);
+    let index = waiting(
+        place,
+        told_at(operands, 0),
+        told_at(operands, 1),
+        judged_at(table, 1),
+    );
+    first(array.defined, first(array.inner, index))
+}
+
+// What an index of an array that waits for more breaks there, over what is told of the array and of the index.
+fn waiting(place: Place, array: Operand, index: Operand, i: Judged) -> Option<Violation>
+    ensures { (slots : List Slot) (types : List ValueType) (a r : Resolved) → array ≡ told slots types a → index ≡ told slots types r → IsJudged slots types r i
+        → as_refusal result ≡ waiting_refusal slots types place a r }
+{
+    let kinds = kinds_broken(place, Operator::Index, false, &[array, index]);
+    let outside = not_within(place, i.indexing.within, index.constant.is_some());
+    first(i.notes.name, first(kinds, outside))
+}
+
+// An index of an array that waits for more is no constant, or none of the array.
+fn not_within(place: Place, is_within: bool, is_constant: bool) -> Option<Violation>
+    ensures { as_refusal result ≡ not_within place is_within is_constant }
+{
+    if is_within {
+        None
+    } else {
+        Some(outside(place, is_constant))
+    }
+}
+
+// What the choice of an element breaks there.
+fn inner_of_choice(place: Place, table: &[Judged]) -> Option<Violation>
+    ensures { (slots : List Slot) (types : List ValueType) (rs : List Resolved) → AreJudged slots types rs table.now
+        → as_refusal result ≡ inner_refusal slots types (R.Apply place (operator.Choice fault.IndexOutside) (operands_of rs)) }
+{
+    if table.len() < 2 {
+        return None;
+    }
+    chosen(place, judged_at(table, 0), judged_at(table, 1).inner)
+}
+
+// What an index by which an element is chosen breaks there, where the element breaks this.
+fn chosen(place: Place, condition: Judged, inner: Option<Violation>) -> Option<Violation>
+    ensures { (slots : List Slot) (types : List ValueType) (r : Resolved) (broken : Option Refusal) → IsJudged slots types r condition → as_refusal inner ≡ broken
+        → as_refusal result ≡ chosen_refusal slots types place r broken }
+{
+    let indexing = condition.indexing;
+    if indexing.passed {
+        first(condition.notes.name_set, inner)
+    } else if indexing.asked {
+        first(
+            condition.notes.name,
+            Some(outside(place, indexing.by_constant)),
+        )
+    } else {
+        None
     }
 }
 
@@ -339,7 +474,7 @@ fn all_noted(operator: Operator, table: &[Judged]) -> Notes
 {
     let mut all = everywhere(None);
     for (k, judged) in table.iter().enumerate() {
-        all = both(all, under_operand(operator, k, judged.notes));
+        all = both(all, as_operand(operator, k, judged.notes));
     }
     all
 }

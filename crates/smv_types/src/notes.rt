@@ -5,7 +5,7 @@ ghost use Rattle.smv_tree.specs.declared.refusal.Refusal.{Refusal};
 ghost use Rattle.smv_kinds.specs.Contexts.{kind_in_context};
 ghost use Rattle.smv_verdicts.specs.Verdicts.{or_else};
 ghost use Rattle.smv_types.specs.Judged.{AreNotes, as_refusal};
-ghost use Rattle.smv_types.specs.Kinds.{Context, input_here, next_here, temporal_here, under_element, under_name, under_next, under_operand};
+ghost use Rattle.smv_types.specs.Kinds.{Context, input_here, is_bound, next_here, temporal_here, under_element, under_name, under_next, under_operand, unless_bound};
 
 use crate::judged::{Notes, Violation};
 use smv_kinds::takes_sets;
@@ -105,7 +105,7 @@ pub(crate) fn under_next(n: Notes) -> Notes
 }
 
 // As an operand of this number.
-pub(crate) fn under_operand(operator: Operator, operand: usize, n: Notes) -> Notes
+fn under_operand(operator: Operator, operand: usize, n: Notes) -> Notes
     ensures { (refusal : Context → Option Refusal) → AreNotes refusal n → AreNotes (λ c. refusal (under_operand operator operand c)) result }
 {
     if takes_sets(operator, operand, false) {
@@ -114,6 +114,27 @@ pub(crate) fn under_operand(operator: Operator, operand: usize, n: Notes) -> Not
         n
     } else {
         Notes { path: n.name, ..n }
+    }
+}
+
+// As an operand of this number, if it is judged itself.
+pub(crate) fn as_operand(operator: Operator, operand: usize, n: Notes) -> Notes
+    ensures { (refusal : Context → Option Refusal) → AreNotes refusal n → AreNotes (λ c. unless_bound operator operand (refusal (under_operand operator operand c))) result }
+{
+    if is_bound(operator, operand) {
+        everywhere(None)
+    } else {
+        under_operand(operator, operand, n)
+    }
+}
+
+// A bound that stays as it is written.
+fn is_bound(operator: Operator, operand: usize) -> bool
+    ensures { result ≡ is_bound operator operand }
+{
+    match operator {
+        Operator::Window(_) => operand < 2,
+        _ => false,
     }
 }
 

@@ -16,7 +16,7 @@ returns-in-Whole c = λ types parts h. rw c.in-Whole.is (c.judge_whole.ensures c
 pub returns-in-Named : goal.returns-in-Named
 returns-in-Named c = λ types parts h.
     rw c.in-Named.is
-    (c.judge_named.ensures c.args.slots.now types (part_at parts c.in-Named.a) (rw c.judged_at.ensures (judged_is c.args.slots.now types parts c.args.operands.now c.args.table.now h c.in-Named.a))
+    (c.judge_named.ensures types (part_at parts c.in-Named.a) (rw c.judged_at.ensures (judged_is c.args.slots.now types parts c.args.operands.now c.args.table.now h c.in-Named.a))
     (ap (λ x. x.kind) (c.told_at.ensures ∙ told_is c.args.slots.now types parts c.args.operands.now c.args.table.now h c.in-Named.a)))
 
 pub returns-in-Next : goal.returns-in-Next

@@ -19,12 +19,12 @@ returns c = λ slots types rs h.
     (c.kinds_broken-2.ensures ∙ ap (λ xs. kinds_broken place o xs (kind_in_context true o xs)) operands) in
     let own = c.both.ensures (λ x. temporal_here x place o) (λ x. broken x.set) c.temporal_here.ensures kinds in
     let notes = c.both-notes.ensures (λ x. operands_refusal slots types o 0 x (operands_of rs)) (λ x. or_else (temporal_here x place o) (broken x.set)) (c.all_noted-inside.ensures slots types rs h.judged) own in
-    let chosen = c.is_chosen_by_constant-chosen_by_constant.ensures slots types place rs h in
-    record {
+    rw c.noted.ensures (record {
       place = refl;
       notes = notes;
-      inner = c.inner_of.ensures slots types (operands_of rs) notes chosen;
-      constant = chosen;
+      inner = c.inner_of.ensures slots types rs h;
+      defined = refl;
+      indexing = c.indexing_of.ensures slots types place rs h;
       init = c.is_array-is_array.ensures.init slots place (operands_of rs);
       later = c.is_array-is_array.ensures.later slots place (operands_of rs);
-    }
+    })
