@@ -1,7 +1,7 @@
 //! One trial of a generalisation: whether the smaller clause satisfies initiation and is inductive
 //! at its level.
 
-ghost use Rattle.std.specs.Prelude.{◌≡◌, ◌⊎◌, MatchBool, ◌-◌, ◌<◌, ◌≤◌, ◌++◌, ℕ, Bool, List, IfOk, All, Contains, length, take, IfSome};
+ghost use Rattle.std.specs.Prelude.{◌≡◌, ◌⊎◌, ⊤, MatchBool, ◌-◌, ◌<◌, ◌≤◌, ◌++◌, ℕ, Bool, List, IfOk, All, Contains, length, take, IfSome};
 ghost use Rattle.frame_core.specs.declared.parts.Lemma.{Lemma as ALemma};
 ghost use Rattle.clause_core.specs.Literals.{Within};
 ghost use Rattle.frame_core.specs.Facts.{IsPart, IsProved};
@@ -58,18 +58,29 @@ fn is_needed(part: &[Lit], met: &[Lit], l: Lit) -> bool
     has(met, l)
 }
 
-// The literals that are in one of the two parts.
+// Whether the literal is in one of the two parts, or in the hint.
+fn is_wanted(part: &[Lit], met: &[Lit], hint: &[Lit], l: Lit) -> bool
+    ensures { MatchBool result ⊤ (Contains part.now l ⊎ Contains met.now l → ⊥) }
+{
+    if is_needed(part, met, l) {
+        return true;
+    }
+    has(hint, l)
+}
+
+// The literals that are in one of the two parts, and those of the hint.
 pub(crate) fn needed_of(
     alloc: Global,
     left: &[Lit],
     part: &[Lit],
     met: &[Lit],
+    hint: &[Lit],
 ) -> Result<Vec<Lit>, AllocError>
     ensures { IfOk result (λ v. IsNeeded left.now part.now met.now v.items) }
 {
     let mut needed = Vec::new(alloc);
     'literals: for l in left {
-        if is_needed(part, met, *l) {
+        if is_wanted(part, met, hint, *l) {
             needed.push(*l)?;
         }
     }

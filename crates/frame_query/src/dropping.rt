@@ -40,7 +40,8 @@ fn drafted(alloc: Global, proved: &Proved) -> Result<Draft, AllocError>
     })
 }
 
-// After a trial that holds: the smaller proof becomes the draft; `left` are the literals still to be tried.
+// After a trial that holds: the smaller proof becomes the draft; `left` are the literals still to be tried. Those of a hint
+// that was not tried yet stay, so that its clause is tried whole.
 fn dropped(
     alloc: Global,
     walk: &mut Walk,
@@ -52,7 +53,7 @@ fn dropped(
     ensures drops { OnOk result (DropsTo walk.old.kept.items walk.old.failed left.now part.items met parents.items walk.new) }
     ensures same { (walk.new.asks ≡ walk.old.asks) × (walk.new.hint ≡ walk.old.hint) }
 {
-    let rest = needed_of(alloc, left, &part, met.as_slice())?;
+    let rest = needed_of(alloc, left, &part, met.as_slice(), &walk.hint)?;
     let clause = both(alloc, &walk.kept, &rest)?;
     walk.rest = rest;
     walk.draft = Draft {

@@ -5,7 +5,7 @@ use Rattle.clause_core.specs.Literals.{none_lit}
 use Rattle.frame_query.specs.Trying.{IsNeeded}
 use Rattle.frame_query.proofs.Tried.{needed_push, needed_skip}
 use Rattle.frame_query.proofs.attempting.needed_of.Goals as goal
-use Rattle.frame_query.proofs.attempting.needed_of.Goals.{then-is_needed+in_ok-push, else-is_needed}
+use Rattle.frame_query.proofs.attempting.needed_of.Goals.{then-is_wanted+in_ok-push, else-is_wanted}
 
 pub literals-preserved : goal.literals-preserved
 literals-preserved c =
@@ -15,13 +15,13 @@ literals-preserved c =
     let lt : i < length left = c.literals-test.true in
     let l : Lit = get_or left i none_lit in
     let more = take_more left i none_lit lt in
-    let P : List Lit → Type 0 = λ xs. IsNeeded xs c.args.part.now c.args.met.now c.if-is_needed.needed.items in
+    let P : List Lit → Type 0 = λ xs. IsNeeded xs c.args.part.now c.args.met.now c.if-is_wanted.needed.items in
     let Q : List Lit → Type 0 = λ ys. IsNeeded (take i left ++ l ∷ []) c.args.part.now c.args.met.now ys in
-    elim c.if-is_needed.branch [
-      | then-is_needed+in_ok-push w ↦
-          let e : c.if-is_needed.needed.items ≡ needed ++ l ∷ [] = cc (w.needed-is, w.in_ok-push.ensures.items) in
+    elim c.if-is_wanted.branch [
+      | then-is_wanted+in_ok-push w ↦
+          let e : c.if-is_wanted.needed.items ≡ needed ++ l ∷ [] = cc (w.needed-is, w.in_ok-push.ensures.items) in
           subst P (sym more) (subst Q (sym e) (needed_push (take i left) c.args.part.now c.args.met.now needed l c.literals.invariant))
-      | else-is_needed w ↦
-          let e : c.if-is_needed.needed.items ≡ needed = cc w.needed-is in
-          subst P (sym more) (subst Q (sym e) (needed_skip (take i left) c.args.part.now c.args.met.now needed l c.literals.invariant w.if-is_needed.ensures))
+      | else-is_wanted w ↦
+          let e : c.if-is_wanted.needed.items ≡ needed = cc w.needed-is in
+          subst P (sym more) (subst Q (sym e) (needed_skip (take i left) c.args.part.now c.args.met.now needed l c.literals.invariant w.if-is_wanted.ensures))
     ]
