@@ -1,15 +1,16 @@
 //! The rules of kinds and contexts, over items.
 
-ghost use Rattle.std.specs.Prelude.{◌≡◌, List, Some, map, IfOk};
+ghost use Rattle.std.specs.Prelude.{◌≡◌, List, Option, Some, map, IfOk};
 ghost use Rattle.value_types.specs.declared.value_type.ValueType.{ValueType};
 ghost use Rattle.smv_slots.specs.declared.slot.Slot.{Slot};
 ghost use Rattle.smv_resolve.specs.Items.{item_by};
 ghost use Rattle.smv_resolve.specs.Resolved.{Resolved, part_at, parts_of};
 ghost use Rattle.smv_verdicts.specs.Verdicts.{Judges, first_of};
-ghost use Rattle.smv_types.specs.Judged.{IsJudged, IsOf, Tells, as_refusal};
-ghost use Rattle.smv_types.specs.Kinds.{assignment_refusal, at_root, bounds_text, context_of_constraint, context_of_side, context_of_specification, formula_refusal, is_after_kind, is_assignable, is_at, item_refusal, kind_refusal, left_refusal, no_boolean, no_taker, target_refusal};
+ghost use Rattle.smv_tree.specs.declared.refusal.Refusal.{Refusal as ARefusal};
+ghost use Rattle.smv_types.specs.Judged.{AreNotes, IsJudged, IsOf, Tells, as_refusal};
+ghost use Rattle.smv_types.specs.Kinds.{Context, assignment_refusal, at_root, bounds_text, context_of_constraint, context_of_side, context_of_specification, formula_refusal, is_after_kind, is_assignable, is_at, item_refusal, kind_refusal, left_refusal, no_boolean, no_taker, target_refusal};
 
-use crate::judged::{Judged, Violation};
+use crate::judged::{Judged, Notes, Violation};
 use crate::kinds::{Table, judged_at, no_value};
 use crate::notes::first;
 use crate::told::told_at;
@@ -153,13 +154,22 @@ fn value_violation(which: AssignmentKind, value: Judged) -> Option<Violation>
 fn constraint_violation(which: ConstraintKind, value: Part) -> Option<Violation>
     ensures { (slots : List Slot) (types : List ValueType) (e : Resolved) → IsOf slots types e value → as_refusal result ≡ formula_refusal slots types (context_of_constraint which) e }
 {
-    let inside = match which {
-        ConstraintKind::Trans => value.judged.notes.step,
-        ConstraintKind::Init | ConstraintKind::Invar | ConstraintKind::Justice => {
-            value.judged.notes.state
-        }
-    };
-    at_root(false, value.judged.place, value.kind, inside)
+    at_root(
+        false,
+        value.judged.place,
+        value.kind,
+        constraint_note(which, value.judged.notes),
+    )
+}
+
+// What is noted of an expression in the context of a constraint.
+fn constraint_note(which: ConstraintKind, notes: Notes) -> Option<Violation>
+    ensures { (refusal : Context → Option ARefusal) → AreNotes refusal notes → as_refusal result ≡ refusal (context_of_constraint which) }
+{
+    match which {
+        ConstraintKind::Trans => notes.step,
+        ConstraintKind::Init | ConstraintKind::Invar | ConstraintKind::Justice => notes.state,
+    }
 }
 
 fn specification_violation(which: SpecificationKind, value: Part) -> Option<Violation>
