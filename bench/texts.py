@@ -766,6 +766,7 @@ ARITY = {'abs': 1, 'max': 2, 'min': 2, 'word1': 1, 'bool': 1, 'signed': 1, 'unsi
 DEPARTURES = {
     'wide': 'a limit with a part of more than 128 bits is outside (409; 402 without a detail), never empty (403)',
     'bounds': 'a bound of a temporal operator with a part of more than 32 bits is no constant',
+    'root': 'at the root of an LTLSPEC, what is no constant (404) is told before what is no boolean (401)',
     'brackets': 'a text with more than 2000 `[ ]` behind one operand ends with status 7',
 }
 """Where the program is known to read the rules otherwise than this judge. A difference that one of these explains is
@@ -1178,7 +1179,17 @@ class Judge:
                         or right.form == 'word' and not same_word(left, right):
                     raise Refused(401, entry.place)
             else:
+                if 'root' in self.known and context.temporal:
+                    self.demand_root_constant(instance, entry.body, context)
                 self.kind(instance, entry.body, context, is_root=True)
+
+    def demand_root_constant(self, instance, body, context):
+        """Refuses what is no constant at the root of a formula, as is known."""
+        try:
+            self.kind(instance, body, context)
+        except Refused as refused:
+            if refused.rule == 404 and refused.place == body.place:
+                raise
 
     def judge_left(self, instance, entry):
         """The kind of what is assigned; refuses what is not assignable."""
