@@ -261,10 +261,10 @@ refused(407, U + 'DEFINE d := §u[0];\nINIT d')
 refused(407, A + 'IVAR j : 0..1;\nINIT a[§j]')
 refused(407, A + 'IVAR j : 0..1;\nTRANS next(a[§j])')
 refused(407, 'MODULE m(p)\nINIT p[0]\nMODULE main\nIVAR u : array 0..1 of boolean;\nVAR v : m(§u);')
-# An index that is no constant is judged before its array.
-refused(406, U + 'VAR i : 0..1;\nINIT u[§next(i)]')
-refused(401, U + 'INIT u§[TRUE]')
-refused(405, U + 'INIT u[§{0, 1}]')
+# The array is judged before its index.
+refused(407, U + 'VAR i : 0..1;\nINIT §u[next(i)]')
+refused(407, U + 'INIT §u[TRUE]')
+refused(407, U + 'INIT §u[{0, 1}]')
 
 # ---- 408 TemporalHere
 refused(408, A + 'INVARSPEC §G a[0]')
@@ -315,8 +315,8 @@ refused(413, X + 'LTLSPEC F [2, 1] (§G [3, 2] x)', '3,2')
 refused(413, X + 'LTLSPEC F [n, 1] (§G [3, 2] x)\nVAR n : 0..1;', '3,2')
 refused(413, X + 'LTLSPEC §F [2147483647 + 1, 3] x', '2147483648,3')
 # Constants are unbounded: these are ones, and no bounds.
-refused(409, X + 'LTLSPEC F [2147483647 §* 3, 3] x')
-refused(409, X + 'LTLSPEC F [0, -2147483647 §- 2] x')
+refused(413, X + 'LTLSPEC §F [2147483647 * 3, 3] x', '6442450941,3')
+refused(413, X + 'LTLSPEC §F [0, -2147483647 - 2] x', '0,-2147483649')
 refused(413, X + 'LTLSPEC §F [0, 2147483647 * 2147483647 - 2147483647 * 2147483647 + 256] x', '0,256')
 refused(404, X + 'VAR n : 0..3;\nLTLSPEC §H [0, n] x')
 refused(404, X + 'VAR n : 0..3;\nLTLSPEC x & §F [n, 1] x')
@@ -324,7 +324,7 @@ refused(404, X + 'LTLSPEC §F [1 / 0, 3] x')
 refused(404, X + 'VAR c : {red};\nLTLSPEC §F [0, red] x')
 refused(404, X + A + 'LTLSPEC §F [0, a] x')
 refused(404, 'MODULE m\nMODULE main\nVAR x : boolean; v : m;\nLTLSPEC §F [v, 1] x')
-refused(405, X + 'DEFINE d := §{0, 1};\nLTLSPEC F [d, 1] x')
+refused(404, X + 'DEFINE d := {0, 1};\nLTLSPEC §F [d, 1] x')
 refused(404, X + 'DEFINE d := abs(1);\nLTLSPEC §G [d, 1] x')
 
 # ---- 501 AssignedTwice: by elements

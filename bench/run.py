@@ -26,6 +26,10 @@ HEAD += ["time: times minisat's", "time a conflict: times minisat's"]
 LONG = ["random-250-2", "pigeonhole-9-8", "pausing-9-short"]
 BUDGETS = [2500, 5000, 10000, 20000, 40000]
 
+# Formulas of which one kept solver is asked many queries, each under some literals, and how many queries.
+KEPT = ["random-150-1", "factoring-8-product", "counter-10-reached"]
+QUERIES = [1000, 9000, 10000]
+
 
 class Run:
     """What a solver answered, from how many conflicts, and in how many seconds. No answer: it ran out of time."""
@@ -143,10 +147,22 @@ def grow(paths, limit):
             print_row([path.stem, *(f"{run.seconds:.2f}" if run.answer else "no answer" for run in runs)])
 
 
+def keep(paths, limit):
+    """Prints what the first thousand queries of a kept solver take, and the last thousand of ten thousand."""
+    print("| Formula | first 1000 queries, seconds | last 1000 of 10000 |")
+    print("| --- | --- | --- |")
+    for path in paths:
+        if path.stem not in KEPT:
+            continue
+        seconds = [timed([PROGRAM, "1000000000000", str(count)], path, limit)[1] for count in QUERIES]
+        print(f"| {path.stem} | {seconds[0]:.2f} | {seconds[2] - seconds[1]:.2f} |")
+
+
 def main():
     parser = argparse.ArgumentParser(description=__doc__)
     parser.add_argument("--limit", type=int, default=60, help="seconds for each run")
     parser.add_argument("--only", default="", help="only formulas whose names have this in them")
+    parser.add_argument("--kept", action="store_true", help="many queries of one kept solver, and no minisat")
     words = parser.parse_args()
     build()
     with tempfile.TemporaryDirectory() as folder:
@@ -155,6 +171,9 @@ def main():
             if words.only in name:
                 paths.append(Path(folder) / f"{name}.cnf")
                 formula.write(paths[-1])
+        if words.kept:
+            keep(paths, words.limit)
+            return
         differ = compare(paths, words.limit)
         print()
         grow(paths, words.limit)

@@ -764,9 +764,7 @@ ARITY = {'abs': 1, 'max': 2, 'min': 2, 'word1': 1, 'bool': 1, 'signed': 1, 'unsi
 # --- the judge --------------------------------------------------------------------------------------------------------
 
 DEPARTURES = {
-    'wide': 'a limit with a part of more than 128 bits is outside (409; 402 without a detail), never empty (403)',
-    'bounds': 'a bound of a temporal operator with a part of more than 32 bits is no constant',
-    'root': 'at the root of an LTLSPEC, what is no constant (404) is told before what is no boolean (401)',
+    'wide': 'a limit with a part of more than 128 bits is outside (409; 402 and 413 without a detail), never empty (403)',
     'brackets': 'a text with more than 2000 `[ ]` behind one operand ends with status 7',
 }
 """Where the program is known to read the rules otherwise than this judge. A difference that one of these explains is
@@ -1179,17 +1177,7 @@ class Judge:
                         or right.form == 'word' and not same_word(left, right):
                     raise Refused(401, entry.place)
             else:
-                if 'root' in self.known and context.temporal:
-                    self.demand_root_constant(instance, entry.body, context)
                 self.kind(instance, entry.body, context, is_root=True)
-
-    def demand_root_constant(self, instance, body, context):
-        """Refuses what is no constant at the root of a formula, as is known."""
-        try:
-            self.kind(instance, body, context)
-        except Refused as refused:
-            if refused.rule == 404 and refused.place == body.place:
-                raise
 
     def judge_left(self, instance, entry):
         """The kind of what is assigned; refuses what is not assignable."""
@@ -1349,7 +1337,6 @@ class Judge:
             base = self.kind(instance, node.operands[0], below)
             number = self.kind(instance, node.operands[1], below)
             return self.finish(node, self.indexed(base, number, node.place)[2], is_root)
-        outside = self.are_no_bounds(instance, node) if 'bounds' in self.known else False
         kinds = [self.kind(instance, operand, below) for operand in node.operands]
         if form == 'set':
             self.demand(context.sets, 405, node)
@@ -1371,7 +1358,7 @@ class Judge:
             negated = integers(-kinds[0].high, -kinds[0].low) if kinds[0].form == 'discrete' else kinds[0]
             return self.finish(node, negated, is_root)
         if form == 'timed':
-            return self.kind_of_timed(instance, node, kinds[0], context, outside)
+            return self.kind_of_timed(instance, node, kinds[0], context)
         if form == 'select':
             self.demand(kinds[0].form == 'word' and not any(kind.set for kind in kinds[1:]), 401, node)
             self.no_root(node, is_root)
@@ -1381,25 +1368,17 @@ class Judge:
             return self.finish(node, kind_of('word', False, high - low + 1), is_root)
         return self.kind_of_call(instance, node, kinds, is_root)
 
-    def kind_of_timed(self, instance, node, kind, context, outside):
+    def kind_of_timed(self, instance, node, kind, context):
         values = [self.constant(instance, bound) for bound in node.bounds]
         self.demand(context.temporal, 408, node)
         self.demand(is_boolean(kind), 401, node)
-        if outside:
-            self.demand(None not in values, 404, node)
-            self.demand(not any(self.has_part_over(32, instance, bound) for bound in node.bounds), 404, node)
-            raise Refused(413, node.place, '%d,%d' % tuple(values))
         if node.bounds:
             self.demand(None not in values, 404, node)
+            if any(self.is_wide(instance, bound) for bound in node.bounds):
+                raise Refused(413, node.place)
             if not 0 <= values[0] <= values[1] <= BOUND_LIMIT:
                 raise Refused(413, node.place, '%d,%d' % tuple(values))
         return BOOLEAN
-
-    def are_no_bounds(self, instance, node):
-        """Whether a bound is no constant of 32 bits without a sign."""
-        values = [self.constant(instance, bound) for bound in node.bounds]
-        return any(value is None or not 0 <= value < 1 << 32 for value in values) \
-            or any(self.is_wide(instance, bound) for bound in node.bounds)
 
     def kind_of_name(self, instance, node, context):
         meaning = self.meaning(instance, node)

@@ -3,9 +3,11 @@
 ghost use Rattle.std.specs.Prelude.{◌≡◌, ◌<◌, IfOk, length};
 ghost use Rattle.clause_core.specs.Literals.{Within};
 ghost use Rattle.frame_core.specs.FrameLaw.{system_at};
+ghost use Rattle.frame_solver.specs.Firsts.{AllFirstsMeet};
 
 use clause_core::{Clauses, Lit, System, is_within};
 use effort_purse::PlainPurse;
+use frame_core::Proved;
 use frame_query::{Bads, Firsts, FrameSolver, Generalised, Relative};
 use std::alloc::{AllocError, Global};
 use std::slice::from_ref;
@@ -37,6 +39,13 @@ const ONE_OF_THREE: [Lit; 3] = [
     },
 ];
 
+fn is_clear_at(bads: &Bads, top: u32) -> bool {
+    match bads {
+        Bads::Clear(clear) => clear.level() == top,
+        _ => false,
+    }
+}
+
 // Whether frame `top` has no bad state.
 fn is_clear(
     alloc: Global,
@@ -47,10 +56,36 @@ fn is_clear(
     requires { 0 < length solver.old.systems }
     ensures { solver.new.systems ≡ solver.old.systems }
 {
-    match solver.bad(alloc, 0, top, purse)? {
-        Bads::Clear(c) => Ok(c.level() == top),
-        _ => Ok(false),
+    let bads = solver.bad(alloc, 0, top, purse)?;
+    let answer = is_clear_at(&bads, top);
+    drop(bads);
+    Ok(answer)
+}
+
+fn is_of_level(relative: &Relative, level: u32) -> bool {
+    match relative {
+        Relative::Proved(proved) => proved.level() == level,
+        _ => false,
     }
+}
+
+// Whether the clause, which first states meet, is inductive relative to the frame below the level.
+fn is_proved_at(
+    alloc: Global,
+    solver: &mut FrameSolver,
+    clause: &[Lit],
+    level: u32,
+    purse: &mut PlainPurse,
+) -> Result<bool, AllocError>
+    requires within { Within (system_at solver.old.systems 0).state_bits clause.now }
+    requires level { 0 < level }
+    requires first { AllFirstsMeet (system_at solver.old.systems 0) clause.now }
+    ensures { solver.new.systems ≡ solver.old.systems }
+{
+    let relative = solver.relative(alloc, clause, level, purse)?;
+    let answer = is_of_level(&relative, level);
+    drop(relative);
+    Ok(answer)
 }
 
 // Whether the clause is inductive relative to the frame below the level.
@@ -66,11 +101,59 @@ fn is_proved(
     ensures { solver.new.systems ≡ solver.old.systems }
 {
     match solver.first(alloc, clause, purse)? {
-        Firsts::Meet(_) => match solver.relative(alloc, clause, level, purse)? {
-            Relative::Proved(p) => Ok(p.level() == level),
-            _ => Ok(false),
-        },
-        _ => Ok(false),
+        Firsts::Meet(part) => {
+            drop(part);
+            is_proved_at(alloc, solver, clause, level, purse)
+        }
+        other => {
+            drop(other);
+            Ok(false)
+        }
+    }
+}
+
+fn literals_of(generalised: &Generalised) -> usize {
+    match generalised {
+        Generalised::Smaller(proved) => proved.clause().len(),
+        _ => 10,
+    }
+}
+
+// How many literals of the proof's clause are left.
+fn left<'a>(
+    alloc: Global,
+    solver: &mut FrameSolver<'a>,
+    proved: Proved<'a>,
+    purse: &mut PlainPurse,
+) -> usize
+    requires { proved.system ≡ system_at solver.old.systems 0 }
+    ensures { solver.new.systems ≡ solver.old.systems }
+{
+    let generalised = solver.generalise(alloc, proved, purse);
+    let literals = literals_of(&generalised);
+    drop(generalised);
+    literals
+}
+
+// How many literals are left of the clause, which first states meet.
+fn smaller_at(
+    alloc: Global,
+    solver: &mut FrameSolver,
+    clause: &[Lit],
+    level: u32,
+    purse: &mut PlainPurse,
+) -> Result<usize, AllocError>
+    requires within { Within (system_at solver.old.systems 0).state_bits clause.now }
+    requires level { 0 < level }
+    requires first { AllFirstsMeet (system_at solver.old.systems 0) clause.now }
+    ensures { solver.new.systems ≡ solver.old.systems }
+{
+    match solver.relative(alloc, clause, level, purse)? {
+        Relative::Proved(proved) => Ok(left(alloc, solver, proved, purse)),
+        other => {
+            drop(other);
+            Ok(11)
+        }
     }
 }
 
@@ -87,14 +170,14 @@ fn smaller(
     ensures { solver.new.systems ≡ solver.old.systems }
 {
     match solver.first(alloc, clause, purse)? {
-        Firsts::Meet(_) => match solver.relative(alloc, clause, level, purse)? {
-            Relative::Proved(p) => match solver.generalise(alloc, p, purse) {
-                Generalised::Smaller(p) => Ok(p.clause().len()),
-                _ => Ok(10),
-            },
-            _ => Ok(11),
-        },
-        _ => Ok(12),
+        Firsts::Meet(part) => {
+            drop(part);
+            smaller_at(alloc, solver, clause, level, purse)
+        }
+        other => {
+            drop(other);
+            Ok(12)
+        }
     }
 }
 
@@ -127,7 +210,22 @@ fn walk(alloc: Global, system: &System) -> Result<bool, AllocError>
 {
     let mut purse = PlainPurse::new(1000);
     let mut solver = FrameSolver::new(alloc, from_ref(system))?;
-    calls(alloc, &mut solver, &mut purse)
+    let answer = calls(alloc, &mut solver, &mut purse);
+    drop(solver);
+    answer
+}
+
+fn of_clauses(alloc: Global, init: Clauses, step: Clauses) -> Result<System, AllocError>
+    ensures { IfOk result (λ s. s.state_bits ≡ 3) }
+{
+    let bad = [Lit::new(0, true), Lit::new(1, true)];
+    if init.is_within(6) && step.is_within(6) && is_within(&bad, 3) {
+        System::plain(alloc, 3, 6, init, step, &bad)
+    } else {
+        drop(init);
+        drop(step);
+        Err(AllocError)
+    }
 }
 
 fn latch(alloc: Global) -> Result<System, AllocError>
@@ -137,12 +235,7 @@ fn latch(alloc: Global) -> Result<System, AllocError>
     init.push(&[Lit::new(0, false)])?;
     let mut step = Clauses::new(alloc);
     step.push(&[Lit::new(3, false), Lit::new(0, true)])?;
-    let bad = [Lit::new(0, true), Lit::new(1, true)];
-    if init.is_within(6) && step.is_within(6) && is_within(&bad, 3) {
-        System::plain(alloc, 3, 6, init, step, &bad)
-    } else {
-        Err(AllocError)
-    }
+    of_clauses(alloc, init, step)
 }
 
 // Whether the clause is found inductive at level 1 in so many queries that the solvers are made anew.
@@ -170,7 +263,9 @@ fn renewed(alloc: Global, system: &System) -> Result<bool, AllocError>
     }
     let mut purse = PlainPurse::new(10000);
     let mut solver = FrameSolver::new(alloc, from_ref(system))?;
-    many(alloc, &mut solver, &NOT_FIRST_OR_SECOND, &mut purse)
+    let answer = many(alloc, &mut solver, &NOT_FIRST_OR_SECOND, &mut purse);
+    drop(solver);
+    answer
 }
 
 // With a purse that has no ticket nothing is found.
@@ -182,15 +277,29 @@ fn unpaid(alloc: Global, system: &System) -> Result<bool, AllocError>
     }
     let mut purse = PlainPurse::new(0);
     let mut solver = FrameSolver::new(alloc, from_ref(system))?;
-    let proved = is_proved(alloc, &mut solver, &NOT_FIRST_OR_SECOND, 1, &mut purse)?;
-    Ok(!proved)
+    let proved = is_proved(alloc, &mut solver, &NOT_FIRST_OR_SECOND, 1, &mut purse);
+    drop(solver);
+    Ok(!proved?)
+}
+
+fn is_kept_false(alloc: Global, system: &System) -> Result<bool, AllocError>
+    requires { system.now.state_bits ≡ 3 }
+{
+    let walked = walk(alloc, system)?;
+    let renewed = renewed(alloc, system)?;
+    let unpaid = unpaid(alloc, system)?;
+    Ok(walked && renewed && unpaid)
+}
+
+fn is_latch_kept(alloc: Global) -> Result<bool, AllocError> {
+    let system = latch(alloc)?;
+    let answer = is_kept_false(alloc, &system);
+    drop(system);
+    answer
 }
 
 #[test]
 fn a_latch_is_kept_false(rt: HostRuntime) -> Result<(), Fail> {
-    let system = latch(rt.alloc())?;
-    assert!(rt; walk(rt.alloc(), &system)?);
-    assert!(rt; renewed(rt.alloc(), &system)?);
-    assert!(rt; unpaid(rt.alloc(), &system)?);
+    assert!(rt; is_latch_kept(rt.alloc())?);
     Ok(())
 }

@@ -1,7 +1,7 @@
 //! Tests of frames, on a latch and a shift register of three bits worked by hand: lemmas, tops, and
 //! runs.
 
-ghost use Rattle.std.specs.Prelude.{◌≡◌, ◌<◌, ◌≤◌, [], ◌∷◌, true, false, Some, None, IfOk, IsTrue, map, length};
+ghost use Rattle.std.specs.Prelude.{◌≡◌, ◌<◌, ◌≤◌, [], ◌∷◌, true, false, Some, None, IfOk, OnOk, IsTrue, map, length};
 ghost use Rattle.clause_core.specs.Literals.{Within};
 ghost use Rattle.frame_tests.specs.ThreeBits.{three_bits, latch, register, low, either_low, low_parent, last_values, middle_values, first_values, last, middle, register_frames};
 ghost use Rattle.frame_core.specs.Changes.{IsCovered};
@@ -53,19 +53,20 @@ fn units(alloc: Global, lits: &[Lit]) -> Result<Clauses, AllocError>
 }
 
 // The system of three bits with these clauses, whose bad states are those in which these literals are true.
-fn plain(alloc: Global, init: Clauses, step: Clauses, bad: &[Lit]) -> Result<System, Fail>
+fn plain(alloc: Global, init: Clauses, step: Clauses, bad: &[Lit]) -> Result<System, AllocError>
     ensures { IfOk result (λ s. s ≡ three_bits init step bad.now) }
 {
     if init.is_within(6) && step.is_within(6) && is_within(bad, 3) {
-        let system = System::plain(alloc, 3, 6, init, step, bad)?;
-        Ok(system)
+        System::plain(alloc, 3, 6, init, step, bad)
     } else {
-        Err(Fail::new("a literal is past the bits"))
+        drop(init);
+        drop(step);
+        Err(AllocError)
     }
 }
 
 // The latch with these bad states.
-fn latch_with(alloc: Global, bad: &[Lit]) -> Result<System, Fail>
+fn latch_with(alloc: Global, bad: &[Lit]) -> Result<System, AllocError>
     ensures { IfOk result (λ s. s ≡ three_bits ((record { var = 0; positive = false } ∷ []) ∷ []) ((record { var = 3; positive = false } ∷ record { var = 0; positive = true } ∷ []) ∷ []) bad.now) }
 {
     let init = units(alloc, &[no(0)])?;
@@ -74,14 +75,14 @@ fn latch_with(alloc: Global, bad: &[Lit]) -> Result<System, Fail>
     Ok(system)
 }
 
-fn latch_system(alloc: Global) -> Result<System, Fail>
+fn latch_system(alloc: Global) -> Result<System, AllocError>
     ensures { IfOk result (λ s. s ≡ latch) }
 {
     let system = latch_with(alloc, &[yes(0), yes(1), yes(2)])?;
     Ok(system)
 }
 
-fn register_system(alloc: Global) -> Result<System, Fail>
+fn register_system(alloc: Global) -> Result<System, AllocError>
     ensures { IfOk result (λ s. s ≡ register) }
 {
     let init = units(alloc, &[no(1), no(2)])?;
@@ -169,15 +170,58 @@ fn inserts(frames: &mut Frames, proof: Proved, wanted: Insertion) -> Result<bool
     Ok(answer == wanted)
 }
 
+fn inserts_low(
+    alloc: Global,
+    frames: &mut Frames,
+    system: &System,
+    level: u32,
+) -> Result<bool, AllocError>
+    requires system { system.now ≡ latch }
+    requires level { 0 < level }
+{
+    let proof = low_proof(alloc, system, level, Vec::new(alloc))?;
+    inserts(frames, proof, Insertion::Added(0))
+}
+
+fn inserts_over_itself(
+    alloc: Global,
+    frames: &mut Frames,
+    system: &System,
+    level: u32,
+    wanted: Insertion,
+) -> Result<bool, AllocError>
+    requires system { system.now ≡ latch }
+    requires level { 0 < level }
+{
+    let proof = over_itself(alloc, system, level)?;
+    inserts(frames, proof, wanted)
+}
+
+fn inserts_either(
+    alloc: Global,
+    frames: &mut Frames,
+    system: &System,
+    wanted: Insertion,
+) -> Result<bool, AllocError>
+    requires { system.now ≡ latch }
+{
+    let proof = either_proof(alloc, system)?;
+    inserts(frames, proof, wanted)
+}
+
 // The latch's frames with one lemma, at this level.
 fn one_lemma<'a>(alloc: Global, system: &'a System, level: u32) -> Result<Frames<'a>, AllocError>
     requires system { system.now ≡ latch }
     requires level { 0 < level }
 {
     let mut frames = Frames::of_one(alloc, system)?;
-    let proof = low_proof(alloc, system, level, Vec::new(alloc))?;
-    inserts(&mut frames, proof, Insertion::Added(0))?;
-    Ok(frames)
+    match inserts_low(alloc, &mut frames, system, level) {
+        Ok(_) => Ok(frames),
+        Err(error) => {
+            drop(frames);
+            Err(error)
+        }
+    }
 }
 
 // Below, each answer is as worked by hand.
@@ -186,20 +230,22 @@ fn held_by_a_shorter_lemma(alloc: Global, system: &System) -> Result<bool, Alloc
     requires { system.now ≡ latch }
 {
     let mut frames = one_lemma(alloc, system, 1)?;
-    let proof = either_proof(alloc, system)?;
-    inserts(&mut frames, proof, Insertion::Held(0))
+    let answer = inserts_either(alloc, &mut frames, system, Insertion::Held(0));
+    drop(frames);
+    answer
 }
 
 fn behind_where_the_parent_is_no_lemma(alloc: Global, system: &System) -> Result<bool, AllocError>
     requires { system.now ≡ latch }
 {
     let mut frames = Frames::of_one(alloc, system)?;
-    let proof = over_itself(alloc, system, 2)?;
     let behind = Insertion::Behind {
         parent: 0,
         level: 0,
     };
-    inserts(&mut frames, proof, behind)
+    let answer = inserts_over_itself(alloc, &mut frames, system, 2, behind);
+    drop(frames);
+    answer
 }
 
 fn not_added_to_another_system(
@@ -210,9 +256,11 @@ fn not_added_to_another_system(
     requires { system.now ≡ latch }
 {
     let mut frames = Frames::of_one(alloc, other)?;
-    let proof = over_itself(alloc, system, 1)?;
     let place = Place::Init(0);
-    inserts(&mut frames, proof, Insertion::OtherSystem { place })
+    let refused = Insertion::OtherSystem { place };
+    let answer = inserts_over_itself(alloc, &mut frames, system, 1, refused);
+    drop(frames);
+    answer
 }
 
 // Whether lemma 1 is live, has a part of the literals of lemma 0, and at least its level.
@@ -259,26 +307,39 @@ fn follows(
     Ok(has(copy, wanted) && has(frames.all_lemmas(), wanted))
 }
 
-// Retires lemma 0, which lemma 1 covers; a copy from before is brought up to date.
-fn retires(alloc: Global, frames: &mut Frames) -> Result<bool, AllocError> {
+// Retires lemma 0, which lemma 1 covers; the copy, from before, is brought up to date.
+fn retires_with(frames: &mut Frames, copy: &mut Lemmas) -> Result<bool, AllocError> {
     if !is_covered(frames) {
         return Ok(false);
     }
-    let mut copy = Lemmas::new(alloc);
-    let before = follows(&mut copy, frames, &[], &[(1, true), (2, true)])?;
+    let before = follows(copy, frames, &[], &[(1, true), (2, true)])?;
     frames.retire(0);
-    let after = follows(&mut copy, frames, &[0], &[(1, false), (2, true)])?;
+    let after = follows(copy, frames, &[0], &[(1, false), (2, true)])?;
     Ok(before && after)
+}
+
+fn retires(alloc: Global, frames: &mut Frames) -> Result<bool, AllocError> {
+    let mut copy = Lemmas::new(alloc);
+    let answer = retires_with(frames, &mut copy);
+    drop(copy);
+    answer
+}
+
+fn retires_first(alloc: Global, frames: &mut Frames, system: &System) -> Result<bool, AllocError>
+    requires { system.now ≡ latch }
+{
+    let added = inserts_over_itself(alloc, frames, system, 2, Insertion::Added(1))?;
+    let retired = retires(alloc, frames)?;
+    Ok(added && retired)
 }
 
 fn retired_where_another_covers(alloc: Global, system: &System) -> Result<bool, AllocError>
     requires { system.now ≡ latch }
 {
     let mut frames = one_lemma(alloc, system, 1)?;
-    let proof = over_itself(alloc, system, 2)?;
-    let added = inserts(&mut frames, proof, Insertion::Added(1))?;
-    let retired = retires(alloc, &mut frames)?;
-    Ok(added && retired)
+    let answer = retires_first(alloc, &mut frames, system);
+    drop(frames);
+    answer
 }
 
 fn is_same_clause(a: &[Lit], b: &[Lit]) -> bool
@@ -289,10 +350,25 @@ fn is_same_clause(a: &[Lit], b: &[Lit]) -> bool
 
 // What becomes of lemma 0 with this proof of it.
 fn raise(frames: &mut Frames, proof: Proved) -> Option<Raising> {
-    if frames.lemmas() == 0 || !is_same_clause(proof.clause(), frames.lemma(0).clause.as_slice()) {
-        return None;
+    if frames.lemmas() > 0 && is_same_clause(proof.clause(), frames.lemma(0).clause.as_slice()) {
+        Some(frames.raise(0, proof))
+    } else {
+        drop(proof);
+        None
     }
-    Some(frames.raise(0, proof))
+}
+
+fn raising_in(
+    alloc: Global,
+    frames: &mut Frames,
+    system: &System,
+    level: u32,
+) -> Result<Option<Raising>, AllocError>
+    requires system { system.now ≡ latch }
+    requires level { 0 < level }
+{
+    let proof = over_itself(alloc, system, level)?;
+    Ok(raise(frames, proof))
 }
 
 // What becomes of the lemma of level 1 with a proof of this level over itself.
@@ -301,8 +377,9 @@ fn raising(alloc: Global, system: &System, level: u32) -> Result<Option<Raising>
     requires level { 0 < level }
 {
     let mut frames = one_lemma(alloc, system, 1)?;
-    let proof = over_itself(alloc, system, level)?;
-    Ok(raise(&mut frames, proof))
+    let raising = raising_in(alloc, &mut frames, system, level);
+    drop(frames);
+    raising
 }
 
 fn raised_by_a_proof_alone(alloc: Global, system: &System) -> Result<bool, AllocError>
@@ -354,48 +431,103 @@ fn verdict(frames: &Frames) -> Option<Verdict> {
     frames.verdict(0)
 }
 
+fn opens_to_an_invariant(
+    alloc: Global,
+    frames: &mut Frames,
+    system: &System,
+) -> Result<bool, AllocError>
+    requires { system.now ≡ latch }
+{
+    let before = verdict(frames);
+    let opened = opens_twice(alloc, frames, system)?;
+    Ok(opened && before.is_none() && verdict(frames) == Some(Verdict::Invariant(1)))
+}
+
 fn an_invariant_where_a_level_is_left(alloc: Global, system: &System) -> Result<bool, AllocError>
     requires { system.now ≡ latch }
 {
     let mut frames = one_lemma(alloc, system, 2)?;
-    let before = verdict(&frames);
-    let opened = opens_twice(alloc, &mut frames, system)?;
-    Ok(opened && before.is_none() && verdict(&frames) == Some(Verdict::Invariant(1)))
+    let answer = opens_to_an_invariant(alloc, &mut frames, system);
+    drop(frames);
+    answer
+}
+
+fn opens_once(alloc: Global, frames: &mut Frames, system: &System) -> Result<bool, AllocError>
+    requires { system.now ≡ latch }
+{
+    let behind = Opening::Behind {
+        parent: 0,
+        level: 0,
+    };
+    let first = opens(alloc, frames, system, 0, Opening::Opened)?;
+    let second = opens(alloc, frames, system, 1, behind)?;
+    Ok(first && second)
 }
 
 fn not_opened_without_its_parents(alloc: Global, system: &System) -> Result<bool, AllocError>
     requires { system.now ≡ latch }
 {
     let mut frames = Frames::of_one(alloc, system)?;
-    let opened = opens(alloc, &mut frames, system, 0, Opening::Opened)?;
-    let behind = Opening::Behind {
-        parent: 0,
-        level: 0,
-    };
-    Ok(opened && opens(alloc, &mut frames, system, 1, behind)?)
+    let answer = opens_once(alloc, &mut frames, system);
+    drop(frames);
+    answer
 }
 
 // The latch with more bad states.
-fn other_bad(alloc: Global) -> Result<System, Fail> {
-    let system = latch_with(alloc, &[yes(0), yes(1)])?;
-    Ok(system)
+fn other_bad(alloc: Global) -> Result<System, AllocError> {
+    latch_with(alloc, &[yes(0), yes(1)])
 }
 
-fn not_opened_in(alloc: Global, system: &System, other: &System) -> Result<bool, Fail>
+fn not_opened_in(alloc: Global, system: &System, other: &System) -> Result<bool, AllocError>
     requires { system.now ≡ latch }
 {
     let mut frames = Frames::of_one(alloc, other)?;
     let place = Place::Bad(2);
     let wanted = Opening::OtherSystem { place };
-    let refused = opens(alloc, &mut frames, system, 0, wanted)?;
-    Ok(refused)
+    let refused = opens(alloc, &mut frames, system, 0, wanted);
+    drop(frames);
+    refused
 }
 
-fn not_opened_with_other_bad_states(alloc: Global, system: &System) -> Result<bool, Fail>
+fn not_opened_with_other_bad_states(alloc: Global, system: &System) -> Result<bool, AllocError>
     requires { system.now ≡ latch }
 {
     let other = other_bad(alloc)?;
-    not_opened_in(alloc, system, &other)
+    let answer = not_opened_in(alloc, system, &other);
+    drop(other);
+    answer
+}
+
+// Whether these are the lemmas that a clause covers at a level.
+fn covers(
+    lemmas: &Lemmas,
+    clause: &[Lit],
+    level: u32,
+    wanted: &[usize],
+) -> Result<bool, AllocError> {
+    let covered = lemmas.covered_by(clause, level)?;
+    let answer = covered.as_slice() == wanted;
+    drop(covered);
+    Ok(answer)
+}
+
+fn low_covers(lemmas: &Lemmas) -> Result<bool, AllocError> {
+    let low = [no(0)];
+    let same = covers(lemmas, &low, 1, &[0])?;
+    let lower = covers(lemmas, &low, 0, &[])?;
+    Ok(same && lower)
+}
+
+fn low_covers_either(
+    alloc: Global,
+    frames: &mut Frames,
+    system: &System,
+) -> Result<bool, AllocError>
+    requires { system.now ≡ latch }
+{
+    let added = inserts_either(alloc, frames, system, Insertion::Added(0))?;
+    let covered = low_covers(frames.all_lemmas())?;
+    Ok(added && covered)
 }
 
 // The lemma that a longer clause is covered by, and the lemmas that the shorter one covers.
@@ -403,12 +535,26 @@ fn covered_by_a_shorter_clause(alloc: Global, system: &System) -> Result<bool, A
     requires { system.now ≡ latch }
 {
     let mut frames = Frames::of_one(alloc, system)?;
-    let proof = either_proof(alloc, system)?;
-    let added = inserts(&mut frames, proof, Insertion::Added(0))?;
-    let low = low_clause(alloc)?;
-    let same = frames.all_lemmas().covered_by(low.as_slice(), 1)?;
-    let lower = frames.all_lemmas().covered_by(low.as_slice(), 0)?;
-    Ok(added && same.as_slice() == [0usize].as_slice() && lower.is_empty())
+    let answer = low_covers_either(alloc, &mut frames, system);
+    drop(frames);
+    answer
+}
+
+// Whether the top is 0, and the only lemma is of level 2.
+fn has_one_of_level_two(frames: &Frames) -> bool {
+    !frames.systems().is_empty()
+        && frames.lemmas() == 1
+        && frames.top(0) == 0
+        && frames.lemma(0).level == 2
+}
+
+// Whether the frames' lemma is carried to the same system.
+fn carries(frames: Frames) -> bool {
+    let same = frames.systems();
+    let later = frames.carry(same);
+    let answer = has_one_of_level_two(&later);
+    drop(later);
+    answer
 }
 
 // The lemma of the latch, carried to the same latch.
@@ -416,13 +562,9 @@ fn carried(alloc: Global, system: &System) -> Result<bool, AllocError>
     requires { system.now ≡ latch }
 {
     let mut frames = one_lemma(alloc, system, 2)?;
-    let opened = opens(alloc, &mut frames, system, 0, Opening::Opened)?;
-    let same = frames.systems();
-    let later = frames.carry(same);
-    if later.systems().is_empty() || later.lemmas() != 1 {
-        return Ok(false);
-    }
-    Ok(opened && later.top(0) == 0 && later.lemma(0).level == 2)
+    let opened = opens(alloc, &mut frames, system, 0, Opening::Opened);
+    let carried = carries(frames);
+    Ok(opened? && carried)
 }
 
 fn found<'a>(
@@ -482,42 +624,49 @@ fn first_state<'a>(alloc: Global, system: &'a System) -> Result<Found<'a>, Alloc
     Ok(state)
 }
 
-// The register's frames with the bad state as obligation 0.
-fn with_last<'a>(alloc: Global, system: &'a System) -> Result<Frames<'a>, Fail>
-    requires { system.now ≡ register }
-    ensures { IfOk result (λ f. f ≡ register_frames (last ∷ [])) }
+fn add_last(alloc: Global, frames: &mut Frames, system: &System) -> Result<(), AllocError>
+    requires system { system.now ≡ register }
+    requires frames { frames.old ≡ register_frames [] }
+    ensures { OnOk result (frames.new ≡ register_frames (last ∷ [])) }
 {
-    let mut frames = Frames::of_one(alloc, system)?;
     let found = last_state(alloc, system)?;
     match frames.add_obligation(0, found, None)? {
-        Noting::Noted(_) => Ok(frames),
-        Noting::OtherSystem { .. } => Err(Fail::new("not noted")),
+        Noting::Noted(_) => Ok(()),
+        Noting::OtherSystem { .. } => Err(AllocError),
     }
 }
 
-// And the state before it as obligation 1.
-fn with_middle<'a>(alloc: Global, system: &'a System) -> Result<Frames<'a>, Fail>
-    requires { system.now ≡ register }
-    ensures { IfOk result (λ f. f ≡ register_frames (last ∷ middle ∷ [])) }
+fn add_middle(alloc: Global, frames: &mut Frames, system: &System) -> Result<(), AllocError>
+    requires system { system.now ≡ register }
+    requires frames { frames.old ≡ register_frames (last ∷ []) }
+    ensures { OnOk result (frames.new ≡ register_frames (last ∷ middle ∷ [])) }
 {
-    let mut frames = with_last(alloc, system)?;
     let found = middle_state(alloc, system)?;
     match frames.add_obligation(0, found, Some(0))? {
-        Noting::Noted(_) => Ok(frames),
-        Noting::OtherSystem { .. } => Err(Fail::new("not noted")),
+        Noting::Noted(_) => Ok(()),
+        Noting::OtherSystem { .. } => Err(AllocError),
     }
 }
 
-// And the first state before that as obligation 2.
-fn with_first<'a>(alloc: Global, system: &'a System) -> Result<Frames<'a>, Fail>
-    requires { system.now ≡ register }
+fn add_first(alloc: Global, frames: &mut Frames, system: &System) -> Result<(), AllocError>
+    requires system { system.now ≡ register }
+    requires frames { frames.old ≡ register_frames (last ∷ middle ∷ []) }
 {
-    let mut frames = with_middle(alloc, system)?;
     let found = first_state(alloc, system)?;
     match frames.add_obligation(0, found, Some(1))? {
-        Noting::Noted(_) => Ok(frames),
-        Noting::OtherSystem { .. } => Err(Fail::new("not noted")),
+        Noting::Noted(_) => Ok(()),
+        Noting::OtherSystem { .. } => Err(AllocError),
     }
+}
+
+// The bad state as obligation 0, the state before it as obligation 1, and the first state before that as obligation 2.
+fn add_all(alloc: Global, frames: &mut Frames, system: &System) -> Result<(), AllocError>
+    requires system { system.now ≡ register }
+    requires frames { frames.old ≡ register_frames [] }
+{
+    add_last(alloc, frames, system)?;
+    add_middle(alloc, frames, system)?;
+    add_first(alloc, frames, system)
 }
 
 // Whether the run has these rows.
@@ -542,26 +691,50 @@ fn is_expected(run: &BitRun) -> bool {
     has_rows(run, &rows)
 }
 
-// The run from the first state that the verdict names.
-fn run_of_verdict(alloc: Global, frames: &Frames) -> Result<Option<BitRun>, AllocError> {
+// Whether the run from that state is the one that is worked by hand.
+fn has_the_run(alloc: Global, frames: &Frames) -> Result<bool, AllocError> {
     if frames.systems().is_empty() {
-        return Ok(None);
+        return Ok(false);
     }
     let Some(Verdict::Reached(n)) = frames.verdict(0) else {
-        return Ok(None);
+        return Ok(false);
     };
     let run = frames.run_of(alloc, n)?;
-    Ok(Some(run))
+    let answer = is_expected(&run);
+    drop(run);
+    Ok(answer)
 }
 
-fn a_run_from_its_first_state_to_the_bad_one(alloc: Global, system: &System) -> Result<bool, Fail>
+fn has_all_and_the_run(
+    alloc: Global,
+    frames: &mut Frames,
+    system: &System,
+) -> Result<bool, AllocError>
+    requires system { system.now ≡ register }
+    requires frames { frames.old ≡ register_frames [] }
+{
+    add_all(alloc, frames, system)?;
+    has_the_run(alloc, frames)
+}
+
+fn a_run_from_its_first_state_to_the_bad_one(
+    alloc: Global,
+    system: &System,
+) -> Result<bool, AllocError>
     requires { system.now ≡ register }
 {
-    let frames = with_first(alloc, system)?;
-    match run_of_verdict(alloc, &frames)? {
-        Some(run) => Ok(is_expected(&run)),
-        None => Ok(false),
-    }
+    let mut frames = Frames::of_one(alloc, system)?;
+    let answer = has_all_and_the_run(alloc, &mut frames, system);
+    drop(frames);
+    answer
+}
+
+fn notes_last(alloc: Global, frames: &mut Frames, system: &System) -> Result<Noting, AllocError>
+    requires system { system.now ≡ register }
+    requires one { length frames.old.systems ≡ 1 }
+{
+    let state = last_state(alloc, system)?;
+    frames.add_obligation(0, state, None)
 }
 
 fn not_noted_in_another_system(
@@ -572,13 +745,13 @@ fn not_noted_in_another_system(
     requires { system.now ≡ register }
 {
     let mut frames = Frames::of_one(alloc, other)?;
-    let state = last_state(alloc, system)?;
-    let answer = frames.add_obligation(0, state, None)?;
+    let answer = notes_last(alloc, &mut frames, system);
+    drop(frames);
     let place = Place::Init(0);
-    Ok(answer == Noting::OtherSystem { place })
+    Ok(answer? == Noting::OtherSystem { place })
 }
 
-fn lemmas_of(alloc: Global, system: &System) -> Result<bool, Fail>
+fn lemmas_of(alloc: Global, system: &System) -> Result<bool, AllocError>
     requires { system.now ≡ latch }
 {
     let held = held_by_a_shorter_lemma(alloc, system)?;
@@ -590,12 +763,14 @@ fn lemmas_of(alloc: Global, system: &System) -> Result<bool, Fail>
     Ok(held && behind && covered && carried && retired && raised)
 }
 
-fn lemmas(alloc: Global) -> Result<bool, Fail> {
+fn lemmas(alloc: Global) -> Result<bool, AllocError> {
     let system = latch_system(alloc)?;
-    lemmas_of(alloc, &system)
+    let answer = lemmas_of(alloc, &system);
+    drop(system);
+    answer
 }
 
-fn top_of(alloc: Global, system: &System) -> Result<bool, Fail>
+fn top_of(alloc: Global, system: &System) -> Result<bool, AllocError>
     requires { system.now ≡ latch }
 {
     let invariant = an_invariant_where_a_level_is_left(alloc, system)?;
@@ -604,17 +779,21 @@ fn top_of(alloc: Global, system: &System) -> Result<bool, Fail>
     Ok(invariant && behind && refused)
 }
 
-fn top(alloc: Global) -> Result<bool, Fail> {
+fn top(alloc: Global) -> Result<bool, AllocError> {
     let system = latch_system(alloc)?;
-    top_of(alloc, &system)
+    let answer = top_of(alloc, &system);
+    drop(system);
+    answer
 }
 
-fn run(alloc: Global) -> Result<bool, Fail> {
+fn run(alloc: Global) -> Result<bool, AllocError> {
     let system = register_system(alloc)?;
-    a_run_from_its_first_state_to_the_bad_one(alloc, &system)
+    let answer = a_run_from_its_first_state_to_the_bad_one(alloc, &system);
+    drop(system);
+    answer
 }
 
-fn refused_of(alloc: Global, system: &System, other: &System) -> Result<bool, Fail>
+fn refused_of(alloc: Global, system: &System, other: &System) -> Result<bool, AllocError>
     requires latch { system.now ≡ latch }
     requires register { other.now ≡ register }
 {
@@ -623,25 +802,40 @@ fn refused_of(alloc: Global, system: &System, other: &System) -> Result<bool, Fa
     Ok(added && noted)
 }
 
-fn refused_by_the_register(alloc: Global, system: &System) -> Result<bool, Fail>
+fn refused_by_the_register(alloc: Global, system: &System) -> Result<bool, AllocError>
     requires { system.now ≡ latch }
 {
     let other = register_system(alloc)?;
-    refused_of(alloc, system, &other)
+    let answer = refused_of(alloc, system, &other);
+    drop(other);
+    answer
 }
 
 // One system is made here and the other in the call: a function that owns both has a long proof.
-fn refused(alloc: Global) -> Result<bool, Fail> {
+fn refused(alloc: Global) -> Result<bool, AllocError> {
     let system = latch_system(alloc)?;
-    refused_by_the_register(alloc, &system)
+    let answer = refused_by_the_register(alloc, &system);
+    drop(system);
+    answer
 }
 
-// Two systems in a list.
-fn pair(alloc: Global, first: System, second: System) -> Result<Vec<System>, AllocError> {
-    let mut systems = Vec::new(alloc);
-    systems.push(first)?;
-    systems.push(second)?;
-    Ok(systems)
+// Adds the latch with more bad states.
+fn push_other(alloc: Global, systems: &mut Vec<System>) -> Result<(), AllocError> {
+    let other = other_bad(alloc)?;
+    systems.push(other)?;
+    Ok(())
+}
+
+fn push_latch(alloc: Global, systems: &mut Vec<System>) -> Result<(), AllocError> {
+    let latch = latch_system(alloc)?;
+    systems.push(latch)?;
+    Ok(())
+}
+
+fn push_register(alloc: Global, systems: &mut Vec<System>) -> Result<(), AllocError> {
+    let register = register_system(alloc)?;
+    systems.push(register)?;
+    Ok(())
 }
 
 // Whether the first top is 2, with an invariant below it, and the second is 0.
@@ -672,43 +866,67 @@ fn is_refused_by_second(
     Ok(opening == Opening::OtherSystem { place })
 }
 
+fn opens_first_alone(
+    alloc: Global,
+    frames: &mut Frames,
+    system: &System,
+) -> Result<bool, AllocError>
+    requires { system.now ≡ latch }
+{
+    let added = inserts_low(alloc, frames, system, 2)?;
+    let refused = is_refused_by_second(alloc, frames, system)?;
+    let opened = opens_twice(alloc, frames, system)?;
+    Ok(added && refused && opened && are_apart(frames))
+}
+
 // One lemma for two systems, and a top for each.
-fn tops_of_two(alloc: Global, system: &System, systems: &[System]) -> Result<bool, Fail>
+fn tops_of_two(alloc: Global, system: &System, systems: &[System]) -> Result<bool, AllocError>
     requires { system.now ≡ latch }
 {
     if systems.is_empty() {
         return Ok(false);
     }
-    if let Some(_) = first_unlike(systems) {
+    if first_unlike(systems).is_some() {
         return Ok(false);
     }
     let mut frames = Frames::new(alloc, systems)?;
-    let proof = low_proof(alloc, system, 2, Vec::new(alloc))?;
-    let added = inserts(&mut frames, proof, Insertion::Added(0))?;
-    let refused = is_refused_by_second(alloc, &mut frames, system)?;
-    let opened = opens_twice(alloc, &mut frames, system)?;
-    Ok(added && refused && opened && are_apart(&frames))
+    let answer = opens_first_alone(alloc, &mut frames, system);
+    drop(frames);
+    answer
 }
 
-fn latches(alloc: Global) -> Result<Vec<System>, Fail> {
-    let first = latch_system(alloc)?;
-    let second = other_bad(alloc)?;
-    let systems = pair(alloc, first, second)?;
-    Ok(systems)
-}
-
-fn two(alloc: Global) -> Result<bool, Fail> {
-    let systems = latches(alloc)?;
+fn tops_of_latches(alloc: Global, systems: &[System]) -> Result<bool, AllocError> {
     let system = latch_system(alloc)?;
-    tops_of_two(alloc, &system, &systems)
+    let answer = tops_of_two(alloc, &system, systems);
+    drop(system);
+    answer
+}
+
+fn two_in(alloc: Global, systems: &mut Vec<System>) -> Result<bool, AllocError> {
+    push_latch(alloc, systems)?;
+    push_other(alloc, systems)?;
+    tops_of_latches(alloc, systems)
+}
+
+fn two(alloc: Global) -> Result<bool, AllocError> {
+    let mut systems = Vec::new(alloc);
+    let answer = two_in(alloc, &mut systems);
+    drop(systems);
+    answer
 }
 
 // Whether the latch and the register differ at their first clause of a first state.
-fn is_unlike_register(alloc: Global) -> Result<bool, Fail> {
-    let first = latch_system(alloc)?;
-    let second = register_system(alloc)?;
-    let systems = pair(alloc, first, second)?;
-    Ok(first_unlike(&systems) == Some((1, Place::Init(0))))
+fn are_unlike_in(alloc: Global, systems: &mut Vec<System>) -> Result<bool, AllocError> {
+    push_latch(alloc, systems)?;
+    push_register(alloc, systems)?;
+    Ok(first_unlike(systems) == Some((1, Place::Init(0))))
+}
+
+fn is_unlike_register(alloc: Global) -> Result<bool, AllocError> {
+    let mut systems = Vec::new(alloc);
+    let answer = are_unlike_in(alloc, &mut systems);
+    drop(systems);
+    answer
 }
 
 #[test]

@@ -5,7 +5,7 @@ ghost use Rattle.bit_graph.specs.Growth.{Extends};
 ghost use Rattle.bit_graph.specs.Meaning.{HasInputs, Stands};
 ghost use Rattle.bit_clauses.specs.Asserted.{EithersStand};
 
-use bit_clauses::{Either, ask, ask_same, decide, define};
+use bit_clauses::{Decided, Defined, Either, ask, ask_same, decide, define};
 use bit_graph::{Edge, Graph};
 use std::alloc::{AllocError, Global};
 use std::test::Fail;
@@ -24,7 +24,6 @@ enum Shape {
 }
 
 // How many clauses and gates come of a shape that is to be true, and of one that is the next value of a variable.
-#[derive(Clone, Copy)]
 struct Row {
     shape: Shape,
     is_next: bool,
@@ -204,19 +203,57 @@ fn ask_for(graph: &Graph, asked: &mut Vec<Either>, e: Edge, is_next: bool) -> Re
     }
 }
 
-fn is_right(alloc: Global, row: Row) -> Result<bool, AllocError> {
-    let mut graph = Graph::new(alloc, 5)?;
-    let e = shaped(&mut graph, row.shape)?;
+fn has_counts(made: &Decided, row: &Row) -> bool {
+    made.clauses.len() == row.clauses && made.vars.checked_sub(7) == Some(row.gates)
+}
+
+fn is_decided(alloc: Global, graph: &Graph, asked: &[Either], row: &Row) -> Result<bool, AllocError>
+    requires inputs { HasInputs 5 graph.now }
+    requires stand { EithersStand graph.now asked.now }
+{
+    let made = decide(alloc, graph, 5, asked, 2)?;
+    let answer = has_counts(&made, row);
+    drop(made);
+    Ok(answer)
+}
+
+fn is_asked(
+    alloc: Global,
+    graph: &Graph,
+    asked: &mut Vec<Either>,
+    e: Edge,
+    row: &Row,
+) -> Result<bool, AllocError>
+    requires inputs { HasInputs 5 graph.now }
+    requires first { 0 < length graph.now }
+    requires e { Stands graph.now e }
+    requires stand { EithersStand graph.now asked.old.items }
+{
+    ask_for(graph, asked, e, row.is_next)?;
+    is_decided(alloc, graph, asked, row)
+}
+
+fn is_right_in(alloc: Global, graph: &mut Graph, row: &Row) -> Result<bool, AllocError>
+    requires inputs { HasInputs 5 graph.old }
+    requires length { 5 < length graph.old }
+{
+    let e = shaped(graph, row.shape)?;
     let mut asked = Vec::new(alloc);
-    ask_for(&graph, &mut asked, e, row.is_next)?;
-    let made = decide(alloc, &graph, 5, &asked, 2)?;
-    let gates = made.vars.checked_sub(7);
-    Ok(made.clauses.len() == row.clauses && gates == Some(row.gates))
+    let answer = is_asked(alloc, graph, &mut asked, e, row);
+    drop(asked);
+    answer
+}
+
+fn is_right(alloc: Global, row: &Row) -> Result<bool, AllocError> {
+    let mut graph = Graph::new(alloc, 5)?;
+    let answer = is_right_in(alloc, &mut graph, row);
+    drop(graph);
+    answer
 }
 
 fn first_wrong(alloc: Global) -> Result<Option<Shape>, AllocError> {
     for row in &ROWS {
-        if !is_right(alloc, *row)? {
+        if !is_right(alloc, row)? {
             return Ok(Some(row.shape));
         }
     }
@@ -229,12 +266,26 @@ fn few_clauses_come_of_conditions(rt: HostRuntime) -> Result<(), Fail> {
     Ok(())
 }
 
+fn has_definitions(made: &Defined) -> bool {
+    made.vars == 10 && made.clauses.len() == 10 && made.literals.as_slice().len() == 2
+}
+
+fn is_defined_in(alloc: Global, graph: &mut Graph) -> Result<bool, AllocError>
+    requires inputs { HasInputs 5 graph.old }
+    requires length { 5 < length graph.old }
+{
+    let e = choice_of_exclusive_or(graph)?;
+    let made = define(alloc, graph, 5, &[e, Edge::to(0)], 3)?;
+    let answer = has_definitions(&made);
+    drop(made);
+    Ok(answer)
+}
+
 fn is_defined(alloc: Global) -> Result<bool, AllocError> {
     let mut graph = Graph::new(alloc, 5)?;
-    let e = choice_of_exclusive_or(&mut graph)?;
-    let made = define(alloc, &graph, 5, &[e, Edge::to(0)], 3)?;
-    let literals = made.literals.as_slice();
-    Ok(made.vars == 10 && made.clauses.len() == 10 && literals.len() == 2)
+    let answer = is_defined_in(alloc, &mut graph);
+    drop(graph);
+    answer
 }
 
 #[test]

@@ -100,18 +100,42 @@ fn build(
     }
 }
 
-// What the graph's edges give for two words and a bit, which are the 7 bits of the operands.
-fn found(alloc: Global, graph: &Graph, edges: &[Edge], operands: u8) -> Result<i32, AllocError> {
+fn bits_of(alloc: Global, operands: u8) -> Result<Vec<bool>, AllocError> {
     let mut values = Vec::new(alloc);
     for k in 0..7u8 {
         values.push(operands >> k & 1 != 0)?;
     }
-    let known = evaluate(alloc, graph, &values)?;
+    Ok(values)
+}
+
+fn known_of(alloc: Global, graph: &Graph, operands: u8) -> Result<Vec<bool>, AllocError> {
+    let values = bits_of(alloc, operands)?;
+    let known = evaluate(alloc, graph, &values);
+    drop(values);
+    known
+}
+
+fn value_of(known: &[bool], e: Edge) -> bool {
+    match known.get(e.node) {
+        Some(value) => *value != e.negated,
+        None => false,
+    }
+}
+
+fn number_of(known: &[bool], edges: &[Edge]) -> i32 {
     let mut number = 0i32;
     for e in edges.iter().rev() {
-        let bit = known.get(e.node).is_some_and(|v| *v != e.negated);
+        let bit = value_of(known, *e);
         number = number.saturating_mul(2).saturating_add(i32::from(bit));
     }
+    number
+}
+
+// What the graph's edges give for two words and a bit, which are the 7 bits of the operands.
+fn found(alloc: Global, graph: &Graph, edges: &[Edge], operands: u8) -> Result<i32, AllocError> {
+    let known = known_of(alloc, graph, operands)?;
+    let number = number_of(&known, edges);
+    drop(known);
     Ok(number)
 }
 
@@ -174,12 +198,54 @@ fn first_wrong(
     Ok(None)
 }
 
+fn is_built(
+    alloc: Global,
+    graph: &mut Graph,
+    operator: Operator,
+    a: &[Edge],
+    b: &[Edge],
+) -> Result<bool, AllocError>
+    requires lengths { length a.now ≡ length b.now }
+    requires a_stand { AllStand graph.old a.now }
+    requires b_stand { AllStand graph.old b.now }
+    requires inputs { 7 ≤ length graph.old }
+{
+    let edges = build(alloc, graph, operator, a, b, Edge::to(6))?;
+    let wrong = first_wrong(alloc, graph, &edges, operator);
+    drop(edges);
+    Ok(wrong?.is_none())
+}
+
+fn is_built_of(
+    alloc: Global,
+    graph: &mut Graph,
+    operator: Operator,
+    a: &[Edge],
+) -> Result<bool, AllocError>
+    requires length { length a.now ≡ 3 }
+    requires stand { AllStand graph.old a.now }
+    requires inputs { 7 ≤ length graph.old }
+{
+    let b = inputs(alloc, graph, 3)?;
+    let answer = is_built(alloc, graph, operator, a, &b);
+    drop(b);
+    answer
+}
+
+fn is_right_in(alloc: Global, graph: &mut Graph, operator: Operator) -> Result<bool, AllocError>
+    requires { 7 ≤ length graph.old }
+{
+    let a = inputs(alloc, graph, 0)?;
+    let answer = is_built_of(alloc, graph, operator, &a);
+    drop(a);
+    answer
+}
+
 fn is_right(alloc: Global, operator: Operator) -> Result<bool, AllocError> {
     let mut graph = Graph::new(alloc, 7)?;
-    let a = inputs(alloc, &graph, 0)?;
-    let b = inputs(alloc, &graph, 3)?;
-    let edges = build(alloc, &mut graph, operator, &a, &b, Edge::to(6))?;
-    Ok(first_wrong(alloc, &graph, &edges, operator)?.is_none())
+    let answer = is_right_in(alloc, &mut graph, operator);
+    drop(graph);
+    answer
 }
 
 fn first_wrong_operator(alloc: Global) -> Result<Option<Operator>, AllocError> {

@@ -142,7 +142,7 @@ const DECLARED: [Case; 23] = [
 ];
 
 // Rules that an operator and its operands break.
-const OPERANDS: [Case; 37] = [
+const OPERANDS: [Case; 39] = [
     (
         "check",
         "MODULE main\nVAR x : 0..3;\nINIT x & TRUE\n",
@@ -317,6 +317,18 @@ const OPERANDS: [Case; 37] = [
     ),
     (
         "check",
+        "MODULE main\nVAR x : boolean; w : word[2];\nLTLSPEC w[x:0]\n",
+        "-- refused 401 TypeMismatch at 3:10\n",
+        3,
+    ),
+    (
+        "check",
+        "MODULE main\nVAR x : boolean;\nLTLSPEC F [x,2] x\n",
+        "-- refused 404 NotConstant at 3:9\n",
+        3,
+    ),
+    (
+        "check",
         "MODULE main\nVAR x : 0..46340;\nINIT x * x >= 0\n",
         "",
         0,
@@ -374,7 +386,7 @@ const OPERANDS: [Case; 37] = [
 ];
 
 // Arrays: those of inputs, bounds of temporal operators, roots, and what is assigned.
-const ARRAYS: [Case; 22] = [
+const ARRAYS: [Case; 25] = [
     // The name of an input array comes before its indices, wherever they lead.
     (
         "check",
@@ -417,6 +429,25 @@ const ARRAYS: [Case; 22] = [
         "check",
         "MODULE main\nVAR x : boolean;\nLTLSPEC F [-1, 0] x\n",
         "-- refused 413 BadBound at 3:9: -1,0\n",
+        3,
+    ),
+    // They are whole numbers, whatever their parts are.
+    (
+        "check",
+        "MODULE main\nVAR x : boolean;\nLTLSPEC F [2147483647 * 4, 0] x\n",
+        "-- refused 413 BadBound at 3:9: 8589934588,0\n",
+        3,
+    ),
+    (
+        "check",
+        "MODULE main\nVAR x : boolean;\nLTLSPEC H [2147483647 * 4 / 2147483647, 0] x\n",
+        "-- refused 413 BadBound at 3:9: 4,0\n",
+        3,
+    ),
+    (
+        "check",
+        "MODULE main\nVAR x : boolean;\nDEFINE m := 2147483647;\nLTLSPEC F [0, m * m * m * m * m] x\n",
+        "-- refused 413 BadBound at 4:9\n",
         3,
     ),
     (

@@ -2,6 +2,7 @@
 ghost use Rattle.std.specs.Prelude.{◌≡◌, ◌++◌, IfOk, string_bytes, codes, decimal};
 ghost use Rattle.sat_bench.specs.Verdicts.{line_of};
 
+use crate::kept::Tally;
 use crate::solving::{Outcome, Verdict};
 use std::alloc::{AllocError, Global};
 
@@ -23,4 +24,16 @@ pub fn report(alloc: Global, outcome: &Outcome) -> Result<String, AllocError>
     let answer = line(outcome.verdict);
     let conflicts = outcome.conflicts;
     format!(in alloc; "{answer}\nc conflicts {conflicts}")
+}
+
+/// A line for each answer, with the count of queries that had it.
+pub fn report_kept(alloc: Global, tally: &Tally) -> Result<String, AllocError>
+    ensures { IfOk result (λ text. string_bytes text ≡ codes "q satisfiable " ++ (decimal tally.now.satisfiable ++ (codes "\nq unsatisfiable " ++ (decimal tally.now.unsatisfiable ++ (codes "\nq unknown " ++ decimal tally.now.unknown))))) }
+{
+    let satisfiable = tally.satisfiable;
+    let unsatisfiable = tally.unsatisfiable;
+    let unknown = tally.unknown;
+    format!(in alloc;
+        "q satisfiable {satisfiable}\nq unsatisfiable {unsatisfiable}\nq unknown {unknown}"
+    )
 }

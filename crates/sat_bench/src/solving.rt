@@ -28,7 +28,8 @@ pub struct Outcome {
     pub conflicts: u64,
 }
 
-type Engine = Solver<Watched>;
+/// A solver with watched literals.
+pub type Engine = Solver<Watched>;
 
 // The verdict of the solver's answer.
 fn verdict_of(answer: Answer) -> Verdict

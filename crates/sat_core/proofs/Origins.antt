@@ -85,6 +85,27 @@ learned_take (false ∷ marks) [] c e = ap (λ ys. c ∷ ys) (learned_nil marks)
 learned_take (true ∷ marks) (d ∷ cs) c e = learned_take marks cs c e
 learned_take (false ∷ marks) (d ∷ cs) c e = ap (λ ys. d ∷ ys) (learned_take marks cs c e)
 
+pub given_nil : (marks : List Bool) → given_of marks [] ≡ []
+given_nil [] = refl
+given_nil (mark ∷ marks) = refl
+
+-- the same, of the clauses that were given
+pub given_take : (marks : List Bool) (cs : List (List Lit)) (c : List Lit) → get_or marks (length cs) false ≡ true →
+    given_of marks (cs ++ c ∷ []) ≡ given_of marks cs ++ c ∷ []
+given_take [] cs c e = let f : false ≡ true = e in cc
+given_take (true ∷ marks) [] c e = ap (λ ys. c ∷ ys) (given_nil marks) ∙ ap (λ ys. ys ++ c ∷ []) (sym (given_nil (true ∷ marks)))
+given_take (false ∷ marks) [] c e = let f : false ≡ true = e in cc
+given_take (true ∷ marks) (d ∷ cs) c e = ap (λ ys. d ∷ ys) (given_take marks cs c e)
+given_take (false ∷ marks) (d ∷ cs) c e = given_take marks cs c e
+
+pub given_skip : (marks : List Bool) (cs : List (List Lit)) (c : List Lit) → get_or marks (length cs) false ≡ false →
+    given_of marks (cs ++ c ∷ []) ≡ given_of marks cs
+given_skip [] cs c e = refl
+given_skip (true ∷ marks) [] c e = let f : true ≡ false = e in cc
+given_skip (false ∷ marks) [] c e = given_nil marks
+given_skip (true ∷ marks) (d ∷ cs) c e = ap (λ ys. d ∷ ys) (given_skip marks cs c e)
+given_skip (false ∷ marks) (d ∷ cs) c e = given_skip marks cs c e
+
 pub in_tail : (c : List Lit) (cs : List (List Lit)) (x : List Lit) → Contains cs x → Contains (c ∷ cs) x
 in_tail c cs x h = Contains-append_right (c ∷ []) cs x h
 

@@ -73,7 +73,7 @@ fn model_of(alloc: Global, trail: &Trail) -> Result<Vec<bool>, AllocError>
 }
 
 // Whether clause number k is marked as given.
-fn is_given(marks: &[bool], k: usize) -> bool
+pub fn is_given(marks: &[bool], k: usize) -> bool
     ensures { result ≡ slice_index_or marks.now k false }
 {
     if k < marks.len() { marks[k] } else { false }

@@ -3,17 +3,18 @@
 
 ghost use Rattle.std.specs.Prelude.{◌≡◌, ◌-◌, ◌++◌, [], ◌∷◌, IfOk, OnOk, OnErr, All, length};
 ghost use Rattle.clause_core.specs.Literals.{Within};
-ghost use Rattle.sat_core.specs.Queries.{State, Learns, IsSound, AnswerSays, IsPaid, log_of};
+ghost use Rattle.sat_core.specs.Queries.{State, given_of, Learns, IsSound, AnswerSays, IsPaid, log_of};
 ghost use Rattle.sat_core.specs.Paying.{PaysForOne};
 
 use crate::answer::Answer;
 use crate::order::Order;
-use crate::query::{add_on, ask, learned_count, log_of as query_log};
+use crate::query::{add_on, ask, is_given, learned_count, log_of as query_log};
 use clause_core::{Clause, Clauses, Lit, Log};
 use effort_purse::Purse;
 use sat_prop::Propagator;
 use std::alloc::{AllocError, Global};
 use std::marker::Model;
+use std::mem::swap;
 
 /// Clauses, given and learned: it answers whether an assignment satisfies them.
 ///
@@ -40,6 +41,24 @@ impl<P: Propagator + Drop> Model for Solver<P> {
     ghost view = { λ s. state_of (length (P.trail s.inner).values.items) s.marks.items (P.clauses s.inner) };
 
     ghost invariant = { λ s. Keeps (length (P.trail s.inner).values.items) s.marks.items (P.clauses s.inner) × (s.given ≡ length (given_of s.marks.items (P.clauses s.inner))) };
+}
+
+// A solver that was given the clauses of these that are marked as given, and has learned none.
+fn with_given_clauses<P: Propagator + Drop>(
+    alloc: Global,
+    inner: &P,
+    marks: &[bool],
+) -> Result<Solver<P>, AllocError>
+    ensures { IfOk result (λ s. s ≡ record { vars = length (P.trail inner.now).values.items; given = given_of marks.now (P.clauses inner.now); learned = [] }) }
+{
+    let vars = inner.assignment().values.as_slice().len();
+    let mut solver = Solver::new(alloc, vars)?;
+    'clauses: for k in 0..inner.clause_count() {
+        if is_given(marks, k) {
+            solver.push(inner.clause(k))?;
+        }
+    }
+    Ok(solver)
 }
 
 impl<P: Propagator + Drop> Solver<P> {
@@ -110,6 +129,21 @@ impl<P: Propagator + Drop> Solver<P> {
         ensures { result ≡ length self.now.learned }
     {
         learned_count(&self.inner, self.given, &self.marks)
+    }
+
+    /// Forgets what was learned: later queries begin with the given clauses alone, and with what is known of which
+    /// variables to decide first. Takes time and memory as adding the given clauses did. If memory runs out, all is as
+    /// before.
+    ///
+    /// For a solver that is kept over many queries: what was learned long ago costs each query more than it saves.
+    pub fn forget(&mut self, alloc: Global) -> Result<(), AllocError>
+        ensures done { OnOk result (self.new ≡ record self.old { learned = [] }) }
+        ensures failed { OnErr result (self.new ≡ self.old) }
+    {
+        let mut solver = with_given_clauses(alloc, &self.inner, &self.marks)?;
+        swap(&mut solver.order, &mut self.order);
+        *self = solver;
+        Ok(())
     }
 
     /// From now on the variable is decided only once all others are set, and false, as suits an activation literal that a

@@ -6,5 +6,6 @@ pub mod ExpressionsAlike
 pub mod Temporals
 pub mod Conditionals
 pub mod Links
+pub mod Linked
 pub mod Loops
 pub mod Enclosed

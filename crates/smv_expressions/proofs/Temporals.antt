@@ -29,7 +29,7 @@ module _ (room : ℕ) where
 
   -- behind a temporal operator nothing, behind a plain operand what makes it a relation
   abbrev pub behind : Denied × List Token → Read Token Expr
-  behind x = cond x.0.0 (Ok (x.0.1, x.1)) ((links_within rank.Concatenation room).parse x.1 >>= λ y. relation (chain_of x.0.1 y.0, y.1))
+  behind x = cond x.0.0 (Ok (x.0.1, x.1)) ((to (chain_of x.0.1) (links_within rank.Concatenation room)).parse x.1 >>= relation)
 
   abbrev pair : Expr → Read Token (List (List Link)) → Read Token (Expr × List (List Link))
   pair first read = read >>= λ y. Ok ((first, y.0), y.1)
@@ -63,7 +63,7 @@ module _ (room : ℕ) where
   tail_read x first links (Ok y) = refl
   tail_read x first links (Err e) = refl
 
-  tail_reads : (x : Denied) (first : Expr) (read : Read Token (List Link)) → kept x (joined first (listed (cut read))) ≡ (read >>= λ y. relation (chain_of first y.0, y.1))
+  tail_reads : (x : Denied) (first : Expr) (read : Read Token (List Link)) → kept x (joined first (listed (cut read))) ≡ ((read >>= λ y. Ok (chain_of first y.0, y.1)) >>= relation)
   tail_reads x first (Ok y) = tail_read x first y.0 ((compared (is_zero room) (under 0 room)).parse y.1)
   tail_reads x first (Err e) = refl
 

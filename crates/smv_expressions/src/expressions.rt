@@ -1,7 +1,7 @@
 //! Expressions and the limits of types, read from the front of tokens (NuSMV 2.6 User Manual, 2.2).
 
 ghost use Rattle.std.specs.Prelude.{◌≡◌, [], ◌∷◌, false, Some, None};
-ghost use Rattle.phrase_forms.specs.Forms.{token, to, maybe, head, ◌⨾◌, ◌▹◌};
+ghost use Rattle.phrase_forms.specs.Forms.{token, to, maybe, head, ◌⨾◌, ◌▹◌, ◌◃◌};
 ghost use Rattle.smv_tree.specs.declared.tree.Expr.TheVariants as expr;
 ghost use Rattle.smv_tree.specs.declared.token.TokenKind.TheVariants as kind;
 ghost use Rattle.smv_phrases.specs.declared.names.NameStart.TheVariants as may;
@@ -9,10 +9,12 @@ ghost use Rattle.smv_phrases.specs.Names.{just, name_from, opening};
 ghost use Rattle.smv_phrases.specs.Lists.{further, listed};
 ghost use Rattle.smv_phrases.specs.Reading.{Gives};
 ghost use Rattle.smv_expressions.specs.Operators.{is_function, is_step_operator, is_timed_operator};
-ghost use Rattle.smv_expressions.specs.Expressions.{Link, integers, parenthesised, group_of, members, set_of, branch, turns, cases, case_of, arguments, call_of, function_or_name, next_or_call, compound, primary, selection, selected_by, selected, inverted, negated, negation, bounds_end, bounds, denied_again, stepped, timed_of, denied, chained, compared, temporal, timed, choices, chosen_by, conditional, placed_minus, placed_group, limit_start, limit_negation, limited, is_zero, under, expression_within, limit_within, limit_start_within, limited_within, index_within};
+ghost use Rattle.smv_expressions.specs.Expressions.{Link, integers, parenthesised, group_of, members, set_of, branch, turns, cases, case_of, arguments, call_of, function_or_name, next_or_call, compound, primary, selection, selected_by, selected, inverted, negated, negation, bounds_end, bounds, denied_again, stepped, timed_of, denied, chain_of, chained, compared, temporal, timed, choices, chosen_by, conditional, implication_of, placed_minus, placed_group, limit_start, limit_negation, limited, is_zero, under, expression_within, limit_within, limit_start_within, limited_within, index_within};
 ghost use Rattle.smv_expressions.specs.Ranks.{operand_within, link_within, links_within, phrase_within};
 
-use crate::nodes::{Link, chain_of, one, over_all, selected_by, two};
+use crate::nodes::{
+    Link, bounds_of, chain_of, chosen_by, implication_of, one, over_all, selected_by, two,
+};
 use crate::ranks::Rank;
 use crate::temporal::{
     below, is_step_operator, is_timed_operator, step_token, stepping, timed_by, timed_token, timing,
@@ -26,7 +28,7 @@ use smv_phrases::{
     NameStart, Stop, begins, identifier_of, is_kind, just, name_from, opening, place_of,
 };
 use smv_tree::{Expr, Name, Place, Start, Token, TokenKind};
-use smv_value::{FaultRule, Logic, Operator};
+use smv_value::{FaultRule, Operator};
 use sqlite_items::{Boxed, Items};
 use std::alloc::Global;
 
@@ -137,6 +139,21 @@ fn set<'a>(alloc: Global, room: usize, tokens: &'a [Token]) -> Result<(Expr, &'a
     Ok((over_all(alloc, brace.place, Operator::Members, all), tokens))
 }
 
+/// `:` expression `;`
+#[cycle(expressions)]
+fn branch_value<'a>(
+    alloc: Global,
+    room: usize,
+    tokens: &'a [Token],
+) -> Result<(Expr, &'a [Token]), Stop<'a>>
+    ensures { Gives (λ x. (x.0, x.1.now)) result ((just kind.Colon ▹ expression_within 0 room ◃ just kind.Semicolon).parse tokens.now) }
+{
+    let (_, tokens) = just(TokenKind::Colon, tokens)?;
+    let (value, tokens) = expression(alloc, room, tokens)?;
+    let (_, tokens) = just(TokenKind::Semicolon, tokens)?;
+    Ok((value, tokens))
+}
+
 /// Expression `:` expression `;`
 #[cycle(expressions)]
 fn branch<'a>(
@@ -147,9 +164,7 @@ fn branch<'a>(
     ensures { Gives (λ x. ((x.0.0, x.0.1), x.1.now)) result ((branch (expression_within 0 room)).parse tokens.now) }
 {
     let (condition, tokens) = expression(alloc, room, tokens)?;
-    let (_, tokens) = just(TokenKind::Colon, tokens)?;
-    let (value, tokens) = expression(alloc, room, tokens)?;
-    let (_, tokens) = just(TokenKind::Semicolon, tokens)?;
+    let (value, tokens) = branch_value(alloc, room, tokens)?;
     Ok(((condition, value), tokens))
 }
 
@@ -320,10 +335,51 @@ fn low<'a>(
     Ok((Some(low), tokens))
 }
 
-/// What is selected of an expression between `[` and `]`.
+/// `:` expression, or nothing; and `]`.
 #[cycle(expressions)]
-#[tactic(auto, using(crate::proofs::Levels::under_expression, crate::proofs::Levels::under_low))]
+fn selection_end<'a>(
+    alloc: Global,
+    room: usize,
+    tokens: &'a [Token],
+) -> Result<(Option<Expr>, &'a [Token]), Stop<'a>>
+    ensures { Gives (λ x. (x.0, x.1.now)) result ((maybe (just kind.Colon ▹ expression_within 0 room) ◃ just kind.RightBracket).parse tokens.now) }
+{
+    let (low, tokens) = low(alloc, room, tokens)?;
+    let (_, tokens) = just(TokenKind::RightBracket, tokens)?;
+    Ok((low, tokens))
+}
+
+/// Expression, `:` expression or nothing, and `]`.
+#[cycle(expressions)]
+fn selection_inner<'a>(
+    alloc: Global,
+    room: usize,
+    tokens: &'a [Token],
+) -> Result<((Expr, Option<Expr>), &'a [Token]), Stop<'a>>
+    ensures { Gives (λ x. ((x.0.0, x.0.1), x.1.now)) result ((expression_within 0 room ⨾ maybe (just kind.Colon ▹ expression_within 0 room) ◃ just kind.RightBracket).parse tokens.now) }
+{
+    let (first, tokens) = expression(alloc, room, tokens)?;
+    let (second, tokens) = selection_end(alloc, room, tokens)?;
+    Ok(((first, second), tokens))
+}
+
+/// `[` expression `]`, or `[` expression `:` expression `]`: the opening token and the expressions.
+#[cycle(expressions)]
 fn selection<'a>(
+    alloc: Global,
+    room: usize,
+    tokens: &'a [Token],
+) -> Result<((&'a Token, Expr, Option<Expr>), &'a [Token]), Stop<'a>>
+    ensures { Gives (λ x. ((x.0.0.now, (x.0.1, x.0.2)), x.1.now)) result ((selection (is_zero room) (under 0 room).expression).parse tokens.now) }
+{
+    let (bracket, tokens) = opening(is_closed(room), TokenKind::LeftBracket, tokens)?;
+    let ((first, second), tokens) = selection_inner(alloc, room - 1, tokens)?;
+    Ok(((bracket, first, second), tokens))
+}
+
+/// What is selected of this expression between `[` and `]`.
+#[cycle(expressions)]
+fn selected_part<'a>(
     alloc: Global,
     room: usize,
     whole: Expr,
@@ -331,11 +387,7 @@ fn selection<'a>(
 ) -> Result<(Expr, &'a [Token]), Stop<'a>>
     ensures { Gives (λ x. (x.0, x.1.now)) result ((to (selected_by whole) (selection (is_zero room) (under 0 room).expression)).parse tokens.now) }
 {
-    let (bracket, tokens) = opening(is_closed(room), TokenKind::LeftBracket, tokens)?;
-    let under = room - 1;
-    let (first, tokens) = expression(alloc, under, tokens)?;
-    let (second, tokens) = low(alloc, under, tokens)?;
-    let (_, tokens) = just(TokenKind::RightBracket, tokens)?;
+    let ((bracket, first, second), tokens) = selection(alloc, room, tokens)?;
     let selected = selected_by(alloc, whole, bracket, first, second)?;
     Ok((selected, tokens))
 }
@@ -362,7 +414,7 @@ fn selected<'a>(
             return Err(Stop::NoMemory);
         }
         count += 1;
-        let (more, after) = selection(alloc, room, whole, rest)?;
+        let (more, after) = selected_part(alloc, room, whole, rest)?;
         whole = more;
         rest = after;
     }
@@ -493,7 +545,7 @@ fn denied<'a>(
 
 /// A negation, and what makes it a relation.
 #[cycle(expressions)]
-#[tactic(auto, unfolding(crate::specs::Expressions::compared, crate::specs::Ranks::links_within, crate::specs::Ranks::operand_within))]
+#[tactic(auto, using(crate::proofs::Linked::compared_reads))]
 fn compared<'a>(
     alloc: Global,
     room: usize,
@@ -502,19 +554,12 @@ fn compared<'a>(
 ) -> Result<(Expr, &'a [Token]), Stop<'a>>
     ensures { Gives (λ x. (x.0, x.1.now)) result ((to (chained first) (compared (is_zero room) (under 0 room))).parse tokens.now) }
 {
-    let (factors, tokens) = links(alloc, Rank::Product, room, tokens)?;
-    let product = chain_of(alloc, first, factors)?;
-    let (terms, tokens) = links(alloc, Rank::Sum, room, tokens)?;
-    let sum = chain_of(alloc, product, terms)?;
-    let (amounts, tokens) = links(alloc, Rank::Shift, room, tokens)?;
-    let shifted = chain_of(alloc, sum, amounts)?;
-    let (sets, tokens) = links(alloc, Rank::Union, room, tokens)?;
-    let union = chain_of(alloc, shifted, sets)?;
-    let (wholes, tokens) = links(alloc, Rank::Membership, room, tokens)?;
-    let membership = chain_of(alloc, union, wholes)?;
-    let (others, tokens) = links(alloc, Rank::Relation, room, tokens)?;
-    let relation = chain_of(alloc, membership, others)?;
-    Ok((relation, tokens))
+    let (product, tokens) = linked(alloc, Rank::Product, room, first, tokens)?;
+    let (sum, tokens) = linked(alloc, Rank::Sum, room, product, tokens)?;
+    let (shifted, tokens) = linked(alloc, Rank::Shift, room, sum, tokens)?;
+    let (union, tokens) = linked(alloc, Rank::Union, room, shifted, tokens)?;
+    let (membership, tokens) = linked(alloc, Rank::Membership, room, union, tokens)?;
+    linked(alloc, Rank::Relation, room, membership, tokens)
 }
 
 /// An operand of temporal operators: `!` is over a temporal operator as a whole, and over the first operand of a relation.
@@ -535,9 +580,23 @@ fn temporal<'a>(
     if is_temporal {
         return Ok((first, tokens));
     }
-    let (words, tokens) = links(alloc, Rank::Concatenation, room, tokens)?;
-    let first = chain_of(alloc, first, words)?;
+    let (first, tokens) = linked(alloc, Rank::Concatenation, room, first, tokens)?;
     compared(alloc, room, first, tokens)
+}
+
+/// `,` limit `]`
+#[cycle(expressions)]
+fn upper_bound<'a>(
+    alloc: Global,
+    room: usize,
+    tokens: &'a [Token],
+) -> Result<(Expr, &'a [Token]), Stop<'a>>
+    ensures { Gives (λ x. (x.0, x.1.now)) result ((just kind.Comma ▹ limit_within 0 room ◃ just kind.RightBracket).parse tokens.now) }
+{
+    let (_, tokens) = just(TokenKind::Comma, tokens)?;
+    let (high, tokens) = limit(alloc, room, tokens)?;
+    let (_, tokens) = just(TokenKind::RightBracket, tokens)?;
+    Ok((high, tokens))
 }
 
 /// Limit `,` limit `]`
@@ -550,9 +609,7 @@ fn bounds_end<'a>(
     ensures { Gives (λ x. ((x.0.0, x.0.1), x.1.now)) result ((bounds_end (limit_within 0 room)).parse tokens.now) }
 {
     let (low, tokens) = limit(alloc, room, tokens)?;
-    let (_, tokens) = just(TokenKind::Comma, tokens)?;
-    let (high, tokens) = limit(alloc, room, tokens)?;
-    let (_, tokens) = just(TokenKind::RightBracket, tokens)?;
+    let (high, tokens) = upper_bound(alloc, room, tokens)?;
     Ok(((low, high), tokens))
 }
 
@@ -567,12 +624,9 @@ fn bounds<'a>(
     ensures { Gives (λ x. ((x.0.0, x.0.1), x.1.now)) result ((bounds (is_zero room) (under 0 room)).parse tokens.now) }
 {
     let (bracket, tokens) = opening(is_closed(room), TokenKind::LeftBracket, tokens)?;
-    let ((low, high), tokens) = bounds_end(alloc, room - 1, tokens)?;
-    let low = Boxed::new(alloc, low)?;
-    let high = Boxed::new(alloc, high)?;
-    let low = Expr::Group(bracket.place, low);
-    let high = Expr::Group(bracket.place, high);
-    Ok(((low, high), tokens))
+    let (bounds, tokens) = bounds_end(alloc, room - 1, tokens)?;
+    let bounds = bounds_of(alloc, bracket, bounds)?;
+    Ok((bounds, tokens))
 }
 
 /// Bounds, or nothing.
@@ -672,9 +726,25 @@ fn links<'a>(
     Ok((links, rest))
 }
 
+/// This operand of the rank, and any number more behind its operators.
+#[cycle(expressions)]
+fn linked<'a>(
+    alloc: Global,
+    rank: Rank,
+    room: usize,
+    first: Expr,
+    tokens: &'a [Token],
+) -> Result<(Expr, &'a [Token]), Stop<'a>>
+    ensures { Gives (λ x. (x.0, x.1.now)) result ((to (chain_of first) (links_within rank room)).parse tokens.now) }
+{
+    let (links, tokens) = links(alloc, rank, room, tokens)?;
+    let whole = chain_of(alloc, first, links)?;
+    Ok((whole, tokens))
+}
+
 /// An operand of the rank, and any number more behind its operators.
 #[cycle(expressions)]
-#[tactic(auto, unfolding(crate::specs::Ranks::phrase_within, crate::specs::Ranks::links_within))]
+#[tactic(auto, using(crate::proofs::Linked::phrase_reads))]
 fn phrase_of<'a>(
     alloc: Global,
     rank: Rank,
@@ -684,14 +754,39 @@ fn phrase_of<'a>(
     ensures { Gives (λ x. (x.0, x.1.now)) result ((phrase_within rank room).parse tokens.now) }
 {
     let (first, tokens) = operand_of(alloc, rank, room, tokens)?;
-    let (links, tokens) = links(alloc, rank, room, tokens)?;
-    let whole = chain_of(alloc, first, links)?;
-    Ok((whole, tokens))
+    linked(alloc, rank, room, first, tokens)
+}
+
+/// `:` conditional
+#[cycle(expressions)]
+fn otherwise<'a>(
+    alloc: Global,
+    room: usize,
+    tokens: &'a [Token],
+) -> Result<(Expr, &'a [Token]), Stop<'a>>
+    ensures { Gives (λ x. (x.0, x.1.now)) result ((just kind.Colon ▹ conditional (is_zero room) (under 0 room)).parse tokens.now) }
+{
+    let (_, tokens) = just(TokenKind::Colon, tokens)?;
+    let (second, tokens) = conditional(alloc, room, tokens)?;
+    Ok((second, tokens))
+}
+
+/// Expression `:` conditional
+#[cycle(expressions)]
+fn choices_inner<'a>(
+    alloc: Global,
+    room: usize,
+    tokens: &'a [Token],
+) -> Result<((Expr, Expr), &'a [Token]), Stop<'a>>
+    ensures { Gives (λ x. ((x.0.0, x.0.1), x.1.now)) result ((expression_within 0 room ⨾ just kind.Colon ▹ conditional (is_zero room) (under 0 room)).parse tokens.now) }
+{
+    let (first, tokens) = expression(alloc, room, tokens)?;
+    let (second, tokens) = otherwise(alloc, room, tokens)?;
+    Ok(((first, second), tokens))
 }
 
 /// `?` expression `:` conditional
 #[cycle(expressions)]
-#[tactic(auto, using(crate::proofs::Levels::under_expression, crate::proofs::Levels::under_conditional))]
 fn choices<'a>(
     alloc: Global,
     room: usize,
@@ -700,10 +795,7 @@ fn choices<'a>(
     ensures { Gives (λ x. ((x.0.0.now, (x.0.1, x.0.2)), x.1.now)) result ((choices (is_zero room) (under 0 room)).parse tokens.now) }
 {
     let (question, tokens) = opening(is_closed(room), TokenKind::Question, tokens)?;
-    let under = room - 1;
-    let (first, tokens) = expression(alloc, under, tokens)?;
-    let (_, tokens) = just(TokenKind::Colon, tokens)?;
-    let (second, tokens) = conditional(alloc, under, tokens)?;
+    let ((first, second), tokens) = choices_inner(alloc, room - 1, tokens)?;
     Ok(((question, first, second), tokens))
 }
 
@@ -718,10 +810,7 @@ fn chosen<'a>(
     ensures { Gives (λ x. (x.0, x.1.now)) result ((to (chosen_by condition) (choices (is_zero room) (under 0 room))).parse tokens.now) }
 {
     let ((question, first, second), tokens) = choices(alloc, room, tokens)?;
-    let beside = one(alloc, condition)?;
-    let below = two(alloc, first, second)?;
-    let operator = Operator::Choice(FaultRule::CaseOpen);
-    let chosen = Expr::Apply(question.place, operator, beside, below);
+    let chosen = chosen_by(alloc, condition, question, first, second)?;
     Ok((chosen, tokens))
 }
 
@@ -743,6 +832,35 @@ fn conditional<'a>(
     }
 }
 
+/// `->` expression: the arrow and the expression.
+#[cycle(expressions)]
+fn right_side<'a>(
+    alloc: Global,
+    room: usize,
+    tokens: &'a [Token],
+) -> Result<((&'a Token, Expr), &'a [Token]), Stop<'a>>
+    ensures { Gives (λ x. ((x.0.0.now, x.0.1), x.1.now)) result ((opening (is_zero room) kind.Implies ⨾ (under 0 room).expression).parse tokens.now) }
+{
+    let (arrow, tokens) = opening(is_closed(room), TokenKind::Implies, tokens)?;
+    let (right, tokens) = expression(alloc, room - 1, tokens)?;
+    Ok(((arrow, right), tokens))
+}
+
+/// What this left side implies.
+#[cycle(expressions)]
+fn implied<'a>(
+    alloc: Global,
+    room: usize,
+    left: Expr,
+    tokens: &'a [Token],
+) -> Result<(Expr, &'a [Token]), Stop<'a>>
+    ensures { Gives (λ x. (x.0, x.1.now)) result ((to (λ x. implication_of (left, Some x)) (opening (is_zero room) kind.Implies ⨾ (under 0 room).expression)).parse tokens.now) }
+{
+    let ((arrow, right), tokens) = right_side(alloc, room, tokens)?;
+    let whole = implication_of(alloc, left, arrow, right)?;
+    Ok((whole, tokens))
+}
+
 /// The expression at the front of the tokens, and the tokens behind it (NuSMV 2.6 User Manual, 2.2, Expressions). At most
 /// `room` levels are open at one place in it: each `(`, `[`, `{`, `case`, `!` and unary `-`, each temporal operator with one
 /// operand, what stands behind each `?` and the right side of each `->` opens one, so `? :` and `->` associate to the right.
@@ -759,17 +877,11 @@ pub fn expression<'a>(
     ensures { Gives (λ x. (x.0, x.1.now)) result ((expression_within 0 room).parse tokens.now) }
 {
     let (left, tokens) = phrase_of(alloc, Rank::Equivalence, room, tokens)?;
-    if !begins(TokenKind::Implies, tokens) {
-        return Ok((left, tokens));
+    if begins(TokenKind::Implies, tokens) {
+        implied(alloc, room, left, tokens)
+    } else {
+        Ok((left, tokens))
     }
-    let (arrow, tokens) = opening(is_closed(room), TokenKind::Implies, tokens)?;
-    let (right, tokens) = expression(alloc, room - 1, tokens)?;
-    let beside = one(alloc, left)?;
-    let below = one(alloc, right)?;
-    Ok((
-        Expr::Apply(arrow.place, Operator::Logic(Logic::Implies), beside, below),
-        tokens,
-    ))
 }
 
 /// `-` and the limit that it negates, and its place.
@@ -788,9 +900,24 @@ fn limit_negated<'a>(
     Ok(((minus.place, whole), tokens))
 }
 
-/// `(` limit `)`, and its place.
+/// `(` limit `)`: the opening token and the limit.
 #[cycle(expressions)]
 #[tactic(auto, using(crate::proofs::Levels::under_limit))]
+fn limit_parenthesised<'a>(
+    alloc: Global,
+    room: usize,
+    tokens: &'a [Token],
+) -> Result<((&'a Token, Expr), &'a [Token]), Stop<'a>>
+    ensures { Gives (λ x. ((x.0.0.now, x.0.1), x.1.now)) result ((parenthesised (is_zero room) (under 0 room).limit).parse tokens.now) }
+{
+    let (parenthesis, tokens) = opening(is_closed(room), TokenKind::LeftParen, tokens)?;
+    let (inner, tokens) = limit(alloc, room - 1, tokens)?;
+    let (_, tokens) = just(TokenKind::RightParen, tokens)?;
+    Ok(((parenthesis, inner), tokens))
+}
+
+/// `(` limit `)`, and its place.
+#[cycle(expressions)]
 fn limit_group<'a>(
     alloc: Global,
     room: usize,
@@ -798,9 +925,7 @@ fn limit_group<'a>(
 ) -> Result<((Place, Expr), &'a [Token]), Stop<'a>>
     ensures { Gives (λ x. ((x.0.0, x.0.1), x.1.now)) result ((to placed_group (parenthesised (is_zero room) (under 0 room).limit)).parse tokens.now) }
 {
-    let (parenthesis, tokens) = opening(is_closed(room), TokenKind::LeftParen, tokens)?;
-    let (inner, tokens) = limit(alloc, room - 1, tokens)?;
-    let (_, tokens) = just(TokenKind::RightParen, tokens)?;
+    let ((parenthesis, inner), tokens) = limit_parenthesised(alloc, room, tokens)?;
     let inner = Boxed::new(alloc, inner)?;
     let group = Expr::Group(parenthesis.place, inner);
     Ok(((parenthesis.place, group), tokens))
@@ -867,7 +992,7 @@ pub fn limit<'a>(
 }
 
 /// The limit whose first operand was read, and the tokens behind it.
-#[tactic(auto, unfolding(crate::specs::Expressions::limited, crate::specs::Expressions::limited_within, crate::specs::Ranks::links_within, crate::specs::Ranks::operand_within))]
+#[tactic(auto, using(crate::proofs::Linked::limited_reads))]
 pub fn limited<'a>(
     alloc: Global,
     room: usize,
@@ -876,16 +1001,28 @@ pub fn limited<'a>(
 ) -> Result<(Expr, &'a [Token]), Stop<'a>>
     ensures { Gives (λ x. (x.0, x.1.now)) result ((to (chained first) (limited_within 0 room)).parse tokens.now) }
 {
-    let (factors, tokens) = links(alloc, Rank::LimitProduct, room, tokens)?;
-    let product = chain_of(alloc, first, factors)?;
-    let (terms, tokens) = links(alloc, Rank::LimitSum, room, tokens)?;
-    let sum = chain_of(alloc, product, terms)?;
-    Ok((sum, tokens))
+    let (product, tokens) = linked(alloc, Rank::LimitProduct, room, first, tokens)?;
+    linked(alloc, Rank::LimitSum, room, product, tokens)
+}
+
+/// `[` expression `]`: the opening token and the expression.
+#[tactic(auto, using(crate::proofs::Levels::under_expression))]
+fn index<'a>(
+    alloc: Global,
+    room: usize,
+    tokens: &'a [Token],
+) -> Result<((&'a Token, Expr), &'a [Token]), Stop<'a>>
+    ensures { Gives (λ x. ((x.0.0.now, x.0.1), x.1.now)) result ((opening (is_zero room) kind.LeftBracket ⨾ (under 0 room).expression ◃ just kind.RightBracket).parse tokens.now) }
+{
+    let (bracket, tokens) = opening(is_closed(room), TokenKind::LeftBracket, tokens)?;
+    let (index, tokens) = expression(alloc, room - 1, tokens)?;
+    let (_, tokens) = just(TokenKind::RightBracket, tokens)?;
+    Ok(((bracket, index), tokens))
 }
 
 /// The part of an array at an index: `[` expression `]` behind what is read already. At most `room` levels are open at one place,
 /// that of the bracket among them.
-#[tactic(auto, using(crate::proofs::Levels::under_expression), unfolding(crate::specs::Expressions::index_within))]
+#[tactic(auto, unfolding(crate::specs::Expressions::index_within))]
 pub fn indexed<'a>(
     alloc: Global,
     room: usize,
@@ -894,9 +1031,7 @@ pub fn indexed<'a>(
 ) -> Result<(Expr, &'a [Token]), Stop<'a>>
     ensures { Gives (λ x. (x.0, x.1.now)) result ((to (selected_by whole) (index_within 0 room)).parse tokens.now) }
 {
-    let (bracket, tokens) = opening(is_closed(room), TokenKind::LeftBracket, tokens)?;
-    let (index, tokens) = expression(alloc, room - 1, tokens)?;
-    let (_, tokens) = just(TokenKind::RightBracket, tokens)?;
+    let ((bracket, index), tokens) = index(alloc, room, tokens)?;
     let part = selected_by(alloc, whole, bracket, index, None)?;
     Ok((part, tokens))
 }

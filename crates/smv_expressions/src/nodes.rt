@@ -1,10 +1,10 @@
 //! Nodes of expressions, of parts that are read.
 
-ghost use Rattle.std.specs.Prelude.{◌≡◌, [], ◌∷◌, IfOk};
-ghost use Rattle.smv_expressions.specs.Expressions.{Link, chain_of, over_all, selected_by};
+ghost use Rattle.std.specs.Prelude.{◌≡◌, [], ◌∷◌, Some, IfOk};
+ghost use Rattle.smv_expressions.specs.Expressions.{Link, chain_of, over_all, chosen_by, implication_of, bounds_of, selected_by};
 
 use smv_tree::{Expr, Place, Token};
-use smv_value::Operator;
+use smv_value::{FaultRule, Logic, Operator};
 use sqlite_items::{Boxed, Items};
 use std::alloc::{AllocError, Global};
 
@@ -46,6 +46,53 @@ pub fn chain_of(alloc: Global, first: Expr, links: Items<Link>) -> Result<Expr, 
     }
     let first = Boxed::new(alloc, first)?;
     Ok(Expr::Chain(first, links))
+}
+
+/// A condition, and its branches behind `?`.
+pub fn chosen_by(
+    alloc: Global,
+    condition: Expr,
+    question: &Token,
+    first: Expr,
+    second: Expr,
+) -> Result<Expr, AllocError>
+    ensures { IfOk result (λ e. e ≡ chosen_by condition (question.now, (first, second))) }
+{
+    let beside = one(alloc, condition)?;
+    let below = two(alloc, first, second)?;
+    let operator = Operator::Choice(FaultRule::CaseOpen);
+    Ok(Expr::Apply(question.place, operator, beside, below))
+}
+
+/// A left side, and the right side that it implies.
+pub fn implication_of(
+    alloc: Global,
+    left: Expr,
+    arrow: &Token,
+    right: Expr,
+) -> Result<Expr, AllocError>
+    ensures { IfOk result (λ e. e ≡ implication_of (left, Some (arrow.now, right))) }
+{
+    let beside = one(alloc, left)?;
+    let below = one(alloc, right)?;
+    let operator = Operator::Logic(Logic::Implies);
+    Ok(Expr::Apply(arrow.place, operator, beside, below))
+}
+
+/// Bounds that stand in the brackets as in parentheses.
+pub fn bounds_of(
+    alloc: Global,
+    bracket: &Token,
+    bounds: (Expr, Expr),
+) -> Result<(Expr, Expr), AllocError>
+    ensures { IfOk result (λ x. (x.0, x.1) ≡ bounds_of (bracket.now, (bounds.0, bounds.1))) }
+{
+    let low = Boxed::new(alloc, bounds.0)?;
+    let high = Boxed::new(alloc, bounds.1)?;
+    Ok((
+        Expr::Group(bracket.place, low),
+        Expr::Group(bracket.place, high),
+    ))
 }
 
 /// What is selected of an expression by one that stands behind `[`, or by two.

@@ -53,11 +53,20 @@ pub fn check_names(alloc: Global, program: Program) -> Result<Scope, TextStop>
     ensures judged { Gives result (names_verdict program) }
 {
     declared(alloc, &program)?;
-    let numbers = module_numbers(alloc, program.modules.as_slice())?;
-    uses(alloc, &program, &numbers)?;
-    let scope = named(alloc, program, &numbers)?;
+    let place = used(alloc, &program)?;
+    let scope = named(alloc, program, place)?;
     definitions(alloc, &scope)?;
     Ok(scope)
+}
+
+// The place of the name of `main`, where the uses of modules break no rule.
+fn used(alloc: Global, program: &Program) -> Result<Place, TextStop>
+    ensures place { IfOk result (λ place. place ≡ place_of_main program.now (main_number program.now)) }
+    ensures judged { Gives result (Then (uses_verdict asked.Unknown program.now) (Then (uses_verdict asked.Cyclic program.now) (uses_verdict asked.Miscounted program.now))) }
+{
+    let numbers = module_numbers(alloc, program.modules.as_slice())?;
+    uses(alloc, program, &numbers)?;
+    Ok(place_of_main(program, &numbers))
 }
 
 // The uses of modules break no rule.
@@ -71,23 +80,22 @@ fn uses(alloc: Global, program: &Program, numbers: &ModuleNumbers) -> Result<(),
     judge_uses(alloc, &uses, UseRule::Miscounted)
 }
 
-// The program laid out, where it has not too many instances and each name leads somewhere.
-fn named(alloc: Global, program: Program, numbers: &ModuleNumbers) -> Result<Scope, TextStop>
-    requires { AreNumbered program.modules numbers.now }
+// The program laid out, where it has not too many instances and each name leads somewhere; the place is that of the name of `main`.
+fn named(alloc: Global, program: Program, place: Place) -> Result<Scope, TextStop>
+    requires { place ≡ place_of_main program (main_number program) }
     ensures same { IfOk result (λ scope. scope.program ≡ program) }
     ensures judged { Judges result (named_refusal program) }
 {
-    let scope = laid_out(alloc, program, numbers)?;
+    let scope = laid_out(alloc, program, place)?;
     unknown_names(alloc, &scope)?;
     Ok(scope)
 }
 
-fn laid_out(alloc: Global, program: Program, numbers: &ModuleNumbers) -> Result<Scope, TextStop>
-    requires { AreNumbered program.modules numbers.now }
+fn laid_out(alloc: Global, program: Program, place: Place) -> Result<Scope, TextStop>
+    requires { place ≡ place_of_main program (main_number program) }
     ensures same { IfOk result (λ scope. scope.program ≡ program) }
     ensures judged { Judges result (too_many_instances program) }
 {
-    let place = place_of_main(&program, numbers);
     match lay_out(alloc, program) {
         Ok(scope) => Ok(scope),
         Err(LayoutStop::TooManyInstances) => Err(refused(Rule::TooManyInstances, place)),

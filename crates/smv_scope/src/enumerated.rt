@@ -17,8 +17,23 @@ use sqlite_items::Items;
 use std::alloc::{AllocError, Global};
 use std::collections::HashMap;
 
-/// The symbols of a program with these modules and instances, as often as they are named.
-pub fn symbols_of(
+/// The symbols of a program with these modules and instances, as often as they are named, and the number of each: where it is named
+/// first.
+pub fn numbered_symbols(
+    alloc: Global,
+    modules: &[Module],
+    tree: &[Instance],
+) -> Result<(Items<Text>, IndexMap<String, usize>), AllocError>
+    ensures all { IfOk result (λ symbols. symbols.0 ≡ symbols_from tree.now 0 modules.now) }
+    ensures numbers { IfOk result (λ symbols. (name : List ℕ) → get_by_text symbols.1 name ≡ position (λ (symbol : List ℕ). bytes_eq name symbol) (symbols_from tree.now 0 modules.now)) }
+{
+    let all = symbols_of(alloc, modules, tree)?;
+    let numbers = symbol_numbers(alloc, all.as_slice())?;
+    Ok((all, numbers))
+}
+
+// The symbols, as often as they are named.
+fn symbols_of(
     alloc: Global,
     modules: &[Module],
     tree: &[Instance],
@@ -150,8 +165,8 @@ fn push_names(alloc: Global, all: &mut Items<Text>, names: &[Identifier]) -> Res
     Ok(())
 }
 
-/// The number of each symbol: where it is named first.
-pub fn symbol_numbers(alloc: Global, names: &[Text]) -> Result<IndexMap<String, usize>, AllocError>
+// The number of each symbol: where it is named first.
+fn symbol_numbers(alloc: Global, names: &[Text]) -> Result<IndexMap<String, usize>, AllocError>
     ensures { IfOk result (λ table. (name : List ℕ) → get_by_text table name ≡ position (λ (symbol : List ℕ). bytes_eq name symbol) names.now) }
 {
     let mut table = IndexMap::new(alloc);

@@ -8,7 +8,7 @@ ghost use Rattle.smv_scope.specs.Symbols.{AreNumbered};
 use crate::holders::is_array;
 use crate::layout::LayoutStop;
 use crate::modules::{sections_of, variables_of};
-use crate::symbols::ModuleNumbers;
+use crate::symbols::{ModuleNumbers, module_numbers};
 use crate::{Instance, Parent};
 use smv_tree::{Program, TypeExpr, Variable};
 use sqlite_items::Items;
@@ -25,7 +25,16 @@ pub struct Root {
 }
 
 /// The instances of a program in preorder.
-pub fn instances_of(
+pub fn instances_of(alloc: Global, program: &Program) -> Result<Items<Instance>, LayoutStop>
+    ensures ok { IfOk result (λ tree. (tree ≡ instances_of program.now) × (length tree ≤ most_instances)) }
+    ensures err { IfErr result (λ stop. stop ≡ LayoutStop.TooManyInstances → most_instances < length (instances_of program.now)) }
+{
+    let names = module_numbers(alloc, program.modules.as_slice())?;
+    instances_by(alloc, program, &names)
+}
+
+// The same by the number of the first module of each name.
+fn instances_by(
     alloc: Global,
     program: &Program,
     names: &ModuleNumbers,

@@ -68,16 +68,45 @@ fn symbol_table(
 ) -> Result<SymbolTable, AllocError>
     ensures { IfOk result (λ table. IsTableOf parameters.now sections.now (Some table)) }
 {
-    let (ranks, holders) = ranks_of(alloc, sections)?;
+    let ranks = ranks_of(alloc, sections)?;
+    let spots = declared_spots(alloc, sections)?;
+    let numbers = declared_numbers(alloc, sections)?;
+    let parameters = parameter_numbers(alloc, parameters)?;
     Ok(SymbolTable {
-        parameters: parameter_numbers(alloc, parameters)?,
-        variables: variable_numbers(alloc, sections)?,
-        definitions: definition_numbers(alloc, sections)?,
-        variable_spots: variable_spots(alloc, sections)?,
-        definition_spots: definition_spots(alloc, sections)?,
-        ranks,
-        holders,
+        parameters,
+        variables: numbers.0,
+        definitions: numbers.1,
+        variable_spots: spots.0,
+        definition_spots: spots.1,
+        ranks: ranks.0,
+        holders: ranks.1,
     })
+}
+
+// The number of the first variable of each name, and of the first definition.
+fn declared_numbers(
+    alloc: Global,
+    sections: &[Section],
+) -> Result<(IndexMap<String, usize>, IndexMap<String, usize>), AllocError>
+    ensures variables { IfOk result (λ tables. (name : List ℕ) → get_by_text tables.0 name ≡ position (λ (x : VariableKind × Variable). bytes_eq name x.1.name) (flat_map variables_in sections.now)) }
+    ensures definitions { IfOk result (λ tables. (name : List ℕ) → get_by_text tables.1 name ≡ position (λ (d : Definition). bytes_eq name d.name) (flat_map definitions_in sections.now)) }
+{
+    let variables = variable_numbers(alloc, sections)?;
+    let definitions = definition_numbers(alloc, sections)?;
+    Ok((variables, definitions))
+}
+
+// Where each variable stands, and each definition.
+fn declared_spots(
+    alloc: Global,
+    sections: &[Section],
+) -> Result<(Items<Spot>, Items<Spot>), AllocError>
+    ensures variables { IfOk result (λ spots. spots.0 ≡ spots_of variables_in 0 sections.now) }
+    ensures definitions { IfOk result (λ spots. spots.1 ≡ spots_of definitions_in 0 sections.now) }
+{
+    let variables = variable_spots(alloc, sections)?;
+    let definitions = definition_spots(alloc, sections)?;
+    Ok((variables, definitions))
 }
 
 /// The number of the first module of each name.

@@ -1,6 +1,6 @@
 -- What is told and noted of nodes, with one node more.
 use Rattle.std.proofs.Common.{◌≡◌, ℕ, zero, suc, ◌+◌, ◌-◌, ◌<◌, ◌≤◌, List, map, [], ◌∷◌, ◌++◌, length, drop, take, slice_index_or, None, false, refl, sym, ap, subst, ◌∙◌, arith, length-append}
-use Rattle.std.proofs.lemmas.List.{map-append}
+use Rattle.std.proofs.lemmas.List.{map-append, take-map}
 use Rattle.smv_tree.specs.declared.place.Place.{Place}
 use Rattle.smv_tree.specs.declared.refusal.Refusal.{Refusal}
 use Rattle.std.proofs.Common.{Bool, Option, Some, true}
@@ -9,11 +9,15 @@ use Rattle.smv_value.specs.declared.operator.Operator.{Operator}
 use Rattle.smv_value.specs.declared.operator.Operator.TheVariants as operator
 use Rattle.smv_value.specs.declared.value.FaultRule.TheVariants as fault
 use Rattle.value_types.specs.declared.value_type.ValueType.{ValueType}
+use Rattle.smv_declared.specs.declared.constant.Constant.{Constant}
+use Rattle.smv_declared.specs.declared.constant.Constant.TheVariants.{NotConstant}
+use Rattle.smv_declared.specs.Constants.{constant_of, constants_of}
+use Rattle.smv_declared.proofs.Found.{constants_same, found_at, last_mapped}
 use Rattle.smv_kinds.specs.declared.kind.Operand.{Operand}
 use Rattle.smv_slots.specs.declared.slot.Slot.{Slot}
 use Rattle.smv_resolve.specs.declared.node.Node.{Node}
 use Rattle.smv_resolve.specs.Resolved.{Resolved, last_of, operands_of, part_at, parts_of, resolved_by}
-use Rattle.smv_resolve.proofs.Parts.{parts_of-next}
+use Rattle.smv_resolve.proofs.Parts.{parts_of-next, parts_of-take}
 use Rattle.smv_verdicts.specs.Verdicts.{or_else}
 use Rattle.smv_types.specs.declared.judged.Indexing.{Indexing}
 use Rattle.smv_types.specs.declared.judged.Judged.{Judged}
@@ -21,7 +25,7 @@ use Rattle.smv_types.specs.declared.judged.Notes.{Notes}
 use Rattle.smv_kinds.specs.Constants.{constant_given}
 use Rattle.smv_kinds.specs.Kinds.{kind_given}
 use Rattle.smv_tree.specs.declared.tree.AssignmentKind.TheVariants as side
-use Rattle.smv_types.specs.Kinds.{Context, all_told, chosen_refusal, defined_refusal, indexing_of, inner_refusal, is_assignable, kind_in, kind_refusal, of_kind, place_of, operands_refusal, told, under_operand, unless_bound, waiting_refusal}
+use Rattle.smv_types.specs.Kinds.{Context, all_told, chosen_refusal, defined_refusal, indexing_of, inner_refusal, is_assignable, is_window, kind_in, kind_refusal, of_kind, place_of, operands_refusal, told, under_operand, unless_bound, waiting_refusal}
 use Rattle.smv_types.specs.Judged.{AreJudged, AreNotes, IsJudged, Tells, judged_at, no_indexing, nothing, told_at}
 
 -- what is told, as a list
@@ -97,6 +101,7 @@ of_nothing slots types = record {
   inner = refl;
   defined = refl;
   indexing = refl;
+  window = refl;
   init = refl;
   later = refl;
 }
@@ -108,7 +113,7 @@ none_told slots types = record { kinds = refl; judged = record { long = refl; ea
 pub one_more : (slots : List Slot) (types : List ValueType) (nodes : List Node) (i : ℕ) (d : Node) (operands : List Operand) (table : List Judged) (x : Operand) (j : Judged) → i < length nodes →
     Tells slots types (parts_of (take i nodes)) operands table
     → ((parts : List Resolved) → operands ≡ map (told slots types) parts → x ≡ told slots types (resolved_by parts (slice_index_or nodes i d)))
-    → ((parts : List Resolved) → Tells slots types parts operands table → IsJudged slots types (resolved_by parts (slice_index_or nodes i d)) j)
+    → (Tells slots types (parts_of (take i nodes)) operands table → IsJudged slots types (resolved_by (parts_of (take i nodes)) (slice_index_or nodes i d)) j)
     → Tells slots types (parts_of (take (i + 1) nodes)) (operands ++ x ∷ []) (table ++ j ∷ [])
 one_more slots types nodes i d operands table x j within h of_kind more =
     let n = slice_index_or nodes i d in
@@ -123,9 +128,23 @@ one_more slots types nodes i d operands table x j within h of_kind more =
       kinds = kinds;
       judged = record {
         long = long;
-        each = each_more (IsJudged slots types) parts table Resolved.Stuck nothing (resolved_by parts n) j h.judged.long (of_nothing slots types) h.judged.each (more parts h);
+        each = each_more (IsJudged slots types) parts table Resolved.Stuck nothing (resolved_by parts n) j h.judged.long (of_nothing slots types) h.judged.each (more h);
       };
     })
+
+-- the constants of all nodes are those of the nodes before one
+pub constants_before : (nodes : List Node) (i : ℕ) (all before : List Constant) → i ≤ length nodes → all ≡ map constant_of (parts_of nodes) → before ≡ take i all →
+    before ≡ map constant_of (parts_of (take i nodes))
+constants_before nodes i all before within are is = is ∙ ap (take i) are ∙ take-map constant_of i (parts_of nodes) ∙ ap (map constant_of) (parts_of-take nodes i within)
+
+-- those of the last parts, and of two
+pub last_constants : (count : ℕ) (parts : List Resolved) (constants : List Constant) → constants ≡ map constant_of parts → last_of count constants ≡ constants_of (operands_of (last_of count parts))
+last_constants count parts constants are = ap (last_of count) are ∙ last_mapped constant_of count parts ∙ sym (constants_same (last_of count parts))
+
+pub two_constants : (parts : List Resolved) (constants : List Constant) (a b : ℕ) → constants ≡ map constant_of parts →
+    slice_index_or constants a NotConstant ∷ slice_index_or constants b NotConstant ∷ [] ≡ constants_of (operands_of (part_at parts a ∷ part_at parts b ∷ []))
+two_constants parts constants a b are =
+    ap (λ c. c ∷ slice_index_or constants b NotConstant ∷ []) (found_at parts constants a are) ∙ ap (λ c. constant_of (part_at parts a) ∷ c ∷ []) (found_at parts constants b are)
 
 -- operands
 
@@ -156,11 +175,11 @@ judged_any slots types rs js h k d within = rw (default_same js k d nothing with
 
 -- what cannot be assigned
 pub unassigned : (slots : List Slot) (types : List ValueType) (r : Resolved) (j : Judged) (place : Place) (notes : Notes) →
-    j ≡ record { place = place; notes = notes; inner = None; defined = None; indexing = no_indexing; takes_init = false; takes_later = false } → place ≡ place_of r → AreNotes (λ c. kind_refusal slots types c r) notes →
-    inner_refusal slots types r ≡ None → defined_refusal slots types r ≡ None → indexing_of slots types r ≡ no_indexing → is_assignable slots side.Init r ≡ false →
+    j ≡ record { place = place; notes = notes; inner = None; defined = None; indexing = no_indexing; is_window = false; takes_init = false; takes_later = false } → place ≡ place_of r → AreNotes (λ c. kind_refusal slots types c r) notes →
+    inner_refusal slots types r ≡ None → defined_refusal slots types r ≡ None → indexing_of slots types r ≡ no_indexing → is_window r ≡ false → is_assignable slots side.Init r ≡ false →
     is_assignable slots side.Next r ≡ false → IsJudged slots types r j
-unassigned slots types r j place notes is at noted inner defined indexing init later =
-    rw is (record { place = at; notes = noted; inner = sym inner; defined = sym defined; indexing = sym indexing; init = sym init; later = sym later })
+unassigned slots types r j place notes is at noted inner defined indexing window init later =
+    rw is (record { place = at; notes = noted; inner = sym inner; defined = sym defined; indexing = sym indexing; window = sym window; init = sym init; later = sym later })
 
 -- what is told of all is told of the last
 pub last_tells : (slots : List Slot) (types : List ValueType) (count : ℕ) (rs : List Resolved) (xs : List Operand) (js : List Judged) → Tells slots types rs xs js →

@@ -36,6 +36,8 @@ use Rattle.smv_layout.specs.Layout.{items_of}
 use Rattle.smv_resolve.specs.Resolved.{Operands, Resolved}
 use Rattle.smv_slots.specs.declared.slot.Slot.{Slot}
 use Rattle.smv_slots.specs.Slots.{given_to, is_input, slots_of}
+use Rattle.smv_declared.specs.declared.constant.Constant.{Constant}
+use Rattle.smv_declared.specs.Constants.{constants_of}
 use Rattle.smv_declared.specs.Refusals.{declared_refusal}
 use Rattle.smv_slots.specs.Slots.{types_of}
 use Rattle.smv_slots.proofs.Kept.{types_kept}
@@ -46,7 +48,7 @@ use Rattle.smv_meaning.specs.Values.{outcome, outcome_in, outcomes}
 use Rattle.smv_meaning.specs.Formulas.{are_known_formulas, is_known, is_known_formula, is_over_formulas, is_propositional, is_temporal}
 use Rattle.smv_meaning.specs.Runs.{AllKnown as AllItemsKnown, are_inputs, is_given, is_known_by, is_known_item, is_single as has_one, is_state}
 use Rattle.smv_verdicts.specs.Verdicts.{first_of, or_else}
-use Rattle.smv_types.specs.Kinds.{Context, all_told, assignment_refusal, at_root, context_of_side, formula_refusal, has_values, inner_refusal, input_here, is_assignable, is_bound, is_input_slot, item_refusal, kind_in, kind_of_slot, kind_refusal, kinds_broken, left_refusal, misused, next_broken, next_here, no_taker, no_value, of_kind, of_path, of_state, of_step, operands_refusal, place_of, refusal_by_kind, slot_takes, takes_assignment, target_refusal, temporal_at, temporal_here, told, under_element, under_name, under_next, under_operand, unless_bound}
+use Rattle.smv_types.specs.Kinds.{Context, all_told, assignment_refusal, at_root, context_of_side, formula_refusal, has_values, inner_refusal, input_here, is_assignable, is_bound, is_input_slot, is_window, item_refusal, kind_in, kind_of_slot, kind_refusal, kinds_broken, left_refusal, misused, next_broken, next_here, no_taker, no_value, of_kind, of_path, of_state, of_step, operands_refusal, place_of, refusal_by_kind, slot_takes, takes_assignment, target_refusal, temporal_at, temporal_here, told, under_element, under_name, under_next, under_operand, unless_bound}
 use Rattle.smv_types.specs.Judged.{of_name}
 use Rattle.smv_types.proofs.Evaluated.{AllKnown, Fits, Has, Known, constant_fits}
 use Rattle.smv_types.proofs.Gathered.{applied_fits, array_unset, array_unvalued, boolean_value, makes_array, takes_parts}
@@ -75,9 +77,9 @@ not_both true true t e = refl
 not_both true false t e = sym e
 not_both false b t e = absurd (false≢true t)
 
-none_at_root : (temporal : Bool) (place : Place) (k : Kind) (r : Option Refusal) → at_root temporal place k r ≡ None → (r ≡ None) × (is_boolean k ≡ true)
-none_at_root temporal place k None e = (refl, refused_unless (is_boolean k) _ e)
-none_at_root temporal place k (Some r) e = absurd (let never : ⊥ = cc in never)
+none_at_root : (window : Bool) (place : Place) (k : Kind) (r : Option Refusal) → at_root window place k r ≡ None → (r ≡ None) × (is_boolean k ≡ true)
+none_at_root window place k None e = (refl, refused_unless (is_boolean k) _ e)
+none_at_root window place k (Some r) e = absurd (let never : ⊥ = cc in never)
 
 none_of_both : (a b : Option Refusal) → a ≡ None → b ≡ None → or_else a b ≡ None
 none_of_both a b e f = rw (e, f) refl
@@ -93,9 +95,9 @@ both_true a b e f = rw (e, f) refl
 
 -- kinds that are given
 
-kinds_given : (place : Place) (o : Operator) (xs : List Operand) (g : Given) → kinds_broken place o xs g ≡ None → (k : Kind) × (g ≡ Ok k)
-kinds_given place o xs (Ok k) e = (k, refl)
-kinds_given place o xs (Err r) e = absurd (let never : ⊥ = cc in never)
+kinds_given : (place : Place) (o : Operator) (cs : List Constant) (g : Given) → kinds_broken place o cs g ≡ None → (k : Kind) × (g ≡ Ok k)
+kinds_given place o cs (Ok k) e = (k, refl)
+kinds_given place o cs (Err r) e = absurd (let never : ⊥ = cc in never)
 
 next_given : (place : Place) (g : Given) → next_broken place g ≡ None → (k : Kind) × (g ≡ Ok k)
 next_given place (Ok k) e = (k, refl)
@@ -287,12 +289,13 @@ module _ (p : Program) (typed : list_all is_type (types_of p) ≡ true) where
       let P : Kind → Type 0 = λ k. Fits k o in
       inl (record { fits = subst P same has.fits; constant = λ z e. none_some z e })
 
-  apply_known : (c : Context) (place : Place) (o : Operator) (xs : List Operand) (os : List Outcome) → is_temporal o ≡ false → kinds_broken place o xs (kind_in_context c.set o xs) ≡ None → AllKnown xs os →
+  apply_known : (c : Context) (place : Place) (o : Operator) (cs : List Constant) (xs : List Operand) (os : List Outcome) → is_temporal o ≡ false → kinds_broken place o cs (kind_in_context c.set o xs) ≡ None →
+      AllKnown xs os →
       Known (record { kind = kind_in (kind_given o xs); constant = constant_given o xs }) (applied o place os)
-  apply_known c place o xs os plain free h = elim (cases_Bool (makes_array o)) [
+  apply_known c place o cs xs os plain free h = elim (cases_Bool (makes_array o)) [
     | inl array ↦ inr (array_unvalued o xs array, array_unset o xs array)
     | inr other ↦
-        let g = kinds_given place o xs (kind_in_context c.set o xs) free in
+        let g = kinds_given place o cs (kind_in_context c.set o xs) free in
         let is : kind_given o xs ≡ Ok g.0 = in_context (not c.set && makes_set o) (kind_given o xs) g.0 g.1 in
         let P : Kind → Type 0 = λ k. Fits k (applied o place os) in
         inl (record {
@@ -325,7 +328,7 @@ module _ (p : Program) (typed : list_all is_type (types_of p) ≡ true) where
         let inner = operands_refusal S T o 0 c rs in
         let own = second_none inner _ e in
         let timeless = not_temporal c place o plain (first_none (temporal_here c place o) _ own) in
-        apply_known c place o (all_told S T rs) (outcomes S s u t rs) timeless (second_none (temporal_here c place o) _ own)
+        apply_known c place o (constants_of rs) (all_told S T rs) (outcomes S s u t rs) timeless (second_none (temporal_here c place o) _ own)
         (knowns rs o 0 c s u t plain (λ k. timeless_bound o k timeless) (first_none inner _ e) h)
     known Resolved.Stuck c s u t plain e h = inr (refl, refl)
 
@@ -475,7 +478,7 @@ module _ (p : Program) (typed : list_all is_type (types_of p) ≡ true) where
 
   formula_known : (c : Context) (e : Resolved) (s u t : List Value) → c.temporal ≡ false → formula_refusal S T c e ≡ None → Serves c s u t → is_known (outcome S s u t e) ≡ true
   formula_known c e s u t plain free h =
-      let root = none_at_root c.temporal (place_of e) (told S T e).kind (kind_refusal S T c e) free in
+      let root = none_at_root (is_window e) (place_of e) (told S T e).kind (kind_refusal S T c e) free in
       operand_known (told S T e) (outcome S s u t e) root.1 (known e c s u t plain root.0 h)
 
   module _ (s u t : List Value) (state : is_state p s ≡ true) (inputs : are_inputs p u ≡ true) (next : is_state p t ≡ true) where
@@ -496,7 +499,7 @@ module _ (p : Program) (typed : list_all is_type (types_of p) ≡ true) where
     by_kind place target e (item.Constraint asked.Justice) free = formula_known (of_state false) e s [] [] refl free (alone false s state)
     by_kind place target e (item.Specification claim.Invariant) free = formula_known (of_state false) e s [] [] refl free (alone false s state)
     by_kind place target e (item.Specification claim.Temporal) free =
-        let root = none_at_root true (place_of e) (told S T e).kind (kind_refusal S T of_path e) free in
+        let root = none_at_root (is_window e) (place_of e) (told S T e).kind (kind_refusal S T of_path e) free in
         formula_parts e s u root.0 root.1
         (record { state = state; inputs = λ x. inputs; next = λ x. absurd (false≢true x) })
 

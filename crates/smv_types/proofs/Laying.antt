@@ -1,5 +1,5 @@
 -- Items that are laid out are the items of the program.
-use Rattle.std.proofs.Common.{◌≡◌, ◌∙◌, List, map, Option, None, Some, refl, sym, ap}
+use Rattle.std.proofs.Common.{◌≡◌, ◌∙◌, List, map, Option, None, Some, refl, ap}
 use Rattle.smv_tree.specs.declared.refusal.Refusal.{Refusal}
 use Rattle.smv_tree.specs.declared.tree.Program.{Program}
 use Rattle.value_types.specs.declared.value_type.ValueType.{ValueType}

@@ -1,4 +1,6 @@
 pub mod Assigning
+pub mod Bounds
+pub mod Briefs
 pub mod Judging
 pub mod Singles
 pub mod Evaluated

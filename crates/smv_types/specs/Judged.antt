@@ -11,9 +11,11 @@ use Rattle.smv_resolve.specs.Resolved.{Resolved, part_at}
 use Rattle.smv_types.specs.declared.judged.Indexing.{Indexing}
 use Rattle.smv_types.specs.declared.judged.Judged.{Judged}
 use Rattle.smv_types.specs.declared.judged.Notes.{Notes}
+use Rattle.smv_types.specs.declared.judged.TimedViolation.{TimedViolation}
 use Rattle.smv_types.specs.declared.judged.Violation.{Violation}
 use Rattle.smv_types.specs.declared.items.Part.{Part}
-use Rattle.smv_types.specs.Kinds.{Context, of_state, of_step, of_path, under_name, bounds_text, defined_refusal, indexing_of, inner_refusal, is_assignable, kind_refusal, of_kind, place_of, told}
+use Rattle.smv_types.specs.Kinds.{Context, of_state, of_step, of_path, under_name, bounds_text, defined_refusal, indexing_of, inner_refusal, is_assignable, is_window, kind_refusal, of_kind, place_of, told}
+use Rattle.smv_verdicts.specs.Verdicts.{plain}
 
 abbrev pub detail_of : Option (ℤ × ℤ) → Option (List ℕ)
 detail_of None = None
@@ -21,7 +23,20 @@ detail_of (Some x) = Some (bounds_text x.0 x.1)
 
 abbrev pub as_refusal : Option Violation → Option Refusal
 as_refusal None = None
-as_refusal (Some v) = Some (record { rule = v.rule; place = v.place; detail = detail_of v.bounds })
+as_refusal (Some v) = Some (plain v.rule v.place)
+
+-- the same where temporal operators may stand, with bounds where these are told
+abbrev pub as_told : TimedViolation → Refusal
+as_told v = record { rule = v.violation.rule; place = v.violation.place; detail = detail_of v.bounds }
+
+abbrev pub timed_refusal : Option TimedViolation → Option Refusal
+timed_refusal None = None
+timed_refusal (Some v) = Some (as_told v)
+
+-- no bounds are told
+abbrev pub timed : Option Violation → Option TimedViolation
+timed None = None
+timed (Some v) = Some (record { violation = v; bounds = None })
 
 -- in what a name stands for where a step or a path is spoken of
 abbrev pub of_name : Bool → Context
@@ -36,7 +51,7 @@ pub record AreNotes (refusal : Context → Option Refusal) (n : Notes) : Type 0 
   pub name_set : as_refusal n.name_set ≡ refusal (of_name true)
   pub state : as_refusal n.state ≡ refusal (of_state false)
   pub state_set : as_refusal n.state_set ≡ refusal (of_state true)
-  pub path : as_refusal n.path ≡ refusal of_path
+  pub path : timed_refusal n.path ≡ refusal of_path
 
 -- what is noted is so of this expression: its place, the first refusal in it in each context, and where it is assigned
 pub record IsJudged (slots : List Slot) (types : List ValueType) (r : Resolved) (j : Judged) : Type 0 where
@@ -45,6 +60,7 @@ pub record IsJudged (slots : List Slot) (types : List ValueType) (r : Resolved) 
   pub inner : as_refusal j.inner ≡ inner_refusal slots types r
   pub defined : as_refusal j.defined ≡ defined_refusal slots types r
   pub indexing : j.indexing ≡ indexing_of slots types r
+  pub window : j.is_window ≡ is_window r
   pub init : j.takes_init ≡ is_assignable slots side.Init r
   pub later : j.takes_later ≡ is_assignable slots side.Next r
 
@@ -57,7 +73,7 @@ no_indexing = record { by_constant = false; passed = false; asked = false; withi
 
 -- what is noted of nothing
 abbrev pub nothing : Judged
-nothing = record { place = start; notes = no_notes; inner = None; defined = None; indexing = no_indexing; takes_init = false; takes_later = false }
+nothing = record { place = start; notes = no_notes; inner = None; defined = None; indexing = no_indexing; is_window = false; takes_init = false; takes_later = false }
 
 -- what is noted at this number
 abbrev pub judged_at : List Judged → ℕ → Judged

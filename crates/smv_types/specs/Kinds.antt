@@ -1,5 +1,5 @@
 -- The rules of depth, kinds and contexts: an own choice of this project (the kinds are those of manual 2.1 and 2.2).
-use Rattle.std.specs.Prelude.{ℕ, ◌+◌, ◌==◌, nat_lt, Bool, true, false, not, ◌&&◌, if◌then◌else◌, List, [], ◌∷◌, ◌++◌, codes, length, Option, None, Some, Ok, Err, slice_get, ℤ, pos}
+use Rattle.std.specs.Prelude.{ℕ, ◌+◌, ◌==◌, nat_lt, Bool, true, false, not, ◌&&◌, ◌||◌, if◌then◌else◌, List, [], ◌∷◌, ◌++◌, codes, Option, None, Some, Ok, Err, slice_get, ℤ, pos}
 use Rattle.std.specs.Fmt.{signed_decimal}
 use Rattle.std.specs.List.{list_any}
 use Rattle.std.specs.Option.{is_some}
@@ -39,6 +39,9 @@ use Rattle.smv_tree.specs.declared.tree.SpecificationKind.TheVariants as claim
 use Rattle.smv_tree.specs.Places.{start}
 use Rattle.smv_slots.specs.declared.slot.Slot.{Slot}
 use Rattle.smv_types.specs.declared.judged.Indexing.{Indexing}
+use Rattle.smv_declared.specs.declared.constant.Constant.{Constant}
+use Rattle.smv_declared.specs.declared.constant.Constant.TheVariants.{NotConstant, Integer}
+use Rattle.smv_declared.specs.Constants.{constants_of}
 use Rattle.smv_declared.specs.Types.{most_slots, slot_count}
 use Rattle.smv_slots.specs.Slots.{slots_of, is_input}
 use Rattle.smv_resolve.specs.declared.item.ItemKind.{ItemKind}
@@ -190,28 +193,36 @@ rule_of broken.BadBound = rule.BadBound
 abbrev pub bounds_text : ℤ → ℤ → List ℕ
 bounds_text low high = signed_decimal low ++ codes "," ++ signed_decimal high
 
-abbrev pub both : Option ℤ → Option ℤ → Option (ℤ × ℤ)
-both (Some low) (Some high) = Some (low, high)
+-- both bounds as they are told: whole numbers of at most 128 bits
+abbrev pub both : Constant → Constant → Option (ℤ × ℤ)
+both (Integer low) (Integer high) = Some (low, high)
 both low high = None
-
--- the bounds of a temporal operator, where they are constants
-abbrev pub bounds_told : Operator → List Operand → Option (ℤ × ℤ)
-bounds_told (operator.Bounded o low high) xs = Some (pos low, pos high)
-bounds_told (operator.Window o) (low ∷ high ∷ xs) = both low.constant high.constant
-bounds_told o xs = None
 
 abbrev pub with_bounds : Place → Option (ℤ × ℤ) → Refusal
 with_bounds place None = plain rule.BadBound place
 with_bounds place (Some bounds) = detailed rule.BadBound place (bounds_text bounds.0 bounds.1)
 
--- a rule that operands break; of bounds these are told
-abbrev pub broken_by : Place → Operator → List Operand → KindRule → Refusal
-broken_by place o xs broken.BadBound = with_bounds place (bounds_told o xs)
-broken_by place o xs r = plain (rule_of r) place
+abbrev pub is_some_constant : Constant → Bool
+is_some_constant NotConstant = false
+is_some_constant other = true
 
-abbrev pub kinds_broken : Place → Operator → List Operand → Given → Option Refusal
-kinds_broken place o xs (Ok k) = None
-kinds_broken place o xs (Err r) = Some (broken_by place o xs r)
+-- Bounds that stay as they are written are none: they are no constants, or constants that lie outside. As constants they are whole
+-- numbers, whatever their parts are; those of more than 128 bits are not told.
+abbrev pub window_refusal : Place → List Constant → Refusal
+window_refusal place (low ∷ high ∷ cs) =
+    if is_some_constant low && is_some_constant high then with_bounds place (both low high) else plain rule.NotConstant place
+window_refusal place cs = plain rule.NotConstant place
+
+-- a rule that operands break, where these are the constants that they are; of bounds these are told
+abbrev pub broken_by : Place → Operator → List Constant → KindRule → Refusal
+broken_by place (operator.Window o) cs broken.NotConstant = window_refusal place cs
+broken_by place (operator.Window o) cs broken.BadBound = window_refusal place cs
+broken_by place (operator.Bounded o low high) cs broken.BadBound = with_bounds place (Some (pos low, pos high))
+broken_by place o cs r = plain (rule_of r) place
+
+abbrev pub kinds_broken : Place → Operator → List Constant → Given → Option Refusal
+kinds_broken place o cs (Ok k) = None
+kinds_broken place o cs (Err r) = Some (broken_by place o cs r)
 
 -- `next` of what has no single value
 abbrev pub next_broken : Place → Given → Option Refusal
@@ -260,7 +271,7 @@ abbrev mutual
       or_else (kind_refusal slots types (under_next c) r) (or_else (next_here c place) (next_broken place (next_kind (told slots types r).kind)))
   kind_refusal slots types c (Resolved.Apply place o rs) =
       or_else (operands_refusal slots types o 0 c rs)
-      (or_else (temporal_here c place o) (kinds_broken place o (all_told slots types rs) (kind_in_context c.set o (all_told slots types rs))))
+      (or_else (temporal_here c place o) (kinds_broken place o (constants_of rs) (kind_in_context c.set o (all_told slots types rs))))
   kind_refusal slots types c Resolved.Stuck = None
 
   -- the first one in operands of this operator, the first of which has number k
@@ -342,7 +353,7 @@ defined_refusal slots types other = None
 abbrev pub waiting_refusal : List Slot → List ValueType → Place → Resolved → Resolved → Option Refusal
 waiting_refusal slots types place a i =
     or_else (kind_refusal slots types (on_the_left false) i)
-    (or_else (kinds_broken place operator.Index (told slots types a ∷ told slots types i ∷ []) (kind_in_context false operator.Index (told slots types a ∷ told slots types i ∷ [])))
+    (or_else (kinds_broken place operator.Index [] (kind_in_context false operator.Index (told slots types a ∷ told slots types i ∷ [])))
     (not_within place (is_within i) (is_some (told slots types i).constant)))
 
 -- An index by which an element is chosen: where a parameter was given it, it is judged as what it was given, and then those that
@@ -386,28 +397,38 @@ context_of_specification claim.Temporal = of_path
 abbrev pub no_boolean : Place → Kind → Option Refusal
 no_boolean place k = if is_boolean k then None else Some (plain rule.TypeMismatch place)
 
--- Rules that are asked at a node after that of its kind. A temporal operator is a boolean whose bounds may be no constants.
-abbrev pub is_after_kind : Bool → Rule → Bool
-is_after_kind temporal rule.WordWidth = true
-is_after_kind temporal rule.BadSelection = true
-is_after_kind temporal rule.IntWidth = true
-is_after_kind temporal rule.NotConstant = not temporal
-is_after_kind temporal other = false
+-- rules that are asked at a node after that of its kind
+abbrev pub is_after_kind : Rule → Bool
+is_after_kind rule.WordWidth = true
+is_after_kind rule.NotConstant = true
+is_after_kind rule.BadSelection = true
+is_after_kind rule.IntWidth = true
+is_after_kind other = false
 
 abbrev pub is_at : Place → Place → Bool
 is_at a b = (a.line == b.line) && (a.column == b.column)
 
--- At the root of what has to be a boolean, that it is none comes before the rules that are asked after that.
-abbrev pub first_at_root : Bool → Place → Kind → Refusal → Refusal
-first_at_root temporal place k r =
-    if is_after_kind temporal r.rule && (is_at r.place place && not (is_boolean k)) then plain rule.TypeMismatch place else r
+-- a temporal operator with its bounds as they are written
+abbrev pub is_window_operator : Operator → Bool
+is_window_operator (operator.Window o) = true
+is_window_operator other = false
 
+abbrev pub is_window : Resolved → Bool
+is_window (Resolved.Apply place o rs) = is_window_operator o
+is_window other = false
+
+-- At the root of what has to be a boolean, that it is none comes before the rules that are asked after that.
+abbrev pub first_at_root : Bool → Place → Refusal → Refusal
+first_at_root boolean place r =
+    if not boolean && is_after_kind r.rule && is_at r.place place then plain rule.TypeMismatch place else r
+
+-- what a temporal operator gives is a boolean, whatever its bounds are
 abbrev pub at_root : Bool → Place → Kind → Option Refusal → Option Refusal
-at_root temporal place k None = no_boolean place k
-at_root temporal place k (Some r) = Some (first_at_root temporal place k r)
+at_root window place k None = no_boolean place k
+at_root window place k (Some r) = Some (first_at_root (window || is_boolean k) place r)
 
 abbrev pub formula_refusal : List Slot → List ValueType → Context → Resolved → Option Refusal
-formula_refusal slots types c r = at_root c.temporal (place_of r) (told slots types r).kind (kind_refusal slots types c r)
+formula_refusal slots types c r = at_root (is_window r) (place_of r) (told slots types r).kind (kind_refusal slots types c r)
 
 -- The left side of an assignment: what a parameter was given there and the indices, what may be assigned, and that it has values.
 abbrev pub left_refusal : List Slot → List ValueType → Place → AssignmentKind → Resolved → Option Refusal

@@ -1,3 +1,4 @@
 pub mod Kinds
 pub mod Judged
+pub mod Briefs
 pub mod Rules

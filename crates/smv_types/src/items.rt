@@ -5,14 +5,15 @@ ghost use Rattle.value_types.specs.declared.value_type.ValueType.{ValueType};
 ghost use Rattle.smv_slots.specs.declared.slot.Slot.{Slot};
 ghost use Rattle.smv_resolve.specs.Items.{item_by};
 ghost use Rattle.smv_resolve.specs.Resolved.{Resolved, part_at, parts_of};
+ghost use Rattle.smv_kinds.specs.Kinds.{is_boolean};
 ghost use Rattle.smv_verdicts.specs.Verdicts.{Judges, first_of};
 ghost use Rattle.smv_tree.specs.declared.refusal.Refusal.{Refusal as ARefusal};
-ghost use Rattle.smv_types.specs.Judged.{AreNotes, IsJudged, IsOf, Tells, as_refusal};
-ghost use Rattle.smv_types.specs.Kinds.{Context, assignment_refusal, at_root, bounds_text, context_of_constraint, context_of_side, context_of_specification, formula_refusal, is_after_kind, is_assignable, is_at, item_refusal, kind_refusal, left_refusal, no_boolean, no_taker, target_refusal};
+ghost use Rattle.smv_types.specs.Judged.{AreNotes, IsJudged, IsOf, Tells, as_refusal, as_told, timed_refusal};
+ghost use Rattle.smv_types.specs.Kinds.{Context, assignment_refusal, at_root, bounds_text, context_of_constraint, context_of_side, context_of_specification, first_at_root, formula_refusal, is_after_kind, is_assignable, is_at, item_refusal, kind_refusal, left_refusal, no_boolean, no_taker, target_refusal};
 
-use crate::judged::{Judged, Notes, Violation};
-use crate::kinds::{Table, judged_at, no_value};
-use crate::notes::first;
+use crate::judged::{Judged, Notes, TimedViolation, Violation};
+use crate::kinds::{Table, no_value};
+use crate::notes::{first, timed};
 use crate::told::told_at;
 use plain_text::Text;
 use smv_kinds::{Kind, takes};
@@ -38,12 +39,12 @@ pub(crate) fn misused(
     table: &Table,
     items: &[Item],
 ) -> Result<(), TextStop>
-    requires { Tells slots.now types.now (parts_of nodes.now) table.now.operands.items table.now.judged.items }
+    requires { Tells slots.now types.now (parts_of nodes.now) table.now.operands.items table.now.judged }
     ensures { Judges result (first_of (item_refusal slots.now types.now) (map (item_by nodes.now) items.now)) }
 {
     for item in items {
-        if let Some(violation) = item_violation(slots, types, nodes, table, item) {
-            return refused_by(alloc, violation);
+        if let Some(broken) = item_violation(slots, types, nodes, table, item) {
+            return refused_by(alloc, broken);
         }
     }
     Ok(())
@@ -55,15 +56,15 @@ fn item_violation(
     _nodes: &[Node],
     table: &Table,
     item: &Item,
-) -> Option<Violation>
-    requires { Tells _slots.now _types.now (parts_of _nodes.now) table.now.operands.items table.now.judged.items }
-    ensures { as_refusal result ≡ item_refusal _slots.now _types.now (item_by _nodes.now item.now) }
+) -> Option<TimedViolation>
+    requires { Tells _slots.now _types.now (parts_of _nodes.now) table.now.operands.items table.now.judged }
+    ensures { timed_refusal result ≡ item_refusal _slots.now _types.now (item_by _nodes.now item.now) }
 {
     let value = part_at(table, item.value);
     match item.kind {
         ItemKind::Assignment(which) => match item.target {
-            None => Some(Violation::new(Rule::NotAssignable, item.place)),
-            Some(k) => assignment_violation(item.place, which, part_at(table, k), value),
+            None => timed(Some(Violation::new(Rule::NotAssignable, item.place))),
+            Some(k) => { timed(assignment_violation(item.place, which, part_at(table, k), value)) }
         },
         ItemKind::Constraint(which) => constraint_violation(which, value),
         ItemKind::Specification(which) => specification_violation(which, value),
@@ -72,11 +73,11 @@ fn item_violation(
 
 // What is told and noted of the node of this number.
 fn part_at(table: &Table, k: usize) -> Part
-    ensures { (slots : List Slot) (types : List ValueType) (parts : List Resolved) → Tells slots types parts table.now.operands.items table.now.judged.items → IsOf slots types (part_at parts k) result }
+    ensures { (slots : List Slot) (types : List ValueType) (parts : List Resolved) → Tells slots types parts table.now.operands.items table.now.judged → IsOf slots types (part_at parts k) result }
 {
     Part {
         kind: told_at(table.operands.as_slice(), k).kind,
-        judged: judged_at(table.judged.as_slice(), k),
+        judged: table.judged.at(k),
     }
 }
 
@@ -151,15 +152,10 @@ fn value_violation(which: AssignmentKind, value: Judged) -> Option<Violation>
     }
 }
 
-fn constraint_violation(which: ConstraintKind, value: Part) -> Option<Violation>
-    ensures { (slots : List Slot) (types : List ValueType) (e : Resolved) → IsOf slots types e value → as_refusal result ≡ formula_refusal slots types (context_of_constraint which) e }
+fn constraint_violation(which: ConstraintKind, value: Part) -> Option<TimedViolation>
+    ensures { (slots : List Slot) (types : List ValueType) (e : Resolved) → IsOf slots types e value → timed_refusal result ≡ formula_refusal slots types (context_of_constraint which) e }
 {
-    at_root(
-        false,
-        value.judged.place,
-        value.kind,
-        constraint_note(which, value.judged.notes),
-    )
+    at_root(value, timed(constraint_note(which, value.judged.notes)))
 }
 
 // What is noted of an expression in the context of a constraint.
@@ -172,58 +168,64 @@ fn constraint_note(which: ConstraintKind, notes: Notes) -> Option<Violation>
     }
 }
 
-fn specification_violation(which: SpecificationKind, value: Part) -> Option<Violation>
-    ensures { (slots : List Slot) (types : List ValueType) (e : Resolved) → IsOf slots types e value → as_refusal result ≡ formula_refusal slots types (context_of_specification which) e }
+fn specification_violation(which: SpecificationKind, value: Part) -> Option<TimedViolation>
+    ensures { (slots : List Slot) (types : List ValueType) (e : Resolved) → IsOf slots types e value → timed_refusal result ≡ formula_refusal slots types (context_of_specification which) e }
+{
+    at_root(value, specification_note(which, value.judged.notes))
+}
+
+// What is noted of an expression in the context of a specification.
+fn specification_note(which: SpecificationKind, notes: Notes) -> Option<TimedViolation>
+    ensures { (refusal : Context → Option ARefusal) → AreNotes refusal notes → timed_refusal result ≡ refusal (context_of_specification which) }
 {
     match which {
-        SpecificationKind::Invariant => at_root(
-            false,
-            value.judged.place,
-            value.kind,
-            value.judged.notes.state,
-        ),
-        SpecificationKind::Temporal => at_root(
-            true,
-            value.judged.place,
-            value.kind,
-            value.judged.notes.path,
-        ),
+        SpecificationKind::Invariant => timed(notes.state),
+        SpecificationKind::Temporal => notes.path,
     }
 }
 
-// What is broken by an expression of this kind and place that has to be a boolean.
-fn at_root(temporal: bool, place: Place, kind: Kind, inside: Option<Violation>) -> Option<Violation>
-    ensures { as_refusal result ≡ at_root temporal place kind (as_refusal inside) }
+// What is broken by an expression that has to be a boolean, where it breaks this inside.
+fn at_root(value: Part, inside: Option<TimedViolation>) -> Option<TimedViolation>
+    ensures { timed_refusal result ≡ at_root value.judged.is_window value.judged.place value.kind (timed_refusal inside) }
 {
     match inside {
-        None => no_boolean(place, kind),
-        Some(violation) => Some(first_at_root(temporal, place, kind, violation)),
-    }
-}
-
-// At the root, that it is no boolean comes before the rules that are asked after that.
-fn first_at_root(temporal: bool, place: Place, kind: Kind, violation: Violation) -> Violation
-    ensures { as_refusal (Some result) ≡ at_root temporal place kind (as_refusal (Some violation)) }
-{
-    let is_later = is_after_kind(temporal, violation.rule);
-    match kind {
-        Kind::Boolean => violation,
-        _ => {
-            if is_later && is_at(violation.place, place) {
-                Violation::new(Rule::TypeMismatch, place)
-            } else {
-                violation
-            }
+        None => timed(no_boolean(value.judged.place, value.kind)),
+        Some(broken) => {
+            let is_boolean = value.judged.is_window || is_boolean(value.kind);
+            Some(first_at_root(is_boolean, value.judged.place, broken))
         }
     }
 }
 
-fn is_after_kind(temporal: bool, rule: Rule) -> bool
-    ensures { result ≡ is_after_kind temporal rule }
+fn is_boolean(kind: Kind) -> bool
+    ensures { result ≡ is_boolean kind }
+{
+    match kind {
+        Kind::Boolean => true,
+        _ => false,
+    }
+}
+
+// At the root, that it is no boolean comes before the rules that are asked after that.
+fn first_at_root(is_boolean: bool, place: Place, broken: TimedViolation) -> TimedViolation
+    ensures { timed_refusal (Some result) ≡ Some (first_at_root is_boolean place (as_told broken)) }
+{
+    let violation = broken.violation;
+    if !is_boolean && is_after_kind(violation.rule) && is_at(violation.place, place) {
+        TimedViolation {
+            violation: Violation::new(Rule::TypeMismatch, place),
+            bounds: None,
+        }
+    } else {
+        broken
+    }
+}
+
+fn is_after_kind(rule: Rule) -> bool
+    ensures { result ≡ is_after_kind rule }
 {
     match rule {
-        Rule::WordWidth | Rule::BadSelection | Rule::IntWidth => true,
-        Rule::NotConstant => !temporal,
+        Rule::WordWidth | Rule::NotConstant | Rule::BadSelection | Rule::IntWidth => true,
         _ => false,
     }
 }
@@ -245,22 +247,22 @@ fn no_boolean(place: Place, kind: Kind) -> Option<Violation>
 }
 
 // The refusal by the rule that is broken.
-fn refused_by(alloc: Global, violation: Violation) -> Result<(), TextStop>
-    ensures { Judges result (as_refusal (Some violation)) }
+fn refused_by(alloc: Global, broken: TimedViolation) -> Result<(), TextStop>
+    ensures { Judges result (timed_refusal (Some broken)) }
 {
-    let detail = match violation.bounds {
+    let detail = match broken.bounds {
         None => None,
         Some((low, high)) => Some(bounds_text(alloc, low, high)?),
     };
     Err(TextStop::Refused(Refusal {
-        rule: violation.rule,
-        place: violation.place,
+        rule: broken.violation.rule,
+        place: broken.violation.place,
         detail,
     }))
 }
 
 // Bounds as they are told.
-fn bounds_text(alloc: Global, low: i64, high: i64) -> Result<Text, AllocError>
+fn bounds_text(alloc: Global, low: i128, high: i128) -> Result<Text, AllocError>
     ensures { IfOk result (λ t. t ≡ bounds_text low high) }
 {
     let text = format!(in alloc; "{low},{high}")?;

@@ -7,23 +7,25 @@ use smv_tree::{Place, Rule};
 pub struct Violation {
     pub rule: Rule,
     pub place: Place,
-    /// The bounds of a temporal operator, where it is they that break the rule.
-    pub bounds: Option<(i64, i64)>,
 }
 
 impl Violation {
-    ghost use Rattle.std.specs.Prelude.{◌≡◌, None};
+    ghost use Rattle.std.specs.Prelude.{◌≡◌};
 
     /// A rule that is broken at a place.
     pub fn new(rule: Rule, place: Place) -> Violation
-        ensures { result ≡ record { rule = rule; place = place; bounds = None } }
+        ensures { result ≡ record { rule = rule; place = place } }
     {
-        Violation {
-            rule,
-            place,
-            bounds: None,
-        }
+        Violation { rule, place }
     }
+}
+
+/// A rule that is broken where temporal operators may stand.
+#[derive(Clone, Copy, Debug)]
+pub struct TimedViolation {
+    pub violation: Violation,
+    /// The bounds of a temporal operator, where it is they that break the rule.
+    pub bounds: Option<(i128, i128)>,
 }
 
 /// The first rule that an expression breaks, by where it stands: where a step is spoken of, in what a name stands for there, where
@@ -36,7 +38,7 @@ pub struct Notes {
     pub name_set: Option<Violation>,
     pub state: Option<Violation>,
     pub state_set: Option<Violation>,
-    pub path: Option<Violation>,
+    pub path: Option<TimedViolation>,
 }
 
 /// What an expression says of the index of an element.
@@ -62,6 +64,8 @@ pub struct Judged {
     /// The first rule that it breaks where it is a definition that has an index on a left side.
     pub defined: Option<Violation>,
     pub indexing: Indexing,
+    /// It is a temporal operator with its bounds as they are written.
+    pub is_window: bool,
     /// It may be assigned by `init`.
     pub takes_init: bool,
     /// It may be assigned otherwise.

@@ -1,9 +1,12 @@
 //! The rules of kinds and contexts, over nodes.
 
-ghost use Rattle.std.specs.Prelude.{◌≡◌, ℕ, List, [], IfOk, None, Option, Some, false, slice_get};
+ghost use Rattle.std.specs.Prelude.{◌≡◌, ℕ, List, [], IfOk, None, Option, Some, false, map, slice_get, slice_index_or};
 ghost use Rattle.smv_tree.specs.declared.refusal.Refusal.{Refusal};
 ghost use Rattle.smv_tree.specs.declared.tree.AssignmentKind.TheVariants as side;
 ghost use Rattle.value_types.specs.declared.value_type.ValueType.{ValueType};
+ghost use Rattle.smv_declared.specs.declared.constant.Constant.{Constant as AConstant};
+ghost use Rattle.smv_declared.specs.declared.constant.Constant.TheVariants.{NotConstant};
+ghost use Rattle.smv_declared.specs.Constants.{constant_of, constants_of};
 ghost use Rattle.smv_kinds.specs.Contexts.{kind_in_context};
 ghost use Rattle.smv_kinds.specs.Kinds.{next_kind};
 ghost use Rattle.smv_slots.specs.declared.slot.Slot.{Slot};
@@ -13,18 +16,22 @@ ghost use Rattle.smv_resolve.specs.Resolved.{Operands, Resolved, Resolved as R, 
 ghost use Rattle.smv_tree.specs.declared.place.Place.{Place};
 ghost use Rattle.smv_value.specs.declared.operator.Operator.TheVariants as operator;
 ghost use Rattle.smv_value.specs.declared.value.FaultRule.TheVariants as fault;
-ghost use Rattle.smv_verdicts.specs.Verdicts.{plain};
-ghost use Rattle.smv_types.specs.Judged.{AreJudged, AreNotes, IsJudged, Tells, as_refusal, judged_at, no_indexing};
-ghost use Rattle.smv_types.specs.Kinds.{bounds_told, both as both_bounds, broken_by, chosen_refusal, constant_here, has_values, index_rule, indexing_of, inner_refusal, input_here, is_assignable, is_input_slot, kinds_broken, next_broken, no_value, not_within, operands_refusal, rule_of, takes_assignment, told, waiting_refusal};
+ghost use Rattle.smv_meaning.specs.Formulas.{is_temporal};
+ghost use Rattle.smv_verdicts.specs.Verdicts.{or_else, plain};
+ghost use Rattle.smv_types.specs.Judged.{AreJudged, AreNotes, IsJudged, Tells, as_refusal, judged_at, no_indexing, timed_refusal};
+ghost use Rattle.smv_types.specs.Kinds.{both as both_bounds, broken_by, chosen_refusal, constant_here, has_values, index_rule, indexing_of, inner_refusal, input_here, is_assignable, is_input_slot, is_some_constant, is_window_operator, kinds_broken, next_broken, no_value, not_within, operands_refusal, rule_of, takes_assignment, temporal_here, told, waiting_refusal, window_refusal, with_bounds};
 
-use crate::judged::{Indexing, Judged, Notes, Violation};
+use crate::judged::{Indexing, Judged, Notes, TimedViolation, Violation};
+use crate::judged_list::JudgedList;
 use crate::notes::{
     as_operand, both, by_sets, everywhere, first, input_here, next_here, temporal_here,
     under_element, under_name, under_next,
 };
 use crate::told::{kinds_of, told, told_at};
+use smv_declared::{Constant, constants_of};
 use smv_kinds::{Kind, KindRule, Operand, kind_in_context, next_kind};
-use smv_resolve::{Naming, Node, last};
+use smv_meaning::is_temporal;
+use smv_resolve::{Naming, Node, first as before, last};
 use smv_slots::Slot;
 use smv_tree::{Place, Rule, VariableKind};
 use smv_value::{FaultRule, Operator, Value, is_value};
@@ -36,7 +43,7 @@ use value_types::ValueType;
 #[derive(Drop)]
 pub(crate) struct Table {
     pub operands: Vec<Operand>,
-    pub judged: Vec<Judged>,
+    pub judged: JudgedList,
 }
 
 /// What is told and noted of each node. Linear in the nodes.
@@ -46,14 +53,22 @@ pub(crate) fn judge_nodes(
     types: &[ValueType],
     nodes: &[Node],
 ) -> Result<Table, AllocError>
-    ensures { IfOk result (λ table. Tells slots.now types.now (parts_of nodes.now) table.operands.items table.judged.items) }
+    ensures { IfOk result (λ table. Tells slots.now types.now (parts_of nodes.now) table.operands.items table.judged) }
 {
     let kinds = kinds_of(alloc, types)?;
-    let mut operands = Vec::new(alloc);
-    let mut judged = Vec::new(alloc);
-    for node in nodes {
+    let constants = constants_of(alloc, nodes)?;
+    let mut operands = Vec::with_capacity(alloc, nodes.len())?;
+    let mut judged = JudgedList::with_capacity(alloc, nodes.len())?;
+    for (i, node) in nodes.iter().enumerate() {
         let operand = told(slots, kinds.as_slice(), *node, operands.as_slice());
-        let one = judge(slots, *node, operands.as_slice(), judged.as_slice());
+        let one = judge(
+            alloc,
+            slots,
+            *node,
+            before(constants.as_slice(), i),
+            operands.as_slice(),
+            &judged,
+        )?;
         operands.push(operand)?;
         judged.push(one)?;
     }
@@ -61,37 +76,60 @@ pub(crate) fn judge_nodes(
 }
 
 // What is noted of a node, over what is told and noted of those before it.
-fn judge(slots: &[Slot], node: Node, operands: &[Operand], table: &[Judged]) -> Judged
-    ensures { (types : List ValueType) (parts : List Resolved) → Tells slots.now types parts operands.now table.now → IsJudged slots.now types (resolved_by parts node) result }
+fn judge(
+    alloc: Global,
+    slots: &[Slot],
+    node: Node,
+    constants: &[Constant],
+    operands: &[Operand],
+    table: &JudgedList,
+) -> Result<Judged, AllocError>
+    ensures { IfOk result (λ j. (types : List ValueType) (parts : List Resolved) → constants.now ≡ map constant_of parts → Tells slots.now types parts operands.now table.now
+        → IsJudged slots.now types (resolved_by parts node) j) }
 {
     match node {
-        Node::Constant(place, value) => judge_constant(place, value),
-        Node::Slot(place, n) => judge_slot(slots, place, n),
-        Node::Whole(place, _) => judge_whole(place),
-        Node::Named(place, naming, a) => {
-            judge_named(
-                slots,
-                place,
-                naming,
-                judged_at(table, a),
-                told_at(operands, a).kind,
-            )
-        }
-        Node::Next(place, a) => judge_next(place, judged_at(table, a), told_at(operands, a).kind),
-        Node::Operand(a) => judged_at(table, a),
+        Node::Constant(place, value) => Ok(judge_constant(place, value)),
+        Node::Slot(place, n) => Ok(judge_slot(slots, place, n)),
+        Node::Whole(place, _) => Ok(judge_whole(place)),
+        Node::Named(place, naming, a) => Ok(judge_named(
+            slots,
+            place,
+            naming,
+            table.at(a),
+            told_at(operands, a).kind,
+        )),
+        Node::Next(place, a) => Ok(judge_next(place, table.at(a), told_at(operands, a).kind)),
+        Node::Operand(a) => Ok(table.at(a)),
         Node::Apply(place, operator, count) => {
-            judge_apply(place, operator, last(operands, count), last(table, count))
+            let noted = table.last(alloc, count)?;
+            Ok(judge_apply(
+                place,
+                operator,
+                last(constants, count),
+                last(operands, count),
+                noted.as_slice(),
+            ))
         }
-        Node::Link(place, operator, a, b) => judge_apply(
+        Node::Link(place, operator, a, b) => Ok(judge_apply(
             place,
             operator,
+            &[constant_at(constants, a), constant_at(constants, b)],
             &[told_at(operands, a), told_at(operands, b)],
-            &[judged_at(table, a), judged_at(table, b)],
-        ),
+            &[table.at(a), table.at(b)],
+        )),
     }
 }
 
-pub(crate) fn judged_at(table: &[Judged], k: usize) -> Judged
+fn constant_at(constants: &[Constant], k: usize) -> Constant
+    ensures { result ≡ slice_index_or constants.now k NotConstant }
+{
+    match constants.get(k) {
+        None => Constant::NotConstant,
+        Some(constant) => *constant,
+    }
+}
+
+fn judged_at(table: &[Judged], k: usize) -> Judged
     ensures { result ≡ judged_at table.now k }
 {
     match table.get(k) {
@@ -102,7 +140,7 @@ pub(crate) fn judged_at(table: &[Judged], k: usize) -> Judged
 
 // What is noted of what cannot be assigned.
 fn noted(place: Place, notes: Notes) -> Judged
-    ensures { result ≡ record { place = place; notes = notes; inner = None; defined = None; indexing = no_indexing; takes_init = false; takes_later = false } }
+    ensures { result ≡ record { place = place; notes = notes; inner = None; defined = None; indexing = no_indexing; is_window = false; takes_init = false; takes_later = false } }
 {
     Judged {
         place,
@@ -110,6 +148,7 @@ fn noted(place: Place, notes: Notes) -> Judged
         inner: None,
         defined: None,
         indexing: no_indexing(),
+        is_window: false,
         takes_init: false,
         takes_later: false,
     }
@@ -169,6 +208,7 @@ fn judge_slot_of(place: Place, kind: VariableKind) -> Judged
     ensures inner { result.inner ≡ None }
     ensures defined { result.defined ≡ None }
     ensures indexing { result.indexing ≡ no_indexing }
+    ensures window { result.is_window ≡ false }
     ensures init { result.takes_init ≡ takes_assignment side.Init kind }
     ensures later { result.takes_later ≡ takes_assignment side.Next kind }
 {
@@ -319,20 +359,25 @@ fn next_broken(place: Place, kind: Kind) -> Option<Violation>
     }
 }
 
-// An operator, over what is told and noted of its operands.
-fn judge_apply(place: Place, operator: Operator, operands: &[Operand], table: &[Judged]) -> Judged
-    ensures { (slots : List Slot) (types : List ValueType) (rs : List Resolved) → Tells slots types rs operands.now table.now → IsJudged slots types (R.Apply place operator (operands_of rs)) result }
+// An operator, over what is told and noted of its operands, and the constants that these are.
+fn judge_apply(
+    place: Place,
+    operator: Operator,
+    constants: &[Constant],
+    operands: &[Operand],
+    table: &[Judged],
+) -> Judged
+    ensures { (slots : List Slot) (types : List ValueType) (rs : List Resolved) → constants.now ≡ constants_of (operands_of rs) → Tells slots types rs operands.now table.now
+        → IsJudged slots types (R.Apply place operator (operands_of rs)) result }
 {
     let inside = all_noted(operator, table);
-    let kinds = by_sets(
-        kinds_broken(place, operator, false, operands),
-        kinds_broken(place, operator, true, operands),
-    );
-    let notes = both(inside, both(temporal_here(place, operator), kinds));
+    let own = own_notes(place, operator, constants, operands);
+    let notes = both(inside, own);
     let is_array = is_array(operator);
     Judged {
         inner: inner_of(place, operator, operands, table),
         indexing: indexing_of(operator, operands, table),
+        is_window: is_window_operator(operator),
         takes_init: is_array,
         takes_later: is_array,
         ..noted(place, notes)
@@ -479,54 +524,134 @@ fn all_noted(operator: Operator, table: &[Judged]) -> Notes
     all
 }
 
-// The rule that operands break by their kinds, where sets may stand or may not.
+// What an operator itself breaks in each context.
+fn own_notes(
+    place: Place,
+    operator: Operator,
+    constants: &[Constant],
+    operands: &[Operand],
+) -> Notes
+    ensures { AreNotes (λ c. or_else (temporal_here c place operator) (kinds_broken place operator constants.now (kind_in_context c.set operator operands.now))) result }
+{
+    if is_temporal(operator) {
+        temporal_here(place, timed_broken(place, operator, constants, operands))
+    } else {
+        by_sets(
+            kinds_broken(place, operator, false, operands),
+            kinds_broken(place, operator, true, operands),
+        )
+    }
+}
+
+// The rule that operands break by their kinds, where sets may stand or may not. It is told of no temporal operator.
 fn kinds_broken(
     place: Place,
     operator: Operator,
     sets: bool,
     operands: &[Operand],
 ) -> Option<Violation>
-    ensures { as_refusal result ≡ kinds_broken place operator operands.now (kind_in_context sets operator operands.now) }
+    ensures { (constants : List AConstant) → is_temporal operator ≡ false → as_refusal result ≡ kinds_broken place operator constants (kind_in_context sets operator operands.now) }
 {
     match kind_in_context(sets, operator, operands) {
         Ok(_) => None,
-        Err(rule) => Some(broken_by(place, operator, operands, rule)),
+        Err(rule) => Some(Violation::new(rule_of(rule), place)),
     }
 }
 
-fn broken_by(place: Place, operator: Operator, operands: &[Operand], rule: KindRule) -> Violation
-    ensures { as_refusal (Some result) ≡ Some (broken_by place operator operands.now rule) }
+// The rule that operands of a temporal operator break by their kinds, where one may stand.
+fn timed_broken(
+    place: Place,
+    operator: Operator,
+    constants: &[Constant],
+    operands: &[Operand],
+) -> Option<TimedViolation>
+    ensures { timed_refusal result ≡ kinds_broken place operator constants.now (kind_in_context false operator operands.now) }
 {
-    match rule {
-        KindRule::BadBound => Violation {
-            rule: Rule::BadBound,
-            place,
-            bounds: bounds_told(operator, operands),
-        },
-        _ => Violation::new(rule_of(rule), place),
+    match kind_in_context(false, operator, operands) {
+        Ok(_) => None,
+        Err(rule) => Some(broken_by(place, operator, constants, rule)),
     }
 }
 
-// The bounds of a temporal operator, where they are constants.
-fn bounds_told(operator: Operator, operands: &[Operand]) -> Option<(i64, i64)>
-    ensures { result ≡ bounds_told operator operands.now }
+fn broken_by(
+    place: Place,
+    operator: Operator,
+    constants: &[Constant],
+    rule: KindRule,
+) -> TimedViolation
+    ensures { timed_refusal (Some result) ≡ Some (broken_by place operator constants.now rule) }
 {
     match operator {
-        Operator::Bounded(_, low, high) => Some((i64::from(low), i64::from(high))),
-        Operator::Window(_) => match operands {
-            [low, high, ..] => both_bounds(low.constant, high.constant),
-            _ => None,
+        Operator::Window(_) => match rule {
+            KindRule::NotConstant | KindRule::BadBound => window_violation(place, constants),
+            _ => plainly(rule_of(rule), place),
         },
-        _ => None,
+        Operator::Bounded(_, low, high) => match rule {
+            KindRule::BadBound => { with_bounds(place, Some((i128::from(low), i128::from(high)))) }
+            _ => plainly(rule_of(rule), place),
+        },
+        _ => plainly(rule_of(rule), place),
     }
 }
 
-fn both_bounds(low: Option<i64>, high: Option<i64>) -> Option<(i64, i64)>
+// A rule that is broken, of which no bounds are told.
+fn plainly(rule: Rule, place: Place) -> TimedViolation
+    ensures { timed_refusal (Some result) ≡ Some (plain rule place) }
+{
+    TimedViolation {
+        violation: Violation::new(rule, place),
+        bounds: None,
+    }
+}
+
+fn with_bounds(place: Place, bounds: Option<(i128, i128)>) -> TimedViolation
+    ensures { timed_refusal (Some result) ≡ Some (with_bounds place bounds) }
+{
+    TimedViolation {
+        violation: Violation::new(Rule::BadBound, place),
+        bounds,
+    }
+}
+
+// Bounds as they are written, which are none.
+fn window_violation(place: Place, constants: &[Constant]) -> TimedViolation
+    ensures { timed_refusal (Some result) ≡ Some (window_refusal place constants.now) }
+{
+    match constants {
+        [low, high, ..] => if is_some_constant(*low) && is_some_constant(*high) {
+            with_bounds(place, both_bounds(*low, *high))
+        } else {
+            plainly(Rule::NotConstant, place)
+        },
+        _ => plainly(Rule::NotConstant, place),
+    }
+}
+
+fn is_some_constant(constant: Constant) -> bool
+    ensures { result ≡ is_some_constant constant }
+{
+    match constant {
+        Constant::NotConstant => false,
+        Constant::Beyond | Constant::Integer(_) => true,
+    }
+}
+
+fn both_bounds(low: Constant, high: Constant) -> Option<(i128, i128)>
     ensures { result ≡ both_bounds low high }
 {
     match (low, high) {
-        (Some(low), Some(high)) => Some((low, high)),
+        (Constant::Integer(low), Constant::Integer(high)) => Some((low, high)),
         _ => None,
+    }
+}
+
+// A temporal operator with its bounds as they are written.
+fn is_window_operator(operator: Operator) -> bool
+    ensures { result ≡ is_window_operator operator }
+{
+    match operator {
+        Operator::Window(_) => true,
+        _ => false,
     }
 }
 

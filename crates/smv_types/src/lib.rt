@@ -5,6 +5,7 @@
 
 mod items;
 mod judged;
+mod judged_list;
 mod kinds;
 mod limits;
 mod notes;

@@ -2,16 +2,31 @@
 
 ghost use Rattle.std.specs.Prelude.{◌≡◌, Bool, true, false, Option};
 ghost use Rattle.smv_tree.specs.declared.refusal.Refusal.{Refusal};
-ghost use Rattle.smv_kinds.specs.Contexts.{kind_in_context};
+ghost use Rattle.smv_value.specs.declared.operator.Operator.{Operator};
+ghost use Rattle.smv_meaning.specs.Formulas.{is_temporal};
 ghost use Rattle.smv_verdicts.specs.Verdicts.{or_else};
-ghost use Rattle.smv_types.specs.Judged.{AreNotes, as_refusal};
+ghost use Rattle.smv_types.specs.Judged.{AreNotes, as_refusal, timed, timed_refusal};
 ghost use Rattle.smv_types.specs.Kinds.{Context, input_here, is_bound, next_here, temporal_here, under_element, under_name, under_next, under_operand, unless_bound};
 
-use crate::judged::{Notes, Violation};
+use crate::judged::{Notes, TimedViolation, Violation};
 use smv_kinds::takes_sets;
-use smv_meaning::{is_over_formulas, is_temporal};
+use smv_meaning::is_over_formulas;
 use smv_tree::{Place, Rule};
 use smv_value::Operator;
+
+// The same where temporal operators may stand.
+pub(crate) fn timed(violation: Option<Violation>) -> Option<TimedViolation>
+    ensures is { result ≡ timed violation }
+    ensures same { timed_refusal result ≡ as_refusal violation }
+{
+    match violation {
+        None => None,
+        Some(violation) => Some(TimedViolation {
+            violation,
+            bounds: None,
+        }),
+    }
+}
 
 // The same in all contexts.
 pub(crate) fn everywhere(violation: Option<Violation>) -> Notes
@@ -24,7 +39,7 @@ pub(crate) fn everywhere(violation: Option<Violation>) -> Notes
         name_set: violation,
         state: violation,
         state_set: violation,
-        path: violation,
+        path: timed(violation),
     }
 }
 
@@ -39,7 +54,7 @@ pub(crate) fn by_sets(without: Option<Violation>, with: Option<Violation>) -> No
         name_set: with,
         state: without,
         state_set: with,
-        path: without,
+        path: timed(without),
     }
 }
 
@@ -54,12 +69,24 @@ pub(crate) fn both(a: Notes, b: Notes) -> Notes
         name_set: first(a.name_set, b.name_set),
         state: first(a.state, b.state),
         state_set: first(a.state_set, b.state_set),
-        path: first(a.path, b.path),
+        path: first_timed(a.path, b.path),
     }
 }
 
 pub(crate) fn first(a: Option<Violation>, b: Option<Violation>) -> Option<Violation>
     ensures { as_refusal result ≡ or_else (as_refusal a) (as_refusal b) }
+{
+    match a {
+        Some(violation) => Some(violation),
+        None => b,
+    }
+}
+
+pub(crate) fn first_timed(
+    a: Option<TimedViolation>,
+    b: Option<TimedViolation>,
+) -> Option<TimedViolation>
+    ensures { timed_refusal result ≡ or_else (timed_refusal a) (timed_refusal b) }
 {
     match a {
         Some(violation) => Some(violation),
@@ -78,7 +105,7 @@ pub(crate) fn under_name(n: Notes) -> Notes
         name_set: n.name_set,
         state: n.state,
         state_set: n.state_set,
-        path: n.name,
+        path: timed(n.name),
     }
 }
 
@@ -86,7 +113,10 @@ pub(crate) fn under_name(n: Notes) -> Notes
 pub(crate) fn under_element(n: Notes) -> Notes
     ensures { (refusal : Context → Option Refusal) → AreNotes refusal n → AreNotes (λ c. refusal (under_element c)) result }
 {
-    Notes { path: n.name, ..n }
+    Notes {
+        path: timed(n.name),
+        ..n
+    }
 }
 
 // Under `next`.
@@ -100,11 +130,12 @@ pub(crate) fn under_next(n: Notes) -> Notes
         name_set: n.state_set,
         state: n.state,
         state_set: n.state_set,
-        path: n.state,
+        path: timed(n.state),
     }
 }
 
 // As an operand of this number.
+#[tactic(auto, using(crate::proofs::Bounds::timed_same))]
 fn under_operand(operator: Operator, operand: usize, n: Notes) -> Notes
     ensures { (refusal : Context → Option Refusal) → AreNotes refusal n → AreNotes (λ c. refusal (under_operand operator operand c)) result }
 {
@@ -113,7 +144,10 @@ fn under_operand(operator: Operator, operand: usize, n: Notes) -> Notes
     } else if is_over_formulas(operator) {
         n
     } else {
-        Notes { path: n.name, ..n }
+        Notes {
+            path: timed(n.name),
+            ..n
+        }
     }
 }
 
@@ -140,7 +174,7 @@ fn is_bound(operator: Operator, operand: usize) -> bool
 
 // Where sets may stand, and no temporal operator.
 fn with_sets(n: Notes) -> Notes
-    ensures { result ≡ record { step = n.step_set; step_set = n.step_set; name = n.name_set; name_set = n.name_set; state = n.state_set; state_set = n.state_set; path = n.name_set } }
+    ensures { result ≡ record { step = n.step_set; step_set = n.step_set; name = n.name_set; name_set = n.name_set; state = n.state_set; state_set = n.state_set; path = timed n.name_set } }
 {
     Notes {
         step: n.step_set,
@@ -149,7 +183,7 @@ fn with_sets(n: Notes) -> Notes
         name_set: n.name_set,
         state: n.state_set,
         state_set: n.state_set,
-        path: n.name_set,
+        path: timed(n.name_set),
     }
 }
 
@@ -180,17 +214,13 @@ pub(crate) fn next_here(place: Place) -> Notes
     }
 }
 
-// A temporal operator, where none may stand.
-pub(crate) fn temporal_here(place: Place, operator: Operator) -> Notes
-    ensures { AreNotes (λ c. temporal_here c place operator) result }
+// A temporal operator: it is misplaced where none may stand, and breaks this where one may.
+pub(crate) fn temporal_here(place: Place, broken: Option<TimedViolation>) -> Notes
+    ensures { (operator : Operator) (refusal : Bool → Option Refusal) → is_temporal operator ≡ true → timed_refusal broken ≡ refusal false
+        → AreNotes (λ c. or_else (temporal_here c place operator) (refusal c.set)) result }
 {
-    let misplaced = if is_temporal(operator) {
-        Some(Violation::new(Rule::TemporalHere, place))
-    } else {
-        None
-    };
     Notes {
-        path: None,
-        ..everywhere(misplaced)
+        path: broken,
+        ..everywhere(Some(Violation::new(Rule::TemporalHere, place)))
     }
 }

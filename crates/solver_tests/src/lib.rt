@@ -9,6 +9,8 @@ mod clauses;
 #[cfg(test)]
 mod derivations;
 #[cfg(test)]
+mod letters;
+#[cfg(test)]
 mod making;
 #[cfg(test)]
 mod propagators;

@@ -1,10 +1,12 @@
 //! Tests of certificates made of an invariant: shared steps that no part needs are left out.
 
-ghost use Rattle.std.specs.Prelude.{All, IfOk};
+ghost use Rattle.std.specs.Prelude.{◌≡◌, All, IfOk, length};
 ghost use Rattle.clause_core.specs.Literals.{Within};
 ghost use Rattle.cert_core.specs.declared.form.Form.TheVariants.{Plain};
-ghost use Rattle.cert_core.specs.Blocks.{LogFits};
+ghost use Rattle.cert_core.specs.Blocks.{HasPlace, LogFits};
+ghost use Rattle.cert_core.specs.Certificates.{IsInvariant};
 
+use crate::letters::clauses_of;
 use cert_check::{Verdict, check};
 use cert_core::inductive_invariants::what_is_certified_is_invariant;
 use cert_core::{Certificate, Form, MAX_VARS, Part};
@@ -15,33 +17,24 @@ use hinted_log::Hinted;
 use std::alloc::{AllocError, Global};
 use std::test::Fail;
 
-// A small letter for a variable, a capital one for its negation; `a` is the state bit, `b` that of the next state. A
-// dot ends a clause.
-fn clauses(alloc: Global, text: &str) -> Result<Clauses, AllocError> {
-    let mut list = Clauses::new(alloc);
-    let mut clause = Vec::new(alloc);
-    for letter in text.as_bytes() {
-        if *letter == b'.' {
-            list.push(&clause)?;
-            clause.clear();
-        } else {
-            clause.push(Lit::new((*letter as usize + 31) % 32, *letter >= b'a'))?;
-        }
-    }
-    Ok(list)
-}
-
 const VARS: usize = 6;
 
-// The bit is false at first, and bad where it is true.
-fn system(alloc: Global, step: &str) -> Result<Option<System>, AllocError> {
-    let init = clauses(alloc, "A.")?;
-    let step = clauses(alloc, step)?;
-    if !init.is_within(VARS) || !step.is_within(VARS) {
-        return Ok(None);
+// In letters `a` is the state bit, and `b` that of the next state.
+
+// The bit is bad where it is true.
+fn system_of(alloc: Global, init: Clauses, step: Clauses) -> Result<System, AllocError> {
+    if init.is_within(VARS) && step.is_within(VARS) {
+        System::plain(alloc, 1, VARS, init, step, &[Lit::new(0, true)])
+    } else {
+        Err(AllocError)
     }
-    let system = System::plain(alloc, 1, VARS, init, step, &[Lit::new(0, true)])?;
-    Ok(Some(system))
+}
+
+// The same, and false at first.
+fn system(alloc: Global, step: &[u8]) -> Result<System, AllocError> {
+    let init = clauses_of(alloc, b"A.", 0)?;
+    let step = clauses_of(alloc, step, 0)?;
+    system_of(alloc, init, step)
 }
 
 // These steps, without hints.
@@ -56,28 +49,65 @@ fn without_hints(alloc: Global, list: &Clauses) -> Result<Hinted, AllocError>
     Ok(log)
 }
 
-fn plain_steps(alloc: Global, text: &str) -> Result<Hinted, AllocError>
+fn plain_steps(alloc: Global, text: &[u8]) -> Result<Hinted, AllocError>
     ensures { IfOk result (LogFits Plain) }
 {
-    let list = clauses(alloc, text)?;
-    if list.is_within(MAX_VARS) {
+    let list = clauses_of(alloc, text, 0)?;
+    let log = if list.is_within(MAX_VARS) {
         without_hints(alloc, &list)
     } else {
-        Ok(Hinted::new(alloc))
+        Err(AllocError)
+    };
+    drop(list);
+    log
+}
+
+// Gives the part these steps.
+fn put(alloc: Global, cert: &mut Certificate, part: Part, text: &[u8]) -> Result<(), AllocError>
+    requires place { HasPlace cert.old part }
+    requires form { cert.old.form ≡ Plain }
+    ensures form { cert.new.form ≡ Plain }
+    ensures clauses { cert.new.clauses ≡ cert.old.clauses }
+{
+    let steps = plain_steps(alloc, text)?;
+    cert.put(part, steps);
+    Ok(())
+}
+
+fn put_all(alloc: Global, cert: &mut Certificate, kept: &[u8]) -> Result<(), AllocError>
+    requires form { cert.old.form ≡ Plain }
+    requires clauses { length cert.old.clauses ≡ 1 }
+{
+    put(alloc, cert, Part::First(0), b".")?;
+    put(alloc, cert, Part::Kept(0), kept)?;
+    put(alloc, cert, Part::Safe, b".")
+}
+
+// That the bit stays false, without any steps.
+fn without_steps(alloc: Global) -> Result<Certificate, AllocError>
+    ensures form { IfOk result (λ c. c.form ≡ Plain) }
+    ensures clauses { IfOk result (λ c. length c.clauses ≡ 1) }
+{
+    let mut cert = Certificate::new(alloc, Form::Plain, None);
+    match cert.push_clause(&[Lit::new(0, false)]) {
+        Ok(()) => Ok(cert),
+        Err(error) => {
+            drop(cert);
+            Err(error)
+        }
     }
 }
 
 // That the bit stays false, with these steps for the part `kept`.
-fn stays_false(alloc: Global, kept: &str) -> Result<Certificate, AllocError> {
-    let mut cert = Certificate::new(alloc, Form::Plain, None);
-    cert.push_clause(&[Lit::new(0, false)])?;
-    let steps = plain_steps(alloc, ".")?;
-    cert.put(Part::First(0), steps);
-    let steps = plain_steps(alloc, kept)?;
-    cert.put(Part::Kept(0), steps);
-    let steps = plain_steps(alloc, ".")?;
-    cert.put(Part::Safe, steps);
-    Ok(cert)
+fn stays_false(alloc: Global, kept: &[u8]) -> Result<Certificate, AllocError> {
+    let mut cert = without_steps(alloc)?;
+    match put_all(alloc, &mut cert, kept) {
+        Ok(()) => Ok(cert),
+        Err(error) => {
+            drop(cert);
+            Err(error)
+        }
+    }
 }
 
 fn count(cert: &Certificate) -> usize {
@@ -87,30 +117,57 @@ fn count(cert: &Certificate) -> usize {
     }
 }
 
-// How many tickets were drawn for the certificate that is made of the clauses of this one, if it certifies, and how
-// many shared steps the made one has, if it certifies.
-fn made(
+// How many tickets were drawn.
+fn tickets(purse: &mut PlainPurse) -> Option<u64> {
+    match purse.draw() {
+        Draw::Ticket(drawn) => Some(drawn),
+        Draw::Spent { .. } => None,
+    }
+}
+
+// How many shared steps the certificate has, if it certifies.
+fn shared(alloc: Global, system: &System, cert: &Certificate) -> Result<Option<usize>, AllocError> {
+    match check(alloc, system, cert)? {
+        Verdict::Yes => Ok(Some(count(cert))),
+        Verdict::No { .. } => Ok(None),
+    }
+}
+
+fn shared_of_made(
+    alloc: Global,
+    system: &System,
+    made: &Made,
+) -> Result<Option<usize>, AllocError> {
+    match made {
+        Made::Certificate(cert) => shared(alloc, system, cert),
+        Made::Spent { .. } => Ok(None),
+    }
+}
+
+// Whether a certificate that is made of these clauses certifies, and takes so many tickets and so many shared steps.
+fn is_made(alloc: Global, system: &System, clauses: &Clauses, row: &Row) -> Result<bool, AllocError>
+    requires within { All (Within system.now.state_bits) clauses.now }
+    requires invariant { IsInvariant system.now clauses.now }
+{
+    let mut purse = PlainPurse::new(100);
+    let made = make(alloc, system, clauses, &mut purse)?;
+    let steps = shared_of_made(alloc, system, &made);
+    drop(made);
+    Ok(steps? == Some(row.3) && tickets(&mut purse) == Some(row.2))
+}
+
+// The same of the clauses of a certificate that certifies.
+fn is_made_of(
     alloc: Global,
     system: &System,
     cert: &Certificate,
-) -> Result<Option<(u64, usize)>, AllocError> {
+    row: &Row,
+) -> Result<bool, AllocError> {
     match check(alloc, system, cert)? {
-        Verdict::No { .. } => Ok(None),
+        Verdict::No { .. } => Ok(false),
         Verdict::Yes => {
             what_is_certified_is_invariant();
-            let mut purse = PlainPurse::new(100);
-            match make(alloc, system, cert.clauses(), &mut purse)? {
-                Made::Spent { .. } => Ok(None),
-                Made::Certificate(made) => {
-                    if check(alloc, system, &made)? != Verdict::Yes {
-                        return Ok(None);
-                    }
-                    match purse.draw() {
-                        Draw::Ticket(drawn) => Ok(Some((drawn, count(&made)))),
-                        Draw::Spent { .. } => Ok(None),
-                    }
-                }
-            }
+            is_made(alloc, system, cert.clauses(), row)
         }
     }
 }
@@ -118,28 +175,39 @@ fn made(
 // The step clauses, the steps by which the bit stays false, how many tickets are drawn, and how many shared steps there
 // are. Each certificate takes three questions; nothing is learned, two clauses are that are both needed, or a third one
 // that says nothing of the bit.
-type Row = (&'static str, &'static str, u64, usize);
+struct Row(&'static [u8], &'static [u8], u64, usize);
 
 const ROWS: [Row; 3] = [
-    ("aB.", ".", 3, 0),
-    ("Bcd.BcD.BCd.BCD.", "Bc..", 5, 2),
-    ("Bcd.BcD.BCd.BCD.ef.eF.Ef.", "Bc..", 6, 2),
+    Row(b"aB.", b".", 3, 0),
+    Row(b"Bcd.BcD.BCd.BCD.", b"Bc..", 5, 2),
+    Row(b"Bcd.BcD.BCd.BCD.ef.eF.Ef.", b"Bc..", 6, 2),
 ];
 
-fn made_of_row(alloc: Global, row: &Row) -> Result<Option<(u64, usize)>, AllocError> {
-    match system(alloc, row.0)? {
-        None => Ok(None),
-        Some(system) => {
-            let cert = stays_false(alloc, row.1)?;
-            made(alloc, &system, &cert)
+fn is_made_in(alloc: Global, system: &System, row: &Row) -> Result<bool, AllocError> {
+    let cert = stays_false(alloc, row.1)?;
+    let answer = is_made_of(alloc, system, &cert, row);
+    drop(cert);
+    answer
+}
+
+fn is_right(alloc: Global, row: &Row) -> Result<bool, AllocError> {
+    let system = system(alloc, row.0)?;
+    let answer = is_made_in(alloc, &system, row);
+    drop(system);
+    answer
+}
+
+fn wrong_row(alloc: Global) -> Result<Option<usize>, AllocError> {
+    for (k, row) in ROWS.iter().enumerate() {
+        if !is_right(alloc, row)? {
+            return Ok(Some(k));
         }
     }
+    Ok(None)
 }
 
 #[test]
 fn steps_that_no_part_needs_are_left_out(rt: HostRuntime) -> Result<(), Fail> {
-    for row in &ROWS {
-        assert_eq!(rt; made_of_row(rt.alloc(), row)?, Some((row.2, row.3)));
-    }
+    assert_eq!(rt; wrong_row(rt.alloc())?, None);
     Ok(())
 }

@@ -13,7 +13,6 @@ use std::test::Fail;
 // Clauses over c, a, b, in this order, a decision, and the values after propagation of the clauses; then, if the decision
 // was unset, those after it, and those after it is taken back. A small letter is a variable, a capital one its negation,
 // and a dot ends a clause; 0 stands for unset, 1 for true, 2 for false, and 9 for a conflict.
-#[derive(Clone, Copy, Drop)]
 struct Row(&'static str, u8, &'static str);
 
 const ROWS: [Row; 10] = [
@@ -89,30 +88,65 @@ fn note_rest<P: Propagator>(p: &mut P, seen: &mut Vec<u8>) -> Result<bool, Alloc
     }
 }
 
+// Takes the decision, and notes the values after it and after it is taken back; whether that could be.
+fn note_decision<P: Propagator>(
+    p: &mut P,
+    decision: Lit,
+    seen: &mut Vec<u8>,
+) -> Result<bool, AllocError>
+    requires rested { P.rested p.old }
+    requires in_range { decision.var < length (P.trail p.old).values.items }
+    requires off { among (P.trail p.old).literals.items decision ≡ false }
+    requires off_too { among (P.trail p.old).literals.items (negate decision) ≡ false }
+{
+    p.decide(decision)?;
+    let _ = note_rest(p, seen)?;
+    if p.assignment().level_starts.len() == 0 {
+        return Ok(false);
+    }
+    p.undo(0);
+    note(seen, p.assignment())?;
+    Ok(true)
+}
+
+// Notes what comes of the clauses and of the decision; whether that could be.
+fn note_all<P: Propagator>(
+    p: &mut P,
+    decision: Lit,
+    seen: &mut Vec<u8>,
+) -> Result<bool, AllocError> {
+    if !note_rest(p, seen)? {
+        return Ok(true);
+    }
+    if !is_unset(p, decision) {
+        return Ok(true);
+    }
+    note_decision(p, decision, seen)
+}
+
+// Whether these values are seen.
+fn is_seen<P: Propagator>(
+    alloc: Global,
+    p: &mut P,
+    decision: Lit,
+    want: &str,
+) -> Result<bool, AllocError> {
+    let mut seen = Vec::new(alloc);
+    let noted = note_all(p, decision, &mut seen)?;
+    Ok(noted && seen.as_slice() == want.as_bytes())
+}
+
 // Whether the row's values are seen.
 fn is_row<P: Propagator + Drop>(alloc: Global, row: &Row) -> Result<bool, AllocError> {
     let mut p = P::new(alloc, 3)?;
-    let mut seen = Vec::new(alloc);
-    if !add_all(alloc, &mut p, row.0)? {
-        return Ok(false);
-    }
-    let decision = literal(row.1);
-    if note_rest(&mut p, &mut seen)? && is_unset(&p, decision) {
-        p.decide(decision)?;
-        let _ = note_rest(&mut p, &mut seen)?;
-        if p.assignment().level_starts.len() == 0 {
-            return Ok(false);
-        }
-        p.undo(0);
-        note(&mut seen, p.assignment())?;
-    }
-    Ok(seen.as_slice() == row.2.as_bytes())
+    let added = add_all(alloc, &mut p, row.0)?;
+    Ok(added && is_seen(alloc, &mut p, literal(row.1), row.2)?)
 }
 
 fn wrong_row<P: Propagator + Drop>(alloc: Global) -> Result<Option<usize>, AllocError> {
-    for i in 0..ROWS.len() {
-        if !is_row::<P>(alloc, &ROWS[i])? {
-            return Ok(Some(i));
+    for (k, row) in ROWS.iter().enumerate() {
+        if !is_row::<P>(alloc, row)? {
+            return Ok(Some(k));
         }
     }
     Ok(None)

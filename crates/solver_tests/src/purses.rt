@@ -1,11 +1,12 @@
 //! Tests of purses that one thread and four threads draw from, and of seats that are split and
 //! joined in every order.
 
-ghost use Rattle.std.specs.Prelude.{◌≡◌, ◌<◌, ◌≤◌, ◌-◌, ◌^◌, true};
+ghost use Rattle.std.specs.Prelude.{◌≡◌, ◌<◌, ◌≤◌, ◌+◌, ◌-◌, ◌^◌, true};
 ghost use Rattle.std.specs.Thread.{IsSync};
 ghost use Rattle.effort_purse.specs.Seats.{IsSeatOf, shares_of};
 
 use effort_purse::{Draw, Lent, NextBound, PlainPurse, Purse, Seat, SharedPurse};
+use std::alloc::{AllocError, Global};
 use std::test::Fail;
 use std::thread::{Threads, join};
 
@@ -63,7 +64,7 @@ fn fan_out<R: Threads + Sync>(rt: &R, purse: &SharedPurse, mut seat: Seat, worke
     }
     let half = workers / 2;
     let other = purse.split(&mut seat, half);
-    let (mut here, there) = join(
+    let (here, there) = join(
         rt,
         || -> Drawn
             requires { IsSync R.row × IsSeatOf purse.now seat × (half < workers) × (workers < 2 ^ 32) × (workers - half ≤ shares_of seat) }
@@ -76,34 +77,95 @@ fn fan_out<R: Threads + Sync>(rt: &R, purse: &SharedPurse, mut seat: Seat, worke
             ensures shares { shares_of result.seat ≡ shares_of other }
         { fan_out(rt, purse, other, half) },
     );
-    let Drawn {
-        seat: other,
+    with_other(purse, here, there)
+}
+
+// What two workers drew, as what one drew.
+fn with_other(purse: &SharedPurse, here: Drawn, there: Drawn) -> Drawn
+    requires here { IsSeatOf purse.now here.seat }
+    requires there { IsSeatOf purse.now there.seat }
+    ensures own { IsSeatOf purse.now result.seat }
+    ensures shares { shares_of result.seat ≡ shares_of here.seat + shares_of there.seat }
+{
+    let distinct = here.distinct && there.distinct && here.numbers & there.numbers == 0;
+    let numbers = here.numbers | there.numbers;
+    let mut seat = here.seat;
+    purse.join(&mut seat, there.seat);
+    Drawn {
+        seat,
         numbers,
         distinct,
-    } = there;
-    purse.join(&mut here.seat, other);
-    here.distinct = here.distinct && distinct && here.numbers & numbers == 0;
-    here.numbers |= numbers;
-    here
+    }
+}
+
+// How many tickets there are, and their numbers as bits.
+struct Budget {
+    tickets: u32,
+    numbers: u64,
+}
+
+const BUDGETS: [Budget; 4] = [
+    Budget {
+        tickets: 0,
+        numbers: 0,
+    },
+    Budget {
+        tickets: 1,
+        numbers: 1,
+    },
+    Budget {
+        tickets: 10,
+        numbers: 0x3ff,
+    },
+    Budget {
+        tickets: 64,
+        numbers: u64::MAX,
+    },
+];
+
+// Whether four threads draw these numbers, each once.
+fn is_drawn_by_four<R: Threads + Sync>(
+    rt: &R,
+    alloc: Global,
+    row: &Budget,
+) -> Result<bool, AllocError> {
+    let (purse, seat) = SharedPurse::new(alloc, u64::from(row.tickets), 0, 4)?;
+    let drawn = fan_out(rt, &purse, seat, 4);
+    Ok(drawn.numbers == row.numbers && drawn.distinct && SharedPurse::seen_spent(&drawn.seat))
+}
+
+// Whether a spent purse gives no ticket, and tells that all were drawn.
+fn is_used_up(purse: &mut PlainPurse, budget: u64) -> bool {
+    match purse.draw() {
+        Draw::Spent { drawn, budget: all } => drawn == budget && all == budget,
+        Draw::Ticket(_) => false,
+    }
+}
+
+// Whether one thread draws these numbers.
+fn is_drawn_by_one(row: &Budget) -> bool {
+    let budget = u64::from(row.tickets);
+    let mut purse = PlainPurse::new(budget);
+    let spent_at_first = purse.seen_spent();
+    let numbers = drain(&mut purse);
+    !spent_at_first
+        && numbers == row.numbers
+        && purse.seen_spent()
+        && is_used_up(&mut purse, budget)
+}
+
+fn wrong_budget<R: Threads + Sync>(rt: &R, alloc: Global) -> Result<Option<usize>, AllocError> {
+    for (k, row) in BUDGETS.iter().enumerate() {
+        if !is_drawn_by_four(rt, alloc, row)? || !is_drawn_by_one(row) {
+            return Ok(Some(k));
+        }
+    }
+    Ok(None)
 }
 
 #[test]
 fn four_threads_draw_each_number_once(rt: HostRuntime) -> Result<(), Fail> {
-    for (budget, want) in [(0, 0), (1, 1), (10, 0x3ff), (64, u64::MAX)] {
-        let (purse, seat) = SharedPurse::new(rt.alloc(), budget, 0, 4)?;
-        let drawn = fan_out(&rt, &purse, seat, 4);
-        assert_eq!(rt; drawn.numbers, want, "{budget}");
-        assert!(rt; drawn.distinct, "{budget}");
-        assert!(rt; SharedPurse::seen_spent(&drawn.seat), "{budget}");
-        let mut plain = PlainPurse::new(budget);
-        assert!(rt; !plain.seen_spent(), "{budget}");
-        assert_eq!(rt; drain(&mut plain), want, "{budget}");
-        assert!(rt; plain.seen_spent(), "{budget}");
-        assert!(rt;
-            matches!(plain.draw(), Draw::Spent { drawn, budget: all } if drawn == budget && all == budget),
-            "{budget}"
-        );
-    }
+    assert_eq!(rt; wrong_budget(&rt, rt.alloc())?, None);
     Ok(())
 }
 
@@ -126,67 +188,203 @@ fn ask(purse: &SharedPurse, seat: &mut Seat, times: u8) -> (u64, u64)
     (tickets, lengths)
 }
 
+// Joins the second seat into the first, and then the third.
+fn join_forward(purse: &SharedPurse, first: Seat, second: Seat, third: Seat) -> Seat
+    requires first { IsSeatOf purse.now first }
+    requires second { IsSeatOf purse.now second }
+    requires third { IsSeatOf purse.now third }
+    ensures own { IsSeatOf purse.now result }
+{
+    let mut seat = first;
+    purse.join(&mut seat, second);
+    purse.join(&mut seat, third);
+    seat
+}
+
+// Joins the third seat into the second, and these into the first.
+fn join_backward(purse: &SharedPurse, first: Seat, second: Seat, third: Seat) -> Seat
+    requires first { IsSeatOf purse.now first }
+    requires second { IsSeatOf purse.now second }
+    requires third { IsSeatOf purse.now third }
+    ensures own { IsSeatOf purse.now result }
+{
+    let mut rest = second;
+    purse.join(&mut rest, third);
+    let mut seat = first;
+    purse.join(&mut seat, rest);
+    seat
+}
+
 // Puts three seats together in one of the orders in which that can be done.
-fn join_three(purse: &SharedPurse, mut a: Seat, mut b: Seat, mut c: Seat, order: u8) -> Seat
+fn join_three(purse: &SharedPurse, a: Seat, b: Seat, c: Seat, order: u8) -> Seat
     requires first { IsSeatOf purse.now a }
     requires second { IsSeatOf purse.now b }
     requires third { IsSeatOf purse.now c }
     ensures own { IsSeatOf purse.now result }
 {
     match order {
-        0 => {
-            purse.join(&mut a, b);
-            purse.join(&mut a, c);
-            a
-        }
-        1 => {
-            purse.join(&mut b, c);
-            purse.join(&mut a, b);
-            a
-        }
-        2 => {
-            purse.join(&mut c, a);
-            purse.join(&mut b, c);
-            b
-        }
-        _ => {
-            purse.join(&mut b, a);
-            purse.join(&mut c, b);
-            c
-        }
+        0 => join_forward(purse, a, b, c),
+        1 => join_backward(purse, a, b, c),
+        2 => join_backward(purse, b, c, a),
+        _ => join_backward(purse, c, b, a),
     }
 }
 
-// The budget and the bounds, and what six questions of three seats get.
-#[test]
-fn seats_in_every_order(rt: HostRuntime) -> Result<(), Fail> {
-    for (budget, bounds, want_tickets, want_lengths, spent) in [
-        (0, 0, 0, 0, true),
-        (4, 3, 0xf, 0xe, true),
-        (6, 6, 0x3f, 0x7e, false),
-        (9, 0, 0x3f, 0, false),
-    ] {
-        for order in 0..4u8 {
-            let (purse, mut a) = SharedPurse::new(rt.alloc(), budget, bounds, 3)?;
-            let mut b = purse.split(&mut a, 1);
-            let mut c = purse.split(&mut a, 1);
-            let of_a = ask(&purse, &mut a, 1);
-            let of_b = ask(&purse, &mut b, 2);
-            let of_c = ask(&purse, &mut c, 3);
-            assert_eq!(rt; of_a.0 | of_b.0 | of_c.0, want_tickets, "{budget} {order}");
-            assert_eq!(rt; of_a.1 | of_b.1 | of_c.1, want_lengths, "{bounds} {order}");
-            assert!(rt; !purse.stop_seen(&mut a));
-            purse.raise_stop(&mut c);
-            assert!(rt; purse.stop_seen(&mut b));
-            let mut whole = join_three(&purse, a, b, c, order);
-            assert!(rt;
-                SharedPurse::seen_spent(&whole) == spent,
-                "{budget} {order}"
-            );
-            assert!(rt; purse.stop_seen(&mut whole), "{order}");
+// The budget and the bounds, and what six questions of three seats get: the numbers and the lengths as bits, and whether
+// the purse is spent then.
+struct Asked {
+    budget: u32,
+    bounds: u32,
+    tickets: u64,
+    lengths: u64,
+    is_spent: bool,
+}
+
+const ASKED: [Asked; 4] = [
+    Asked {
+        budget: 0,
+        bounds: 0,
+        tickets: 0,
+        lengths: 0,
+        is_spent: true,
+    },
+    Asked {
+        budget: 4,
+        bounds: 3,
+        tickets: 0xf,
+        lengths: 0xe,
+        is_spent: true,
+    },
+    Asked {
+        budget: 6,
+        bounds: 6,
+        tickets: 0x3f,
+        lengths: 0x7e,
+        is_spent: false,
+    },
+    Asked {
+        budget: 9,
+        bounds: 0,
+        tickets: 0x3f,
+        lengths: 0,
+        is_spent: false,
+    },
+];
+
+// Whether six questions of three seats get what the row says.
+fn are_told(purse: &SharedPurse, a: &mut Seat, b: &mut Seat, c: &mut Seat, row: &Asked) -> bool
+    requires first { IsSeatOf purse.now a.old }
+    requires second { IsSeatOf purse.now b.old }
+    requires third { IsSeatOf purse.now c.old }
+    ensures first { IsSeatOf purse.now a.new }
+    ensures second { IsSeatOf purse.now b.new }
+    ensures third { IsSeatOf purse.now c.new }
+{
+    let of_a = ask(purse, a, 1);
+    let of_b = ask(purse, b, 2);
+    let of_c = ask(purse, c, 3);
+    of_a.0 | of_b.0 | of_c.0 == row.tickets && of_a.1 | of_b.1 | of_c.1 == row.lengths
+}
+
+// Whether a stop that the third seat raises is seen by the second one, and was not seen before.
+fn is_stop_seen(purse: &SharedPurse, a: &mut Seat, b: &mut Seat, c: &mut Seat) -> bool
+    requires first { IsSeatOf purse.now a.old }
+    requires second { IsSeatOf purse.now b.old }
+    requires third { IsSeatOf purse.now c.old }
+    ensures first { IsSeatOf purse.now a.new }
+    ensures second { IsSeatOf purse.now b.new }
+    ensures third { IsSeatOf purse.now c.new }
+{
+    let seen_before = purse.stop_seen(a);
+    purse.raise_stop(c);
+    let seen_after = purse.stop_seen(b);
+    !seen_before && seen_after
+}
+
+// Whether three seats get what the row says, and know it where they are joined in this order.
+fn are_joined(
+    purse: &SharedPurse,
+    mut a: Seat,
+    mut b: Seat,
+    mut c: Seat,
+    row: &Asked,
+    order: u8,
+) -> bool
+    requires first { IsSeatOf purse.now a }
+    requires second { IsSeatOf purse.now b }
+    requires third { IsSeatOf purse.now c }
+{
+    let told = are_told(purse, &mut a, &mut b, &mut c, row);
+    let stopped = is_stop_seen(purse, &mut a, &mut b, &mut c);
+    let mut whole = join_three(purse, a, b, c, order);
+    let spent = SharedPurse::seen_spent(&whole);
+    told && stopped && spent == row.is_spent && purse.stop_seen(&mut whole)
+}
+
+fn is_right(alloc: Global, row: &Asked, order: u8) -> Result<bool, AllocError> {
+    let (purse, mut a) = SharedPurse::new(alloc, u64::from(row.budget), u64::from(row.bounds), 3)?;
+    let b = purse.split(&mut a, 1);
+    let c = purse.split(&mut a, 1);
+    Ok(are_joined(&purse, a, b, c, row, order))
+}
+
+fn wrong_order(alloc: Global, row: &Asked) -> Result<Option<u8>, AllocError> {
+    for order in 0..4u8 {
+        if !is_right(alloc, row, order)? {
+            return Ok(Some(order));
         }
     }
+    Ok(None)
+}
+
+fn wrong_row(alloc: Global) -> Result<Option<usize>, AllocError> {
+    for (k, row) in ASKED.iter().enumerate() {
+        if wrong_order(alloc, row)?.is_some() {
+            return Ok(Some(k));
+        }
+    }
+    Ok(None)
+}
+
+#[test]
+fn seats_in_every_order(rt: HostRuntime) -> Result<(), Fail> {
+    assert_eq!(rt; wrong_row(rt.alloc())?, None);
     Ok(())
+}
+
+// Whether a seat gets the one ticket and the one length.
+fn gets_one(purse: &SharedPurse, seat: &mut Seat) -> bool
+    requires own { IsSeatOf purse.now seat.old }
+    ensures own { IsSeatOf purse.now seat.new }
+    ensures shares { shares_of seat.new ≡ shares_of seat.old }
+{
+    let asked = ask(purse, seat, 1);
+    asked.0 == 1 && asked.1 == 2 && !SharedPurse::seen_spent(seat)
+}
+
+fn is_one_of_one(draw: Draw) -> bool {
+    match draw {
+        Draw::Spent { drawn, budget } => drawn == 1 && budget == 1,
+        Draw::Ticket(_) => false,
+    }
+}
+
+fn is_none_of_one(next: NextBound) -> bool {
+    match next {
+        NextBound::NoMore { bounds } => bounds == 1,
+        NextBound::Bound(_) => false,
+    }
+}
+
+// Whether a seat is told that the one ticket and the one length are drawn.
+fn is_refused(purse: &SharedPurse, seat: &mut Seat) -> bool
+    requires own { IsSeatOf purse.now seat.old }
+    ensures own { IsSeatOf purse.now seat.new }
+    ensures shares { shares_of seat.new ≡ shares_of seat.old }
+{
+    let no_ticket = is_one_of_one(purse.draw(seat));
+    let no_length = is_none_of_one(purse.next_bound(seat));
+    no_ticket && no_length
 }
 
 // Whether a seat is spent and has no more, and is told so.
@@ -196,37 +394,32 @@ fn gets_no_more(purse: &SharedPurse, seat: &mut Seat) -> bool
     ensures shares { shares_of seat.new ≡ shares_of seat.old }
 {
     let spent = SharedPurse::seen_spent(seat);
-    let no_ticket = matches!(
-        purse.draw(seat),
-        Draw::Spent {
-            drawn: 1,
-            budget: 1
-        }
-    );
-    let no_length = matches!(purse.next_bound(seat), NextBound::NoMore { bounds: 1 });
-    spent && no_ticket && no_length
+    let refused = is_refused(purse, seat);
+    spent && refused
+}
+
+// Whether a spent seat, a seat that is split from it, and the two together get no more.
+fn stays_spent(purse: &SharedPurse, seat: &mut Seat) -> bool
+    requires own { IsSeatOf purse.now seat.old }
+    requires shares { 1 < shares_of seat.old }
+{
+    let mut other = purse.split(seat, 1);
+    let here = gets_no_more(purse, seat);
+    let there = gets_no_more(purse, &mut other);
+    purse.join(seat, other);
+    here && there && gets_no_more(purse, seat)
+}
+
+fn is_spent_for_good(alloc: Global) -> Result<bool, AllocError> {
+    let (purse, mut seat) = SharedPurse::new(alloc, 1, 1, 2)?;
+    let first = gets_one(&purse, &mut seat);
+    let second = is_refused(&purse, &mut seat);
+    let spent = stays_spent(&purse, &mut seat);
+    Ok(first && second && spent)
 }
 
 #[test]
 fn a_spent_seat_stays_spent(rt: HostRuntime) -> Result<(), Fail> {
-    let (purse, mut seat) = SharedPurse::new(rt.alloc(), 1, 1, 2)?;
-    assert!(rt; matches!(purse.draw(&mut seat), Draw::Ticket(0)));
-    assert!(rt; matches!(purse.next_bound(&mut seat), NextBound::Bound(1)));
-    assert!(rt; !SharedPurse::seen_spent(&seat));
-    assert!(rt;
-        matches!(
-            purse.draw(&mut seat),
-            Draw::Spent {
-                drawn: 1,
-                budget: 1
-            }
-        )
-    );
-    assert!(rt; matches!(purse.next_bound(&mut seat), NextBound::NoMore { bounds: 1 }));
-    let mut other = purse.split(&mut seat, 1);
-    assert!(rt; gets_no_more(&purse, &mut seat));
-    assert!(rt; gets_no_more(&purse, &mut other));
-    purse.join(&mut seat, other);
-    assert!(rt; gets_no_more(&purse, &mut seat));
+    assert!(rt; is_spent_for_good(rt.alloc())?);
     Ok(())
 }

@@ -1,7 +1,8 @@
 //! Tests of the solver on formulas with known answers. Models, cores and logs are each checked by
 //! other means.
 
-use clause_core::{Clause, Clauses, Lit, is_within, met};
+use crate::letters::{clauses_of, literals};
+use clause_core::{Bits, Clause, Clauses, Lit, is_within, met};
 use effort_purse::PlainPurse;
 use rup_check::{Checker, Verdict};
 use sat_core::{Answer, Solver};
@@ -11,7 +12,6 @@ use std::test::Fail;
 
 // Clauses, assumptions, a budget; what is answered: `s` for a model, `u` for a core, `x` for a spent purse; and the size
 // of the core. A small letter is a variable, a capital one its negation, and a dot ends a clause.
-#[derive(Clone, Copy, Drop)]
 struct Row(&'static str, &'static str, u64, char, usize);
 
 const SMALL: [Row; 15] = [
@@ -32,64 +32,53 @@ const SMALL: [Row; 15] = [
     Row("ab.aB.Ab.AB.", "c", 2, 'u', 0),
 ];
 
-fn literal(letter: u8) -> Lit {
-    Lit::new(letter as usize % 32, letter >= b'a')
-}
-
-fn literals(alloc: Global, text: &str) -> Result<Vec<Lit>, AllocError> {
-    let mut list = Vec::new(alloc);
-    for letter in text.as_bytes() {
-        list.push(literal(*letter))?;
+// Whether the model makes the clause true.
+fn is_met(alloc: Global, lits: &[Lit], model: &Bits) -> Result<bool, AllocError> {
+    if !is_within(lits, model.len()) {
+        return Ok(false);
     }
-    Ok(list)
+    let clause = Clause::from_slice(alloc, lits)?;
+    let answer = met(&clause, model);
+    drop(clause);
+    Ok(answer)
 }
 
-// Clauses, each ended by a dot.
-fn list_of(alloc: Global, text: &str) -> Result<Clauses, AllocError> {
-    let mut list = Clauses::new(alloc);
-    let mut clause = Vec::new(alloc);
-    for letter in text.as_bytes() {
-        if *letter == b'.' {
-            list.push(&clause)?;
-            clause.clear();
-        } else {
-            clause.push(literal(*letter))?;
-        }
-    }
-    Ok(list)
-}
-
-// Whether the model makes each clause and each assumption true.
-fn meets_all(
-    alloc: Global,
-    clauses: &Clauses,
-    assumptions: &[Lit],
-    model: &clause_core::Bits,
-) -> Result<bool, AllocError> {
+fn meets_clauses(alloc: Global, clauses: &Clauses, model: &Bits) -> Result<bool, AllocError> {
     for k in 0..clauses.len() {
-        let c = clauses.get(k);
-        if !is_within(c, model.len()) || !met(&Clause::from_slice(alloc, c)?, model) {
-            return Ok(false);
-        }
-    }
-    for a in assumptions {
-        if !is_within(&[*a], model.len()) || !met(&Clause::from_slice(alloc, &[*a])?, model) {
+        if !is_met(alloc, clauses.get(k), model)? {
             return Ok(false);
         }
     }
     Ok(true)
 }
 
-// The clauses, and each literal of the core as a clause.
-fn with_core(alloc: Global, clauses: &Clauses, core: &[Lit]) -> Result<Clauses, AllocError> {
-    let mut all = Clauses::new(alloc);
+fn meets_each(alloc: Global, assumptions: &[Lit], model: &Bits) -> Result<bool, AllocError> {
+    for a in assumptions {
+        if !is_met(alloc, &[*a], model)? {
+            return Ok(false);
+        }
+    }
+    Ok(true)
+}
+
+fn add_list(all: &mut Clauses, clauses: &Clauses) -> Result<(), AllocError> {
     for k in 0..clauses.len() {
         all.push(clauses.get(k))?;
     }
-    for l in core {
+    Ok(())
+}
+
+fn add_units(all: &mut Clauses, lits: &[Lit]) -> Result<(), AllocError> {
+    for l in lits {
         all.push(&[*l])?;
     }
-    Ok(all)
+    Ok(())
+}
+
+// Adds the clauses, and each literal of the core as a clause.
+fn add_both(all: &mut Clauses, clauses: &Clauses, core: &[Lit]) -> Result<(), AllocError> {
+    add_list(all, clauses)?;
+    add_units(all, core)
 }
 
 // Whether the log derives the empty clause from the clauses.
@@ -99,11 +88,47 @@ fn is_derived(
     clauses: &Clauses,
     log: &Clauses,
 ) -> Result<bool, AllocError> {
-    let mut checker = Checker::new(alloc, vars)?;
     if !clauses.is_within(vars) {
         return Ok(false);
     }
-    Ok(checker.check(clauses, log) == Verdict::Yes)
+    let mut checker = Checker::new(alloc, vars)?;
+    let verdict = checker.check(clauses, log);
+    drop(checker);
+    Ok(verdict == Verdict::Yes)
+}
+
+// Whether the solver's log derives the empty clause from these clauses.
+fn is_refuted<P: Propagator + Drop>(
+    alloc: Global,
+    solver: &Solver<P>,
+    clauses: &Clauses,
+) -> Result<bool, AllocError> {
+    let log = solver.log(alloc)?;
+    let derived = is_derived(alloc, solver.vars(), clauses, &log);
+    let steps = log.len();
+    drop(log);
+    Ok(derived? && steps == solver.learned() + 1)
+}
+
+// Whether the core is a part of the assumptions.
+fn is_part(core: &[Lit], assumptions: &[Lit]) -> bool {
+    for l in core {
+        if !assumptions.contains(l) {
+            return false;
+        }
+    }
+    true
+}
+
+fn is_refuted_by<P: Propagator + Drop>(
+    alloc: Global,
+    solver: &Solver<P>,
+    all: &mut Clauses,
+    clauses: &Clauses,
+    core: &[Lit],
+) -> Result<bool, AllocError> {
+    add_both(all, clauses, core)?;
+    is_refuted(alloc, solver, all)
 }
 
 // Whether the core is a part of the assumptions, and the solver's log derives the empty clause from the clauses and the
@@ -115,17 +140,50 @@ fn refutes<P: Propagator + Drop>(
     assumptions: &[Lit],
     core: &[Lit],
 ) -> Result<bool, AllocError> {
-    for l in core {
-        if !assumptions.contains(l) {
-            return Ok(false);
-        }
-    }
-    let all = with_core(alloc, clauses, core)?;
-    let log = solver.log(alloc)?;
-    if log.len() != solver.learned() + 1 {
+    if !is_part(core, assumptions) {
         return Ok(false);
     }
-    is_derived(alloc, solver.vars(), &all, &log)
+    let mut all = Clauses::new(alloc);
+    let refuted = is_refuted_by(alloc, solver, &mut all, clauses, core);
+    drop(all);
+    refuted
+}
+
+// Whether the answer is of this letter, and its core of this size, as other means say too.
+fn is_answer<P: Propagator + Drop>(
+    alloc: Global,
+    solver: &Solver<P>,
+    clauses: &Clauses,
+    assumptions: &[Lit],
+    answer: &Answer,
+    want: char,
+    size: usize,
+) -> Result<bool, AllocError> {
+    match answer {
+        Answer::Sat(model) => {
+            Ok(
+                want == 's'
+                    && meets_clauses(alloc, clauses, model)?
+                    && meets_each(alloc, assumptions, model)?,
+            )
+        }
+        Answer::Unsat { core } => {
+            Ok(
+                want == 'u'
+                    && core.len() == size
+                    && refutes(alloc, solver, clauses, assumptions, core)?,
+            )
+        }
+        Answer::Spent { .. } => Ok(want == 'x'),
+    }
+}
+
+// Whether a spent purse is told of, with its whole budget.
+fn is_paid(answer: &Answer, purse: &PlainPurse, budget: u64) -> bool {
+    match answer {
+        Answer::Spent { drawn, .. } => *drawn == budget && purse.seen_spent(),
+        _ => true,
+    }
 }
 
 // Whether the solver answers so, tested by other means: its answer's letter and the size of its core.
@@ -142,17 +200,11 @@ fn answers<P: Propagator + Drop>(
         return Ok(false);
     }
     let mut purse = PlainPurse::new(budget);
-    match solver.solve(alloc, assumptions, &mut purse)? {
-        Answer::Sat(model) => Ok(want == 's' && meets_all(alloc, clauses, assumptions, &model)?),
-        Answer::Unsat { core } => {
-            Ok(
-                want == 'u'
-                    && core.len() == size
-                    && refutes(alloc, solver, clauses, assumptions, &core)?,
-            )
-        }
-        Answer::Spent { drawn, .. } => Ok(want == 'x' && drawn == budget && purse.seen_spent()),
-    }
+    let answer = solver.solve(alloc, assumptions, &mut purse)?;
+    let is_right = is_answer(alloc, solver, clauses, assumptions, &answer, want, size);
+    let is_paid = is_paid(&answer, &purse, budget);
+    drop(answer);
+    Ok(is_paid && is_right?)
 }
 
 // As `answers`, of a new solver with these clauses.
@@ -169,22 +221,45 @@ fn is_answered<P: Propagator + Drop>(
         return Ok(false);
     }
     let mut solver: Solver<P> = Solver::with_clauses(alloc, vars, clauses)?;
-    answers(alloc, &mut solver, clauses, assumptions, budget, want, size)
+    let answered = answers(alloc, &mut solver, clauses, assumptions, budget, want, size);
+    drop(solver);
+    answered
+}
+
+// Whether both kinds of solver answer so.
+fn both_answer(
+    alloc: Global,
+    vars: usize,
+    clauses: &Clauses,
+    assumptions: &[Lit],
+    budget: u64,
+    want: char,
+    size: usize,
+) -> Result<bool, AllocError> {
+    let scanned = is_answered::<Scan>(alloc, vars, clauses, assumptions, budget, want, size)?;
+    let watched = is_answered::<Watched>(alloc, vars, clauses, assumptions, budget, want, size)?;
+    Ok(scanned && watched)
+}
+
+fn is_row_of(alloc: Global, clauses: &Clauses, row: &Row) -> Result<bool, AllocError> {
+    let assumed = literals(alloc, row.1.as_bytes(), 1)?;
+    let answer = both_answer(alloc, 4, clauses, &assumed, row.2, row.3, row.4);
+    drop(assumed);
+    answer
 }
 
 // Whether both kinds of solver answer the row as it says.
 fn is_row(alloc: Global, row: &Row) -> Result<bool, AllocError> {
-    let list = list_of(alloc, row.0)?;
-    let assumed = literals(alloc, row.1)?;
-    let scanned = is_answered::<Scan>(alloc, 4, &list, &assumed, row.2, row.3, row.4)?;
-    let watched = is_answered::<Watched>(alloc, 4, &list, &assumed, row.2, row.3, row.4)?;
-    Ok(scanned && watched)
+    let list = clauses_of(alloc, row.0.as_bytes(), 1)?;
+    let answer = is_row_of(alloc, &list, row);
+    drop(list);
+    answer
 }
 
 fn wrong_row(alloc: Global) -> Result<Option<usize>, AllocError> {
-    for i in 0..SMALL.len() {
-        if !is_row(alloc, &SMALL[i])? {
-            return Ok(Some(i));
+    for (k, row) in SMALL.iter().enumerate() {
+        if !is_row(alloc, row)? {
+            return Ok(Some(k));
         }
     }
     Ok(None)
@@ -196,22 +271,46 @@ fn small_lists_have_the_known_answers(rt: HostRuntime) -> Result<(), Fail> {
     Ok(())
 }
 
+// Adds the literal of a number, or the clause that a zero ends.
+fn add_number(list: &mut Clauses, clause: &mut Vec<Lit>, number: i32) -> Result<(), AllocError> {
+    match number.unsigned_abs().checked_sub(1) {
+        Some(var) => {
+            clause.push(Lit::new(var as usize, number > 0))?;
+        }
+        None => {
+            list.push(clause)?;
+            clause.clear();
+        }
+    }
+    Ok(())
+}
+
+fn add_numbers(list: &mut Clauses, clause: &mut Vec<Lit>, text: &str) -> Result<(), AllocError> {
+    for word in text.split_whitespace() {
+        if let Ok(number) = word.parse::<i32>() {
+            add_number(list, clause, number)?;
+        }
+    }
+    Ok(())
+}
+
+fn add_formula(alloc: Global, list: &mut Clauses, text: &str) -> Result<(), AllocError> {
+    let mut clause = Vec::new(alloc);
+    let added = add_numbers(list, &mut clause, text);
+    drop(clause);
+    added
+}
+
 // The clauses of a formula in the DIMACS format, without its header; a word that is no number is left out.
 fn formula(alloc: Global, text: &str) -> Result<Clauses, AllocError> {
     let mut list = Clauses::new(alloc);
-    let mut clause = Vec::new(alloc);
-    for word in text.split_whitespace() {
-        if let Ok(number) = word.parse::<i32>() {
-            match number.unsigned_abs().checked_sub(1) {
-                Some(var) => clause.push(Lit::new(var as usize, number > 0))?,
-                None => {
-                    list.push(&clause)?;
-                    clause.clear();
-                }
-            }
+    match add_formula(alloc, &mut list, text) {
+        Ok(()) => Ok(list),
+        Err(error) => {
+            drop(list);
+            Err(error)
         }
     }
-    Ok(list)
 }
 
 // The six variables are the edges of a complete graph of four nodes. Each node has an odd number of true edges; or
@@ -227,7 +326,6 @@ const ONE_EVEN: &str =
 const PIGEONS: &str = "1 2 0 3 4 0 5 6 0 -1 -3 0 -1 -5 0 -3 -5 0 -2 -4 0 -2 -6 0 -4 -6 0";
 
 // A formula, a budget, and what is answered.
-#[derive(Clone, Copy, Drop)]
 struct Known(&'static str, u64, char);
 
 const KNOWN: [Known; 8] = [
@@ -243,15 +341,15 @@ const KNOWN: [Known; 8] = [
 
 fn is_known(alloc: Global, row: &Known) -> Result<bool, AllocError> {
     let list = formula(alloc, row.0)?;
-    let scanned = is_answered::<Scan>(alloc, 6, &list, &[], row.1, row.2, 0)?;
-    let watched = is_answered::<Watched>(alloc, 6, &list, &[], row.1, row.2, 0)?;
-    Ok(scanned && watched)
+    let answer = both_answer(alloc, 6, &list, &[], row.1, row.2, 0);
+    drop(list);
+    answer
 }
 
 fn wrong_known(alloc: Global) -> Result<Option<usize>, AllocError> {
-    for i in 0..KNOWN.len() {
-        if !is_known(alloc, &KNOWN[i])? {
-            return Ok(Some(i));
+    for (k, row) in KNOWN.iter().enumerate() {
+        if !is_known(alloc, row)? {
+            return Ok(Some(k));
         }
     }
     Ok(None)
@@ -264,7 +362,6 @@ fn known_formulas_at_each_budget(rt: HostRuntime) -> Result<(), Fail> {
 }
 
 // One solver all the way: a clause that is added, an assumption, and what is answered then.
-#[derive(Clone, Copy, Drop)]
 struct Again(&'static str, &'static str, char, usize);
 
 const AGAIN: [Again; 5] = [
@@ -275,6 +372,44 @@ const AGAIN: [Again; 5] = [
     Again("Bd", "", 'u', 0),
 ];
 
+// Adds the clause to the solver and to the list, if it is within the solver's variables.
+fn add_to(
+    solver: &mut Solver<Watched>,
+    clauses: &mut Clauses,
+    clause: &Clause,
+) -> Result<bool, AllocError> {
+    if !is_within(clause.as_slice(), solver.vars()) {
+        return Ok(false);
+    }
+    solver.add(clause)?;
+    clauses.push(clause.as_slice())?;
+    Ok(true)
+}
+
+fn add_letters(
+    alloc: Global,
+    solver: &mut Solver<Watched>,
+    clauses: &mut Clauses,
+    text: &str,
+) -> Result<bool, AllocError> {
+    let clause = Clause::from_vec(literals(alloc, text.as_bytes(), 1)?);
+    let added = add_to(solver, clauses, &clause);
+    drop(clause);
+    added
+}
+
+fn is_again_answered(
+    alloc: Global,
+    solver: &mut Solver<Watched>,
+    clauses: &Clauses,
+    row: &Again,
+) -> Result<bool, AllocError> {
+    let assumed = literals(alloc, row.1.as_bytes(), 1)?;
+    let answer = answers(alloc, solver, clauses, &assumed, 20, row.2, row.3);
+    drop(assumed);
+    answer
+}
+
 // Adds the row's clause to the solver and to the list, and asks.
 fn is_again(
     alloc: Global,
@@ -282,30 +417,47 @@ fn is_again(
     clauses: &mut Clauses,
     row: &Again,
 ) -> Result<bool, AllocError> {
-    let clause = Clause::from_vec(literals(alloc, row.0)?);
-    let assumed = literals(alloc, row.1)?;
-    if !is_within(clause.as_slice(), solver.vars()) {
-        return Ok(false);
-    }
-    solver.add(&clause)?;
-    clauses.push(clause.as_slice())?;
-    answers(alloc, solver, clauses, &assumed, 20, row.2, row.3)
+    Ok(
+        add_letters(alloc, solver, clauses, row.0)?
+            && is_again_answered(alloc, solver, clauses, row)?,
+    )
 }
 
-fn wrong_again(alloc: Global) -> Result<Option<usize>, AllocError> {
-    let mut solver: Solver<Watched> = Solver::new(alloc, 5)?;
-    let mut clauses = Clauses::new(alloc);
-    for i in 0..AGAIN.len() {
-        if !is_again(alloc, &mut solver, &mut clauses, &AGAIN[i])? {
-            return Ok(Some(i));
+fn wrong_again_of(
+    alloc: Global,
+    solver: &mut Solver<Watched>,
+    clauses: &mut Clauses,
+) -> Result<Option<usize>, AllocError> {
+    for (k, row) in AGAIN.iter().enumerate() {
+        if !is_again(alloc, solver, clauses, row)? {
+            return Ok(Some(k));
         }
     }
     Ok(None)
 }
 
+fn wrong_again_by(
+    alloc: Global,
+    solver: &mut Solver<Watched>,
+) -> Result<Option<usize>, AllocError> {
+    let mut clauses = Clauses::new(alloc);
+    let wrong = wrong_again_of(alloc, solver, &mut clauses);
+    drop(clauses);
+    wrong
+}
+
+fn wrong_again(alloc: Global) -> Result<Option<usize>, AllocError> {
+    let mut solver: Solver<Watched> = Solver::new(alloc, 5)?;
+    let wrong = wrong_again_by(alloc, &mut solver);
+    drop(solver);
+    wrong
+}
+
 fn is_too_far(alloc: Global) -> bool {
     let far: Result<Solver<Watched>, AllocError> = Solver::new(alloc, usize::MAX);
-    far.is_err()
+    let answer = far.is_err();
+    drop(far);
+    answer
 }
 
 #[test]

@@ -4,11 +4,10 @@
 ghost use Rattle.std.specs.Prelude.{◌≡◌, ◌+◌, ◌<◌, [], IfOk, OnOk, length};
 ghost use Rattle.lasso_search.specs.Books.{IsLength};
 
-use crate::monitors::{beside, fair_system};
-use crate::tables::formula;
+use crate::monitors::{fair_system, watched};
 use clause_core::{Clauses, Lit, System};
 use effort_purse::PlainPurse;
-use lasso_search::{BitLasso, LassoBook, LassoSolver, Searched};
+use lasso_search::{LassoBook, LassoSolver, Searched};
 use ltl_monitor::Monitored;
 use std::alloc::{AllocError, Global};
 use std::test::Fail;
@@ -37,18 +36,28 @@ fn staying(alloc: Global) -> Result<System, AllocError>
     fair_system(alloc, 1, init, step, &[])
 }
 
-// A ring of three bits, one of them true, and each of them to be false again and again.
-fn ring(alloc: Global) -> Result<System, AllocError>
-    ensures { IfOk result (λ s. (s.state_bits ≡ 3) × (s.all_bits ≡ 3 + 3) × (s.defs ≡ [])) }
-{
+fn first_alone(alloc: Global) -> Result<Clauses, AllocError> {
     let mut init = Clauses::new(alloc);
     init.push(&[Lit::new(0, true)])?;
     init.push(&[Lit::new(1, false)])?;
     init.push(&[Lit::new(2, false)])?;
+    Ok(init)
+}
+
+fn passed_on(alloc: Global) -> Result<Clauses, AllocError> {
     let mut step = Clauses::new(alloc);
     push_same(&mut step, 0, 4)?;
     push_same(&mut step, 1, 5)?;
     push_same(&mut step, 2, 3)?;
+    Ok(step)
+}
+
+// A ring of three bits, one of them true, and each of them to be false again and again.
+fn ring(alloc: Global) -> Result<System, AllocError>
+    ensures { IfOk result (λ s. (s.state_bits ≡ 3) × (s.all_bits ≡ 3 + 3) × (s.defs ≡ [])) }
+{
+    let init = first_alone(alloc)?;
+    let step = passed_on(alloc)?;
     let fair = [Lit::new(0, false), Lit::new(1, false), Lit::new(2, false)];
     fair_system(alloc, 3, init, step, &fair)
 }
@@ -74,10 +83,11 @@ fn system(alloc: Global, case: Case) -> Result<System, AllocError>
     }
 }
 
-fn watched(alloc: Global, case: Case, text: &[u8]) -> Result<Monitored, Fail> {
-    let formula = formula(alloc, text)?;
+fn beside(alloc: Global, case: Case, text: &[u8]) -> Result<Monitored, AllocError> {
     let system = system(alloc, case)?;
-    Ok(beside(alloc, &system, &formula)?)
+    let monitored = watched(alloc, &system, text);
+    drop(system);
+    monitored
 }
 
 #[derive(Clone, Copy, PartialEq, Eq)]
@@ -97,16 +107,30 @@ fn told_of(answer: &Searched) -> Told {
     }
 }
 
+// Searches for so many states, with so many tickets.
+fn look(
+    alloc: Global,
+    monitored: &Monitored,
+    n: usize,
+    budget: u64,
+) -> Result<Searched, AllocError> {
+    let mut purse = PlainPurse::new(budget);
+    let mut solver = LassoSolver::new(&monitored.system);
+    let answer = solver.search(alloc, n, &mut purse);
+    drop(solver);
+    answer
+}
+
 fn outcome(
     alloc: Global,
     monitored: &Monitored,
     n: usize,
     budget: u64,
 ) -> Result<Told, AllocError> {
-    let mut purse = PlainPurse::new(budget);
-    let mut solver = LassoSolver::new(&monitored.system);
-    let answer = solver.search(alloc, n, &mut purse)?;
-    Ok(told_of(&answer))
+    let answer = look(alloc, monitored, n, budget)?;
+    let told = told_of(&answer);
+    drop(answer);
+    Ok(told)
 }
 
 // What a search for so many states tells. `G Z FALSE` is true of the first time alone, so it takes a lasso of two
@@ -206,13 +230,14 @@ const SEARCHES: [Search; 12] = [
     },
 ];
 
-fn is_told(alloc: Global, row: &Search) -> Result<bool, Fail> {
-    let monitored = watched(alloc, row.case, row.formula)?;
-    let told = outcome(alloc, &monitored, row.states, row.budget)?;
-    Ok(told == row.told)
+fn is_told(alloc: Global, row: &Search) -> Result<bool, AllocError> {
+    let monitored = beside(alloc, row.case, row.formula)?;
+    let told = outcome(alloc, &monitored, row.states, row.budget);
+    drop(monitored);
+    Ok(told? == row.told)
 }
 
-fn wrong_search(alloc: Global) -> Result<Option<usize>, Fail> {
+fn wrong_search(alloc: Global) -> Result<Option<usize>, AllocError> {
     for (k, row) in SEARCHES.iter().enumerate() {
         if !is_told(alloc, row)? {
             return Ok(Some(k));
@@ -227,6 +252,18 @@ fn searches(rt: HostRuntime) -> Result<(), Fail> {
     Ok(())
 }
 
+// Records what was found for a length, if it is known.
+fn record(book: &mut LassoBook, n: usize, answer: Searched)
+    requires { IsLength book.old n }
+    ensures { length book.new ≡ length book.old }
+{
+    match answer {
+        Searched::Found(lasso) => book.record(n, Some(lasso)),
+        Searched::None => book.record(n, None),
+        Searched::Spent { .. } => {}
+    }
+}
+
 // Searches for one length and records what comes, if it does.
 fn note(
     alloc: Global,
@@ -237,14 +274,24 @@ fn note(
     requires { IsLength book.old n }
     ensures { OnOk result (length book.new ≡ length book.old) }
 {
-    let mut purse = PlainPurse::new(1000);
-    let mut solver = LassoSolver::new(&monitored.system);
-    match solver.search(alloc, n, &mut purse)? {
-        Searched::Found(lasso) => book.record(n, Some(lasso)),
-        Searched::None => book.record(n, None),
-        Searched::Spent { .. } => {}
-    }
+    let answer = look(alloc, monitored, n, 1000)?;
+    record(book, n, answer);
     Ok(())
+}
+
+fn note_both(
+    alloc: Global,
+    monitored: &Monitored,
+    one: usize,
+    other: usize,
+    book: &mut LassoBook,
+) -> Result<(), AllocError>
+    requires one { IsLength book.old one }
+    requires other { IsLength book.old other }
+    ensures { OnOk result (length book.new ≡ length book.old) }
+{
+    note(alloc, monitored, one, book)?;
+    note(alloc, monitored, other, book)
 }
 
 // A book of the ring for lengths up to 3, with what was found of two of them.
@@ -259,35 +306,79 @@ fn book(
     ensures { IfOk result (λ b. length b ≡ 3) }
 {
     let mut book = LassoBook::new(alloc, 3)?;
-    note(alloc, monitored, one, &mut book)?;
-    note(alloc, monitored, other, &mut book)?;
-    Ok(book)
+    match note_both(alloc, monitored, one, other, &mut book) {
+        Ok(()) => Ok(book),
+        Err(error) => {
+            drop(book);
+            Err(error)
+        }
+    }
 }
 
-// What is missing, and the lasso that is found: its length and where it goes on.
-fn summary(book: &LassoBook) -> (usize, Option<usize>, Option<(usize, usize)>) {
-    let found = book
-        .found()
-        .map(|lasso: &BitLasso| (lasso.len(), lasso.start()));
-    (book.len(), book.missing(), found)
+// The lasso that is found: how many states it has, and which of them goes on behind the last.
+fn found(book: &LassoBook) -> Option<(usize, usize)> {
+    match book.found() {
+        Some(lasso) => Some((lasso.len(), lasso.start())),
+        None => None,
+    }
 }
 
-fn both(alloc: Global, monitored: &Monitored) -> Result<LassoBook, AllocError> {
-    let mut one = book(alloc, monitored, 1, 2)?;
-    let other = book(alloc, monitored, 2, 3)?;
-    one.absorb(other);
-    Ok(one)
+// Whether the book has three lengths, and this one is missing, and this lasso is found.
+fn has(book: &LassoBook, missing: Option<usize>, lasso: Option<(usize, usize)>) -> bool {
+    book.len() == 3 && book.missing() == missing && found(book) == lasso
+}
+
+fn has_the_first_two(alloc: Global, ring: &Monitored) -> Result<bool, AllocError> {
+    let book = book(alloc, ring, 1, 2)?;
+    let answer = has(&book, Some(3), None);
+    drop(book);
+    Ok(answer)
+}
+
+fn has_the_last_two(alloc: Global, ring: &Monitored) -> Result<bool, AllocError> {
+    let book = book(alloc, ring, 2, 3)?;
+    let answer = has(&book, Some(1), Some((3, 0)));
+    drop(book);
+    Ok(answer)
+}
+
+fn both(alloc: Global, ring: &Monitored) -> Result<LassoBook, AllocError> {
+    let mut one = book(alloc, ring, 1, 2)?;
+    match book(alloc, ring, 2, 3) {
+        Ok(other) => {
+            one.absorb(other);
+            Ok(one)
+        }
+        Err(error) => {
+            drop(one);
+            Err(error)
+        }
+    }
+}
+
+fn has_all_three(alloc: Global, ring: &Monitored) -> Result<bool, AllocError> {
+    let book = both(alloc, ring)?;
+    let answer = has(&book, None, Some((3, 0)));
+    drop(book);
+    Ok(answer)
+}
+
+fn are_kept(alloc: Global, ring: &Monitored) -> Result<bool, AllocError> {
+    let first = has_the_first_two(alloc, ring)?;
+    let last = has_the_last_two(alloc, ring)?;
+    let all = has_all_three(alloc, ring)?;
+    Ok(first && last && all)
+}
+
+fn are_recorded(alloc: Global) -> Result<bool, AllocError> {
+    let ring = beside(alloc, Case::Ring, b"0")?;
+    let answer = are_kept(alloc, &ring);
+    drop(ring);
+    answer
 }
 
 #[test]
 fn books_of_the_ring(rt: HostRuntime) -> Result<(), Fail> {
-    let alloc = rt.alloc();
-    let ring = watched(alloc, Case::Ring, b"0")?;
-    assert_eq!(rt; summary(&book(alloc, &ring, 1, 2)?), (3, Some(3), None));
-    assert_eq!(rt;
-        summary(&book(alloc, &ring, 2, 3)?),
-        (3, Some(1), Some((3, 0)))
-    );
-    assert_eq!(rt; summary(&both(alloc, &ring)?), (3, None, Some((3, 0))));
+    assert!(rt; are_recorded(rt.alloc())?);
     Ok(())
 }

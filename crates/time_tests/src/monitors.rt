@@ -1,7 +1,7 @@
 //! Tests of monitors beside a small system: first states, steps and fairness sets of each operator,
 //! and counted signals.
 
-ghost use Rattle.std.specs.Prelude.{◌≡◌, ◌+◌, ◌<◌, [], ◌∷◌, IfOk, All};
+ghost use Rattle.std.specs.Prelude.{◌≡◌, ◌+◌, ◌<◌, [], ◌∷◌, IfOk, IsTrue, All};
 ghost use Rattle.clause_core.specs.Literals.{Within};
 
 use crate::tables::formula;
@@ -42,6 +42,25 @@ fn of_parts(
     system
 }
 
+// Whether no literal is past the bits of two states, nor a JUSTICE literal past those of one.
+fn are_within(bits: usize, init: &Clauses, step: &Clauses, fair: &[Lit]) -> bool
+    requires { bits < 9 }
+    ensures init { IsTrue result → All (Within (bits + bits)) init.now }
+    ensures step { IsTrue result → All (Within (bits + bits)) step.now }
+    ensures fair { IsTrue result → Within bits fair.now }
+{
+    init.is_within(bits + bits) && step.is_within(bits + bits) && is_within(fair, bits)
+}
+
+// The one empty clause.
+fn never(alloc: Global) -> Result<Clauses, AllocError>
+    ensures { IfOk result (λ c. c ≡ [] ∷ []) }
+{
+    let mut clauses = Clauses::new(alloc);
+    clauses.push(&[])?;
+    Ok(clauses)
+}
+
 /// A system of so many bits with these JUSTICE literals.
 pub fn fair_system(
     alloc: Global,
@@ -53,18 +72,11 @@ pub fn fair_system(
     requires { bits < 9 }
     ensures { IfOk result (λ s. (s.state_bits ≡ bits) × (s.all_bits ≡ bits + bits) × (s.defs ≡ [])) }
 {
-    if !init.is_within(bits + bits) {
+    if !are_within(bits, &init, &step, fair) {
         return Err(AllocError);
     }
-    if !step.is_within(bits + bits) {
-        return Err(AllocError);
-    }
-    if !is_within(fair, bits) {
-        return Err(AllocError);
-    }
+    let good = never(alloc)?;
     let fair = Clause::from_slice(alloc, fair)?;
-    let mut good = Clauses::new(alloc);
-    good.push(&[])?;
     Ok(of_parts(alloc, bits, init, step, good, fair))
 }
 
@@ -84,8 +96,8 @@ fn watch(
     monitored(alloc, system, formula, atoms)
 }
 
-/// The monitor of a formula beside a system of bits alone. Its atoms are the first bit and its negation.
-pub fn beside(alloc: Global, system: &System, formula: &Formula) -> Result<Monitored, AllocError>
+// The monitor of a formula beside a system of bits alone. Its atoms are the first bit and its negation.
+fn beside(alloc: Global, system: &System, formula: &Formula) -> Result<Monitored, AllocError>
     requires all { system.now.all_bits ≡ system.now.state_bits + system.now.state_bits }
     requires none { system.now.defs ≡ [] }
 {
@@ -96,15 +108,25 @@ pub fn beside(alloc: Global, system: &System, formula: &Formula) -> Result<Monit
     watch(alloc, system, formula, &atoms)
 }
 
-// The system whose bit is false at first, and which each step turns round.
-fn turning(alloc: Global, fair: &[Lit]) -> Result<System, AllocError>
-    ensures { IfOk result (λ s. (s.state_bits ≡ 1) × (s.all_bits ≡ 2) × (s.defs ≡ [])) }
-{
+fn false_at_first(alloc: Global) -> Result<Clauses, AllocError> {
     let mut init = Clauses::new(alloc);
     init.push(&[Lit::new(0, false)])?;
+    Ok(init)
+}
+
+fn turned_round(alloc: Global) -> Result<Clauses, AllocError> {
     let mut step = Clauses::new(alloc);
     step.push(&[Lit::new(0, true), Lit::new(1, true)])?;
     step.push(&[Lit::new(0, false), Lit::new(1, false)])?;
+    Ok(step)
+}
+
+// The system whose bit is false at first, and which each step turns round.
+fn turning(alloc: Global, fair: &[Lit]) -> Result<System, AllocError>
+    ensures { IfOk result (λ s. (s.state_bits ≡ 1) × (s.all_bits ≡ 1 + 1) × (s.defs ≡ [])) }
+{
+    let init = false_at_first(alloc)?;
+    let step = turned_round(alloc)?;
     fair_system(alloc, 1, init, step, fair)
 }
 
@@ -136,13 +158,8 @@ fn visit(clause: &[Lit], values: &mut [Option<bool>]) -> bool {
     true
 }
 
-// Whether unit propagation from these first values finds no false clause.
-fn is_open(
-    alloc: Global,
-    clauses: &Clauses,
-    vars: usize,
-    known: &[bool],
-) -> Result<bool, AllocError> {
+// The known values, and all others unset.
+fn at_first(alloc: Global, vars: usize, known: &[bool]) -> Result<Vec<Option<bool>>, AllocError> {
     let mut values = Vec::new(alloc);
     for value in known {
         values.push(Some(*value))?;
@@ -150,11 +167,30 @@ fn is_open(
     for _ in known.len()..vars {
         values.push(None)?;
     }
+    Ok(values)
+}
+
+// Sets what each clause asks for; false where one is false.
+fn visit_all(clauses: &Clauses, values: &mut [Option<bool>]) -> bool {
+    for k in 0..clauses.len() {
+        if !visit(clauses.get(k), values) {
+            return false;
+        }
+    }
+    true
+}
+
+// Whether unit propagation from these first values finds no false clause.
+fn is_open(
+    alloc: Global,
+    clauses: &Clauses,
+    vars: usize,
+    known: &[bool],
+) -> Result<bool, AllocError> {
+    let mut values = at_first(alloc, vars, known)?;
     for _ in 0..vars {
-        for k in 0..clauses.len() {
-            if !visit(clauses.get(k), &mut values) {
-                return Ok(false);
-            }
+        if !visit_all(clauses, &mut values) {
+            return Ok(false);
         }
     }
     Ok(true)
@@ -171,6 +207,18 @@ fn bits(alloc: Global, size: usize, number: u32) -> Result<Vec<bool>, AllocError
     Ok(bits)
 }
 
+// Whether the clauses can be met where the first `size` variables have these binary digits.
+fn is_place(
+    alloc: Global,
+    clauses: &Clauses,
+    vars: usize,
+    size: usize,
+    number: u32,
+) -> Result<bool, AllocError> {
+    let known = bits(alloc, size, number)?;
+    is_open(alloc, clauses, vars, &known)
+}
+
 // At which values of the first `size` variables the clauses can be met: a binary digit for each of the `count`
 // values, in their order.
 fn places(
@@ -182,24 +230,44 @@ fn places(
 ) -> Result<u64, AllocError> {
     let mut digits = 0u64;
     for number in 0..count {
-        let known = bits(alloc, size, number)?;
-        let open = is_open(alloc, clauses, vars, &known)?;
+        let open = is_place(alloc, clauses, vars, size, number)?;
         digits = digits.wrapping_mul(2).wrapping_add(u64::from(open));
     }
     Ok(digits)
 }
 
-// The definitions, and that set number 1 holds; or nothing, where there is no such set.
-fn set_clauses(alloc: Global, system: &System) -> Result<Clauses, AllocError> {
-    let mut clauses = Clauses::new(alloc);
-    let fair = system.fair();
-    if fair.len() > 1 {
-        clauses.push(&fair[1..2])?;
-        for k in 0..system.defs().len() {
-            clauses.push(system.defs().get(k))?;
-        }
+fn add_all(clauses: &mut Clauses, more: &Clauses) -> Result<(), AllocError> {
+    for k in 0..more.len() {
+        clauses.push(more.get(k))?;
     }
-    Ok(clauses)
+    Ok(())
+}
+
+// Adds that set number 1 holds, and the definitions.
+fn add_set(clauses: &mut Clauses, system: &System) -> Result<(), AllocError> {
+    let fair = system.fair();
+    if fair.len() < 2 {
+        return Ok(());
+    }
+    clauses.push(&fair[1..2])?;
+    add_all(clauses, system.defs())
+}
+
+fn places_with_set(
+    alloc: Global,
+    clauses: &mut Clauses,
+    system: &System,
+) -> Result<u64, AllocError> {
+    add_set(clauses, system)?;
+    places(alloc, clauses, system.all_bits(), 2, 4)
+}
+
+// At which states set number 1 holds; at all, where there is no such set.
+fn set_places(alloc: Global, system: &System) -> Result<u64, AllocError> {
+    let mut clauses = Clauses::new(alloc);
+    let places = places_with_set(alloc, &mut clauses, system);
+    drop(clauses);
+    places
 }
 
 // Of a monitor of one temporal operator beside the turning system, whose bit is JUSTICE: first states, steps, and
@@ -284,27 +352,48 @@ fn is_shown(alloc: Global, system: &System, row: &Shown) -> Result<bool, AllocEr
     let vars = system.all_bits();
     let first = places(alloc, system.init(), vars, 2, 4)?;
     let steps = places(alloc, system.step(), vars, 4, 16)?;
-    let set = places(alloc, &set_clauses(alloc, system)?, vars, 2, 4)?;
+    let set = set_places(alloc, system)?;
     Ok(first == row.first && steps == row.steps && set == row.set)
 }
 
-fn is_row_shown(alloc: Global, system: &System, row: &Shown) -> Result<bool, Fail>
+/// The monitor of a formula in letters beside a system of bits alone.
+pub fn watched(alloc: Global, system: &System, text: &[u8]) -> Result<Monitored, AllocError>
     requires all { system.now.all_bits ≡ system.now.state_bits + system.now.state_bits }
     requires none { system.now.defs ≡ [] }
 {
-    let formula = formula(alloc, row.formula)?;
-    let watched = beside(alloc, system, &formula)?;
-    Ok(is_shown(alloc, &watched.system, row)?)
+    let formula = formula(alloc, text)?;
+    let monitored = beside(alloc, system, &formula);
+    drop(formula);
+    monitored
 }
 
-fn wrong_monitor(alloc: Global) -> Result<Option<usize>, Fail> {
-    let system = turning(alloc, &[Lit::new(0, true)])?;
+fn is_row_shown(alloc: Global, system: &System, row: &Shown) -> Result<bool, AllocError>
+    requires all { system.now.all_bits ≡ system.now.state_bits + system.now.state_bits }
+    requires none { system.now.defs ≡ [] }
+{
+    let watched = watched(alloc, system, row.formula)?;
+    let answer = is_shown(alloc, &watched.system, row);
+    drop(watched);
+    answer
+}
+
+fn wrong_beside(alloc: Global, system: &System) -> Result<Option<usize>, AllocError>
+    requires all { system.now.all_bits ≡ system.now.state_bits + system.now.state_bits }
+    requires none { system.now.defs ≡ [] }
+{
     for (k, row) in SHOWN.iter().enumerate() {
-        if !is_row_shown(alloc, &system, row)? {
+        if !is_row_shown(alloc, system, row)? {
             return Ok(Some(k));
         }
     }
     Ok(None)
+}
+
+fn wrong_monitor(alloc: Global) -> Result<Option<usize>, AllocError> {
+    let system = turning(alloc, &[Lit::new(0, true)])?;
+    let wrong = wrong_beside(alloc, &system);
+    drop(system);
+    wrong
 }
 
 #[test]
@@ -313,10 +402,18 @@ fn monitors_of_operators(rt: HostRuntime) -> Result<(), Fail> {
     Ok(())
 }
 
-// The turning system whose bit is to be true and false again and again, with a counter up to one.
-fn of_two_sets(alloc: Global) -> Result<System, AllocError> {
+// The turning system whose bit is to be true and false again and again.
+fn with_two_sets(alloc: Global) -> Result<Monitored, AllocError> {
     let system = turning(alloc, &[Lit::new(0, true), Lit::new(0, false)])?;
-    counted(alloc, &Monitored { system }, 1)
+    Ok(Monitored { system })
+}
+
+// The same, with a counter up to one.
+fn counted_up_to_one(alloc: Global) -> Result<System, AllocError> {
+    let monitored = with_two_sets(alloc)?;
+    let system = counted(alloc, &monitored, 1);
+    drop(monitored);
+    system
 }
 
 // A state is its bit, two marks and the counter's bit. The run is 0000, 0101, 1000, 1101, 1000.
@@ -324,52 +421,83 @@ const STEPS: [u32; 4] = [0x50, 0x85, 0xd8, 0x8d];
 
 fn wrong_step(alloc: Global, system: &System) -> Result<Option<u32>, AllocError> {
     for step in &STEPS {
-        let known = bits(alloc, 8, *step)?;
-        if !is_open(alloc, system.step(), system.all_bits(), &known)? {
+        if !is_place(alloc, system.step(), system.all_bits(), 8, *step)? {
             return Ok(Some(*step));
         }
     }
     Ok(None)
 }
 
+// Whether first states, bad states and good ones are these.
+fn has_places(alloc: Global, system: &System) -> Result<bool, AllocError> {
+    let vars = system.all_bits();
+    let first = places(alloc, system.init(), vars, 4, 16)?;
+    let bad = places(alloc, system.bad(), vars, 4, 16)?;
+    let good = places(alloc, system.good(), vars, 4, 16)?;
+    Ok(first == 0b1000000000000000 && bad == 0b0000000000100111 && good == 0b1111111111011000)
+}
+
+fn has_steps(alloc: Global, system: &System) -> Result<bool, AllocError> {
+    Ok(has_places(alloc, system)? && wrong_step(alloc, system)?.is_none())
+}
+
+fn is_counted(alloc: Global) -> Result<bool, AllocError> {
+    let system = counted_up_to_one(alloc)?;
+    let answer = has_steps(alloc, &system);
+    drop(system);
+    answer
+}
+
 #[test]
 fn signals_of_two_sets(rt: HostRuntime) -> Result<(), Fail> {
-    let alloc = rt.alloc();
-    let counted = of_two_sets(alloc)?;
-    let vars = counted.all_bits();
-    assert_eq!(rt;
-        places(alloc, counted.init(), vars, 4, 16)?,
-        0b1000000000000000
-    );
-    assert_eq!(rt;
-        places(alloc, counted.bad(), vars, 4, 16)?,
-        0b0000000000100111
-    );
-    assert_eq!(rt;
-        places(alloc, counted.good(), vars, 4, 16)?,
-        0b1111111111011000
-    );
-    assert_eq!(rt; wrong_step(alloc, &counted)?, None);
+    assert!(rt; is_counted(rt.alloc())?);
     Ok(())
 }
 
-// The turning system's own bits of values of its monitor's, of which only variable 2 is true. Those variables are
-// the bit, the operator's bit, the next bit, and so on.
-fn own_bits(alloc: Global) -> Result<Bits, Fail> {
-    let system = turning(alloc, &[])?;
-    let formula = formula(alloc, b"aX")?;
-    let watched = beside(alloc, &system, &formula)?;
+// So many values, of which only that of variable 2 is true.
+fn third_alone(alloc: Global, count: usize) -> Result<Bits, AllocError> {
     let mut values = Vec::new(alloc);
-    for var in 0..watched.system.all_bits() {
+    for var in 0..count {
         values.push(var == 2)?;
     }
-    let row = Bits::from_vec(values);
-    Ok(own_row(alloc, &system, &watched, &row)?)
+    Ok(Bits::from_vec(values))
+}
+
+// The system's own bits of values of its monitor's, of which only variable 2 is true. Those variables are the bit, the
+// operator's bit, the next bit, and so on.
+fn own_bits(alloc: Global, system: &System, watched: &Monitored) -> Result<Bits, AllocError> {
+    let row = third_alone(alloc, watched.system.all_bits())?;
+    let own = own_row(alloc, system, watched, &row);
+    drop(row);
+    own
+}
+
+fn has_own_bits(alloc: Global, system: &System, watched: &Monitored) -> Result<bool, AllocError> {
+    let own = own_bits(alloc, system, watched)?;
+    let answer = own.as_slice() == [false, true].as_slice();
+    drop(own);
+    Ok(answer)
+}
+
+fn are_own(alloc: Global, system: &System) -> Result<bool, AllocError>
+    requires all { system.now.all_bits ≡ system.now.state_bits + system.now.state_bits }
+    requires none { system.now.defs ≡ [] }
+{
+    let watched = watched(alloc, system, b"aX")?;
+    let answer = has_own_bits(alloc, system, &watched);
+    drop(watched);
+    answer
+}
+
+fn are_own_of_turning(alloc: Global) -> Result<bool, AllocError> {
+    let system = turning(alloc, &[])?;
+    let answer = are_own(alloc, &system);
+    drop(system);
+    answer
 }
 
 #[test]
 fn values_of_a_step(rt: HostRuntime) -> Result<(), Fail> {
-    let own = own_bits(rt.alloc())?;
-    assert_eq!(rt; own.as_slice(), [false, true].as_slice());
+    assert!(rt; are_own_of_turning(rt.alloc())?);
     Ok(())
 }

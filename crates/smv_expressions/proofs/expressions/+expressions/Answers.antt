@@ -1,5 +1,5 @@
 -- What is read between two tokens is what its form reads; each loop keeps that what it read and what it still reads is all.
-use Rattle.std.proofs.Common.{◌-◌, List, sym, ◌∙◌, arith}
+use Rattle.std.proofs.Common.{◌-◌, List, sym, ◌∙◌}
 use Rattle.std.proofs.lemmas.Result.{err_from_is_err_and}
 use Rattle.smv_tree.specs.declared.token.Token.{Token}
 use Rattle.smv_tree.specs.declared.token.TokenKind.TheVariants as kind
@@ -7,12 +7,11 @@ use Rattle.smv_tree.specs.declared.tree.Expr.{Expr}
 use Rattle.smv_tree.specs.Kinds.{is_kind}
 use Rattle.smv_phrases.specs.Lists.{further, listed}
 use Rattle.smv_phrases.proofs.OfNames.{begins_same}
-use Rattle.smv_phrases.proofs.OfLists.{listed_begins}
 use Rattle.smv_phrases.proofs.Repeats.{loop_on, loop_ends, loop_stops, loop_shortens}
 use Rattle.smv_phrases.proofs.Folds.{fold_on, fold_ends, fold_stops}
-use Rattle.smv_expressions.specs.Expressions.{set_of, turns, case_of, placed_group, branch, selection, selected_by, selected_by_all, is_zero, under, expression_within, limit_within}
-use Rattle.smv_expressions.proofs.Levels.{room_left, under_expression, under_listed, under_turns, under_limit}
-use Rattle.smv_expressions.proofs.Enclosed.{pair_reads, reads, stops, selection_reads, low_stops, end_stops, second_stops}
+use Rattle.smv_expressions.specs.Expressions.{set_of, turns, case_of, conditional, branch, selection, selected_by, selected_by_all, is_zero, under, expression_within, limit_within}
+use Rattle.smv_expressions.proofs.Levels.{under_expression, under_listed, under_turns, under_limit, selected_inner, under_selected, chosen_inner, under_choices}
+use Rattle.smv_expressions.proofs.Enclosed.{pair_reads, reads, stops, behind_reads, behind_stops}
 use Rattle.smv_expressions.proofs.Loops.{expressions, branches, branch_begins, with_turns, with_turn, turns_gather, selections, selections_gather, selection_begins, step_on, step_shortens, step_stops}
 use Rattle.smv_expressions.proofs.Links.{links_go_on, links_end, links_stop}
 use Rattle.smv_expressions.proofs.expressions.+expressions.Goals as goal
@@ -46,20 +45,40 @@ case-returns-in_err-tokens t c =
     (stops c.is_closed.result c.args.room kind.Case kind.Esac (turns (under 0 c.args.room).expression) (turns (expression_within 0 (c.args.room - 1))) (under_turns c.args.room) case_of
     c.in_err-tokens.field-0.0 c.args.tokens.now _ _ _ _ c.is_closed.ensures c.in_ok-case.ensures c.in_ok-all.ensures c.in_err-tokens.ensures)
 
-pub limit_group-returns : goal.limit_group-returns
-limit_group-returns t c =
-    rw c.in_ok-inner-2.ensures
-    (reads c.is_closed.result c.args.room kind.LeftParen kind.RightParen (under 0 c.args.room).limit (limit_within 0 (c.args.room - 1)) (under_limit c.args.room) placed_group
-    c.args.tokens.now _ _ _ _ _ _ c.is_closed.ensures c.in_ok-parenthesis.ensures c.in_ok-inner.ensures c.in_ok-tokens.ensures)
+pub limit_parenthesised-returns : goal.limit_parenthesised-returns
+limit_parenthesised-returns t c =
+    pair_reads c.is_closed.result c.args.room kind.LeftParen kind.RightParen (under 0 c.args.room).limit (limit_within 0 (c.args.room - 1)) (under_limit c.args.room)
+    c.args.tokens.now _ _ _ _ _ _ c.is_closed.ensures c.in_ok-parenthesis.ensures c.in_ok-inner.ensures c.in_ok-tokens.ensures
 
-pub choices-conditional-requires : goal.choices-conditional-requires
-choices-conditional-requires t c = (omega (arith, c.decreases, room_left c.is_closed.result c.args.room (is_kind kind.Question) c.args.tokens.now _ c.is_closed.ensures c.in_ok-question.ensures), tt)
-
-pub choices-returns-in_err-second : goal.choices-returns-in_err-second
-choices-returns-in_err-second t c =
-    let p = err_from_is_err_and c.from_residual-in_err-second.result c.from_residual-in_err-second.ensures.1 in
+pub choices-returns-in_err-first : goal.choices-returns-in_err-first
+choices-returns-in_err-first t c =
+    let p = err_from_is_err_and c.from_residual-in_err-first.result c.from_residual-in_err-first.ensures.1 in
     rw (p.1, p.2)
-    (second_stops c.is_closed.result c.args.room c.is_closed.ensures c.args.tokens.now _ _ c.in_ok-question.ensures _ _ c.in_ok-first.ensures _ _ c.in_ok-tokens.ensures c.in_err-second.field-0.0 c.in_err-second.ensures)
+    (behind_stops c.is_closed.result c.args.room kind.Question (chosen_inner (under 0 c.args.room).expression (under 0 c.args.room).conditional) (chosen_inner (expression_within 0 (c.args.room - 1)) (conditional (is_zero (c.args.room - 1)) (under 0 (c.args.room - 1)))) (under_choices c.args.room) c.args.tokens.now _ _ c.is_closed.ensures c.in_ok-question.ensures c.in_err-first.field-0.0 c.in_err-first.ensures)
+
+pub choices-returns : goal.choices-returns
+choices-returns t c =
+    behind_reads c.is_closed.result c.args.room kind.Question (chosen_inner (under 0 c.args.room).expression (under 0 c.args.room).conditional) (chosen_inner (expression_within 0 (c.args.room - 1)) (conditional (is_zero (c.args.room - 1)) (under 0 (c.args.room - 1)))) (under_choices c.args.room) c.args.tokens.now _ _ c.is_closed.ensures c.in_ok-question.ensures _ _ c.in_ok-first.ensures
+
+pub right_side-returns-in_err-right : goal.right_side-returns-in_err-right
+right_side-returns-in_err-right t c =
+    let p = err_from_is_err_and c.from_residual-in_err-right.result c.from_residual-in_err-right.ensures.1 in
+    rw (p.1, p.2)
+    (behind_stops c.is_closed.result c.args.room kind.Implies (under 0 c.args.room).expression (expression_within 0 (c.args.room - 1)) (under_expression c.args.room) c.args.tokens.now _ _ c.is_closed.ensures c.in_ok-arrow.ensures c.in_err-right.field-0.0 c.in_err-right.ensures)
+
+pub right_side-returns : goal.right_side-returns
+right_side-returns t c =
+    behind_reads c.is_closed.result c.args.room kind.Implies (under 0 c.args.room).expression (expression_within 0 (c.args.room - 1)) (under_expression c.args.room) c.args.tokens.now _ _ c.is_closed.ensures c.in_ok-arrow.ensures _ _ c.in_ok-right.ensures
+
+pub selection-returns-in_err-first : goal.selection-returns-in_err-first
+selection-returns-in_err-first t c =
+    let p = err_from_is_err_and c.from_residual-in_err-first.result c.from_residual-in_err-first.ensures.1 in
+    rw (p.1, p.2)
+    (behind_stops c.is_closed.result c.args.room kind.LeftBracket (selected_inner (under 0 c.args.room).expression) (selected_inner (expression_within 0 (c.args.room - 1))) (under_selected c.args.room) c.args.tokens.now _ _ c.is_closed.ensures c.in_ok-bracket.ensures c.in_err-first.field-0.0 c.in_err-first.ensures)
+
+pub selection-returns : goal.selection-returns
+selection-returns t c =
+    behind_reads c.is_closed.result c.args.room kind.LeftBracket (selected_inner (under 0 c.args.room).expression) (selected_inner (expression_within 0 (c.args.room - 1))) (under_selected c.args.room) c.args.tokens.now _ _ c.is_closed.ensures c.in_ok-bracket.ensures _ _ c.in_ok-first.ensures
 
 pub listed-returns-in_err-more : goal.listed-returns-in_err-more
 listed-returns-in_err-more t c =
@@ -95,21 +114,6 @@ selected-selections-preserved t c =
 pub selected-returns : goal.selected-returns
 selected-returns t c =
     fold_ends (selection (is_zero c.args.room) (under 0 c.args.room).expression) (selections c.args.room) selected_by_all selected_by selections_gather c.selections.whole c.selections.rest.now _ (sym c.selections-test.false ∙ c.begins.ensures ∙ selection_begins c.args.room c.selections.rest.now) c.selections.invariant
-
-pub selection-returns-in_err-second : goal.selection-returns-in_err-second
-selection-returns-in_err-second t c =
-    let p = err_from_is_err_and c.from_residual-in_err-second.result c.from_residual-in_err-second.ensures.1 in
-    rw (p.1, p.2)
-    (low_stops c.is_closed.result c.args.room c.is_closed.ensures c.args.whole c.args.tokens.now _ _ c.in_ok-bracket.ensures _ _ c.in_ok-first.ensures c.in_err-second.field-0.0 c.in_err-second.ensures)
-
-pub selection-returns-in_err-tokens : goal.selection-returns-in_err-tokens
-selection-returns-in_err-tokens t c =
-    let p = err_from_is_err_and c.from_residual-in_err-tokens.result c.from_residual-in_err-tokens.ensures.1 in
-    rw (p.1, p.2)
-    (end_stops c.is_closed.result c.args.room c.is_closed.ensures c.args.whole c.args.tokens.now _ _ c.in_ok-bracket.ensures _ _ c.in_ok-first.ensures c.in_err-tokens.field-0.0 _ _ c.in_ok-second.ensures c.in_err-tokens.ensures)
-
-pub selection-returns : goal.selection-returns
-selection-returns t c = rw c.in_ok-selected.ensures (selection_reads c.is_closed.result c.args.room c.is_closed.ensures c.args.whole c.args.tokens.now _ _ c.in_ok-bracket.ensures _ _ c.in_ok-first.ensures _ _ _ _ c.in_ok-second.ensures c.in_ok-tokens.ensures)
 
 pub turns-returns-in_err-condition-2 : goal.turns-returns-in_err-condition-2
 turns-returns-in_err-condition-2 t c =

@@ -1,6 +1,7 @@
 -- Each rule is judged where those before it say nothing.
 use Rattle.std.proofs.Common.{None, sym, subst}
 use Rattle.std.proofs.lemmas.Result.{err_from_is_err_and}
+use Rattle.smv_tree.specs.declared.place.Place.{Place}
 use Rattle.smv_tree.specs.declared.tree.Program.{Program}
 use Rattle.smv_scope.specs.declared.scope.Scope.{Scope}
 use Rattle.smv_names.specs.Declarations.{declared_refusal}
@@ -17,19 +18,19 @@ returns-in_err-declared-clause-judged c =
     gives_err (names_verdict c.args.program) c.from_residual.result e (rw (sym p.2) p.1)
     (declared_stops c.args.program e (known_stops (Unit {0}) (declared_refusal c.args.program) e c.in_err-declared.ensures))
 
-pub returns-in_err-uses-clause-judged : goal.returns-in_err-uses-clause-judged
-returns-in_err-uses-clause-judged c =
-    let p = err_from_is_err_and c.from_residual-in_err-uses.result c.from_residual-in_err-uses.ensures.1 in
-    let e = c.in_err-uses.field-0.0 in
-    gives_err (names_verdict c.args.program) c.from_residual-in_err-uses.result e (rw (sym p.2) p.1)
-    (uses_stop c.args.program c.in_ok-declared.ensures e (err_gives (Unit {0}) (of_uses c.args.program) e c.in_err-uses.ensures))
+pub returns-in_err-place-clause-judged : goal.returns-in_err-place-clause-judged
+returns-in_err-place-clause-judged c =
+    let p = err_from_is_err_and c.from_residual-in_err-place.result c.from_residual-in_err-place.ensures.1 in
+    let e = c.in_err-place.field-0.0 in
+    gives_err (names_verdict c.args.program) c.from_residual-in_err-place.result e (rw (sym p.2) p.1)
+    (uses_stop c.args.program c.in_ok-declared.ensures e (err_gives Place (of_uses c.args.program) e c.in_err-place.ensures.judged))
 
 pub returns-in_err-scope-clause-judged : goal.returns-in_err-scope-clause-judged
 returns-in_err-scope-clause-judged c =
     let p = err_from_is_err_and c.from_residual-in_err-scope.result c.from_residual-in_err-scope.ensures.1 in
     let e = c.in_err-scope.field-0.0 in
     gives_err (names_verdict c.args.program) c.from_residual-in_err-scope.result e (rw (sym p.2) p.1)
-    (named_stops c.args.program c.in_ok-declared.ensures c.in_ok-uses.ensures e (known_stops Scope (named_refusal c.args.program) e c.in_err-scope.ensures.judged))
+    (named_stops c.args.program c.in_ok-declared.ensures c.in_ok-place.ensures.judged e (known_stops Scope (named_refusal c.args.program) e c.in_err-scope.ensures.judged))
 
 pub returns-in_err-definitions-clause-judged : goal.returns-in_err-definitions-clause-judged
 returns-in_err-definitions-clause-judged c =
@@ -37,11 +38,11 @@ returns-in_err-definitions-clause-judged c =
     let e = c.in_err-definitions.field-0.0 in
     let P : Program → Type 0 = λ q. Stops e (definitions_verdict q) in
     gives_err (names_verdict c.args.program) c.from_residual-in_err-definitions.result e (rw (sym p.2) p.1)
-    (definitions_stop c.args.program c.in_ok-declared.ensures c.in_ok-uses.ensures c.in_ok-scope.ensures.judged e
+    (definitions_stop c.args.program c.in_ok-declared.ensures c.in_ok-place.ensures.judged c.in_ok-scope.ensures.judged e
     (subst P c.in_ok-scope.ensures.same (err_gives (Unit {0}) (definitions_verdict c.in_ok-scope.scope.program) e c.in_err-definitions.ensures)))
 
 pub returns-clause-judged : goal.returns-clause-judged
 returns-clause-judged c =
     let D : Program → Type 0 = λ q. definitions_verdict q None in
-    all_let_through c.args.program c.in_ok-declared.ensures c.in_ok-uses.ensures c.in_ok-scope.ensures.judged
+    all_let_through c.args.program c.in_ok-declared.ensures c.in_ok-place.ensures.judged c.in_ok-scope.ensures.judged
     (subst D c.in_ok-scope.ensures.same c.in_ok-definitions.ensures)

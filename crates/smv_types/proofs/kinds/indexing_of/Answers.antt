@@ -2,7 +2,7 @@
 use Rattle.std.proofs.Common.{◌∙◌, ap}
 use Rattle.std.specs.Option.{is_some}
 use Rattle.smv_types.proofs.Judging.{equal_indexing, equal_says, judged_is, subscript_indexing, subscript_says, told_is}
-use Rattle.smv_types.specs.Kinds.{indexing_of, told}
+use Rattle.smv_types.specs.Kinds.{told}
 use Rattle.smv_resolve.specs.Resolved.{part_at}
 use Rattle.smv_types.proofs.kinds.indexing_of.Goals as goal
 

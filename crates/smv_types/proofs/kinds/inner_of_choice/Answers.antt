@@ -1,5 +1,5 @@
 -- What the index breaks, and then the element.
-use Rattle.std.proofs.Common.{◌≡◌, ◌∙◌, sym, ap, arith}
+use Rattle.std.proofs.Common.{◌∙◌, sym, ap, arith}
 use Rattle.smv_resolve.specs.Resolved.{part_at}
 use Rattle.smv_types.specs.Judged.{as_refusal}
 use Rattle.smv_types.specs.Kinds.{inner_refusal}

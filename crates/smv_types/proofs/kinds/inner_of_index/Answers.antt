@@ -1,5 +1,5 @@
 -- What the array breaks, and what its index does.
-use Rattle.std.proofs.Common.{◌≡◌, ◌∙◌, sym, ap, arith}
+use Rattle.std.proofs.Common.{◌∙◌, sym, ap, arith}
 use Rattle.smv_resolve.specs.Resolved.{part_at}
 use Rattle.smv_verdicts.specs.Verdicts.{or_else}
 use Rattle.smv_types.specs.Judged.{as_refusal}

@@ -15,6 +15,7 @@ returns c = λ types r h.
       inner = h.inner;
       defined = refl;
       indexing = refl;
+      window = refl;
       init = h.init;
       later = h.later;
     })

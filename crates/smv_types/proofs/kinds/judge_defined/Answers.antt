@@ -17,6 +17,7 @@ returns c = λ slots types r h k.
       inner = refl;
       defined = notes.name;
       indexing = refl;
+      window = refl;
       init = refl;
       later = refl;
     })

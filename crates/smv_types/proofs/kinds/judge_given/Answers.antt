@@ -11,6 +11,7 @@ returns c = λ slots types r h.
       inner = h.notes.name_set;
       defined = refl;
       indexing = refl;
+      window = refl;
       init = h.init;
       later = h.later;
     })

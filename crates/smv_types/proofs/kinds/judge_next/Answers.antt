@@ -16,4 +16,4 @@ returns c = λ slots types r h k.
     let own = c.both.ensures (λ x. next_here x c.args.place) (λ x. broken) c.next_here.ensures whole in
     unassigned slots types (Resolved.Next c.args.place r) c.noted.result c.args.place c.both-2.result c.noted.ensures refl
     (c.both-2.ensures (λ x. kind_refusal slots types (under_next x) r) (λ x. or_else (next_here x c.args.place) broken) (c.under_next.ensures (λ x. kind_refusal slots types x r) h.notes) own)
-    refl refl refl refl refl
+    refl refl refl refl refl refl

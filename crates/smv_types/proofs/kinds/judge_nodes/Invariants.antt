@@ -4,5 +4,5 @@ use Rattle.smv_resolve.specs.Resolved.{parts_of}
 use Rattle.smv_types.specs.Judged.{Tells}
 use Rattle.smv_types.proofs.kinds.judge_nodes.Given as goal
 
-abbrev pub invariant-loop-node : goal.invariant-loop-node
-invariant-loop-node l = Tells l.slots l.types (parts_of (take l.node-index l.nodes)) l.operands.items l.judged.items
+abbrev pub invariant-loop-i : goal.invariant-loop-i
+invariant-loop-i l = Tells l.slots l.types (parts_of (take l.i l.nodes)) l.operands.items l.judged

@@ -11,6 +11,7 @@ returns c = λ slots types r h.
       inner = refl;
       defined = refl;
       indexing = refl;
+      window = refl;
       init = refl;
       later = refl;
     })
