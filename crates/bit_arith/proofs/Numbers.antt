@@ -25,6 +25,14 @@ pub carry_step : (p s o a b c low high x y : ℕ) → s + p * o ≡ a + b + c �
 carry_step p s o a b c low high x y h k =
     let e : p * (low + 2 * high) ≡ p * (x + y + o) = ap (λ n. p * n) k in omega arith
 
+pub Extends-trans : {f g h : List Node} → Extends f g → Extends g h → Extends f h
+Extends-trans p q = record {
+  longer = omega (arith, p.longer, q.longer);
+  kept = λ v c. p.kept v (q.kept v c);
+  values = λ a e b s. q.values a e b (p.values a e b s);
+  inputs = λ n i. q.inputs n (p.inputs n i);
+}
+
 pub AllStand-extends : (g h : List Node) (es : List Edge) → Extends g h → AllStand g es → AllStand h es
 AllStand-extends g h es e s = All-weaker (Stands g) (Stands h) (λ x l. omega (arith, e.longer)) es s
 

@@ -120,10 +120,61 @@ fn divide_signed(
     let sign_b = sign(graph, b);
     let size_a = negate_if(alloc, graph, sign_a, a)?;
     let size_b = negate_if(alloc, graph, sign_b, b)?;
-    let (size, rest) = divide_numbers(alloc, graph, &size_a, &size_b)?;
+    divide_sizes(alloc, graph, sign_a, sign_b, &size_a, &size_b)
+}
+
+// The quotient and the remainder of numbers with these signs.
+fn divide_sizes(
+    alloc: Global,
+    graph: &mut Graph,
+    sign_a: Edge,
+    sign_b: Edge,
+    size_a: &[Edge],
+    size_b: &[Edge],
+) -> Result<(Vec<Edge>, Vec<Edge>), AllocError>
+    requires lengths { length size_a.now ≡ length size_b.now }
+    requires sign_a_stands { Stands graph.old sign_a }
+    requires sign_b_stands { Stands graph.old sign_b }
+    requires size_a_stand { AllStand graph.old size_a.now }
+    requires size_b_stand { AllStand graph.old size_b.now }
+    ensures extends { Extends graph.old graph.new }
+    ensures stands { IfOk result (λ r. AllStand graph.new r.0.items × AllStand graph.new r.1.items) }
+    ensures length { IfOk result (λ r. (length r.0.items ≡ length size_a.now) × (length r.1.items ≡ length size_a.now)) }
+    ensures quotient { IfOk result (λ r. (v : ℕ → Bool) → Consistent v graph.new →
+        let n = length size_a.now in let q = quotient false n (number_of v size_a.now) (number_of v size_b.now) in
+        number_of v r.0.items ≡ (if exclusive_or (edge_value v sign_a) (edge_value v sign_b) then opposite n q else q)) }
+    ensures remainder { IfOk result (λ r. (v : ℕ → Bool) → Consistent v graph.new →
+        let n = length size_a.now in let m = remainder false n (number_of v size_a.now) (number_of v size_b.now) in
+        number_of v r.1.items ≡ (if edge_value v sign_a then opposite n m else m)) }
+{
+    let (size, rest) = divide_numbers(alloc, graph, size_a, size_b)?;
+    with_signs(alloc, graph, sign_a, sign_b, &size, &rest)
+}
+
+// The quotient is negative where just one of the signs is, and the remainder where the first is.
+fn with_signs(
+    alloc: Global,
+    graph: &mut Graph,
+    sign_a: Edge,
+    sign_b: Edge,
+    size: &[Edge],
+    rest: &[Edge],
+) -> Result<(Vec<Edge>, Vec<Edge>), AllocError>
+    requires sign_a_stands { Stands graph.old sign_a }
+    requires sign_b_stands { Stands graph.old sign_b }
+    requires size_stand { AllStand graph.old size.now }
+    requires rest_stand { AllStand graph.old rest.now }
+    ensures extends { Extends graph.old graph.new }
+    ensures stands { IfOk result (λ r. AllStand graph.new r.0.items × AllStand graph.new r.1.items) }
+    ensures length { IfOk result (λ r. (length r.0.items ≡ length size.now) × (length r.1.items ≡ length rest.now)) }
+    ensures quotient { IfOk result (λ r. (v : ℕ → Bool) → Consistent v graph.new →
+        number_of v r.0.items ≡ (if exclusive_or (edge_value v sign_a) (edge_value v sign_b) then opposite (length size.now) (number_of v size.now) else number_of v size.now)) }
+    ensures remainder { IfOk result (λ r. (v : ℕ → Bool) → Consistent v graph.new →
+        number_of v r.1.items ≡ (if edge_value v sign_a then opposite (length rest.now) (number_of v rest.now) else number_of v rest.now)) }
+{
     let apart = graph.xor(sign_a, sign_b)?;
-    let quotient = negate_if(alloc, graph, apart, &size)?;
-    let remainder = negate_if(alloc, graph, sign_a, &rest)?;
+    let quotient = negate_if(alloc, graph, apart, size)?;
+    let remainder = negate_if(alloc, graph, sign_a, rest)?;
     Ok((quotient, remainder))
 }
 

@@ -1,6 +1,6 @@
-use Rattle.std.proofs.Common.{◌≡◌, ℕ, ◌<◌, ◌≤◌, ◌+◌, Bool, true, false, cond, List, [], ◌∷◌, ◌++◌, length, get_or, refl, sym, ◌∙◌, ap, subst, arith, rules, length-append, Option, Some, None, ⊎_elim}
+use Rattle.std.proofs.Common.{◌≡◌, ℕ, ◌<◌, ◌≤◌, ◌+◌, Bool, true, false, cond, List, [], ◌∷◌, ◌++◌, length, get_or, refl, sym, ◌∙◌, ap, subst, arith, rules, length-append, replicate, Option, Some, None, ⊎_elim}
 use Rattle.std.specs.Map.{lookup}
-use Rattle.std.proofs.lemmas.List.{get_or_append_left}
+use Rattle.std.proofs.lemmas.List.{get_or_append_left, get_or-replicate, length-replicate}
 use Rattle.std.proofs.Math.Seq.{get_or-append_seam}
 use Rattle.std.proofs.lemmas.Bool.{cases_lt, cases_Bool}
 use Rattle.bit_graph.specs.declared.edge.Edge.{Edge}
@@ -13,7 +13,7 @@ use Rattle.bit_graph.specs.Sharing.{node_eq, SharesIn, IsFalse, Folded, IsFolded
 use Rattle.bit_graph.proofs.Unique.{one_way, edge_value-same}
 
 -- n inputs so far, and nothing else but constants
-abbrev pub Starts : ℕ → List Node → Type 0
+abbrev Starts : ℕ → List Node → Type 0
 Starts n g = HasInputs n g × Acyclic g × ((m : Node) (k : ℕ) → IsGate m → IsNode g k m → ⊥)
 
 pub old_node : (g : List Node) (n : Node) (k : ℕ) → k < length g → get_or (g ++ n ∷ []) k Input ≡ get_or g k Input
@@ -181,26 +181,24 @@ Starts-push g m n p other inputs below h = (
       (λ e. other (let P : Node → Type 0 = IsGate in subst P (sym e) gate)) k at.0 at.1,
 )
 
-pub Starts-input : (g : List Node) (n : ℕ) → length g ≡ n → Starts n g → Starts (n + 1) (g ++ Input ∷ [])
-Starts-input g n e h =
-    Starts-push g Input n (n + 1) (λ gate. gate)
-    (record {
-      at = λ k l. ⊎_elim
-          (λ (m : k < n). at_old g Input Input k (h.0.at k m))
-          (λ (m : n ≤ k). let f : length g ≡ k = omega arith in let Q : ℕ → Type 0 = λ j. IsNode (g ++ Input ∷ []) j Input in subst Q f (at_new g Input))
-          (cases_lt k n);
-      only = λ k l f. omega (arith, longer_push g Input, l, e);
-    }) tt h
+Starts-inputs : (n : ℕ) → Starts n (replicate n Input)
+Starts-inputs n =
+    let input : (k : ℕ) → k < length (replicate n Input) → get_or (replicate n Input) k Input ≡ Input = λ k l.
+    get_or-replicate n k Input Input (omega (arith, length-replicate n Input)) in (
+      record {
+        at = λ k l. (omega (arith, length-replicate n Input), get_or-replicate n k Input Input l);
+        only = λ k l e. omega (arith, length-replicate n Input);
+      },
+      record { below = λ k l. let P : Node → Type 0 = IsBelow k in subst P (sym (input k l)) tt },
+      λ m k gate at. let P : Node → Type 0 = IsGate in subst P (sym at.1 ∙ input k at.0) gate,
+    )
 
-pub Starts-false : (g : List Node) (n : ℕ) → Starts n g → Starts n (g ++ False ∷ [])
-Starts-false g n h = Starts-push g False n n (λ gate. gate) (HasInputs-push g False n (λ e. cc) h.0) tt h
-
-pub Starts-nil : Starts 0 []
-Starts-nil = (
-  record { at = λ k l. absurd (omega arith); only = λ k l e. absurd (omega arith) },
-  record { below = λ k l. absurd (omega arith) },
-  λ m k gate at. absurd (omega (arith, at.0)),
-)
+-- the nodes of a new graph
+start : (n : ℕ) → Starts n (replicate n Input ++ False ∷ [])
+start n =
+    let g = replicate n Input in
+    let h = Starts-inputs n in
+    Starts-push g False n n (λ gate. gate) (HasInputs-push g False n (λ e. cc) h.0) tt h
 
 -- where no node is a gate, all are folded
 Folded-other : (g : List Node) (n : Node) → (IsGate n → ⊥) → Folded g n
@@ -210,18 +208,23 @@ Folded-other g (And a b) other = absurd (other tt)
 Folded-other g (Xor a b) other = absurd (other tt)
 Folded-other g (Choice c a b) other = absurd (other tt)
 
--- the invariant of a new graph
-pub start_ok : (g : List Node) (n : ℕ) (table : List (Node × ℕ)) → Starts n g → table ≡ [] →
-    Acyclic (g ++ False ∷ []) × SharesIn (g ++ False ∷ []) table × IsNode (g ++ False ∷ []) (length g) False × IsFolded (g ++ False ∷ [])
-start_ok g n table h e =
-    let s = Starts-false g n h in (
+-- the inputs and the invariant of a new graph
+pub start_inputs : (n : ℕ) → HasInputs n (replicate n Input ++ False ∷ [])
+start_inputs n = (start n).0
+
+pub start_ok : (n : ℕ) (table : List (Node × ℕ)) → table ≡ [] → let g = replicate n Input ++ False ∷ [] in
+    Acyclic g × SharesIn g table × IsNode g n False × IsFolded g
+start_ok n table e =
+    let g = replicate n Input ++ False ∷ [] in
+    let s = start n in
+    let P : ℕ → Type 0 = λ k. IsNode g k False in (
       s.1,
       rw e (record {
         found = λ m k f. let no : None ≡ Some k = f in cc;
         complete = λ m k gate at. absurd (s.2 m k gate at);
       }),
-      at_new g False,
-      λ m k at. Folded-other (g ++ False ∷ []) m (λ gate. s.2 m k gate at),
+      subst P (length-replicate n Input) (at_new (replicate n Input) False),
+      λ m k at. Folded-other g m (λ gate. s.2 m k gate at),
     )
 
 -- a new gate is no constant

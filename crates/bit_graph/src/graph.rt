@@ -1,7 +1,7 @@
 //! And-inverter graphs with gates for exclusive or and choice, in which equal gates are shared
 //! (Kuehlmann, Paruthi, Krohm and Ganai 2002).
 
-ghost use Rattle.std.specs.Prelude.{◌≡◌, ◌<◌, ◌≤◌, ◌+◌, ℕ, Bool, ◌&&◌, ◌||◌, ◌⊎◌, false, List, length, IfOk, IfSome, IsSome, ◌↔◌, slice_index_or, if◌then◌else◌};
+ghost use Rattle.std.specs.Prelude.{◌≡◌, ◌<◌, ◌≤◌, ◌+◌, ℕ, Bool, ◌&&◌, ◌||◌, ◌⊎◌, false, List, length, IfOk, IfSome, IsSome, ◌↔◌, slice_index_or, if◌then◌else◌, ◌++◌, ◌∷◌, [], replicate};
 ghost use Rattle.bit_graph.specs.declared.edge.Node.TheVariants.{False, Input};
 ghost use Rattle.bit_graph.specs.Meaning.{edge_value, exclusive_or, gate_value, IsGate, IsNode, Consistent, Stands, Acyclic, IsNew, Denotes, HasInputs, IsBelow};
 ghost use Rattle.bit_graph.specs.Growth.{Extends};
@@ -46,15 +46,10 @@ impl Graph {
         ensures inputs { IfOk result (λ g. HasInputs inputs g) }
         ensures length { IfOk result (λ g. inputs < length g) }
     {
-        let mut nodes = Vec::new(alloc);
-        'inputs: for _ in 0..inputs {
-            nodes.push(Node::Input)?;
-        }
-        let falsehood = nodes.as_slice().len();
-        nodes.push(Node::False)?;
+        let nodes = first_nodes(alloc, inputs)?;
         Ok(Graph {
             nodes,
-            falsehood,
+            falsehood: inputs,
             shared: HashMap::new(alloc),
         })
     }
@@ -314,4 +309,13 @@ impl Graph {
             }
         }
     }
+}
+
+// So many inputs, and behind them the node that is always false.
+fn first_nodes(alloc: Global, inputs: usize) -> Result<Vec<Node>, AllocError>
+    ensures { IfOk result (λ r. r.items ≡ replicate inputs Input ++ False ∷ []) }
+{
+    let mut nodes = vec![in alloc; Node::Input; inputs]?;
+    nodes.push(Node::False)?;
+    Ok(nodes)
 }

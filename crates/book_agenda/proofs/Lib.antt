@@ -1,2 +1,3 @@
+mod Agendas
 pub mod Blocked
 pub mod Orderly

@@ -1,6 +1,6 @@
 //! The frames, with the level to which each obligation is blocked, which follows the lemmas.
 
-ghost use Rattle.std.specs.Prelude.{◌≡◌, ◌<◌, length};
+ghost use Rattle.std.specs.Prelude.{◌≡◌, ◌<◌, length, vec_len, vec_capacity, OnOk};
 
 use crate::values::{blocked_to, lift, lower};
 use clause_core::Clause;
@@ -159,8 +159,7 @@ impl<'a> Levels<'a> {
         ensures done { IfOk result (λ r. NotesSame self.old j found.entry parent r self.new) }
         ensures err { OnErr result (self.new ≡ self.old) }
     {
-        self.blocked.reserve(1)?;
-        self.floors.reserve(1)?;
+        reserve_one(&mut self.blocked, &mut self.floors)?;
         let level = blocked_to(self.frames.all_lemmas(), found.values().as_slice());
         let noting = self.frames.add_obligation_same(j, found, parent)?;
         lower(&mut self.floors, &self.blocked, level);
@@ -176,4 +175,14 @@ impl<'a> Levels<'a> {
     {
         self.frames.retire(n);
     }
+}
+
+// Makes room for one obligation more.
+fn reserve_one(blocked: &mut Vec<u32>, floors: &mut Vec<u32>) -> Result<(), AllocError>
+    ensures blocked { blocked.new.items ≡ blocked.old.items }
+    ensures floors { floors.new.items ≡ floors.old.items }
+    ensures room { OnOk result ((vec_len blocked.new < vec_capacity blocked.new) × (vec_len floors.new < vec_capacity floors.new)) }
+{
+    blocked.reserve(1)?;
+    floors.reserve(1)
 }

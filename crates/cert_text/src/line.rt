@@ -1,6 +1,6 @@
 //! Reads the tokens of one line: the head of a certificate, the name of a part, or an item.
 
-ghost use Rattle.std.specs.Prelude.{◌≡◌, ◌≤◌, IfSome};
+ghost use Rattle.std.specs.Prelude.{◌≡◌, ◌<◌, ◌≤◌, IfSome};
 ghost use Rattle.std.specs.Option.{ForSome};
 ghost use Rattle.cert_text.specs.Lines as lines;
 
@@ -39,7 +39,8 @@ pub(crate) fn is_zero(t: Token) -> bool
 }
 
 fn literal(n: usize, positive: bool) -> Option<Lit>
-    ensures { result ≡ lines.literal n positive }
+    ensures says { result ≡ lines.literal n positive }
+    ensures within { IfSome result (λ l. l.var < MAX_VARS) }
 {
     if n <= MAX_VARS {
         Some(Lit::new(n.saturating_sub(1), positive))
@@ -49,7 +50,8 @@ fn literal(n: usize, positive: bool) -> Option<Lit>
 }
 
 pub(crate) fn literal_of(t: Token) -> Option<Lit>
-    ensures { result ≡ lines.literal_of t }
+    ensures says { result ≡ lines.literal_of t }
+    ensures within { IfSome result (λ l. l.var < MAX_VARS) }
 {
     match t {
         Token::Number(n) => literal(n, true),

@@ -1,9 +1,9 @@
 //! Reads the certificate lines of a text one after another: the block that is open, and those
 //! complete so far.
 
-ghost use Rattle.std.specs.Prelude.{◌≡◌, ◌∷◌, [], IfOk, IfSome, MatchOption, None, Some};
+ghost use Rattle.std.specs.Prelude.{◌≡◌, ◌==◌, ◌&&◌, ◌∷◌, [], IfOk, IfSome, MatchOption, None, Some, length, slice_set};
 ghost use Rattle.std.specs.Bool.{OnTrue};
-ghost use Rattle.std.specs.Option.{option_map};
+ghost use Rattle.std.specs.Option.{is_none, option_map};
 ghost use Rattle.clause_core.specs.Literals.{Within};
 ghost use Rattle.cert_core.specs.Blocks.{HintsFit};
 ghost use Rattle.cert_text.specs.Lines.{alone, literals_of, step_of, head_of};
@@ -165,6 +165,30 @@ impl Model for Reading {
     ghost view = { λ r. record { sound = r.sound; certificates = r.certificates.items; block = r.block } };
 }
 
+// The block that is being read from here on.
+fn begin_block(block: &mut Open, begun: Open)
+    ensures { block.new ≡ begun }
+{
+    drop(mem::replace(block, begun));
+}
+
+// The certificate of the specification at this place.
+fn put_certificate(certificates: &mut [Option<Certificate>], at: usize, certificate: Certificate)
+    ensures { certificates.new ≡ slice_set certificates.old at (Some certificate) }
+{
+    if at < certificates.len() {
+        drop(mem::replace(&mut certificates[at], Some(certificate)));
+    } else {
+        drop(certificate);
+    }
+}
+
+fn put_sound(sound: &mut Option<Sound>, block: Sound)
+    ensures { sound.new ≡ Some block }
+{
+    *sound = Some(block);
+}
+
 fn is_mark(t: Token) -> bool
     ensures { result ≡ reading.is_mark t }
 {
@@ -187,6 +211,13 @@ impl Reading {
         })
     }
 
+    // Whether a certificate of the specification with this number may begin.
+    fn takes_certificate(&self, spec: usize) -> bool
+        ensures { result ≡ (reading.is_closed self.now.block && reading.is_free self.now.certificates spec) }
+    {
+        is_closed(&self.block) && is_free(&self.certificates, spec)
+    }
+
     // Reads the first line of a certificate.
     fn begin_certificate(&mut self, alloc: Global, words: &[Token]) -> bool
         ensures { Makes (reading.certificate_begun self.old (head_of words.now)) self.new result }
@@ -194,17 +225,24 @@ impl Reading {
         let Some(head) = head_in(words) else {
             return false;
         };
-        if !is_closed(&self.block) || !is_free(&self.certificates, head.spec) {
+        if !self.takes_certificate(head.spec) {
             return false;
         }
-        let open = OpenCertificate::new(
+        let certificate = OpenCertificate::new(
             alloc,
             head.spec.saturating_sub(1),
             head.form,
             head.counter,
         );
-        self.block = Open::Certificate(open);
+        begin_block(&mut self.block, Open::Certificate(certificate));
         true
+    }
+
+    // Whether a sound block may begin with these words behind the first.
+    fn takes_sound(&self, words: &[Token]) -> bool
+        ensures { result ≡ (length words.now == 0 && (reading.is_closed self.now.block && is_none self.now.sound)) }
+    {
+        words.is_empty() && is_closed(&self.block) && self.sound.is_none()
     }
 
     // Reads the first line of a sound block.
@@ -216,10 +254,11 @@ impl Reading {
     ) -> Result<bool, AllocError>
         ensures { IfOk result (Makes (reading.sound_begun items self.old words.now) self.new) }
     {
-        if !words.is_empty() || !is_closed(&self.block) || self.sound.is_some() {
+        if !self.takes_sound(words) {
             return Ok(false);
         }
-        self.block = Open::Sound(OpenSound::new(alloc, items)?);
+        let sound = OpenSound::new(alloc, items)?;
+        begin_block(&mut self.block, Open::Sound(sound));
         Ok(true)
     }
 
@@ -231,13 +270,11 @@ impl Reading {
             Open::Nothing => false,
             Open::Certificate(open) => {
                 let spec = open.spec();
-                if spec < self.certificates.len() {
-                    self.certificates[spec] = Some(open.finish(alloc));
-                }
+                put_certificate(&mut self.certificates, spec, open.finish(alloc));
                 true
             }
             Open::Sound(open) => {
-                self.sound = Some(open.finish(alloc));
+                put_sound(&mut self.sound, open.finish(alloc));
                 true
             }
         }
@@ -311,8 +348,9 @@ impl Reading {
         let Reading {
             sound,
             certificates,
-            ..
+            block,
         } = self;
+        drop(block);
         (sound, certificates)
     }
 }

@@ -60,8 +60,6 @@ fn add_lines(
     }
 }
 
-fn discard(_reading: Reading) {}
-
 // The blocks that were read.
 fn finished(reading: Reading) -> Certificates
     ensures { (result.sound ≡ reading.sound) × (result.certificates.items ≡ reading.certificates) }
@@ -71,6 +69,10 @@ fn finished(reading: Reading) -> Certificates
         sound,
         certificates,
     }
+}
+
+fn discard(reading: Reading) {
+    drop(finished(reading));
 }
 
 // The text is refused at this line.

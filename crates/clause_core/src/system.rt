@@ -194,11 +194,20 @@ fn unit_clauses(alloc: Global, lits: &[Lit]) -> Result<Clauses, AllocError>
 fn negation(alloc: Global, lits: &[Lit]) -> Result<Clauses, AllocError>
     ensures { IfOk result (λ cs. cs ≡ map negate lits.now ∷ []) }
 {
-    let mut negated = Vec::new(alloc);
-    for l in lits {
-        negated.push(l.negated())?;
-    }
+    let negated = negations(alloc, lits)?;
+    one_clause(alloc, &negated)
+}
+
+fn negations(alloc: Global, lits: &[Lit]) -> Result<Vec<Lit>, AllocError>
+    ensures { IfOk result (λ r. r.items ≡ map negate lits.now) }
+{
+    lits.iter().map(|l| l.negated()).collect(alloc)
+}
+
+fn one_clause(alloc: Global, lits: &[Lit]) -> Result<Clauses, AllocError>
+    ensures { IfOk result (λ cs. cs ≡ lits.now ∷ []) }
+{
     let mut clauses = Clauses::new(alloc);
-    clauses.push(&negated)?;
+    clauses.push(lits)?;
     Ok(clauses)
 }

@@ -1,9 +1,9 @@
 //! The table of commands and options, as `clap` takes it.
 
-ghost use Rattle.std.specs.Prelude.{◌≡◌, ◌∷◌, [], false, IfOk};
-ghost use Rattle.clap.specs.Words.{app_of, rule_of};
+ghost use Rattle.std.specs.Prelude.{◌≡◌, [], false, IfOk};
+ghost use Rattle.clap.specs.Words.{App, Rule, app_of, rule_of, with_rule, with_subcommand};
 ghost use Rattle.clap.specs.declared.Command.TheViews.{out-Command};
-ghost use Rattle.command_words.specs.Grammar.{bare_program, bound_option, cells_place, cert_flag, check_row, command_app, conflicts_option, counter_option, flag_rule, flat_row, frames_option, number_rule, option_rule, place_rule, program, program_with, recheck_row, ring_row, seed_place, together_flag, upgrade_flag, workers_option};
+ghost use Rattle.command_words.specs.Grammar.{bare_program, bound_option, cells_place, cert_flag, check_row, command_app, conflicts_option, counter_option, flag_rule, flat_row, frames_option, number_rule, option_rule, place_rule, program, recheck_row, ring_row, seed_place, together_flag, upgrade_flag, workers_option};
 
 use clap::builder::ValueParser;
 use clap::{Arg, ArgAction, Command};
@@ -131,17 +131,22 @@ fn flag<'a>(alloc: Global, word: &'a str) -> Arg<'a>
     Arg::new(alloc, word).long(word).action(ArgAction::SetTrue)
 }
 
-// The command `check` with its first options alone: the workers, the tickets and the lassos' lengths.
-fn check_start<'a>(alloc: Global) -> Result<Command<'a>, AllocError>
-    ensures app { IfOk result (λ c. app_of c ≡ command_app (record check_row { options = workers_option ∷ conflicts_option ∷ bound_option ∷ []; flags = [] })) }
-    ensures local { IfOk result (λ c. (out-Command c).has_globals ≡ false) }
+// The command with one more option, flag or number in its place.
+fn with_arg<'a>(
+    command: Result<Command<'a>, AllocError>,
+    arg: Arg<'a>,
+) -> Result<Command<'a>, AllocError>
+    requires { arg.global ≡ false }
+    ensures app { (app : App) (rule : Rule) → IfOk command.entry (λ c. app_of c ≡ app) → rule_of arg.entry ≡ rule → IfOk result (λ c. app_of c ≡ with_rule app rule) }
+    ensures local { IfOk command.entry (λ c. (out-Command c).has_globals ≡ false) → IfOk result (λ c. (out-Command c).has_globals ≡ false) }
 {
-    let (workers, conflicts) = (workers_option(alloc), conflicts_option(alloc));
-    let bound = bound_option(alloc);
-    Command::new(alloc, CHECK)
-        .arg(workers)?
-        .arg(conflicts)?
-        .arg(bound)
+    match command {
+        Ok(command) => command.arg(arg),
+        Err(error) => {
+            drop(arg);
+            Err(error)
+        }
+    }
 }
 
 // The command `check` with its options alone.
@@ -149,24 +154,26 @@ fn check_options<'a>(alloc: Global) -> Result<Command<'a>, AllocError>
     ensures app { IfOk result (λ c. app_of c ≡ command_app (record check_row { flags = [] })) }
     ensures local { IfOk result (λ c. (out-Command c).has_globals ≡ false) }
 {
-    let (frames, counter) = (frames_option(alloc), counter_option(alloc));
-    check_start(alloc)?.arg(frames)?.arg(counter)
+    let command = with_arg(Ok(Command::new(alloc, CHECK)), workers_option(alloc));
+    let command = with_arg(command, conflicts_option(alloc));
+    let command = with_arg(command, bound_option(alloc));
+    let command = with_arg(command, frames_option(alloc));
+    with_arg(command, counter_option(alloc))
 }
 
 fn check_command<'a>(alloc: Global) -> Result<Command<'a>, AllocError>
     ensures app { IfOk result (λ c. app_of c ≡ command_app check_row) }
     ensures local { IfOk result (λ c. (out-Command c).has_globals ≡ false) }
 {
-    check_options(alloc)?
-        .arg(flag(alloc, TOGETHER))?
-        .arg(flag(alloc, CERT))
+    let command = with_arg(check_options(alloc), flag(alloc, TOGETHER));
+    with_arg(command, flag(alloc, CERT))
 }
 
 fn recheck_command<'a>(alloc: Global) -> Result<Command<'a>, AllocError>
     ensures app { IfOk result (λ c. app_of c ≡ command_app recheck_row) }
     ensures local { IfOk result (λ c. (out-Command c).has_globals ≡ false) }
 {
-    Command::new(alloc, RECHECK).arg(flag(alloc, UPGRADE))
+    with_arg(Ok(Command::new(alloc, RECHECK)), flag(alloc, UPGRADE))
 }
 
 fn flat_command<'a>(alloc: Global) -> Command<'a>
@@ -180,10 +187,9 @@ fn ring_command<'a>(alloc: Global) -> Result<Command<'a>, AllocError>
     ensures app { IfOk result (λ c. app_of c ≡ command_app ring_row) }
     ensures local { IfOk result (λ c. (out-Command c).has_globals ≡ false) }
 {
-    Command::new(alloc, RING)
-        .arg(cells_place(alloc))?
-        .arg(seed_place(alloc))?
-        .arg(workers_option(alloc))
+    let command = with_arg(Ok(Command::new(alloc, RING)), cells_place(alloc));
+    let command = with_arg(command, seed_place(alloc));
+    with_arg(command, workers_option(alloc))
 }
 
 // The program without its commands: it wants one, and has no help of its own.
@@ -198,21 +204,33 @@ fn bare_program<'a>(alloc: Global) -> Command<'a>
         .disable_help_subcommand(true)
 }
 
-// The program with the commands that decide specifications of a model, or judge a report.
-fn judging_program<'a>(alloc: Global) -> Result<Command<'a>, AllocError>
-    ensures { IfOk result (λ c. app_of c ≡ program_with (check_row ∷ recheck_row ∷ [])) }
+// The program with one more command.
+fn with_command<'a>(
+    program: Result<Command<'a>, AllocError>,
+    command: Result<Command<'a>, AllocError>,
+) -> Result<Command<'a>, AllocError>
+    requires { IfOk command (λ c. (out-Command c).has_globals ≡ false) }
+    ensures { (app sub : App) → IfOk program.entry (λ p. app_of p ≡ app) → IfOk command.entry (λ c. app_of c ≡ sub) → IfOk result (λ p. app_of p ≡ with_subcommand app sub.top) }
 {
-    let check = check_command(alloc)?;
-    let recheck = recheck_command(alloc)?;
-    bare_program(alloc).subcommand(check)?.subcommand(recheck)
+    match (program, command) {
+        (Ok(program), Ok(command)) => program.subcommand(command),
+        (Err(error), command) => {
+            drop(command);
+            Err(error)
+        }
+        (Ok(program), Err(error)) => {
+            drop(program);
+            Err(error)
+        }
+    }
 }
 
 /// The whole table.
 pub fn program<'a>(alloc: Global) -> Result<Command<'a>, AllocError>
     ensures { IfOk result (λ c. app_of c ≡ program) }
 {
-    let ring = ring_command(alloc)?;
-    judging_program(alloc)?
-        .subcommand(flat_command(alloc))?
-        .subcommand(ring)
+    let program = with_command(Ok(bare_program(alloc)), check_command(alloc));
+    let program = with_command(program, recheck_command(alloc));
+    let program = with_command(program, Ok(flat_command(alloc)));
+    with_command(program, ring_command(alloc))
 }

@@ -225,3 +225,28 @@ fits_in f (Push n) level h = h.0
 
 pub lawful_none : (limits : Limits) (s : BookState) (es : List Entry) → es ≡ [] → IsLawful limits s es
 lawful_none limits s es none = subst (IsLawful limits s) (sym none) tt
+
+-- an open task is on a subject that there is
+pub in_task : (limits : Limits) (s : BookState) (u : Subject) (level : ℕ) → IsOpenTask limits s u level → IsIn s.frames u
+in_task limits s (Bad j) level t = t.0
+in_task limits s (Block o) level t = t.0
+in_task limits s (Push n) level t = t.0
+
+-- the same pages with more room
+pub roomier : (b : BookView) (cap cap' : ℕ) (rooms rooms' : Room) → ArePages b cap rooms → cap ≤ cap' → rooms.count ≤ rooms'.count →
+    rooms'.size ≡ rooms.size → ArePages b cap' rooms'
+roomier b cap cap' rooms rooms' h more many size =
+    let room = h.room in
+    let count = h.rooms' in
+    record {
+      book = h.book;
+      systems = h.systems;
+      sane = h.sane;
+      small = h.small;
+      as_many = h.as_many;
+      limited = h.limited;
+      room = omega arith;
+      rooms' = omega arith;
+      size = size ∙ h.size;
+      backed = h.backed;
+    }

@@ -1,6 +1,6 @@
 //! The book without its count of settlements: frames, claims and history, and what follows from them.
 
-ghost use Rattle.std.specs.Prelude.{◌≡◌, ◌↔◌, IfOk, IsTrue};
+ghost use Rattle.std.specs.Prelude.{◌≡◌, ◌↔◌, ◌<◌, ◌≤◌, ◌+◌, ◌^◌, vec_len, vec_capacity, IfOk, OnOk, IsTrue};
 ghost use Rattle.frame_book.specs.Claims.{IsOfSubject};
 ghost use Rattle.frame_book.specs.Pages.{IsIn, HasValues, HasClause};
 
@@ -40,7 +40,7 @@ impl<'a> Model for Pages<'a> {
 }
 
 impl<'a> Pages<'a> {
-    ghost use Rattle.std.specs.Prelude.{◌≡◌, ◌↔◌, ◌<◌, ◌≤◌, ◌+◌, ◌^◌, [], ◌∷◌, replicate, length, IfOk, IfErr, OnErr, IsTrue, IsOk, MatchOption};
+    ghost use Rattle.std.specs.Prelude.{◌≡◌, ◌↔◌, ◌<◌, ◌≤◌, ◌+◌, ◌^◌, [], ◌∷◌, replicate, length, IfOk, IfErr, OnOk, OnErr, IsTrue, IsOk, MatchOption};
     ghost use Rattle.frame_history.specs.declared.entries.Entry.TheVariants as entry;
     ghost use Rattle.frame_history.specs.History.{IsLawfulClaim};
     ghost use Rattle.frame_book.specs.Claims.{IsClaimOf, IsOutHere, IsOfSubject};
@@ -58,10 +58,9 @@ impl<'a> Pages<'a> {
         requires limits { limits.frames + 1 < 2 ^ 32 }
         ensures { IfOk result (λ p. p ≡ opened frames.entry.systems limits frames.entry.lemmas) }
     {
-        let mut carried = Lemmas::new(alloc);
-        carried.follow(frames.all_lemmas(), &[])?;
         let systems = frames.systems().len();
         let marks = Marks::new(alloc, limits.frames, systems)?;
+        let carried = copy_of(alloc, frames.all_lemmas())?;
         Ok(Pages {
             levels: Levels::of(alloc, frames),
             carried,
@@ -175,20 +174,11 @@ impl<'a> Pages<'a> {
         ensures err { OnErr result (self.new ≡ self.old) }
     {
         let alloc = self.carried.alloc();
-        let _systems = self.levels.frames().systems();
-        let values = values_of(alloc, self.levels.frames(), subject)?;
-        let clause = clause_of(alloc, self.levels.frames(), subject)?;
-        let out = self.register.out();
-        self.rooms.make(out + 1)?;
-        self.history.reserve(out + 2)?;
+        let values = values_of(alloc, self.frames(), subject)?;
+        let clause = clause_of(alloc, self.frames(), subject)?;
         let number = self.history.len();
         let growth = self.register.growth();
-        self.register.claim(worker, subject, level)?;
-        self.history.push_reserved(Entry::Claim {
-            worker,
-            subject,
-            level,
-        });
+        self.enter(worker, subject, level)?;
         Ok(Claim {
             number,
             worker,
@@ -198,6 +188,25 @@ impl<'a> Pages<'a> {
             values,
             clause,
         })
+    }
+
+    // Enters a lawful claim, and makes room as `take` says. If memory runs out, all is as before.
+    fn enter(&mut self, worker: u32, subject: Subject, level: u32) -> Result<(), AllocError>
+        requires lawful { IsLawfulClaim self.old.limits self.old.state subject level }
+        requires level { IsLevelOf self.old.state.frames subject level }
+        ensures done { OnOk result (self.new ≡ entered self.old (entry.Claim worker subject level)) }
+        ensures err { OnErr result (self.new ≡ self.old) }
+    {
+        let _systems = self.levels.frames().systems();
+        let out = self.register.out();
+        make_room(&mut self.rooms, &mut self.history, out)?;
+        self.register.claim(worker, subject, level)?;
+        self.history.push_reserved(Entry::Claim {
+            worker,
+            subject,
+            level,
+        });
+        Ok(())
     }
 
     /// Ends a claim with its outcome. It takes its memory first; where there is none all is as before.
@@ -260,6 +269,30 @@ impl<'a> Pages<'a> {
         } = self;
         (levels.into_frames(), history)
     }
+}
+
+// A copy of the lemmas.
+fn copy_of(alloc: Global, lemmas: &Lemmas) -> Result<Lemmas, AllocError>
+    ensures { IfOk result (λ copy. copy ≡ lemmas.now) }
+{
+    let mut copy = Lemmas::new(alloc);
+    copy.follow(lemmas, &[])?;
+    Ok(copy)
+}
+
+// Makes room for one claim more and the entry that ends it, where so many claims are out.
+fn make_room(rooms: &mut Rooms, history: &mut Vec<Entry>, out: usize) -> Result<(), AllocError>
+    requires out { out ≤ rooms.old.count }
+    requires small { out + 2 < 2 ^ 64 }
+    ensures count { rooms.old.count ≤ rooms.new.count }
+    ensures size { rooms.new.size ≡ rooms.old.size }
+    ensures items { history.new.items ≡ history.old.items }
+    ensures capacity { vec_capacity history.old ≤ vec_capacity history.new }
+    ensures done { OnOk result ((out + 1 ≤ rooms.new.count) × (vec_len history.new + (out + 2) ≤ vec_capacity history.new)) }
+{
+    rooms.make(out + 1)?;
+    history.reserve(out + 2)?;
+    Ok(())
 }
 
 // The claim's number; the claim is spent.

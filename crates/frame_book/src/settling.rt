@@ -1,14 +1,15 @@
 //! What the frames make of the outcome of a claim (Een, Mishchenko, Brayton 2011, section 5).
 
-ghost use Rattle.std.specs.Prelude.{◌≡◌, ◌≢◌, ◌↔◌, ◌<◌, ◌≤◌, ◌+◌, ◌++◌, ◌∷◌, [], ◌^◌, ℕ, Bool, List, false, true, length, slice_index_or, vec_len, vec_capacity, All, IfOk, IfErr, OnOk, IsTrue, Some, None, is_none, IsOk};
+ghost use Rattle.std.specs.Prelude.{◌≡◌, ◌≢◌, ◌⊎◌, ◌↔◌, ◌<◌, ◌≤◌, ◌+◌, ◌++◌, ◌∷◌, [], ◌^◌, ℕ, Bool, List, false, true, length, slice_index_or, vec_len, vec_capacity, All, IfOk, IfErr, OnOk, OnErr, IsTrue, Some, None, is_none, IsOk};
 ghost use Rattle.clause_core.specs.Assignments.{ClauseTrue, assignment_of};
 ghost use Rattle.clause_core.specs.Systems.{NextIs};
 ghost use Rattle.frame_core.specs.Differences.{IsSameSystem};
 ghost use Rattle.frame_core.specs.Facts.{IsPart};
 ghost use Rattle.frame_core.specs.FrameLaw.{FrameState, InFrame, system_at, top_at, lemma_at, obligation_at};
-ghost use Rattle.frame_core.specs.Looking.{parent_at};
-ghost use Rattle.frame_core.specs.Changes.{IsOfSystem, MayHaveParent, with_obligation};
+ghost use Rattle.frame_core.specs.Looking.{AreCoveredBy, parent_at};
+ghost use Rattle.frame_core.specs.Changes.{IsOfSystem, InsertsSame, MayHaveParent, NotesSame, with_obligation};
 ghost use Rattle.frame_history.specs.declared.entries.Change.{Change as AChange};
+ghost use Rattle.frame_history.specs.declared.entries.Lag.TheVariants as lag_of;
 ghost use Rattle.frame_history.specs.declared.entries.Subject.TheVariants as asked;
 ghost use Rattle.frame_book.specs.Claims.{IsOfSubject};
 ghost use Rattle.frame_book.specs.Outcomes.{EndsIn, IsOutcomeOf};
@@ -20,10 +21,10 @@ use crate::claim::{Claim, Outcome};
 use book_agenda::{Levels, meets_from};
 use clause_core::{Bits, Clause};
 use frame_core::{
-    Clear, Found, Insertion, Lemmas, Opening, Parent, Proved, ProvedParts, Raising, Step,
+    Clear, Found, Insertion, Lemmas, Noting, Opening, Parent, Proved, ProvedParts, Raising, Step,
 };
 use frame_history::{Change, Lag, Made, Subject};
-use std::alloc::Global;
+use std::alloc::{AllocError, Global};
 
 // A parent that has this level here, taken from those that a query used.
 fn lag(mut parents: Vec<Parent>, k: usize, level: u32) -> Change
@@ -32,6 +33,20 @@ fn lag(mut parents: Vec<Parent>, k: usize, level: u32) -> Change
 {
     let parent = parents.swap_remove(k);
     Change::Behind(Lag::Parent { parent, level })
+}
+
+// Inserts a copy of the clause. If memory runs out, the levels are as before.
+fn insert_copy<'a>(
+    alloc: Global,
+    levels: &mut Levels<'a>,
+    proved: &Proved,
+) -> Result<Insertion, AllocError>
+    requires { IsOfSystem levels.old 0 false proved.now.system }
+    ensures done { IfOk result (λ r. InsertsSame levels.old proved.now r levels.new) }
+    ensures err { OnErr result (levels.new ≡ levels.old) }
+{
+    let clause = Clause::from_slice(alloc, proved.clause())?;
+    levels.insert(proved, clause)
 }
 
 // A clause that is false in the state of obligation `o` is proved at the level of the claim.
@@ -49,10 +64,7 @@ pub(crate) fn block<'a>(
     ensures done { IfOk result (λ d. Comes levels.old made.now (Outcome.Proved proved.entry) d levels.new) }
     ensures err { IfErr result (λ r. (r ≡ Outcome.Proved proved.entry) × (levels.new ≡ levels.old)) }
 {
-    let Ok(clause) = Clause::from_slice(alloc, proved.clause()) else {
-        return Err(Outcome::Proved(proved));
-    };
-    let Ok(insertion) = levels.insert(&proved, clause) else {
+    let Ok(insertion) = insert_copy(alloc, levels, &proved) else {
         return Err(Outcome::Proved(proved));
     };
     let level = proved.level();
@@ -169,6 +181,25 @@ fn is_inside(lemmas: &Lemmas, level: u32, found: &Found) -> bool
     }
 }
 
+// Notes a copy of the state found, which is of system `j`. If memory runs out, the levels are as before.
+fn note_copy<'a>(
+    alloc: Global,
+    levels: &mut Levels<'a>,
+    j: usize,
+    found: &Found,
+    parent: Option<usize>,
+) -> Result<Noting, AllocError>
+    requires in_range { j < length levels.old.systems }
+    requires parent { MayHaveParent levels.old j found.now parent }
+    requires same { IsOfSystem levels.old j (is_none parent) found.now.system }
+    ensures done { IfOk result (λ r. NotesSame levels.old j found.now parent r levels.new) }
+    ensures err { OnErr result (levels.new ≡ levels.old) }
+{
+    let values = Bits::from_slice(alloc, found.values().as_slice())?;
+    let copy = Found::new(found.system(), values, found.is_step(), found.is_first());
+    levels.note(j, copy, parent)
+}
+
 // Notes the state found, which is of system `j`, as an obligation.
 fn note<'a>(
     alloc: Global,
@@ -183,11 +214,7 @@ fn note<'a>(
     ensures done { IfOk result (λ d. (d ≡ Change.Note j found.entry.values parent found.entry.first) × (levels.new ≡ with_obligation levels.old j found.entry parent)) }
     ensures err { IfErr result (λ r. (r ≡ found.entry) × (levels.new ≡ levels.old)) }
 {
-    let Ok(values) = Bits::from_slice(alloc, found.values().as_slice()) else {
-        return Err(found);
-    };
-    let copy = Found::new(found.system(), values, found.is_step(), found.is_first());
-    let Ok(_) = levels.note(j, copy, parent) else {
+    let Ok(_) = note_copy(alloc, levels, j, &found, parent) else {
         return Err(found);
     };
     let first = found.is_first();
@@ -197,6 +224,31 @@ fn note<'a>(
         parent,
         first,
     })
+}
+
+// What comes of the state found, which is of system `j`: it is noted if it is in the frame of this level, and is
+// behind if not.
+fn note_inside<'a>(
+    alloc: Global,
+    levels: &mut Levels<'a>,
+    level: u32,
+    j: usize,
+    found: Found<'a>,
+    parent: Option<usize>,
+) -> Result<Change, Outcome<'a>>
+    requires in_range { j < length levels.old.systems }
+    requires parent { MayHaveParent levels.old j found parent }
+    requires same { IsOfSystem levels.old j (is_none parent) found.system }
+    ensures done { IfOk result (λ d. ((InFrame found.entry.system levels.old.lemmas level (assignment_of found.entry.values) → ⊥) × (d ≡ Change.Behind (lag_of.State found.entry.values)) × (levels.new ≡ levels.old)) ⊎ (InFrame found.entry.system levels.old.lemmas level (assignment_of found.entry.values) × (d ≡ Change.Note j found.entry.values parent found.entry.first) × (levels.new ≡ with_obligation levels.old j found.entry parent))) }
+    ensures err { IfErr result (λ r. (r ≡ Outcome.Found found.entry) × (levels.new ≡ levels.old)) }
+{
+    if !is_inside(levels.frames().all_lemmas(), level, &found) {
+        return Ok(Change::Behind(Lag::State(found.into_values())));
+    }
+    match note(alloc, levels, j, found, parent) {
+        Ok(change) => Ok(change),
+        Err(found) => Err(Outcome::Found(found)),
+    }
 }
 
 // A bad state of system `j` was found: one of the frame of the top, if the top is the level of the claim still.
@@ -218,13 +270,7 @@ pub(crate) fn bad<'a>(
     if levels.frames().top(j) != made.level {
         return Ok(Change::Dropped);
     }
-    if !is_inside(levels.frames().all_lemmas(), made.level, &found) {
-        return Ok(Change::Behind(Lag::State(found.into_values())));
-    }
-    match note(alloc, levels, j, found, None) {
-        Ok(change) => Ok(change),
-        Err(found) => Err(Outcome::Found(found)),
-    }
+    note_inside(alloc, levels, made.level, j, found, None)
 }
 
 // A state with a step to obligation `o` was found: one of the frame below the level of the claim, if it is
@@ -247,14 +293,8 @@ pub(crate) fn precede<'a>(
 {
     let _system = found.system();
     let _systems = levels.frames().systems();
-    if !is_inside(levels.frames().all_lemmas(), made.level - 1, &found) {
-        return Ok(Change::Behind(Lag::State(found.into_values())));
-    }
     let j = levels.frames().obligation(o).system;
-    match note(alloc, levels, j, found, Some(o)) {
-        Ok(change) => Ok(change),
-        Err(found) => Err(Outcome::Found(found)),
-    }
+    note_inside(alloc, levels, made.level - 1, j, found, Some(o))
 }
 
 // Retires lemma `n`, which lemma `m` covers, if it is live.
@@ -296,6 +336,47 @@ fn is_addition(change: &Change) -> bool
     matches!(change, Change::Add { .. })
 }
 
+// The lemmas that the clause covers at its level, and room in `changes` for them and so many more.
+fn make_room<'a>(
+    levels: &Levels<'a>,
+    proved: &Proved,
+    changes: &mut Vec<Change>,
+    more: usize,
+) -> Result<Vec<usize>, AllocError>
+    ensures covered { IfOk result (λ v. AreCoveredBy levels.now.lemmas proved.now.clause proved.now.level (length levels.now.lemmas) v.items) }
+    ensures room { IfOk result (λ v. vec_len changes.new + (length v.items + (more + 1)) ≤ vec_capacity changes.new) }
+    ensures same { changes.new.items ≡ changes.old.items }
+    ensures capacity { vec_capacity changes.old ≤ vec_capacity changes.new }
+{
+    let lemmas = levels.frames().all_lemmas();
+    let covered = lemmas.covered_by(proved.clause(), proved.level())?;
+    let room = covered.len().saturating_add(more);
+    changes.reserve(room.saturating_add(1))?;
+    Ok(covered)
+}
+
+// Enters the change; where it adds lemma `m`, retires the lemmas that this one covers.
+fn enter_change<'a>(
+    levels: &mut Levels<'a>,
+    m: usize,
+    covered: &[usize],
+    change: Change,
+    changes: &mut Vec<Change>,
+)
+    requires empty { changes.old.items ≡ [] }
+    requires added { adds change ≡ true → (m < length levels.old.lemmas) × ((lemma_at levels.old.lemmas m).live ≡ true) × All (IsCoveredBy levels.old.lemmas m) covered.now }
+    requires room { vec_len changes.old + (length covered.now + 1) ≤ vec_capacity changes.old }
+    ensures done { (ds : List AChange) × (changes.new.items ≡ change ∷ ds) × Retires levels.old ds levels.new }
+    ensures room { vec_len changes.new ≤ vec_len changes.old + (length covered.now + 1) }
+    ensures capacity { vec_capacity changes.new ≡ vec_capacity changes.old }
+{
+    let added = is_addition(&change);
+    changes.push_reserved(change);
+    if added {
+        retire(levels, m, covered, changes);
+    }
+}
+
 // The same as `block`; and the lemmas that a new one covers are retired. The changes go into `changes`, and
 // leave room for so many more.
 pub(crate) fn block_and_retire<'a>(
@@ -317,24 +398,12 @@ pub(crate) fn block_and_retire<'a>(
     ensures err { IfErr result (λ r. (r ≡ Outcome.Proved proved.entry) × (levels.new ≡ levels.old) × (changes.new.items ≡ [])) }
     ensures capacity { vec_capacity changes.old ≤ vec_capacity changes.new }
 {
-    let Ok(covered) = levels
-        .frames()
-        .all_lemmas()
-        .covered_by(proved.clause(), proved.level())
-    else {
-        return Err(Outcome::Proved(proved));
-    };
-    let room = covered.len().saturating_add(more);
-    let Ok(_) = changes.reserve(room.saturating_add(1)) else {
+    let Ok(covered) = make_room(levels, &proved, changes, more) else {
         return Err(Outcome::Proved(proved));
     };
     let m = levels.frames().lemmas();
     let change = block(alloc, levels, made, o, proved)?;
-    let added = is_addition(&change);
-    changes.push_reserved(change);
-    if added {
-        retire(levels, m, &covered, changes);
-    }
+    enter_change(levels, m, &covered, change, changes);
     Ok(())
 }
 

@@ -4,9 +4,9 @@ use Rattle.std.specs.List.{Contains}
 use Rattle.std.proofs.Math.ListN.{get_or-append}
 use Rattle.std.proofs.Math.Seq.{get_or-append_seam}
 use Rattle.std.proofs.lemmas.Bool.{cases_eq, cases_lt}
-use Rattle.std.proofs.lemmas.List.{ext_get_or}
+use Rattle.std.proofs.lemmas.List.{ext_get_or, set-set}
 use Rattle.frame_core.specs.declared.parts.Lemma.{Lemma}
-use Rattle.frame_core.specs.FrameLaw.{no_lemma, lemma_at}
+use Rattle.frame_core.specs.FrameLaw.{no_lemma, lemma_at, raised_at, retired_at}
 use Rattle.frame_core.specs.Copies.{LagsBehind}
 
 -- a number that is not the first is in the rest
@@ -66,6 +66,29 @@ caught_lemma a l c still on =
 pub retired_lemma_is : (a l : Lemma) → a.clause ≡ l.clause → l.live ≡ false → record { clause = a.clause; level = l.level; live = false } ≡ l
 retired_lemma_is a l c off = λ i. record { clause = c i; level = l.level; live = sym off i }
 
+-- lemma m of the copy has the level that it has now, and is live now
+pub caught_raised : (lemmas copy : List Lemma) (m : ℕ) (l : Lemma) (changed : List ℕ) → m < length copy → l ≡ lemma_at lemmas m → l.live ≡ true →
+    LagsBehind lemmas (m ∷ changed) copy → LagsBehind lemmas changed (raised_at copy m l.level)
+caught_raised lemmas copy m l changed lt is on lags =
+    let clause : (lemma_at copy m).clause ≡ l.clause = lags.clause m lt ∙ ap (λ (z : Lemma). z.clause) (sym is) in
+    let still : l.live ≡ true → (lemma_at copy m).live ≡ true = λ e. lags.live m lt (ap (λ (z : Lemma). z.live) (sym is) ∙ e) in
+    subst (λ (z : Lemma). LagsBehind lemmas changed (set copy m z)) (sym (caught_lemma (lemma_at copy m) l clause still on))
+    (caught_up lemmas copy m l changed lt is lags)
+
+-- lemma m of the copy has the level that it has now, and is retired as it is now
+pub caught_retired : (lemmas copy : List Lemma) (m : ℕ) (l : Lemma) (changed : List ℕ) → m < length copy → l ≡ lemma_at lemmas m → l.live ≡ false →
+    LagsBehind lemmas (m ∷ changed) copy → LagsBehind lemmas changed (retired_at (raised_at copy m l.level) m)
+caught_retired lemmas copy m l changed lt is off lags =
+    let a = lemma_at copy m in
+    let r : Lemma = record { clause = a.clause; level = l.level; live = a.live } in
+    let clause : a.clause ≡ l.clause = lags.clause m lt ∙ ap (λ (z : Lemma). z.clause) (sym is) in
+    let read : lemma_at (set copy m r) m ≡ r = get_or-set_same copy m r no_lemma lt in
+    let q : Lemma = record { clause = (lemma_at (set copy m r) m).clause; level = (lemma_at (set copy m r) m).level; live = false } in
+    let retired : Lemma → Lemma = λ z. record { clause = z.clause; level = z.level; live = false } in
+    let here : q ≡ l = ap retired read ∙ retired_lemma_is a l clause off in
+    let whole : retired_at (raised_at copy m l.level) m ≡ set copy m l = set-set copy m r q ∙ ap (set copy m) here in
+    subst (LagsBehind lemmas changed) (sym whole) (caught_up lemmas copy m l changed lt is lags)
+
 -- one lemma more, as it is now
 pub caught_more : (lemmas copy : List Lemma) (l : Lemma) → l ≡ lemma_at lemmas (length copy) → length copy < length lemmas →
     LagsBehind lemmas [] copy → LagsBehind lemmas [] (copy ++ l ∷ [])
@@ -95,16 +118,3 @@ caught_all lemmas copy long lags =
       | inl named ↦ absurd (omega (arith, named.1))
       | inr same ↦ same
     ])
-
--- what lags behind no change lags behind some
-pub lags_more : (lemmas copy : List Lemma) (changed : List ℕ) → LagsBehind lemmas [] copy → LagsBehind lemmas changed copy
-lags_more lemmas copy changed lags =
-    record {
-      shorter = lags.shorter;
-      clause = lags.clause;
-      live = lags.live;
-      same = λ n b. elim (lags.same n b) [
-        | inl named ↦ absurd (omega (arith, named.1))
-        | inr same ↦ inr same
-      ];
-    }

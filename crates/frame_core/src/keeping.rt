@@ -1,8 +1,9 @@
 //! The frames of IC3 (Bradley 2011): lemmas with levels, a top for each system, and proof
 //! obligations. Each call keeps the law of the frames.
 
-ghost use Rattle.std.specs.Prelude.{◌<◌, ◌↔◌, length, IsTrue};
+ghost use Rattle.std.specs.Prelude.{◌≡◌, ◌<◌, ◌↔◌, ◌++◌, ◌∷◌, [], true, length, IsTrue, OnOk, OnErr};
 ghost use Rattle.frame_core.specs.FrameLaw.{IsAsHigh};
+ghost use Rattle.frame_core.specs.Counting.{AreCounts, more_at};
 
 use crate::comparing::difference;
 use crate::counting::{
@@ -45,8 +46,10 @@ impl<'a> Model for Frames<'a> {
 }
 
 impl<'a> Frames<'a> {
-    ghost use Rattle.std.specs.Prelude.{◌≡◌, ◌<◌, ◌+◌, ◌^◌, [], ◌∷◌, false, true, length, is_none, IfOk, OnErr};
-    ghost use Rattle.frame_core.specs.FrameLaw.{FrameState, FramesHold, AreAlike, system_at, top_at, lemma_at, obligation_at};
+    ghost use Rattle.std.specs.Prelude.{◌≡◌, ◌<◌, ◌+◌, ◌-◌, ◌^◌, [], ◌∷◌, false, true, length, is_none, IfOk, OnErr, MatchOption};
+    ghost use Rattle.frame_core.specs.FrameLaw.{FrameState, FramesHold, AreAlike, AllStand, system_at, top_at, lemma_at, obligation_at};
+    ghost use Rattle.frame_core.specs.Facts.{IsProved, IsClear};
+    ghost use Rattle.frame_core.specs.Looking.{IsHeldByNone};
     ghost use Rattle.frame_core.specs.Changes.{IsOfSystem, Inserts, InsertsSame, Raises, RaisesSame, IsCovered, with_retired, Opens, OpensSame, MayHaveParent, Notes, NotesSame, VerdictSays, IsFirstObligation, IsCut, fresh};
     ghost use Rattle.frame_core.specs.Runs.{IsBadRun};
 
@@ -167,12 +170,20 @@ impl<'a> Frames<'a> {
         ensures done { IfOk result (λ r. Inserts self.old proved.entry r self.new) }
         ensures err { OnErr result (self.new ≡ self.old) }
     {
-        let systems = self.systems;
+        self.insert_lent(&proved)
+    }
+
+    // The same where the proof is lent.
+    fn insert_lent(&mut self, proved: &Proved) -> Result<Insertion, AllocError>
+        ensures done { IfOk result (λ r. Inserts self.old proved.now r self.new) }
+        ensures err { OnErr result (self.new ≡ self.old) }
+    {
+        let systems = self.systems();
         if let Some(place) = difference(&systems[0], proved.system(), false) {
             return Ok(Insertion::OtherSystem { place });
         }
         let clause = Clause::from_slice(self.lemmas.alloc(), proved.clause())?;
-        let insertion = self.insert_same(&proved, clause)?;
+        let insertion = self.insert_same(proved, clause)?;
         Ok(insertion)
     }
 
@@ -189,24 +200,32 @@ impl<'a> Frames<'a> {
         ensures done { IfOk result (λ r. InsertsSame self.old proved.now r self.new) }
         ensures err { OnErr result (self.new ≡ self.old) }
     {
+        if let Some(insertion) = self.insertion_refused(proved)? {
+            return Ok(insertion);
+        }
+        let number = self.lemmas.len();
+        push_counted(&mut self.lemmas, &mut self.counts, clause, proved.level())?;
+        Ok(Insertion::Added(number))
+    }
+
+    // Why the clause of the proof is not to be added: a lemma holds it, or a parent's level is too low.
+    fn insertion_refused(&self, proved: &Proved) -> Result<Option<Insertion>, AllocError>
+        ensures answer { IfOk result (λ r. MatchOption r (IsHeldByNone self.now.lemmas proved.now.clause proved.now.level × AllStand self.now.lemmas (proved.now.level - 1) proved.now.parents) (λ i. InsertsSame self.now proved.now i self.now)) }
+        ensures shown { IsProved proved.now }
+    {
         let alloc = self.lemmas.alloc();
         let vars = proved.system().state_bits();
         if let Some(n) = holder(alloc, vars, &self.lemmas, proved.clause(), proved.level())? {
-            return Ok(Insertion::Held(n));
+            return Ok(Some(Insertion::Held(n)));
         }
         if let Some((parent, level)) = first_behind(
             self.lemmas.as_slice(),
             proved.level() - 1,
             proved.parents(),
         ) {
-            return Ok(Insertion::Behind { parent, level });
+            return Ok(Some(Insertion::Behind { parent, level }));
         }
-        let number = self.lemmas.len();
-        let level = proved.level();
-        self.lemmas.push(clause, level)?;
-        let _after = self.lemmas.len();
-        count_more(&mut self.counts, level);
-        Ok(Insertion::Added(number))
+        Ok(None)
     }
 
     /// Raises lemma `n` to the proof's level, unless the proof is of another system, the lemma is retired
@@ -216,11 +235,20 @@ impl<'a> Frames<'a> {
         requires clause { proved.clause ≡ (lemma_at self.old.lemmas n).clause }
         ensures { Raises self.old n proved.entry result self.new }
     {
-        let systems = self.systems;
+        self.raise_lent(n, &proved)
+    }
+
+    // The same where the proof is lent.
+    fn raise_lent(&mut self, n: usize, proved: &Proved) -> Raising
+        requires in_range { n < length self.old.lemmas }
+        requires clause { proved.now.clause ≡ (lemma_at self.old.lemmas n).clause }
+        ensures { Raises self.old n proved.now result self.new }
+    {
+        let systems = self.systems();
         if let Some(place) = difference(&systems[0], proved.system(), false) {
             return Raising::OtherSystem { place };
         }
-        self.raise_same(n, &proved)
+        self.raise_same(n, proved)
     }
 
     /// The same where the proof, which is lent, is known to be of the frames' systems; compares no systems.
@@ -270,11 +298,21 @@ impl<'a> Frames<'a> {
         ensures done { IfOk result (λ r. Opens self.old j clear.entry r self.new) }
         ensures err { OnErr result (self.new ≡ self.old) }
     {
-        let systems = self.systems;
+        self.open_lent(j, &clear)
+    }
+
+    // The same where the proof is lent.
+    fn open_lent(&mut self, j: usize, clear: &Clear) -> Result<Opening, AllocError>
+        requires in_range { j < length self.old.systems }
+        requires room { top_at self.old.tops j + 1 < 2 ^ 32 }
+        ensures done { IfOk result (λ r. Opens self.old j clear.now r self.new) }
+        ensures err { OnErr result (self.new ≡ self.old) }
+    {
+        let systems = self.systems();
         if let Some(place) = difference(&systems[j], clear.system(), true) {
             return Ok(Opening::OtherSystem { place });
         }
-        let opening = self.open_same(j, &clear)?;
+        let opening = self.open_same(j, clear)?;
         Ok(opening)
     }
 
@@ -286,17 +324,32 @@ impl<'a> Frames<'a> {
         ensures done { IfOk result (λ r. OpensSame self.old j clear.now r self.new) }
         ensures err { OnErr result (self.new ≡ self.old) }
     {
-        let _system = clear.system();
+        if let Some(opening) = self.opening_refused(j, clear) {
+            return Ok(opening);
+        }
         let top = self.tops[j];
-        if clear.level() != top {
-            return Ok(Opening::Dropped);
-        }
-        if let Some((parent, level)) = first_behind(self.lemmas.as_slice(), top, clear.parents()) {
-            return Ok(Opening::Behind { parent, level });
-        }
         count_below(&mut self.counts, self.lemmas.as_slice(), top + 1)?;
         set_top(&mut self.tops, j, top + 1);
         Ok(Opening::Opened)
+    }
+
+    // Why the top of system `j` is not to be opened: it is another than the proof's level, or a parent's level
+    // is below it.
+    fn opening_refused(&self, j: usize, clear: &Clear) -> Option<Opening>
+        requires { j < length self.now.systems }
+        ensures answer { MatchOption result ((clear.now.level ≡ top_at self.now.tops j) × AllStand self.now.lemmas (top_at self.now.tops j) clear.now.parents) (λ o. OpensSame self.now j clear.now o self.now) }
+        ensures shown { IsClear clear.now }
+    {
+        let _system = clear.system();
+        let top = self.top(j);
+        if clear.level() != top {
+            return Some(Opening::Dropped);
+        }
+        let lemmas = self.all_lemmas();
+        if let Some((parent, level)) = first_behind(lemmas.as_slice(), top, clear.parents()) {
+            return Some(Opening::Behind { parent, level });
+        }
+        None
     }
 
     /// Notes a state that leads to one that is bad for system `j`: a bad state has no parent, and a step
@@ -312,7 +365,7 @@ impl<'a> Frames<'a> {
         ensures done { IfOk result (λ r. Notes self.old j found.entry parent r self.new) }
         ensures err { OnErr result (self.new ≡ self.old) }
     {
-        let systems = self.systems;
+        let systems = self.systems();
         if let Some(place) = difference(&systems[j], found.system(), parent.is_none()) {
             return Ok(Noting::OtherSystem { place });
         }
@@ -382,6 +435,24 @@ impl<'a> Frames<'a> {
             }
         }
     }
+}
+
+// Adds a live lemma of this level, and counts it.
+fn push_counted(
+    lemmas: &mut Lemmas,
+    counts: &mut Vec<usize>,
+    clause: Clause,
+    level: u32,
+) -> Result<(), AllocError>
+    requires { AreCounts lemmas.old counts.old.items }
+    ensures lemmas { OnOk result (lemmas.new ≡ lemmas.old ++ record { clause = clause; level = level; live = true } ∷ []) }
+    ensures counts { OnOk result (counts.new.items ≡ more_at counts.old.items level) }
+    ensures err { OnErr result ((lemmas.new ≡ lemmas.old) × (counts.new.items ≡ counts.old.items)) }
+{
+    lemmas.push(clause, level)?;
+    let _after = lemmas.len();
+    count_more(counts, level);
+    Ok(())
 }
 
 // Whether the lemma is retired, or has at least this level.

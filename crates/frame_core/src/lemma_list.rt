@@ -1,6 +1,6 @@
 //! The list of lemmas with levels and signatures, and how a copy of it is brought up to date.
 
-ghost use Rattle.std.specs.Prelude.{◌≡◌, ◌<◌, vec_len};
+ghost use Rattle.std.specs.Prelude.{◌≡◌, ◌<◌, vec_len, vec_capacity, OnOk};
 ghost use Rattle.frame_core.specs.FrameLaw.{raised_at, retired_at};
 
 use crate::covering::covers_at;
@@ -128,8 +128,7 @@ impl Lemmas {
         ensures failed { OnErr result (self.new ≡ self.old) }
     {
         let signature = signature_of(lemma.clause.as_slice());
-        self.items.reserve(1)?;
-        self.signatures.reserve(1)?;
+        reserve_one(&mut self.items, &mut self.signatures)?;
         self.items.push_reserved(lemma);
         self.signatures.push_reserved(signature);
         Ok(())
@@ -163,15 +162,22 @@ impl Lemmas {
             self.follow_at(lemmas, *n);
         }
         'adds: for n in self.len()..lemmas.len() {
-            let lemma = lemmas.lemma(n);
-            let clause = Clause::from_slice(self.alloc(), lemma.clause.as_slice())?;
-            self.add(Lemma {
-                clause,
-                level: lemma.level,
-                live: lemma.live,
-            })?;
+            self.add_copy(lemmas.lemma(n))?;
         }
         Ok(())
+    }
+
+    // Adds a copy of this lemma.
+    fn add_copy(&mut self, lemma: &Lemma) -> Result<(), AllocError>
+        ensures done { OnOk result (self.new ≡ self.old ++ lemma.now ∷ []) }
+        ensures failed { OnErr result (self.new ≡ self.old) }
+    {
+        let clause = Clause::from_slice(self.alloc(), lemma.clause.as_slice())?;
+        self.add(Lemma {
+            clause,
+            level: lemma.level,
+            live: lemma.live,
+        })
     }
 
     // Lemma `n` is brought up to date.
@@ -186,6 +192,16 @@ impl Lemmas {
             }
         }
     }
+}
+
+// Makes room for one lemma more and its signature.
+fn reserve_one(lemmas: &mut Vec<Lemma>, signatures: &mut Vec<u64>) -> Result<(), AllocError>
+    ensures lemmas { lemmas.new.items ≡ lemmas.old.items }
+    ensures signatures { signatures.new.items ≡ signatures.old.items }
+    ensures room { OnOk result ((vec_len lemmas.new < vec_capacity lemmas.new) × (vec_len signatures.new < vec_capacity signatures.new)) }
+{
+    lemmas.reserve(1)?;
+    signatures.reserve(1)
 }
 
 fn set_level(lemmas: &mut Vec<Lemma>, n: usize, level: u32)

@@ -3,7 +3,7 @@
 ghost use Rattle.std.specs.Prelude.{◌≡◌, ◌≤◌, ℕ, true, IfOk, IsTrue, All, ◌↔◌, MatchOption};
 ghost use Rattle.clause_core.specs.Literals.{Within};
 ghost use Rattle.frame_core.specs.FrameLaw.{AllStand};
-ghost use Rattle.frame_core.specs.Looking.{IsKeptLevel, IsBehind, IsHeldBy, IsHeldByNone, has_literal};
+ghost use Rattle.frame_core.specs.Looking.{IsKeptLevel, IsBehind, IsHeldBy, IsHeldByNone, IsSetOf, has_literal};
 
 use crate::comparing::is_same_clause;
 use crate::lemma_list::Lemmas;
@@ -50,17 +50,25 @@ pub(crate) fn holder(
     requires { Within vars clause.now }
     ensures { IfOk result (λ r. MatchOption r (IsHeldByNone lemmas.now clause.now level) (IsHeldBy lemmas.now clause.now level)) }
 {
-    let signature = signature_of(clause);
     let literals = LiteralSet::of(alloc, vars, clause)?;
+    Ok(first_holder(lemmas, clause, &literals, level))
+}
+
+// The first lemma that has a part of these literals, of which `literals` is the set, and at least this level.
+fn first_holder(lemmas: &Lemmas, clause: &[Lit], literals: &LiteralSet, level: u32) -> Option<usize>
+    requires { IsSetOf clause.now (has_literal literals.now) }
+    ensures { MatchOption result (IsHeldByNone lemmas.now clause.now level) (IsHeldBy lemmas.now clause.now level) }
+{
+    let signature = signature_of(clause);
     for n in 0..lemmas.len() {
         if !lemmas.may_be_part(n, signature) {
             continue;
         }
-        if holds(lemmas.lemma(n), &literals, level) {
-            return Ok(Some(n));
+        if holds(lemmas.lemma(n), literals, level) {
+            return Some(n);
         }
     }
-    Ok(None)
+    None
 }
 
 // Whether the lemma has a part of these literals and at least this level.

@@ -50,11 +50,10 @@ bads_more systems b used j bad given more lt h is grown =
     subst P (sym (ap (λ xs. init ∷ xs) one)) (holds_more b gs used (b + (1 + j)) bad given more h guard grown)
 
 -- the clauses of first states are pushed first
-pub fresh_init : (sys : TransitionSystem) (b u : ℕ) (init : List (List Lit)) (s t : State) → s ≡ record { vars = u; given = []; learned = [] } →
-    t ≡ record s { given = s.given ++ behind b init } → init ≡ init_group sys → HoldsGroups b (init_group sys ∷ []) t.vars t.given
-fresh_init sys b u init s t is_s is_t is_init =
-    let given : t.given ≡ [] ++ behind b (init_group sys) =
-    ap (λ (q : State). q.given) is_t ∙ ap (λ (q : State). q.given ++ behind b init) is_s ∙ ap (λ i. [] ++ behind b i) is_init in
+pub fresh_init : (sys : TransitionSystem) (b : ℕ) (s t : State) → s.given ≡ [] → t ≡ record s { given = s.given ++ behind b (init_group sys) } →
+    HoldsGroups b (init_group sys ∷ []) t.vars t.given
+fresh_init sys b s t none is =
+    let given : t.given ≡ [] ++ behind b (init_group sys) = ap (λ (q : State). q.given) is ∙ ap (λ (g : List (List Lit)). g ++ behind b (init_group sys)) none in
     holds_more b [] t.vars b (init_group sys) [] t.given (holds_none b t.vars) (omega arith) given
 
 pub fresh_by : (b : ℕ) (heads : List (List (List Lit))) (n : ℕ) (e : Engine) (t : State) → e.base ≡ b → e.heads ≡ length heads → e.loaded ≡ 0 →

@@ -6,7 +6,7 @@ ghost use Rattle.clause_core.specs.declared.literal.Lit.{Lit as ALit};
 ghost use Rattle.clause_core.specs.Literals.{Within};
 ghost use Rattle.frame_core.specs.declared.parts.Lemma.{Lemma as ALemma};
 ghost use Rattle.frame_core.specs.FrameLaw.{AreAlike, system_at};
-ghost use Rattle.frame_solver.specs.Guards.{off, HoldsGroups};
+ghost use Rattle.frame_solver.specs.Guards.{off, behind, HoldsGroups};
 ghost use Rattle.frame_solver.specs.Groups.{base as base_of, init_group, step_heads, state_heads, clauses_of};
 ghost use Rattle.frame_solver.specs.Engines.{IsFresh, IsLoaded, IsReady, KeepsLoading};
 
@@ -34,19 +34,53 @@ fn is_light(systems: &[System], engine: &Engine) -> bool
     engine.solver.learned() < LEARNED.saturating_add(steps / 8)
 }
 
+// Adds the clauses of first states, as the first group.
+fn push_init(
+    alloc: Global,
+    solver: &mut Solver<Watched>,
+    base: usize,
+    system: &System,
+) -> Result<(), AllocError>
+    requires base { base ≡ base_of system.now }
+    requires room { base < solver.old.vars }
+    ensures { OnOk result (solver.new ≡ record solver.old { given = solver.old.given ++ behind base (init_group system.now) }) }
+{
+    let init = first_clauses(alloc, system)?;
+    push_group(alloc, solver, base, &init)
+}
+
+// Adds the groups for questions about steps to a solver that has no clauses.
+fn push_step_groups(
+    alloc: Global,
+    solver: &mut Solver<Watched>,
+    base: usize,
+    systems: &[System],
+) -> Result<(), AllocError>
+    requires some { 0 < length systems.now }
+    requires base { base ≡ base_of (system_at systems.now 0) }
+    requires room { base + 1 < solver.old.vars }
+    requires small { solver.old.vars < 2 ^ 64 }
+    requires empty { solver.old.given ≡ [] }
+    ensures vars { OnOk result (solver.new.vars ≡ solver.old.vars) }
+    ensures learned { OnOk result (solver.new.learned ≡ solver.old.learned) }
+    ensures all { OnOk result (HoldsGroups base (step_heads (system_at systems.now 0)) solver.old.vars solver.new.given) }
+{
+    let system = system_of(systems, 0);
+    push_init(alloc, solver, base, system)?;
+    push_group(alloc, solver, base + 1, system.step())?;
+    prefer_first(solver, system);
+    Ok(())
+}
+
 // A solver with the groups for questions about steps, and room for so many lemmas.
 pub fn fresh_steps(alloc: Global, systems: &[System], lemmas: usize) -> Result<Engine, AllocError>
     requires { 0 < length systems.now }
     ensures { IfOk result (IsFresh (base_of (system_at systems.now 0)) (step_heads (system_at systems.now 0)) lemmas) }
 {
-    let system = system_of(systems, 0);
-    let init = first_clauses(alloc, system)?;
-    let base = first_guard(system)?;
+    let base = first_guard(system_of(systems, 0))?;
     let used = sum(base, sum(2 + ROOM, lemmas)?)?;
     let mut solver = Solver::new(alloc, used)?;
-    push_group(alloc, &mut solver, base, &init)?;
-    push_group(alloc, &mut solver, base + 1, system.step())?;
-    prefer_first(&mut solver, system);
+    push_step_groups(alloc, &mut solver, base, systems)?;
     Ok(Engine {
         solver,
         base,
@@ -80,21 +114,41 @@ fn push_bads(
     Ok(())
 }
 
+// Adds the groups for questions about single states to a solver that has no clauses.
+fn push_state_groups(
+    alloc: Global,
+    solver: &mut Solver<Watched>,
+    base: usize,
+    systems: &[System],
+) -> Result<(), AllocError>
+    requires some { 0 < length systems.now }
+    requires alike { AreAlike systems.now }
+    requires base { base ≡ base_of (system_at systems.now 0) }
+    requires room { base + (1 + length systems.now) < solver.old.vars }
+    requires small { solver.old.vars < 2 ^ 64 }
+    requires empty { solver.old.given ≡ [] }
+    ensures vars { OnOk result (solver.new.vars ≡ solver.old.vars) }
+    ensures learned { OnOk result (solver.new.learned ≡ solver.old.learned) }
+    ensures all { OnOk result (HoldsGroups base (state_heads systems.now) solver.old.vars solver.new.given) }
+{
+    let system = system_of(systems, 0);
+    push_init(alloc, solver, base, system)?;
+    push_bads(alloc, solver, base, systems)?;
+    prefer_first(solver, system);
+    Ok(())
+}
+
 // A solver with the groups for questions about single states, and room for so many lemmas.
 pub fn fresh_states(alloc: Global, systems: &[System], lemmas: usize) -> Result<Engine, AllocError>
     requires some { 0 < length systems.now }
     requires alike { AreAlike systems.now }
     ensures { IfOk result (IsFresh (base_of (system_at systems.now 0)) (state_heads systems.now) lemmas) }
 {
-    let system = system_of(systems, 0);
-    let init = first_clauses(alloc, system)?;
-    let base = first_guard(system)?;
+    let base = first_guard(system_of(systems, 0))?;
     let heads = sum(1, systems.len())?;
     let used = sum(base, sum(heads, sum(ROOM, lemmas)?)?)?;
     let mut solver = Solver::new(alloc, used)?;
-    push_group(alloc, &mut solver, base, &init)?;
-    push_bads(alloc, &mut solver, base, systems)?;
-    prefer_first(&mut solver, system);
+    push_state_groups(alloc, &mut solver, base, systems)?;
     Ok(Engine {
         solver,
         base,
@@ -139,6 +193,13 @@ pub(crate) fn catch_up(
     Ok(())
 }
 
+// Puts a new solver in the place of the old one.
+fn replace(engine: &mut Engine, new: Engine)
+    ensures { engine.new ≡ new }
+{
+    *engine = new;
+}
+
 // Makes the solver for questions about steps anew where no activation variable is left.
 fn renew_steps(
     alloc: Global,
@@ -156,7 +217,8 @@ fn renew_steps(
     if need < engine.used && is_light(systems, engine) {
         return Ok(());
     }
-    *engine = fresh_steps(alloc, systems, lemmas.len())?;
+    let fresh = fresh_steps(alloc, systems, lemmas.len())?;
+    replace(engine, fresh);
     Ok(())
 }
 
@@ -197,7 +259,8 @@ fn renew_states(
     if need < engine.used {
         return Ok(());
     }
-    *engine = fresh_states(alloc, systems, lemmas.len())?;
+    let fresh = fresh_states(alloc, systems, lemmas.len())?;
+    replace(engine, fresh);
     Ok(())
 }
 

@@ -1,5 +1,5 @@
 -- Lists that are put together from a list for each number.
-use Rattle.std.proofs.Common.{inl, inr, ◌≡◌, ℕ, zero, suc, ◌-◌, ◌<◌, Bool, List, [], ◌∷◌, ◌++◌, length, get_or, refl, sym, ap, ◌∙◌, subst, length-append, arith}
+use Rattle.std.proofs.Common.{inl, inr, ◌≡◌, ℕ, zero, suc, add-one, ◌+◌, ◌-◌, ◌<◌, Bool, List, [], ◌∷◌, ◌++◌, length, get_or, refl, sym, ap, ◌∙◌, subst, length-append, arith}
 use Rattle.std.specs.Prelude.{All}
 use Rattle.std.proofs.lemmas.List.{get_or_append_left, get_or-append_right}
 use Rattle.std.proofs.lemmas.Bool.{cases_lt}
@@ -24,6 +24,12 @@ get_or-each f (suc n) k d h =
           let z : k - n ≡ 0 = omega arith in
           get_or-append_right (each (λ i. f i ∷ []) n) (f n ∷ []) n k d long b ∙ ap (λ j. get_or (f n ∷ []) j d) z ∙ ap f (sym e))
     ]
+
+-- one number more
+pub each_more : {X : Type 0} (f : ℕ → X) (xs ys : List X) (n : ℕ) (x : X) → xs ≡ each (λ i. f i ∷ []) n → x ≡ f n → ys ≡ xs ++ x ∷ [] →
+    ys ≡ each (λ i. f i ∷ []) (n + 1)
+each_more f xs ys n x before here made =
+    made ∙ ap (λ zs. zs ++ x ∷ []) before ∙ ap (λ z. each (λ i. f i ∷ []) n ++ z ∷ []) here ∙ ap (each (λ i. f i ∷ [])) (sym (add-one n))
 
 -- clauses of each number are met where those of every number are
 pub met_each_to : (v : ℕ → Bool) (f : ℕ → List (List Lit)) (n : ℕ) → Met v (each f n) → (i : ℕ) → i < n → Met v (f i)

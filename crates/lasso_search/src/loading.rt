@@ -1,9 +1,9 @@
 //! Loads an unrolling into a solver step by step, and makes a new solver where variables run out.
 
-ghost use Rattle.std.specs.Prelude.{◌≡◌, ◌+◌, ◌++◌, ◌≤◌, [], IfOk, OnOk, All, Contains};
+ghost use Rattle.std.specs.Prelude.{◌≡◌, ◌+◌, ◌++◌, ◌≤◌, [], Some, IfOk, IfSome, OnOk, All, Contains};
 ghost use Rattle.clause_core.specs.Literals.{Within};
 ghost use Rattle.clause_core.specs.Systems.{IsSystem};
-ghost use Rattle.lasso_search.specs.Unrolling.{plan_of, unrolled, vars_of};
+ghost use Rattle.lasso_search.specs.Unrolling.{plan_of, moment, opening, unrolled, vars_of};
 ghost use Rattle.lasso_search.specs.Searches.{IsLoaded, IsKept, known_of};
 
 use crate::encoding::{moment, opening};
@@ -45,6 +45,35 @@ fn raise(solver: &mut Solver<Watched>, clause: &[Lit])
     }
 }
 
+// Gives the clauses of the first state to the solver.
+fn push_opening(
+    alloc: Global,
+    plan: &Plan,
+    system: &System,
+    solver: &mut Solver<Watched>,
+) -> Result<(), AllocError>
+    requires { All (Within solver.old.vars) (opening plan.now system.now) }
+    ensures { OnOk result (solver.new ≡ record solver.old { given = solver.old.given ++ opening plan.now system.now }) }
+{
+    let clauses = opening(alloc, plan, system)?;
+    push_all(solver, &clauses)
+}
+
+// Gives the clauses of a step to the solver.
+fn push_moment(
+    alloc: Global,
+    plan: &Plan,
+    system: &System,
+    time: usize,
+    solver: &mut Solver<Watched>,
+) -> Result<(), AllocError>
+    requires { All (Within solver.old.vars) (moment plan.now system.now time) }
+    ensures { OnOk result (solver.new ≡ record solver.old { given = solver.old.given ++ moment plan.now system.now time }) }
+{
+    let clauses = moment(alloc, plan, system, time)?;
+    push_all(solver, &clauses)
+}
+
 // A solver of the first state's clauses, with variables for so many steps.
 fn fresh(alloc: Global, plan: &Plan, system: &System, room: usize) -> Result<Engine, AllocError>
     requires plan { plan.now ≡ plan_of system.now }
@@ -55,7 +84,7 @@ fn fresh(alloc: Global, plan: &Plan, system: &System, room: usize) -> Result<Eng
 {
     system.law();
     let mut solver = Solver::new(alloc, plan.variables(room)?)?;
-    push_all(&mut solver, &opening(alloc, plan, system)?)?;
+    push_opening(alloc, plan, system, &mut solver)?;
     Ok(Engine { solver, steps: 0 })
 }
 
@@ -76,10 +105,10 @@ fn load_step(
 {
     system.law();
     let time = engine.steps;
-    let clauses = moment(alloc, plan, system, time)?;
     let next = sum(time, 1)?;
-    engine.solver.decide_last(plan.ends(next)?.var)?;
-    push_all(&mut engine.solver, &clauses)?;
+    let end = plan.ends(next)?;
+    engine.solver.decide_last(end.var)?;
+    push_moment(alloc, plan, system, time, &mut engine.solver)?;
     engine.steps = next;
     Ok(())
 }
@@ -112,6 +141,22 @@ fn room_for(steps: usize) -> usize
     steps.saturating_mul(2).max(FIRST_ROOM)
 }
 
+// The solver that is kept, where it has so many variables.
+fn with_room(kept: Option<Engine>, vars: usize) -> Option<Engine>
+    ensures { IfSome result (λ e. kept ≡ Some e × vars ≤ e.solver.vars) }
+{
+    match kept {
+        Some(engine) => {
+            if vars <= engine.solver.vars() {
+                Some(engine)
+            } else {
+                None
+            }
+        }
+        None => None,
+    }
+}
+
 // The solver that is kept, where it has variables for so many steps; or else a new one, that has learned nothing.
 fn renewed(
     alloc: Global,
@@ -127,13 +172,13 @@ fn renewed(
     ensures known { IfOk result (λ e. All (Contains (known_of kept)) e.solver.learned) }
 {
     let need = plan.variables(steps)?;
-    if let Some(engine) = kept {
-        if need <= engine.solver.vars() {
-            return Ok(engine);
+    match with_room(kept, need) {
+        Some(engine) => Ok(engine),
+        None => {
+            let engine = fresh(alloc, plan, system, room_for(steps))?;
+            Ok(engine)
         }
     }
-    let engine = fresh(alloc, plan, system, room_for(steps))?;
-    Ok(engine)
 }
 
 // A solver of the clauses of so many steps or more.

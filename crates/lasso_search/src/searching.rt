@@ -39,8 +39,7 @@ fn ask<Q: Purse>(
     system.law();
     let literals = closing(alloc, plan, states)?;
     let answer = engine.solver.solve(alloc, &literals, purse)?;
-    let searched = searched(alloc, plan, states, answer)?;
-    Ok(searched)
+    searched(alloc, plan, states, answer)
 }
 
 // As `ask`, with the solver that is kept; it is made where there is none. Where no memory is found to load it,

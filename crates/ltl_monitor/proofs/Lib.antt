@@ -15,4 +15,5 @@ pub mod Signals
 pub mod CountedRuns
 pub mod SignalRuns
 mod OwnRows
+pub mod Parts
 pub mod Repeated

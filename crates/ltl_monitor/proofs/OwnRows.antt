@@ -1,5 +1,8 @@
 -- Values of a system's own bits, read off values of all bits of its monitored system.
-use Rattle.std.proofs.Common.{◌≡◌, ℕ, ◌+◌, ◌-◌, ◌<◌, Bool, List, length, sym, ap, ◌∙◌, arith}
+use Rattle.std.proofs.Common.{◌≡◌, ℕ, ◌+◌, ◌-◌, ◌<◌, inl, inr, Bool, false, List, [], ◌∷◌, ◌++◌, length, sym, ap, ◌∙◌, arith}
+use Rattle.std.proofs.Math.ListN.{get_or-append}
+use Rattle.std.proofs.Math.Seq.{get_or-append_seam}
+use Rattle.std.proofs.lemmas.Bool.{cases_eq}
 use Rattle.ltl_meaning.specs.Ltl.{Ltl}
 use Rattle.clause_core.specs.declared.literal.Lit.{Lit}
 use Rattle.clause_core.specs.Assignments.{assignment_of}
@@ -35,3 +38,13 @@ own_row_read sys m f atoms row own values p count ok ism eg en ec eo full each =
     (λ v lt.
     ap (λ (bs : List Bool). assignment_of bs v) eo ∙ each v (omega (arith, lt, ec))
     ∙ ap (λ (q : Layout). assignment_of row (place q Space.System v)) (λ i. record { given = eg i; nodes = en i; inner = p.inner }))
+
+-- one value more
+pub values_more : (xs ys : List Bool) (B : ℕ → Bool) (i : ℕ) (v : Bool) → length xs ≡ i → ys ≡ xs ++ v ∷ [] → v ≡ B i →
+    ((k : ℕ) → k < i → assignment_of xs k ≡ B k) → (k : ℕ) → k < i + 1 → assignment_of ys k ≡ B k
+values_more xs ys B i v len made here before k h = elim (cases_eq k i) [
+  | inl e ↦ ap (λ zs. assignment_of zs k) made ∙ ap (assignment_of (xs ++ v ∷ [])) (e ∙ sym len) ∙ get_or-append_seam xs v [] false ∙ here ∙ ap B (sym e)
+  | inr ne ↦
+      let lt : k < length xs = omega arith in
+      ap (λ zs. assignment_of zs k) made ∙ get_or-append xs (v ∷ []) false k lt ∙ before k (omega arith)
+]

@@ -1,9 +1,11 @@
 //! Puts the clauses of a system and those of its monitor together as one transition system.
 
-ghost use Rattle.std.specs.Prelude.{◌≡◌, ◌+◌, ◌-◌, ◌*◌, ◌++◌, ◌≤◌, IfOk, OnOk};
+ghost use Rattle.std.specs.Prelude.{◌≡◌, ◌+◌, ◌-◌, ◌*◌, ◌++◌, ◌≤◌, List, map, IfOk, OnOk};
+ghost use Rattle.clause_core.specs.declared.literal.Lit.{Lit};
 ghost use Rattle.clause_core.specs.Systems.{IsSystem};
 ghost use Rattle.ltl_monitor.specs.Assembly.{layout_of, scene_of, begun, assembled};
-ghost use Rattle.ltl_monitor.specs.Drafting.{all_moved};
+ghost use Rattle.ltl_monitor.specs.declared.layout.Space.{Space};
+ghost use Rattle.ltl_monitor.specs.Drafting.{moved, all_moved};
 
 use crate::draft::{Draft, Scene};
 use crate::layout::{Layout, Space, sum};
@@ -64,6 +66,17 @@ pub fn copied(
     Ok(copy)
 }
 
+// What a draft makes of a system, but for the bad states and the good ones.
+#[derive(Drop)]
+struct Rules {
+    state_bits: usize,
+    all_bits: usize,
+    init: Clauses,
+    step: Clauses,
+    fair: Clause,
+    defs: Clauses,
+}
+
 pub fn assemble(
     alloc: Global,
     layout: &Layout,
@@ -76,28 +89,81 @@ pub fn assemble(
     requires room { layout.now.given + layout.now.nodes ≤ draft.now.gate }
     ensures { IfOk result (λ m. m ≡ assembled layout.now system.now bad good draft.now) }
 {
-    let mut init = copied(alloc, layout, Space::System, system.init())?;
-    layout.copy(alloc, Space::Now, &draft.defs, &mut init)?;
-    layout.copy(alloc, Space::Now, &draft.starts, &mut init)?;
-    let mut step = copied(alloc, layout, Space::System, system.step())?;
-    layout.copy(alloc, Space::Now, &draft.defs, &mut step)?;
-    layout.copy(alloc, Space::Next, &draft.defs, &mut step)?;
-    append(&mut step, &draft.rows)?;
-    let fair = layout.moved_all(alloc, Space::Now, draft.sets.as_slice())?;
-    let fair = Clause::from_slice(alloc, fair.as_slice())?;
-    let defs = copied(alloc, layout, Space::Now, &draft.defs)?;
+    let rules = all_rules(alloc, layout, system, draft)?;
+    Ok(System::new(Parts {
+        state_bits: rules.state_bits,
+        all_bits: rules.all_bits,
+        init: rules.init,
+        step: rules.step,
+        bad,
+        good,
+        fair: rules.fair,
+        defs: rules.defs,
+    }))
+}
+
+fn all_rules(
+    alloc: Global,
+    layout: &Layout,
+    system: &System,
+    draft: &Draft,
+) -> Result<Rules, AllocError>
+    requires { layout.now.given + layout.now.nodes ≤ draft.now.gate }
+    ensures { IfOk result (λ r. (bad good : List (List Lit)) → assembled layout.now system.now bad good draft.now ≡ record { state_bits = r.state_bits; all_bits = r.all_bits; init = r.init; step = r.step; bad = bad; good = good; fair = r.fair; defs = r.defs }) }
+{
     let state_bits = sum(layout.given, layout.nodes)?;
     let all_bits = all_bits(layout, draft.gate, state_bits)?;
-    Ok(System::new(Parts {
+    let init = initial(alloc, layout, system, draft)?;
+    let step = steps(alloc, layout, system, draft)?;
+    let fair = fairness(alloc, layout, draft)?;
+    let defs = copied(alloc, layout, Space::Now, &draft.defs)?;
+    Ok(Rules {
         state_bits,
         all_bits,
         init,
         step,
-        bad,
-        good,
         fair,
         defs,
-    }))
+    })
+}
+
+// The clauses of a first state.
+fn initial(
+    alloc: Global,
+    layout: &Layout,
+    system: &System,
+    draft: &Draft,
+) -> Result<Clauses, AllocError>
+    ensures { IfOk result (λ cs. cs ≡ all_moved layout.now Space.System system.now.init ++ all_moved layout.now Space.Now draft.now.defs ++ all_moved layout.now Space.Now draft.now.starts) }
+{
+    let mut init = copied(alloc, layout, Space::System, system.init())?;
+    layout.copy(alloc, Space::Now, &draft.defs, &mut init)?;
+    layout.copy(alloc, Space::Now, &draft.starts, &mut init)?;
+    Ok(init)
+}
+
+// The clauses of a step.
+fn steps(
+    alloc: Global,
+    layout: &Layout,
+    system: &System,
+    draft: &Draft,
+) -> Result<Clauses, AllocError>
+    ensures { IfOk result (λ cs. cs ≡ all_moved layout.now Space.System system.now.step ++ all_moved layout.now Space.Now draft.now.defs ++ all_moved layout.now Space.Next draft.now.defs ++ draft.now.rows) }
+{
+    let mut step = copied(alloc, layout, Space::System, system.step())?;
+    layout.copy(alloc, Space::Now, &draft.defs, &mut step)?;
+    layout.copy(alloc, Space::Next, &draft.defs, &mut step)?;
+    append(&mut step, &draft.rows)?;
+    Ok(step)
+}
+
+// The fairness literals.
+fn fairness(alloc: Global, layout: &Layout, draft: &Draft) -> Result<Clause, AllocError>
+    ensures { IfOk result (λ ls. ls ≡ map (moved layout.now Space.Now) draft.now.sets) }
+{
+    let fair = layout.moved_all(alloc, Space::Now, draft.sets.as_slice())?;
+    Clause::from_slice(alloc, fair.as_slice())
 }
 
 // How many variables the monitored system has, where those of one state end at `gate`.

@@ -3,6 +3,8 @@
 
 ghost use Rattle.std.specs.Prelude.{◌≡◌, ◌+◌, ◌++◌, ◌∷◌, [], ◌≤◌, IfOk, OnOk, length};
 ghost use Rattle.clause_core.specs.Literals.{at};
+ghost use Rattle.clause_core.specs.Systems.{IsSystem};
+ghost use Rattle.ltl_monitor.specs.Assembly.{assembled};
 ghost use Rattle.ltl_monitor.specs.Counted.{IsCounted};
 ghost use Rattle.ltl_monitor.specs.Counting.{bit, unset_added, set_fired, fired, set_marked, marked, bit_counted, counted_up, counting, bad_of, good_of, yes_added};
 
@@ -31,10 +33,23 @@ pub fn counted(alloc: Global, monitored: &Monitored, bound: usize) -> Result<Sys
     let bits = sum(sets, bound)?;
     let layout = layout_of(system, bits)?;
     let counting = count(alloc, &layout, system, bound)?;
-    let bad = bad(alloc, &layout, &counting)?;
-    let good = good(alloc, &layout, &counting)?;
-    let system = assemble(alloc, &layout, system, bad, good, &counting.draft)?;
-    Ok(system)
+    with_counting(alloc, &layout, system, &counting)
+}
+
+// The system with the rules of a counting, where a full count at a signal is bad.
+fn with_counting(
+    alloc: Global,
+    layout: &Layout,
+    system: &System,
+    counting: &Counting,
+) -> Result<System, AllocError>
+    requires valid { IsSystem (assembled layout.now system.now (bad_of layout.now counting.now) (good_of layout.now counting.now) counting.now.draft) }
+    requires room { layout.now.given + layout.now.nodes ≤ counting.now.draft.gate }
+    ensures { IfOk result (λ c. c ≡ assembled layout.now system.now (bad_of layout.now counting.now) (good_of layout.now counting.now) counting.now.draft) }
+{
+    let bad = bad(alloc, layout, counting)?;
+    let good = good(alloc, layout, counting)?;
+    assemble(alloc, layout, system, bad, good, &counting.draft)
 }
 
 // The rules of marks, signal and counter.
@@ -56,17 +71,29 @@ fn count(
     ensures { IfOk result (λ x. x ≡ counting layout.now system.now bound) }
 {
     let sets = layout.moved_all(alloc, Space::Local, system.fair())?;
-    let sets = sets.as_slice();
     let mut draft = begin(alloc, layout, system)?;
-    let yes = draft.constant(true)?;
-    let signal = fire(&mut draft, layout, sets, yes)?;
-    mark(&mut draft, layout, sets, signal)?;
-    let full = count_up(&mut draft, layout, sets.len(), signal, bound, yes)?;
+    let (signal, full) = count_sets(&mut draft, layout, sets.as_slice(), bound)?;
     Ok(Counting {
         draft,
         signal,
         full,
     })
+}
+
+// Adds the rules of marks, signal and counter of these sets, and gives the signal and the literal of a full count.
+fn count_sets(
+    draft: &mut Draft,
+    layout: &Layout,
+    sets: &[Lit],
+    bound: usize,
+) -> Result<(Lit, Lit), AllocError>
+    ensures { IfOk result (λ r. let yes = yes_added draft.old in let x = fired layout.now sets.now (length sets.now) yes in record { draft = draft.new; lit = r.1 } ≡ counted_up layout.now (length sets.now) x.lit bound record { draft = marked layout.now x.lit sets.now (length sets.now) x.draft; lit = yes.lit } × (r.0 ≡ x.lit)) }
+{
+    let yes = draft.constant(true)?;
+    let signal = fire(draft, layout, sets, yes)?;
+    mark(draft, layout, sets, signal)?;
+    let full = count_up(draft, layout, sets.len(), signal, bound, yes)?;
+    Ok((signal, full))
 }
 
 // The signal of all sets, from one of none.
@@ -172,9 +199,11 @@ fn count_bit(
 fn bad(alloc: Global, layout: &Layout, counting: &Counting) -> Result<Clauses, AllocError>
     ensures { IfOk result (λ cs. cs ≡ bad_of layout.now counting.now) }
 {
+    let signal = layout.moved(Space::Now, counting.signal)?;
+    let full = layout.moved(Space::Now, counting.full)?;
     let mut bad = copied(alloc, layout, Space::Now, &counting.draft.defs)?;
-    bad.push(&[layout.moved(Space::Now, counting.signal)?])?;
-    bad.push(&[layout.moved(Space::Now, counting.full)?])?;
+    bad.push(&[signal])?;
+    bad.push(&[full])?;
     Ok(bad)
 }
 
@@ -182,9 +211,9 @@ fn bad(alloc: Global, layout: &Layout, counting: &Counting) -> Result<Clauses, A
 fn good(alloc: Global, layout: &Layout, counting: &Counting) -> Result<Clauses, AllocError>
     ensures { IfOk result (λ cs. cs ≡ good_of layout.now counting.now) }
 {
-    let mut good = copied(alloc, layout, Space::Now, &counting.draft.defs)?;
     let signal = layout.moved(Space::Now, counting.signal)?;
     let full = layout.moved(Space::Now, counting.full)?;
+    let mut good = copied(alloc, layout, Space::Now, &counting.draft.defs)?;
     good.push(&[signal.negated(), full.negated()])?;
     Ok(good)
 }

@@ -2,12 +2,13 @@
 //! operator adds a bit or a gate, and clauses for first states, steps and fairness sets.
 
 ghost use Rattle.std.specs.Prelude.{◌≡◌, ◌+◌, ◌-◌, ◌∷◌, ◌++◌, [], IfOk, OnOk};
-ghost use Rattle.clause_core.specs.Literals.{at};
+ghost use Rattle.clause_core.specs.Literals.{at, negate};
 ghost use Rattle.ltl_meaning.specs.Ltl.{Ltl};
 ghost use Rattle.ltl_meaning.specs.Temporal.{formula_of};
 ghost use Rattle.ltl_meaning.specs.Unfolded.{repeated, delay, widen, unfolded};
 ghost use Rattle.ltl_monitor.specs.Monitor.{unary_bits, binary_bits};
-ghost use Rattle.ltl_monitor.specs.Drafting.{unary_rules, binary_rules, gate_added, set_added, unary_lit, binary_lit, unary_drafted, binary_drafted, drafted, plain, is_or, is_iff};
+ghost use Rattle.ltl_monitor.specs.declared.draft.Draft.{Draft};
+ghost use Rattle.ltl_monitor.specs.Drafting.{unary_rules, binary_rules, gate_added, set_added, start_added, unary_lit, binary_lit, unary_drafted, binary_drafted, drafted, plain, is_or, is_iff};
 
 use crate::layout::{Both, Layout, sum};
 use crate::rules::{push_and, push_and_or, push_iff, push_or, push_or_and, push_same};
@@ -111,6 +112,54 @@ fn binary_lit(operator: BinaryOperator, own: Lit, gate: Lit) -> Lit
     }
 }
 
+// Adds an operator's rule of a step, of its own bit and its operand.
+fn push_unary_row(
+    rows: &mut Clauses,
+    operator: UnaryOperator,
+    b: Both,
+    f: Both,
+) -> Result<(), AllocError>
+    ensures { OnOk result ((d : Draft) → d.rows ≡ rows.old → (unary_rules operator b f d).rows ≡ rows.new) }
+{
+    match operator {
+        UnaryOperator::Not => Ok(()),
+        UnaryOperator::Next => push_same(rows, b.now, f.next),
+        UnaryOperator::Finally => push_or(rows, b.now, f.now, b.next),
+        UnaryOperator::Globally => push_and(rows, b.now, f.now, b.next),
+        UnaryOperator::Yesterday | UnaryOperator::WeakYesterday => push_same(rows, b.next, f.now),
+        UnaryOperator::Once => push_or(rows, b.next, f.next, b.now),
+        UnaryOperator::Historically => push_and(rows, b.next, f.next, b.now),
+        UnaryOperator::NowOrNext => push_or(rows, b.now, f.now, f.next),
+        UnaryOperator::NowAndNext => push_and(rows, b.now, f.now, f.next),
+        UnaryOperator::NowOrBefore => push_or(rows, b.next, f.next, f.now),
+        UnaryOperator::NowAndBefore => push_and(rows, b.next, f.next, f.now),
+    }
+}
+
+// Adds an operator's rule of a step, of its own bit and its operands.
+fn push_binary_row(
+    rows: &mut Clauses,
+    operator: BinaryOperator,
+    b: Both,
+    f: Both,
+    g: Both,
+) -> Result<(), AllocError>
+    ensures { OnOk result ((d : Draft) → d.rows ≡ rows.old → (binary_rules operator b f g d).rows ≡ rows.new) }
+{
+    match operator {
+        BinaryOperator::And
+        | BinaryOperator::Or
+        | BinaryOperator::Xor
+        | BinaryOperator::Xnor
+        | BinaryOperator::Implies
+        | BinaryOperator::Iff => Ok(()),
+        BinaryOperator::Until => push_or_and(rows, b.now, g.now, f.now, b.next),
+        BinaryOperator::Releases => push_and_or(rows, b.now, g.now, f.now, b.next),
+        BinaryOperator::Since => push_or_and(rows, b.next, g.next, f.next, b.now),
+        BinaryOperator::Triggered => push_and_or(rows, b.next, g.next, f.next, b.now),
+    }
+}
+
 impl Scene {
     // The literal of an atom that the list has.
     fn atom(&self, number: usize) -> Lit
@@ -157,43 +206,27 @@ impl Draft {
     fn unary_rules(&mut self, operator: UnaryOperator, b: Both, f: Both) -> Result<(), AllocError>
         ensures { OnOk result (self.new ≡ unary_rules operator b f self.old) }
     {
+        push_unary_row(&mut self.rows, operator, b, f)?;
+        self.unary_ends(operator, b, f)
+    }
+
+    // Adds the rule of the first state, or the fairness set, of an operator.
+    fn unary_ends(&mut self, operator: UnaryOperator, b: Both, f: Both) -> Result<(), AllocError>
+        ensures { OnOk result (self.new ≡ record (unary_rules operator b f self.old) { rows = self.old.rows }) }
+    {
         match operator {
-            UnaryOperator::Not => Ok(()),
-            UnaryOperator::Next => push_same(&mut self.rows, b.now, f.next),
-            UnaryOperator::Finally => {
-                push_or(&mut self.rows, b.now, f.now, b.next)?;
-                self.set(b.here.negated(), f.here)
-            }
-            UnaryOperator::Globally => {
-                push_and(&mut self.rows, b.now, f.now, b.next)?;
-                self.set(b.here, f.here.negated())
-            }
-            UnaryOperator::Yesterday => {
-                push_same(&mut self.rows, b.next, f.now)?;
-                self.starts.push(&[b.here.negated()])
-            }
-            UnaryOperator::WeakYesterday => {
-                push_same(&mut self.rows, b.next, f.now)?;
-                self.starts.push(&[b.here])
-            }
-            UnaryOperator::Once => {
-                push_or(&mut self.rows, b.next, f.next, b.now)?;
-                push_same(&mut self.starts, b.here, f.here)
-            }
-            UnaryOperator::Historically => {
-                push_and(&mut self.rows, b.next, f.next, b.now)?;
-                push_same(&mut self.starts, b.here, f.here)
-            }
-            UnaryOperator::NowOrNext => push_or(&mut self.rows, b.now, f.now, f.next),
-            UnaryOperator::NowAndNext => push_and(&mut self.rows, b.now, f.now, f.next),
-            UnaryOperator::NowOrBefore => {
-                push_or(&mut self.rows, b.next, f.next, f.now)?;
-                push_same(&mut self.starts, b.here, f.here)
-            }
-            UnaryOperator::NowAndBefore => {
-                push_and(&mut self.rows, b.next, f.next, f.now)?;
-                push_same(&mut self.starts, b.here, f.here)
-            }
+            UnaryOperator::Not
+            | UnaryOperator::Next
+            | UnaryOperator::NowOrNext
+            | UnaryOperator::NowAndNext => Ok(()),
+            UnaryOperator::Finally => self.set(b.here.negated(), f.here),
+            UnaryOperator::Globally => self.set(b.here, f.here.negated()),
+            UnaryOperator::Yesterday => self.starts.push(&[b.here.negated()]),
+            UnaryOperator::WeakYesterday => self.starts.push(&[b.here]),
+            UnaryOperator::Once
+            | UnaryOperator::Historically
+            | UnaryOperator::NowOrBefore
+            | UnaryOperator::NowAndBefore => push_same(&mut self.starts, b.here, f.here),
         }
     }
 
@@ -207,6 +240,20 @@ impl Draft {
     ) -> Result<(), AllocError>
         ensures { OnOk result (self.new ≡ binary_rules operator b f g self.old) }
     {
+        push_binary_row(&mut self.rows, operator, b, f, g)?;
+        self.binary_ends(operator, b, f, g)
+    }
+
+    // Adds the gate of an operator, or its rule of the first state, or its fairness set.
+    fn binary_ends(
+        &mut self,
+        operator: BinaryOperator,
+        b: Both,
+        f: Both,
+        g: Both,
+    ) -> Result<(), AllocError>
+        ensures { OnOk result (self.new ≡ record (binary_rules operator b f g self.old) { rows = self.old.rows }) }
+    {
         match operator {
             BinaryOperator::And => self.or(f.here.negated(), g.here.negated()),
             BinaryOperator::Or => self.or(f.here, g.here),
@@ -214,20 +261,9 @@ impl Draft {
                 self.iff(f.here, g.here)
             }
             BinaryOperator::Implies => self.or(f.here.negated(), g.here),
-            BinaryOperator::Until => {
-                push_or_and(&mut self.rows, b.now, g.now, f.now, b.next)?;
-                self.set(b.here.negated(), g.here)
-            }
-            BinaryOperator::Releases => {
-                push_and_or(&mut self.rows, b.now, g.now, f.now, b.next)?;
-                self.set(b.here, g.here.negated())
-            }
-            BinaryOperator::Since => {
-                push_or_and(&mut self.rows, b.next, g.next, f.next, b.now)?;
-                push_same(&mut self.starts, b.here, g.here)
-            }
-            BinaryOperator::Triggered => {
-                push_and_or(&mut self.rows, b.next, g.next, f.next, b.now)?;
+            BinaryOperator::Until => self.set(b.here.negated(), g.here),
+            BinaryOperator::Releases => self.set(b.here, g.here.negated()),
+            BinaryOperator::Since | BinaryOperator::Triggered => {
                 push_same(&mut self.starts, b.here, g.here)
             }
         }
@@ -268,6 +304,14 @@ impl Draft {
         )?;
         self.node = sum(self.node, binary_bits(operator))?;
         Ok(binary_lit(operator, own, gate))
+    }
+
+    // Adds a formula, and that it is false in the first state.
+    pub fn deny(&mut self, scene: &Scene, node: &Node) -> Result<(), AllocError>
+        ensures { OnOk result (self.new ≡ (let x = drafted scene.now (unfolded (formula_of node.now)) self.old in start_added ((negate x.lit ∷ []) ∷ []) x.draft)) }
+    {
+        let whole = self.add(scene, node)?;
+        self.starts.push(&[whole.negated()])
     }
 
     // Adds a gate that is true, and gives it or its negation.
@@ -313,7 +357,7 @@ impl Draft {
     }
 
     // Adds a formula, operands first, and gives its literal.
-    pub fn add(&mut self, scene: &Scene, node: &Node) -> Result<Lit, AllocError>
+    fn add(&mut self, scene: &Scene, node: &Node) -> Result<Lit, AllocError>
         ensures { IfOk result (λ l. record { draft = self.new; lit = l } ≡ drafted scene.now (unfolded (formula_of node.now)) self.old) }
     {
         match node {

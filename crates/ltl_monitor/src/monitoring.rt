@@ -1,15 +1,16 @@
 //! Puts the monitor of a formula beside a system (Lichtenstein, Pnueli and Zuck 1985). The fair
 //! runs that it keeps are those on which the formula is false.
 
-ghost use Rattle.std.specs.Prelude.{◌≡◌, ◌↔◌, IfOk, IsTrue, length};
-ghost use Rattle.clause_core.specs.Literals.{Within};
+ghost use Rattle.std.specs.Prelude.{◌≡◌, ◌+◌, ◌≤◌, ◌↔◌, [], ◌∷◌, IfOk, OnOk, IsTrue, length};
+ghost use Rattle.clause_core.specs.Literals.{Within, negate};
 ghost use Rattle.clause_core.specs.Systems.{IsSystem, Gives};
 ghost use Rattle.ltl_meaning.specs.Temporal.{formula_of};
 ghost use Rattle.ltl_meaning.specs.Unfolded.{unfolded};
-ghost use Rattle.ltl_monitor.specs.Monitor.{nodes};
+ghost use Rattle.ltl_monitor.specs.Monitor.{binary_bits, nodes};
 ghost use Rattle.ltl_monitor.specs.States.{AtomsBelow, IsMonitor};
-ghost use Rattle.ltl_monitor.specs.Assembly.{layout_of, draft_of};
-ghost use Rattle.ltl_monitor.specs.Drafting.{all_moved};
+ghost use Rattle.ltl_monitor.specs.Assembly.{layout_of, scene_of, draft_of, assembled};
+ghost use Rattle.ltl_monitor.specs.declared.layout.Space.{Space};
+ghost use Rattle.ltl_monitor.specs.Drafting.{all_moved, start_added, drafted};
 
 use crate::assembly::{assemble, begin, copied, layout_of, scene};
 use crate::draft::{Draft, binary_bits, unary_bits};
@@ -42,9 +43,23 @@ pub fn monitored(
     let nodes = count_nodes(&formula.root)?;
     let layout = layout_of(system, nodes)?;
     let draft = draft(alloc, layout, system, formula, atoms)?;
-    let bad = copied(alloc, &layout, Space::System, system.bad())?;
-    let good = copied(alloc, &layout, Space::System, system.good())?;
-    let system = assemble(alloc, &layout, system, bad, good, &draft)?;
+    with_draft(alloc, &layout, system, &draft)
+}
+
+// The system with the rules of a draft.
+fn with_draft(
+    alloc: Global,
+    layout: &Layout,
+    system: &System,
+    draft: &Draft,
+) -> Result<Monitored, AllocError>
+    requires valid { IsSystem (assembled layout.now system.now (all_moved layout.now Space.System system.now.bad) (all_moved layout.now Space.System system.now.good) draft.now) }
+    requires room { layout.now.given + layout.now.nodes ≤ draft.now.gate }
+    ensures { IfOk result (λ m. m.system ≡ assembled layout.now system.now (all_moved layout.now Space.System system.now.bad) (all_moved layout.now Space.System system.now.good) draft.now) }
+{
+    let bad = copied(alloc, layout, Space::System, system.bad())?;
+    let good = copied(alloc, layout, Space::System, system.good())?;
+    let system = assemble(alloc, layout, system, bad, good, draft)?;
     Ok(Monitored { system })
 }
 
@@ -86,11 +101,24 @@ fn draft(
 ) -> Result<Draft, AllocError>
     ensures { IfOk result (λ d. d ≡ draft_of layout system.now (unfolded (formula_of formula.now.root)) atoms.now) }
 {
-    let scene = scene(alloc, layout, system, atoms)?;
     let mut draft = begin(alloc, &layout, system)?;
-    let root = draft.add(&scene, &formula.root)?;
-    draft.starts.push(&[root.negated()])?;
+    deny(alloc, &mut draft, layout, system, formula, atoms)?;
     Ok(draft)
+}
+
+// Adds a formula, and that it is false in the first state.
+fn deny(
+    alloc: Global,
+    draft: &mut Draft,
+    layout: Layout,
+    system: &System,
+    formula: &Formula,
+    atoms: &[Lit],
+) -> Result<(), AllocError>
+    ensures { OnOk result (draft.new ≡ (let x = drafted (scene_of layout system.now atoms.now) (unfolded (formula_of formula.now.root)) draft.old in start_added ((negate x.lit ∷ []) ∷ []) x.draft)) }
+{
+    let scene = scene(alloc, layout, system, atoms)?;
+    draft.deny(&scene, &formula.root)
 }
 
 // How many temporal operators there are.
@@ -103,20 +131,23 @@ fn count_nodes(node: &Node) -> Result<usize, AllocError>
         Node::Bounded(_, window, operand) => {
             sum(count_nodes(operand.get())?, window.high as usize)
         }
-        Node::Implies(left, right) => sum(
-            count_nodes(left.get())?,
-            sum(
-                count_nodes(right.get())?,
-                binary_bits(BinaryOperator::Implies),
-            )?,
-        ),
+        Node::Implies(left, right) => {
+            let left = count_nodes(left.get())?;
+            count_joined(left, BinaryOperator::Implies, count_nodes(right.get())?)
+        }
         Node::Chain(first, links) => {
             let mut all = count_nodes(first.get())?;
             for link in links.as_slice() {
-                let operand = count_nodes(&link.operand)?;
-                all = sum(all, sum(operand, binary_bits(link.operator))?)?;
+                all = count_joined(all, link.operator, count_nodes(&link.operand)?)?;
             }
             Ok(all)
         }
     }
+}
+
+// How many there are in all, where the operands of an operator have so many.
+fn count_joined(left: usize, operator: BinaryOperator, right: usize) -> Result<usize, AllocError>
+    ensures { IfOk result (λ n. n ≡ left + (right + binary_bits operator)) }
+{
+    sum(left, sum(right, binary_bits(operator))?)
 }

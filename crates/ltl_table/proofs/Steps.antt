@@ -1,6 +1,6 @@
 -- One step of a column's computation.
 use Rattle.std.proofs.Common.{◌≡◌, ℕ, suc, ◌+◌, ◌-◌, ◌<◌, ◌≤◌, inl, inr, Bool, false, List, [], ◌∷◌, ◌++◌, length, refl, sym, ap, ◌∙◌, subst, arith, add-one, get_or-set_same, get_or-set_other}
-use Rattle.std.specs.Prelude.{slice_set}
+use Rattle.std.specs.Prelude.{◌↔◌, IsTrue, slice_set}
 use Rattle.std.proofs.Math.ListN.{get_or-append}
 use Rattle.std.proofs.Math.Seq.{get_or-append_seam}
 use Rattle.std.proofs.lemmas.Bool.{cases_eq}
@@ -50,4 +50,17 @@ grown_more xs ys B i v len made here before k h = elim (cases_eq k i) [
   | inr ne ↦
       let lt : k < length xs = omega arith in
       ap (λ zs. at zs k) made ∙ get_or-append xs (v ∷ []) false k lt ∙ before k (omega arith)
+]
+
+-- a column that says when P holds, one time longer
+pub told_more : (xs ys : List Bool) (P : ℕ → Type 0) (i : ℕ) (v : Bool) → length xs ≡ i → ys ≡ xs ++ v ∷ [] → (IsTrue v ↔ P i) →
+    ((k : ℕ) → k < i → IsTrue (at xs k) ↔ P k) → (k : ℕ) → k < i + 1 → IsTrue (at ys k) ↔ P k
+told_more xs ys P i v len made here before k h = elim (cases_eq k i) [
+  | inl e ↦
+      let same : at ys k ≡ v = ap (λ zs. at zs k) made ∙ ap (λ j. at (xs ++ v ∷ []) j) (e ∙ sym len) ∙ get_or-append_seam xs v [] false in
+      subst (λ b. IsTrue b ↔ P k) (sym same) (subst (λ j. IsTrue v ↔ P j) (sym e) here)
+  | inr ne ↦
+      let lt : k < length xs = omega arith in
+      let same : at ys k ≡ at xs k = ap (λ zs. at zs k) made ∙ get_or-append xs (v ∷ []) false k lt in
+      subst (λ b. IsTrue b ↔ P k) (sym same) (before k (omega arith))
 ]

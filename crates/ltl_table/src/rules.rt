@@ -5,7 +5,7 @@ ghost use Rattle.std.specs.Prelude.{◌≡◌};
 ghost use Rattle.ltl_table.specs.Columns.{combine, stepped, outset};
 
 // How an operator of two operands is computed from its operands at the same time.
-#[derive(Clone, Copy, PartialEq, Eq, Debug)]
+#[derive(Clone, Copy)]
 pub enum Connective {
     And,
     Or,
@@ -16,7 +16,7 @@ pub enum Connective {
 
 // How an operator is computed from its operands at one time and its own value at the neighbouring
 // one: as `U` and `S` are, or as their duals `V` and `T`.
-#[derive(Clone, Copy, PartialEq, Eq, Debug)]
+#[derive(Clone, Copy)]
 pub enum Step {
     Until,
     Releases,

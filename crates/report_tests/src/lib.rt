@@ -15,6 +15,8 @@ mod reports;
 #[cfg(test)]
 mod rings;
 #[cfg(test)]
+mod sources;
+#[cfg(test)]
 mod values;
 #[cfg(test)]
 mod workers;

@@ -1,6 +1,7 @@
 //! Refusals through the top call, with the examples of docs/LANGUAGE.md: of declared types, of operands and of arrays, at the edges
 //! of what is refused, and in the order of the rules. Also each beginning of a source, and the first line of a certificate.
 use crate::reports::{Case, first_wrong};
+use crate::sources::{definitions, repeated, variables};
 use smv_cli::run_over_bytes;
 use std::alloc::{AllocError, Global};
 use std::sync::Wait;
@@ -596,23 +597,6 @@ const REPEATED: [Nested; 3] = [
     ),
 ];
 
-// The three texts, one behind the other.
-fn text_of(
-    alloc: Global,
-    before: &str,
-    piece: &str,
-    times: usize,
-    behind: &str,
-) -> Result<String, AllocError> {
-    let mut text = String::new(alloc);
-    text.push_str(before)?;
-    for _n in 0..times {
-        text.push_str(piece)?;
-    }
-    text.push_str(behind)?;
-    Ok(text)
-}
-
 // Whether `check` prints this of a text and answers this status.
 fn is_answered<R: Threads + Wait + Sync>(
     rt: &R,
@@ -631,7 +615,7 @@ fn wrong_repeated<R: Threads + Wait + Sync>(
     alloc: Global,
 ) -> Result<Option<usize>, AllocError> {
     for (row, (before, piece, times, behind, want, status)) in REPEATED.iter().enumerate() {
-        let text = text_of(alloc, before, piece, *times, behind)?;
+        let text = repeated(alloc, before, piece, *times, behind)?;
         if !is_answered(rt, alloc, text, want, *status) {
             return Ok(Some(row));
         }
@@ -648,16 +632,13 @@ fn levels_are_counted(rt: HostRuntime) -> Result<(), Fail> {
 
 // A model of as many definitions, each of which is the next and the last of which is 0, with this behind it.
 fn chain(alloc: Global, count: usize, behind: &str) -> Result<String, AllocError> {
-    let mut text = String::new(alloc);
-    text.push_str("MODULE main\nDEFINE\n")?;
-    for n in 1..count {
-        let line = format!(in alloc; "d{n} := d{};\n", n + 1)?;
-        text.push_str(line.as_str())?;
-    }
-    let last = format!(in alloc; "d{count} := 0;\n")?;
-    text.push_str(last.as_str())?;
-    text.push_str(behind)?;
-    Ok(text)
+    definitions(
+        alloc,
+        count,
+        "MODULE main\nDEFINE\n",
+        &["", ""],
+        &["0;\n", behind],
+    )
 }
 
 // How many definitions, what stands behind them, what `check` prints, and the status.
@@ -718,18 +699,6 @@ fn names_are_levels_of_items_alone(rt: HostRuntime) -> Result<(), Fail> {
     Ok(())
 }
 
-// A model of as many words of 128 bits, with this behind it.
-fn words(alloc: Global, count: usize, behind: &str) -> Result<String, AllocError> {
-    let mut text = String::new(alloc);
-    text.push_str("MODULE main\nVAR\n")?;
-    for n in 0..count {
-        let line = format!(in alloc; "w{n} : word[128];\n")?;
-        text.push_str(line.as_str())?;
-    }
-    text.push_str(behind)?;
-    Ok(text)
-}
-
 // How many words of 128 bits, what stands behind them, what `check` prints, and the status.
 const WIDE: [(usize, &str, &str, u8); 3] = [
     (513, "", "-- refused 511 TooManyBits at 1:1\n", 3),
@@ -749,7 +718,7 @@ fn wrong_wide<R: Threads + Wait + Sync>(
     alloc: Global,
 ) -> Result<Option<usize>, AllocError> {
     for (row, (count, behind, want, status)) in WIDE.iter().enumerate() {
-        let text = words(alloc, *count, behind)?;
+        let text = variables(alloc, *count, " : word[128];\n", behind)?;
         if !is_answered(rt, alloc, text, want, *status) {
             return Ok(Some(row));
         }

@@ -1,4 +1,5 @@
 //! The top call over sources and sinks in memory, and over std's readers and writers.
+use crate::sources::{definitions, modules, variables};
 use outside::{MemSink, MemSource, OpenGate, StdSink, StdSource};
 use smv_cli::{run, run_over_bytes};
 use std::alloc::{AllocError, Global};
@@ -1224,43 +1225,10 @@ enum Parts {
     Twice,
 }
 
-// As many modules, each with two instances of the next, but for the last.
-fn modules(alloc: Global, count: usize) -> Result<String, AllocError> {
-    let mut text = String::new(alloc);
-    text.push_str("MODULE main VAR a : m1; b : m1;\n")?;
-    for n in 1..count {
-        let line = format!(in alloc; "MODULE m{n} VAR a : m{}; b : m{};\n", n + 1, n + 1)?;
-        text.push_str(line.as_str())?;
-    }
-    let last = format!(in alloc; "MODULE m{count}\n")?;
-    text.push_str(last.as_str())?;
-    Ok(text)
-}
-
-// As many variables.
-fn variables(alloc: Global, count: usize) -> Result<String, AllocError> {
-    let mut text = String::new(alloc);
-    text.push_str("MODULE main VAR\n")?;
-    for n in 0..count {
-        let line = format!(in alloc; "x{n} : boolean;\n")?;
-        text.push_str(line.as_str())?;
-    }
-    Ok(text)
-}
-
 // As many definitions, in each of which the next one stands between these pieces; the last one names x.
-fn definitions(alloc: Global, count: usize, pieces: &[&str]) -> Result<String, AllocError> {
-    let mut text = String::new(alloc);
-    text.push_str("MODULE main VAR x : boolean; DEFINE d0 := d1;\n")?;
-    for n in 1..count {
-        let next = format!(in alloc; "d{}", n + 1)?;
-        let body = pieces.join(alloc, next.as_str())?;
-        let line = format!(in alloc; "d{n} := {body};\n")?;
-        text.push_str(line.as_str())?;
-    }
-    let last = format!(in alloc; "d{count} := x;\nINVARSPEC d0\n")?;
-    text.push_str(last.as_str())?;
-    Ok(text)
+fn names(alloc: Global, count: usize, pieces: &[&'static str]) -> Result<String, AllocError> {
+    let before = "MODULE main VAR x : boolean; DEFINE d0 := d1;\n";
+    definitions(alloc, count, before, pieces, &["x;\nINVARSPEC d0\n"])
 }
 
 // A source of so many parts.
@@ -1268,11 +1236,11 @@ fn source_of(alloc: Global, parts: Parts, count: usize) -> Result<Vec<u8>, Alloc
     let text = match parts {
         Parts::Blanks => return vec![in alloc; b' '; count],
         Parts::Modules => modules(alloc, count),
-        Parts::Variables => variables(alloc, count),
-        Parts::Names => definitions(alloc, count, &["", ""]),
-        Parts::Operands => definitions(alloc, count, &["", " & x"]),
-        Parts::Parentheses => definitions(alloc, count, &["(", ")"]),
-        Parts::Twice => definitions(alloc, count, &["", " & ", ""]),
+        Parts::Variables => variables(alloc, count, " : boolean;\n", ""),
+        Parts::Names => names(alloc, count, &["", ""]),
+        Parts::Operands => names(alloc, count, &["", " & x"]),
+        Parts::Parentheses => names(alloc, count, &["(", ")"]),
+        Parts::Twice => names(alloc, count, &["", " & ", ""]),
     };
     Ok(text?.into_bytes())
 }

@@ -165,6 +165,32 @@ impl Finder {
         Ok(0)
     }
 
+    // Lists a clause that the conflict has need of, and notes what it has need of.
+    fn list(
+        &mut self,
+        clauses: &Clauses,
+        units: &[Lit],
+        steps: &Clauses,
+        number: usize,
+        found: &mut Vec<usize>,
+    ) -> Result<(), AllocError> {
+        found.push(number)?;
+        if let Some(c) = clause_at(clauses, units, steps, steps.len(), number) {
+            note(&mut self.needed, c, 1);
+        }
+        Ok(())
+    }
+
+    // The clause that set the literal at this place of the trail, if the conflict has need of it.
+    fn needed_reason(&self, at: usize) -> Option<usize> {
+        let l = self.trail.lit(at)?;
+        let wanted = match self.needed.get(l.var) {
+            Some(x) => *x == 1,
+            None => false,
+        };
+        if wanted { self.trail.reason(at) } else { None }
+    }
+
     // The clauses that the conflict has need of, the last one first. Notes what they have need of.
     fn collect(
         &mut self,
@@ -174,23 +200,10 @@ impl Finder {
         conflict: usize,
         found: &mut Vec<usize>,
     ) -> Result<(), AllocError> {
-        let count = steps.len();
-        found.push(conflict)?;
-        if let Some(c) = clause_at(clauses, units, steps, count, conflict) {
-            note(&mut self.needed, c, 1);
-        }
+        self.list(clauses, units, steps, conflict, found)?;
         for t in (0..self.trail.len()).rev() {
-            if let (Some(l), Some(number)) = (self.trail.lit(t), self.trail.reason(t)) {
-                let wanted = match self.needed.get(l.var) {
-                    Some(x) => *x == 1,
-                    None => false,
-                };
-                if wanted {
-                    found.push(number)?;
-                    if let Some(c) = clause_at(clauses, units, steps, count, number) {
-                        note(&mut self.needed, c, 1);
-                    }
-                }
+            if let Some(number) = self.needed_reason(t) {
+                self.list(clauses, units, steps, number, found)?;
             }
         }
         Ok(())

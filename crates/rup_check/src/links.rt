@@ -51,6 +51,21 @@ fn other_place(c: &[Lit], first: Lit) -> Option<usize> {
     None
 }
 
+// The place of the first literal that differs from the one at the front, if any.
+fn second_place(c: &[Lit]) -> Option<usize> {
+    match c.first() {
+        None => None,
+        Some(first) => other_place(c, *first),
+    }
+}
+
+// Puts 0 at the end, twice.
+fn push_two(list: &mut Vec<usize>) -> Result<(), AllocError> {
+    list.push(0)?;
+    list.push(0)?;
+    Ok(())
+}
+
 impl Links {
     pub(crate) fn new(alloc: Global) -> Links {
         Links {
@@ -81,24 +96,23 @@ impl Links {
     // Watches one clause more.
     pub(crate) fn add(&mut self, c: &[Lit]) -> Result<(), AllocError> {
         let link = self.nexts.len();
-        let number = link / 2;
-        self.nexts.push(0)?;
-        self.nexts.push(0)?;
-        self.places.push(0)?;
-        self.places.push(0)?;
-        match c.first() {
-            None => self.units.push(number)?,
-            Some(first) => match other_place(c, *first) {
-                None => self.units.push(number)?,
-                Some(p) => {
-                    self.watch(link.saturating_add(1), *first, 0);
-                    if let Some(second) = c.get(p) {
-                        self.watch(link.saturating_add(2), *second, p);
-                    }
-                }
-            },
+        push_two(&mut self.nexts)?;
+        push_two(&mut self.places)?;
+        match second_place(c) {
+            None => self.units.push(link / 2)?,
+            Some(p) => self.watch_two(link, c, p),
         }
         Ok(())
+    }
+
+    // Watches the first literal of the clause by the next link, and that at p by the one behind it.
+    fn watch_two(&mut self, link: usize, c: &[Lit], p: usize) {
+        if let Some(first) = c.first() {
+            self.watch(link.saturating_add(1), *first, 0);
+        }
+        if let Some(second) = c.get(p) {
+            self.watch(link.saturating_add(2), *second, p);
+        }
     }
 
     // Watches all clauses of a list.

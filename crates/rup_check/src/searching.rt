@@ -1,11 +1,12 @@
 //! Finds hints for the steps of a derivation: the clauses that unit propagation used.
 
-ghost use Rattle.std.specs.Prelude.{◌≡◌, ◌≤◌, ◌++◌, All, length, IfOk, OnOk, IfSome, MatchBool};
+ghost use Rattle.std.specs.Prelude.{◌≡◌, ◌≤◌, ◌++◌, [], All, length, IfOk, OnOk, IfSome, MatchBool, MatchOption};
 ghost use Rattle.clause_core.specs.Literals.{Within};
 ghost use Rattle.clause_core.specs.Propagation.{Follows};
 ghost use Rattle.clause_core.specs.Values.{Grows, unset};
 ghost use Rattle.hinted_log.specs.Hints.{FollowsBy, IsOpen};
 ghost use Rattle.rup_check.specs.Chains.{before, units_of, IsClear};
+ghost use Rattle.rup_check.specs.declared.checking.Hints.TheVariants.{Found, No};
 ghost use Rattle.rup_check.specs.Searches.{SearchSays, FoundSays, NextSays, AllHintsSay, HintsSay};
 
 use crate::chains::{assume_open, clause_at, clear, follows_by};
@@ -143,6 +144,36 @@ fn hint_next(
     Ok(true)
 }
 
+// Adds the steps of the log with their hints to an empty log. The first that does not follow, if any; `found` is room to
+// work in.
+fn push_hinted(
+    values: &mut [u8],
+    finder: &mut Finder,
+    clauses: &Clauses,
+    units: &[Lit],
+    log: &Log,
+    hinted: &mut Hinted,
+    found: &mut Vec<usize>,
+) -> Result<Option<usize>, AllocError>
+    requires in_clauses { All (Within (length values.old)) clauses.now }
+    requires in_units { Within (length values.old) units.now }
+    requires empty { hinted.old ≡ record { steps = []; hints = [] } }
+    ensures { IfOk result (λ o. MatchOption o (AllHintsSay (length values.old) (clauses.now ++ units_of units.now) log.now (Found hinted.new)) (λ step. AllHintsSay (length values.old) (clauses.now ++ units_of units.now) log.now (No step))) }
+{
+    let n = log.len();
+    finder.begin(values.len(), clauses, units)?;
+    for k in 0..n {
+        let step = log.get(k);
+        if !is_within(step, values.len()) {
+            return Ok(Some(k));
+        }
+        if !hint_next(values, clauses, units, hinted, finder, step, found)? {
+            return Ok(Some(k));
+        }
+    }
+    Ok(None)
+}
+
 // The hints of all steps of the log, whatever the last one is.
 pub(crate) fn hint_all(
     alloc: Global,
@@ -156,28 +187,12 @@ pub(crate) fn hint_all(
     requires in_units { Within (length values.old) units.now }
     ensures { IfOk result (AllHintsSay (length values.old) (clauses.now ++ units_of units.now) log.now) }
 {
-    let n = log.len();
     let mut hinted = Hinted::new(alloc);
     let mut found = Vec::new(alloc);
-    finder.begin(values.len(), clauses, units)?;
-    for k in 0..n {
-        let step = log.get(k);
-        if !is_within(step, values.len()) {
-            return Ok(Hints::No { step: k });
-        }
-        if !hint_next(
-            values,
-            clauses,
-            units,
-            &mut hinted,
-            finder,
-            step,
-            &mut found,
-        )? {
-            return Ok(Hints::No { step: k });
-        }
+    match push_hinted(values, finder, clauses, units, log, &mut hinted, &mut found)? {
+        None => Ok(Hints::Found(hinted)),
+        Some(step) => Ok(Hints::No { step }),
     }
-    Ok(Hints::Found(hinted))
 }
 
 // The hints of all steps of the log, of which the last is to be empty.

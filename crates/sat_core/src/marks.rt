@@ -1,11 +1,12 @@
 //! Conflict analysis: resolves a conflict with the reasons of its literals, back to the first
 //! unique implication point (Marques-Silva and Sakallah 1999).
 
-ghost use Rattle.std.specs.Prelude.{◌+◌, ◌-◌, ◌⊎◌, [], ◌≡◌, ◌<◌, ℕ, IfOk, length, take, All, slice_index};
+ghost use Rattle.std.specs.Prelude.{◌+◌, ◌-◌, ◌⊎◌, [], ◌≡◌, ◌<◌, ◌≤◌, ℕ, IfOk, List, length, take, All, slice_index};
 ghost use Rattle.sat_core.specs.Positions.{MarksAdded, level_marks, Marked, OnlyMark};
+ghost use Rattle.clause_core.specs.declared.literal.Lit.{Lit};
 ghost use Rattle.clause_core.specs.Propagation.{AllFalse};
 ghost use Rattle.sat_prop.specs.Trails.{FalseOn, among};
-ghost use Rattle.sat_core.specs.Searching.{LowListed, OnlyNew, MarksFalse};
+ghost use Rattle.sat_core.specs.Searching.{LowListed, NoneFrom, OnlyNew, MarksFalse};
 
 use crate::order::Order;
 use clause_core::Lit;
@@ -44,6 +45,39 @@ pub fn mark(
     Ok(more)
 }
 
+// Resolves with the reason of the literal at p, the last one that is marked: its mark goes over to the other literals of
+// the reason. Returns how many new marks are at the conflict level, which begins at `floor`.
+fn resolve_at<P: Propagator>(
+    inner: &P,
+    p: usize,
+    floor: usize,
+    marks: &mut [bool],
+    low: &mut Vec<usize>,
+    order: &mut Order,
+) -> Result<usize, AllocError>
+    requires level { 0 < length (P.trail inner.now).level_starts.items }
+    requires floor { floor ≡ slice_index (P.trail inner.now).level_starts.items (length (P.trail inner.now).level_starts.items - 1) }
+    requires after { floor ≤ p }
+    requires in_trail { p < length (P.trail inner.now).literals.items }
+    requires marks_len { length marks.old ≡ length (P.trail inner.now).literals.items }
+    requires marked { Marked marks.old p }
+    requires last { NoneFrom marks.old (p + 1) }
+    requires more { level_marks marks.old floor ≡ 1 → ⊥ }
+    requires low { LowListed marks.old floor low.old.items }
+    ensures marks { IfOk result (λ _. (c : List Lit) → MarksFalse (P.trail inner.now).literals.items (P.clauses inner.now) marks.old c → MarksFalse (P.trail inner.now).literals.items (P.clauses inner.now) marks.new c) }
+    ensures last { IfOk result (λ _. NoneFrom marks.new p) }
+    ensures counted { IfOk result (λ n. level_marks marks.new floor + 1 ≡ level_marks marks.old floor + n) }
+    ensures low { IfOk result (λ _. LowListed marks.new floor low.new.items) }
+{
+    marks[p] = false;
+    let trail = inner.assignment();
+    let reason = trail.reasons[trail.literals[p].var];
+    let c = inner.clause(reason - 1);
+    order.bump_new(c, p, &trail.positions, marks);
+    let more = mark(c, p, &trail.positions, marks, floor, low)?;
+    Ok(more)
+}
+
 // Resolves a conflict clause with reasons until one literal of the conflict level is left, the first unique implication
 // point. Returns its trail position; `low` lists the positions of the other literals.
 pub fn resolve<P: Propagator>(
@@ -74,12 +108,8 @@ pub fn resolve<P: Propagator>(
             if open == 1 {
                 return Ok(p);
             }
-            marks[p] = false;
             open -= 1;
-            let reasons = trail.reasons[trail.literals[p].var];
-            let c = inner.clause(reasons - 1);
-            order.bump_new(c, p, &trail.positions, marks);
-            let more = mark(c, p, &trail.positions, marks, floor, low)?;
+            let more = resolve_at(inner, p, floor, marks, low, order)?;
             open += more;
         }
     }

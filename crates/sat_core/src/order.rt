@@ -74,15 +74,72 @@ fn luby(n: u64) -> u64 {
     1
 }
 
+// Moves the variable at a place of the heap towards the front, past the less active ones.
+fn sift_up(heap: &mut [usize], slot: &mut [usize], activity: &[u64], from: usize) {
+    let v = entry(heap, from);
+    let a = activity_of(activity, v);
+    let mut i = from;
+    for _ in 0..64 {
+        if i == 0 {
+            break;
+        }
+        let parent = (i - 1) / 2;
+        let u = entry(heap, parent);
+        if activity_of(activity, u) >= a {
+            break;
+        }
+        put(heap, i, u);
+        put(slot, u, i.wrapping_add(1));
+        i = parent;
+    }
+    put(heap, i, v);
+    put(slot, v, i.wrapping_add(1));
+}
+
+// Moves the first variable of the heap towards the end, past the more active ones.
+fn sift_down(heap: &mut [usize], slot: &mut [usize], activity: &[u64]) {
+    let v = entry(heap, 0);
+    let a = activity_of(activity, v);
+    let n = heap.len();
+    let mut i: usize = 0;
+    for _ in 0..64 {
+        let mut child = i.wrapping_mul(2).wrapping_add(1);
+        if child >= n {
+            break;
+        }
+        let other = child.wrapping_add(1);
+        if other < n
+            && activity_of(activity, entry(heap, other))
+                > activity_of(activity, entry(heap, child))
+        {
+            child = other;
+        }
+        let u = entry(heap, child);
+        if activity_of(activity, u) <= a {
+            break;
+        }
+        put(heap, i, u);
+        put(slot, u, i.wrapping_add(1));
+        i = child;
+    }
+    put(heap, i, v);
+    put(slot, v, i.wrapping_add(1));
+}
+
+// So many numbers, one after another.
+fn numbers_from(alloc: Global, first: usize, count: usize) -> Result<Vec<usize>, AllocError> {
+    let mut numbers = Vec::new(alloc);
+    for k in 0..count {
+        numbers.push(first.wrapping_add(k))?;
+    }
+    Ok(numbers)
+}
+
 impl Order {
     // Each variable once, none more active than another.
     pub fn new(alloc: Global, vars: usize) -> Result<Order, AllocError> {
-        let mut heap = Vec::new(alloc);
-        let mut slot = Vec::new(alloc);
-        for v in 0..vars {
-            heap.push(v)?;
-            slot.push(v.wrapping_add(1))?;
-        }
+        let heap = numbers_from(alloc, 0, vars)?;
+        let slot = numbers_from(alloc, 1, vars)?;
         let activity = vec![in alloc; 0; vars]?;
         let phase = vec![in alloc; false; vars]?;
         let is_last = vec![in alloc; false; vars]?;
@@ -100,58 +157,6 @@ impl Order {
         })
     }
 
-    // Moves the variable at a place towards the front, past the less active ones.
-    fn sift_up(&mut self, from: usize) {
-        let v = entry(&self.heap, from);
-        let a = activity_of(&self.activity, v);
-        let mut i = from;
-        for _ in 0..64 {
-            if i == 0 {
-                break;
-            }
-            let parent = (i - 1) / 2;
-            let u = entry(&self.heap, parent);
-            if activity_of(&self.activity, u) >= a {
-                break;
-            }
-            put(&mut self.heap, i, u);
-            put(&mut self.slot, u, i.wrapping_add(1));
-            i = parent;
-        }
-        put(&mut self.heap, i, v);
-        put(&mut self.slot, v, i.wrapping_add(1));
-    }
-
-    // Moves the first variable towards the end, past the more active ones.
-    fn sift_down(&mut self) {
-        let v = entry(&self.heap, 0);
-        let a = activity_of(&self.activity, v);
-        let n = self.heap.len();
-        let mut i: usize = 0;
-        for _ in 0..64 {
-            let mut child = i.wrapping_mul(2).wrapping_add(1);
-            if child >= n {
-                break;
-            }
-            let other = child.wrapping_add(1);
-            if other < n
-                && activity_of(&self.activity, entry(&self.heap, other))
-                    > activity_of(&self.activity, entry(&self.heap, child))
-            {
-                child = other;
-            }
-            let u = entry(&self.heap, child);
-            if activity_of(&self.activity, u) <= a {
-                break;
-            }
-            put(&mut self.heap, i, u);
-            put(&mut self.slot, u, i.wrapping_add(1));
-            i = child;
-        }
-        put(&mut self.heap, i, v);
-        put(&mut self.slot, v, i.wrapping_add(1));
-    }
-
     // Takes the most active variable out of the heap.
     fn pop(&mut self) -> Option<usize> {
         let top = entry(&self.heap, 0);
@@ -162,7 +167,7 @@ impl Order {
                 if self.heap.len() > 0 {
                     put(&mut self.heap, 0, last);
                     put(&mut self.slot, last, 1);
-                    self.sift_down();
+                    sift_down(&mut self.heap, &mut self.slot, &self.activity);
                 }
                 Some(top)
             }
@@ -220,22 +225,27 @@ impl Order {
         }
     }
 
+    // Makes all numbers smaller that say how active variables are.
+    fn rescale(&mut self) {
+        for x in self.activity.iter_mut() {
+            *x = *x >> 40;
+        }
+        self.step = self.step >> 40;
+        if self.step == 0 {
+            self.step = 1;
+        }
+    }
+
     // Makes a variable more active; where numbers grow large, all are made smaller.
     fn bump(&mut self, v: usize) {
         let a = activity_of(&self.activity, v).wrapping_add(self.step);
         put_activity(&mut self.activity, v, a);
         if a > 1 << 60 {
-            for x in self.activity.iter_mut() {
-                *x = *x >> 40;
-            }
-            self.step = self.step >> 40;
-            if self.step == 0 {
-                self.step = 1;
-            }
+            self.rescale();
         }
         let s = entry(&self.slot, v);
         if s > 0 {
-            self.sift_up(s - 1);
+            sift_up(&mut self.heap, &mut self.slot, &self.activity, s - 1);
         }
     }
 
@@ -284,22 +294,33 @@ impl Order {
         }
     }
 
+    // Puts a variable into the heap.
+    fn insert(&mut self, v: usize) -> Result<(), AllocError> {
+        let n = self.heap.len();
+        self.heap.push(v)?;
+        put(&mut self.slot, v, n.wrapping_add(1));
+        sift_up(&mut self.heap, &mut self.slot, &self.activity, n);
+        Ok(())
+    }
+
+    // Notes the sign of a literal that is about to be unset, and puts its variable back into the heap.
+    fn keep_sign(&mut self, l: Lit) -> Result<(), AllocError> {
+        if l.var < self.phase.len() && !is_on(&self.is_last, l.var) {
+            self.phase[l.var] = l.positive;
+            if entry(&self.slot, l.var) == 0 {
+                return self.insert(l.var);
+            }
+        }
+        Ok(())
+    }
+
     // Notes the signs of the literals from a level on, which are about to be unset, and puts their variables back
     // into the heap.
     pub fn keep(&mut self, trail: &Trail, level: usize) -> Result<(), AllocError> {
         self.passed = 0;
         if level < trail.level_starts.len() {
             for p in trail.level_starts[level]..trail.literals.len() {
-                let l = trail.literals[p];
-                if l.var < self.phase.len() && !is_on(&self.is_last, l.var) {
-                    self.phase[l.var] = l.positive;
-                    if entry(&self.slot, l.var) == 0 {
-                        let n = self.heap.len();
-                        self.heap.push(l.var)?;
-                        put(&mut self.slot, l.var, n.wrapping_add(1));
-                        self.sift_up(n);
-                    }
-                }
+                self.keep_sign(trail.literals[p])?;
             }
         }
         Ok(())

@@ -1,6 +1,6 @@
 //! Minimises a learned clause: drops literals that the others imply (Sörensson and Biere 2009).
 
-ghost use Rattle.std.specs.Prelude.{◌≡◌, ◌<◌, IfOk, IsTrue, length, All, slice_index};
+ghost use Rattle.std.specs.Prelude.{◌≡◌, ◌<◌, [], IfOk, OnOk, IsTrue, length, All, slice_index};
 ghost use Rattle.sat_core.specs.Positions.{OnlyMark};
 ghost use Rattle.sat_core.specs.Searching.{Implied, LowListed, MarksImplied, Recovers};
 
@@ -44,6 +44,33 @@ fn is_implied<P: Propagator>(
     true
 }
 
+// Puts the positions in `low` whose literals the others and the literal at p do not imply into an empty list.
+fn push_kept<P: Propagator>(
+    inner: &P,
+    p: usize,
+    floor: usize,
+    marks: &mut [bool],
+    low: &[usize],
+    kept: &mut Vec<usize>,
+) -> Result<(), AllocError>
+    requires level { 0 < length (P.trail inner.now).level_starts.items }
+    requires floor_in { floor < length (P.trail inner.now).literals.items }
+    requires marks_len { length marks.old ≡ length (P.trail inner.now).literals.items }
+    requires only { OnlyMark marks.old floor p }
+    requires low { LowListed marks.old floor low.now }
+    requires empty { kept.old.items ≡ [] }
+    ensures below { OnOk result (All (λ q. q < floor) kept.new.items) }
+    ensures recovers { OnOk result (Recovers (P.trail inner.now).literals.items (P.clauses inner.now) marks.old p kept.new.items) }
+{
+    let first = inner.assignment().level_starts[0];
+    'low: for x in low {
+        if !is_implied(inner, marks, first, *x, DEPTH) {
+            kept.push(*x)?;
+        }
+    }
+    Ok(())
+}
+
 // The positions in `low` whose literals the others and the literal at p do not imply (Sörensson, Biere 2009).
 pub fn shorten<P: Propagator>(
     alloc: Global,
@@ -61,12 +88,7 @@ pub fn shorten<P: Propagator>(
     ensures below { IfOk result (λ kept. All (λ q. q < floor) kept.items) }
     ensures recovers { IfOk result (λ kept. Recovers (P.trail inner.now).literals.items (P.clauses inner.now) marks.old p kept.items) }
 {
-    let first = inner.assignment().level_starts[0];
     let mut kept = Vec::new(alloc);
-    'low: for x in low {
-        if !is_implied(inner, marks, first, *x, DEPTH) {
-            kept.push(*x)?;
-        }
-    }
+    push_kept(inner, p, floor, marks, low, &mut kept)?;
     Ok(kept)
 }

@@ -124,6 +124,10 @@ delisted lists mid last h k same both kept back =
       | inr off ↦ back off lists k (sym (length_both lists mid h k (both off))) (both off)
     ]
 
+-- a longer list of short clauses
+pub small_more : (cs : List (List Lit)) (watches : List Watches) (short short' : List ℕ) → ShortMore short short' → ShortListed cs watches short → ShortListed cs watches short'
+small_more cs watches short short' more ok k lk same off = let f = ok k lk same off in (f.0, more k f.1)
+
 pub small_new : (cs : List (List Lit)) (watches : List Watches) (lists' : List (List ℕ)) (short short' : List ℕ) (c : List Lit) (h : Watches) → length watches ≡ length cs → ShortListed cs watches short →
     ShortMore short short' → Enlisted lists' short' h (length cs) → (is_literal h.a h.b ≡ true → HasOneLiteral c) → ShortListed (cs ++ c ∷ []) (watches ++ h ∷ []) short'
 small_new cs watches lists' short short' c h len ok more new one =

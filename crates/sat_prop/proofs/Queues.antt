@@ -1,4 +1,4 @@
-use Rattle.std.proofs.Common.{◌≡◌, ℕ, ◌<◌, ◌≤◌, true, List, [], ◌∷◌, length, take, get_or, refl, sym, subst, ap, ◌∙◌, inl, inr, arith}
+use Rattle.std.proofs.Common.{◌≡◌, ℕ, ◌<◌, ◌≤◌, true, List, [], ◌∷◌, Option, None, Some, MatchOption, length, take, get_or, refl, sym, subst, ap, ◌∙◌, inl, inr, arith}
 use Rattle.std.specs.List.{Contains}
 use Rattle.std.proofs.lemmas.Bool.{cases_Bool, both_ways}
 use Rattle.std.proofs.lemmas.List.{take-take, length-take, take_all, get_or_default}
@@ -124,3 +124,8 @@ queue_rest cs h t n e ok queue short =
     let P : List Lit → Type 0 = λ x. AllGuarded cs h x tr in
     let whole : P tr = subst P (take_all n tr (omega (arith, e))) queue in
     uncovered_rest cs tr (λ k lk off. watched_settled cs h tr (all_apart t) ok whole k lk (λ s. true_settled tr (get_or cs k []) (all_apart t) (short k lk s off)))
+
+-- where more is known of what has no conflict
+pub rest_more : (o : Option ℕ) (P Q : Type 0) (R : ℕ → Type 0) → (P → Q) → MatchOption o P R → MatchOption o Q R
+rest_more None P Q R f h = f h
+rest_more (Some k) P Q R f h = h

@@ -74,6 +74,22 @@ prefix_push old tr l e =
 pub went_none : (t : Trail) → Extends t t
 went_none t = record { prefix = take_all (length t.literals.items) t.literals.items (omega arith); level_starts = refl; vars = refl; fewer = omega arith; count = refl }
 
+-- a trail with the same literals, values and levels
+pub went_same : (old t new : Trail) → Extends old t → new.literals.items ≡ t.literals.items → new.values.items ≡ t.values.items → new.level_starts.items ≡ t.level_starts.items →
+    Extends old new
+went_same old t new w literals values level_starts =
+    let P : List Lit → Type 0 = λ x. take (length old.literals.items) x ≡ old.literals.items in
+    let R : List ℕ → Type 0 = λ v. unset v ≤ unset old.values.items in
+    let S : List Lit → Type 0 = λ x. length x + unset t.values.items ≡ length old.literals.items + unset old.values.items in
+    let T : List ℕ → Type 0 = λ v. length new.literals.items + unset v ≡ length old.literals.items + unset old.values.items in
+    record {
+      prefix = subst P (sym literals) w.prefix;
+      level_starts = level_starts ∙ w.level_starts;
+      vars = ap length values ∙ w.vars;
+      fewer = subst R (sym values) w.fewer;
+      count = subst T (sym values) (subst S (sym literals) w.count);
+    }
+
 pub unset_drop : (v : List ℕ) (l : Lit) → l.var < length v → holds v l ≡ false → holds v (negate l) ≡ false →
     unset (set v l.var (code l.positive)) + 1 ≡ unset v
 unset_drop v l lt e f =

@@ -128,6 +128,29 @@ fn delist(lists: &mut WatchLists, h: Watches)
     }
 }
 
+// Puts a clause and its row behind the others. If memory runs out, these are as before.
+fn push_clause(
+    clauses: &mut Clauses,
+    rows: &mut Rows,
+    c: &[Lit],
+    h: Watches,
+) -> Result<(), AllocError>
+    requires a_word { cell h.a < 2 ^ 32 }
+    requires b_word { cell h.b < 2 ^ 32 }
+    requires words { All (λ l. cell l < 2 ^ 32) c.now }
+    ensures done { OnOk result (clauses.new ≡ clauses.old ++ c.now ∷ []) }
+    ensures done_rows { OnOk result (rows.new ≡ rows.old ++ row_of h c.now ∷ []) }
+    ensures failed { OnErr result (clauses.new ≡ clauses.old) }
+    ensures failed_rows { OnErr result (rows.new ≡ rows.old) }
+{
+    rows.push(h, c)?;
+    if let Err(e) = clauses.push(c) {
+        rows.pop();
+        return Err(e);
+    }
+    Ok(())
+}
+
 // Adds a clause with its watches.
 pub fn attach(
     clauses: &mut Clauses,
@@ -170,12 +193,7 @@ pub fn attach(
         return Err(AllocError);
     }
     enlist(lists, short, h, k)?;
-    if let Err(e) = rows.push(h, c) {
-        delist(lists, h);
-        return Err(e);
-    }
-    if let Err(e) = clauses.push(c) {
-        rows.pop();
+    if let Err(e) = push_clause(clauses, rows, c, h) {
         delist(lists, h);
         return Err(e);
     }

@@ -41,6 +41,28 @@ impl Model for Rows {
     ghost invariant = { λ s. SpansIn s.words.items s.spans.items × SpansApart s.spans.items };
 }
 
+// Whether the literal is neither of the watches.
+fn stands_beside(h: Watches, l: Lit) -> bool
+    ensures { result ≡ is_beside h l }
+{
+    !l.is_same(h.a) && !l.is_same(h.b)
+}
+
+// Writes the words of a clause's literals but the watches behind the others. If memory runs out, some of them may stand
+// there.
+fn write_beside(words: &mut Vec<u32>, h: Watches, c: &[Lit]) -> Result<(), AllocError>
+    requires { All (λ l. cell l < 2 ^ 32) c.now }
+    ensures done { OnOk result (words.new.items ≡ words.old.items ++ map cell (filter (is_beside h) c.now)) }
+    ensures kept { take (length words.old.items) words.new.items ≡ words.old.items }
+{
+    for x in c {
+        if stands_beside(h, *x) {
+            words.push(word_of(*x))?;
+        }
+    }
+    Ok(())
+}
+
 // Writes the words of a clause's row behind the others. If memory runs out, some of them may stand there.
 fn write_row(words: &mut Vec<u32>, h: Watches, c: &[Lit]) -> Result<(), AllocError>
     requires a_in { cell h.a < 2 ^ 32 }
@@ -51,13 +73,7 @@ fn write_row(words: &mut Vec<u32>, h: Watches, c: &[Lit]) -> Result<(), AllocErr
 {
     words.push(word_of(h.a))?;
     words.push(word_of(h.b))?;
-    for x in c {
-        let l = *x;
-        if !l.is_same(h.a) && !l.is_same(h.b) {
-            words.push(word_of(l))?;
-        }
-    }
-    Ok(())
+    write_beside(words, h, c)
 }
 
 impl Rows {

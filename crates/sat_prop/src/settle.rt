@@ -35,10 +35,7 @@ fn settle_short(
     ensures says { IfOk result (λ o. MatchOption o (ShortTrue clauses.now (pairs rows.now) trail.new.literals.items) (FalseClause clauses.now trail.new)) }
 {
     if trail.level_starts.len() == 0 {
-        match sweep_short(clauses, trail, short, swept)? {
-            Some(k) => Ok(Some(k)),
-            None => Ok(None),
-        }
+        sweep_short(clauses, trail, short, swept)
     } else {
         Ok(None)
     }
@@ -85,9 +82,6 @@ pub fn settle(
 {
     match settle_short(clauses, trail, rows, short, swept)? {
         Some(k) => Ok(Some(k)),
-        None => match run_queue(clauses, trail, rows, lists, head)? {
-            Some(k) => Ok(Some(k)),
-            None => Ok(None),
-        },
+        None => run_queue(clauses, trail, rows, lists, head),
     }
 }

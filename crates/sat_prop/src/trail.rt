@@ -8,7 +8,7 @@ ghost use Rattle.clause_core.specs.Literals.{negate, Within, at};
 ghost use Rattle.sat_prop.specs.Trails.{PlacesMatch};
 ghost use Rattle.sat_prop.specs.Trails.{ValuesMatch, StartsRise, StartsIn, DecisionsBegin, Based};
 
-use clause_core::Lit;
+use clause_core::{Lit, set};
 use std::alloc::{AllocError, Global};
 
 /// A trail: the literals that are set, in the order in which they were set, and why.
@@ -74,9 +74,14 @@ impl Trail {
     {
         let n = self.literals.len();
         self.literals.push(l)?;
-        self.values[l.var] = if l.positive { 1 } else { 2 };
-        self.positions[l.var] = n;
-        self.reasons[l.var] = reason;
+        note_literal(
+            &mut self.values,
+            &mut self.positions,
+            &mut self.reasons,
+            l,
+            n,
+            reason,
+        );
         Ok(())
     }
 
@@ -93,18 +98,19 @@ impl Trail {
         ensures reasons_kept { OnErr result (self.new.reasons.items ≡ self.old.reasons.items) }
         ensures values_kept { OnErr result (self.new.values.items ≡ self.old.values.items) }
         ensures starts_kept { OnErr result (self.new.level_starts.items ≡ self.old.level_starts.items) }
+        ensures vars { length self.new.values.items ≡ length self.old.values.items }
         ensures based { (cs : List (List Lit)) → Based self.old.literals.items self.old.reasons.items cs → Based self.new.literals.items self.new.reasons.items cs }
     {
         let n = self.literals.len();
-        let n_starts = self.level_starts.len();
-        self.level_starts.push(n)?;
-        if let Err(e) = self.literals.push(l) {
-            self.level_starts.truncate(n_starts);
-            return Err(e.into());
-        }
-        self.values[l.var] = if l.positive { 1 } else { 2 };
-        self.positions[l.var] = n;
-        self.reasons[l.var] = 0;
+        push_decision(&mut self.literals, &mut self.level_starts, l)?;
+        note_literal(
+            &mut self.values,
+            &mut self.positions,
+            &mut self.reasons,
+            l,
+            n,
+            0,
+        );
         Ok(())
     }
 
@@ -121,6 +127,48 @@ impl Trail {
         self.literals.truncate(n);
         self.level_starts.truncate(level);
     }
+}
+
+// Notes that the literal is true, where it stands, and why.
+fn note_literal(
+    values: &mut Vec<u8>,
+    positions: &mut Vec<usize>,
+    reasons: &mut Vec<usize>,
+    l: Lit,
+    place: usize,
+    reason: usize,
+)
+    requires values { l.var < length values.old.items }
+    requires positions { l.var < length positions.old.items }
+    requires reasons { l.var < length reasons.old.items }
+    ensures values { values.new.items ≡ slice_set values.old.items l.var (code l.positive) }
+    ensures positions { positions.new.items ≡ slice_set positions.old.items l.var place }
+    ensures reasons { reasons.new.items ≡ slice_set reasons.old.items l.var reason }
+{
+    set(values, l);
+    positions[l.var] = place;
+    reasons[l.var] = reason;
+}
+
+// Puts a decision behind the literals, and its place behind the starts of the levels. If memory runs out, both are as
+// before.
+fn push_decision(
+    literals: &mut Vec<Lit>,
+    level_starts: &mut Vec<usize>,
+    l: Lit,
+) -> Result<(), AllocError>
+    ensures literals { OnOk result (literals.new.items ≡ literals.old.items ++ l ∷ []) }
+    ensures level_starts { OnOk result (level_starts.new.items ≡ level_starts.old.items ++ length literals.old.items ∷ []) }
+    ensures literals_kept { OnErr result (literals.new.items ≡ literals.old.items) }
+    ensures starts_kept { OnErr result (level_starts.new.items ≡ level_starts.old.items) }
+{
+    let levels = level_starts.len();
+    level_starts.push(literals.len())?;
+    if let Err(e) = literals.push(l) {
+        level_starts.truncate(levels);
+        return Err(e.into());
+    }
+    Ok(())
 }
 
 // Clears the values of the literals from n on.

@@ -9,11 +9,11 @@ ghost use Rattle.smv_phrases.specs.Names.{just, name_from, opening};
 ghost use Rattle.smv_phrases.specs.Lists.{further, listed};
 ghost use Rattle.smv_phrases.specs.Reading.{Gives};
 ghost use Rattle.smv_expressions.specs.Operators.{is_function, is_step_operator, is_timed_operator};
-ghost use Rattle.smv_expressions.specs.Expressions.{Link, integers, parenthesised, group_of, members, set_of, branch, turns, cases, case_of, arguments, call_of, function_or_name, next_or_call, compound, primary, selection, selected_by, selected, inverted, negated, negation, bounds_end, bounds, denied_again, stepped, timed_of, denied, chain_of, chained, compared, temporal, timed, choices, chosen_by, conditional, implication_of, placed_minus, placed_group, limit_start, limit_negation, limited, is_zero, under, expression_within, limit_within, limit_start_within, limited_within, index_within};
+ghost use Rattle.smv_expressions.specs.Expressions.{Link, integers, range_of, parenthesised, group_of, members, set_of, branch, turns, cases, case_of, arguments, call_of, function_or_name, next_or_call, compound, primary, selection, selected_by, selected, inverted, negated, negation, bounds_end, bounds, denied_again, stepped, timed_of, denied, chain_of, chained, compared, temporal, timed, choices, chosen_by, conditional, implication_of, placed_minus, placed_group, limit_start, limit_negation, limited, is_zero, under, expression_within, limit_within, limit_start_within, limited_within, index_within};
 ghost use Rattle.smv_expressions.specs.Ranks.{operand_within, link_within, links_within, phrase_within};
 
 use crate::nodes::{
-    Link, bounds_of, chain_of, chosen_by, implication_of, one, over_all, selected_by, two,
+    Link, bounds_of, chain_of, chosen_by, implication_of, one, over_all, range_of, selected_by, two,
 };
 use crate::ranks::Rank;
 use crate::temporal::{
@@ -47,20 +47,31 @@ fn plain_name<'a>(alloc: Global, tokens: &'a [Token]) -> Result<(Expr, &'a [Toke
     Ok((Expr::Name(name), tokens))
 }
 
+/// `..` integer, behind an integer.
+fn range<'a>(
+    alloc: Global,
+    first: &Token,
+    tokens: &'a [Token],
+) -> Result<(Expr, &'a [Token]), Stop<'a>>
+    ensures { Gives (λ x. (x.0, x.1.now)) result ((to (λ x. range_of (first.now, Some x)) (just kind.DotDot ⨾ just kind.Integer)).parse tokens.now) }
+{
+    let (dots, tokens) = just(TokenKind::DotDot, tokens)?;
+    let (last, tokens) = just(TokenKind::Integer, tokens)?;
+    let range = range_of(alloc, first, dots, last)?;
+    Ok((range, tokens))
+}
+
 /// Integer, or integer `..` integer.
 #[tactic(auto, unfolding(crate::specs::Expressions::integers))]
 fn integers<'a>(alloc: Global, tokens: &'a [Token]) -> Result<(Expr, &'a [Token]), Stop<'a>>
     ensures { Gives (λ x. (x.0, x.1.now)) result (integers.parse tokens.now) }
 {
     let (first, tokens) = just(TokenKind::Integer, tokens)?;
-    if !begins(TokenKind::DotDot, tokens) {
-        return Ok((integer_of(first), tokens));
+    if begins(TokenKind::DotDot, tokens) {
+        range(alloc, first, tokens)
+    } else {
+        Ok((integer_of(first), tokens))
     }
-    let (dots, tokens) = just(TokenKind::DotDot, tokens)?;
-    let (last, tokens) = just(TokenKind::Integer, tokens)?;
-    let ends = two(alloc, integer_of(first), integer_of(last))?;
-    let none = Items::new(alloc);
-    Ok((Expr::Apply(dots.place, Operator::Range, ends, none), tokens))
 }
 
 /// `,` expression

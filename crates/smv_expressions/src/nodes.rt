@@ -1,8 +1,10 @@
 //! Nodes of expressions, of parts that are read.
 
 ghost use Rattle.std.specs.Prelude.{◌≡◌, [], ◌∷◌, Some, IfOk};
-ghost use Rattle.smv_expressions.specs.Expressions.{Link, chain_of, over_all, chosen_by, implication_of, bounds_of, selected_by};
+ghost use Rattle.smv_tree.specs.declared.tree.Expr.TheVariants as expr;
+ghost use Rattle.smv_expressions.specs.Expressions.{Link, chain_of, over_all, chosen_by, implication_of, bounds_of, range_of, selected_by};
 
+use crate::tokens::integer_of;
 use smv_tree::{Expr, Place, Token};
 use smv_value::{FaultRule, Logic, Operator};
 use sqlite_items::{Boxed, Items};
@@ -37,6 +39,34 @@ pub fn over_all(alloc: Global, place: Place, operator: Operator, operands: Items
     Expr::Apply(place, operator, Items::new(alloc), operands)
 }
 
+/// The range from an integer to another, with `..` at this place.
+pub fn range_of(
+    alloc: Global,
+    first: &Token,
+    dots: &Token,
+    last: &Token,
+) -> Result<Expr, AllocError>
+    ensures { IfOk result (λ e. e ≡ range_of (first.now, Some (dots.now, last.now))) }
+{
+    let ends = two(alloc, integer_of(first), integer_of(last))?;
+    let none = Items::new(alloc);
+    Ok(Expr::Apply(dots.place, Operator::Range, ends, none))
+}
+
+/// An operator over one operand beside it and others a level below.
+fn over(
+    alloc: Global,
+    place: Place,
+    operator: Operator,
+    operand: Expr,
+    below: Items<Expr>,
+) -> Result<Expr, AllocError>
+    ensures { IfOk result (λ e. e ≡ expr.Apply place operator (operand ∷ []) below) }
+{
+    let beside = one(alloc, operand)?;
+    Ok(Expr::Apply(place, operator, beside, below))
+}
+
 /// An operand and the links behind it: itself where there are none, and one node where there are some.
 pub fn chain_of(alloc: Global, first: Expr, links: Items<Link>) -> Result<Expr, AllocError>
     ensures { IfOk result (λ e. e ≡ chain_of first links) }
@@ -58,10 +88,9 @@ pub fn chosen_by(
 ) -> Result<Expr, AllocError>
     ensures { IfOk result (λ e. e ≡ chosen_by condition (question.now, (first, second))) }
 {
-    let beside = one(alloc, condition)?;
-    let below = two(alloc, first, second)?;
+    let branches = two(alloc, first, second)?;
     let operator = Operator::Choice(FaultRule::CaseOpen);
-    Ok(Expr::Apply(question.place, operator, beside, below))
+    over(alloc, question.place, operator, condition, branches)
 }
 
 /// A left side, and the right side that it implies.
@@ -73,10 +102,9 @@ pub fn implication_of(
 ) -> Result<Expr, AllocError>
     ensures { IfOk result (λ e. e ≡ implication_of (left, Some (arrow.now, right))) }
 {
-    let beside = one(alloc, left)?;
     let below = one(alloc, right)?;
     let operator = Operator::Logic(Logic::Implies);
-    Ok(Expr::Apply(arrow.place, operator, beside, below))
+    over(alloc, arrow.place, operator, left, below)
 }
 
 /// Bounds that stand in the brackets as in parentheses.
@@ -105,15 +133,14 @@ pub fn selected_by(
 ) -> Result<Expr, AllocError>
     ensures { IfOk result (λ e. e ≡ selected_by whole (bracket.now, (first, second))) }
 {
-    let beside = one(alloc, whole)?;
     match second {
         None => {
             let below = one(alloc, first)?;
-            Ok(Expr::Apply(bracket.place, Operator::Index, beside, below))
+            over(alloc, bracket.place, Operator::Index, whole, below)
         }
         Some(low) => {
             let below = two(alloc, first, low)?;
-            Ok(Expr::Apply(bracket.place, Operator::Select, beside, below))
+            over(alloc, bracket.place, Operator::Select, whole, below)
         }
     }
 }

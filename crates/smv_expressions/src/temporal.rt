@@ -6,6 +6,7 @@ ghost use Rattle.smv_expressions.specs.Operators.{step_operator, is_step_operato
 ghost use Rattle.smv_expressions.specs.Expressions.{stepping, timing, timed_by, below};
 ghost use Rattle.smv_phrases.specs.Reading.{Gives};
 
+use crate::nodes::{one, over_all, two};
 use phrase_forms::Fault;
 use smv_phrases::Stop;
 use smv_tree::{Expr, Place, Token, TokenKind};
@@ -113,9 +114,17 @@ pub fn below(
 ) -> Result<Expr, AllocError>
     ensures { IfOk result (λ e. e ≡ below place operator operand) }
 {
-    let mut operands = Items::new(alloc);
+    let operands = one(alloc, operand)?;
+    Ok(over_all(alloc, place, operator, operands))
+}
+
+/// The bounds of an operator, and its operand.
+fn bounded(alloc: Global, low: Expr, high: Expr, operand: Expr) -> Result<Items<Expr>, AllocError>
+    ensures { IfOk result (λ es. es ≡ low ∷ high ∷ operand ∷ []) }
+{
+    let mut operands = two(alloc, low, high)?;
     operands.push(operand)?;
-    Ok(Expr::Apply(place, operator, Items::new(alloc), operands))
+    Ok(operands)
 }
 
 /// `F`, `G`, `O` or `H` over its operand, with bounds or without.
@@ -136,16 +145,9 @@ pub fn timed_by(
             operand,
         ),
         Some((low, high)) => {
-            let mut operands = Items::new(alloc);
-            operands.push(low)?;
-            operands.push(high)?;
-            operands.push(operand)?;
-            Ok(Expr::Apply(
-                place,
-                Operator::Window(operator),
-                Items::new(alloc),
-                operands,
-            ))
+            let operands = bounded(alloc, low, high, operand)?;
+            let operator = Operator::Window(operator);
+            Ok(over_all(alloc, place, operator, operands))
         }
     }
 }

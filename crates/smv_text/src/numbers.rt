@@ -2,7 +2,7 @@
 
 ghost use Rattle.std.specs.Prelude.{◌≡◌, ◌≤◌, ◌<◌, ◌+◌, ◌*◌, ◌^◌, length, SomeIff, true, ◌==◌, ◌||◌};
 ghost use Rattle.std.specs.Char.{digit_value, is_digit};
-ghost use Rattle.smv_text.specs.Numbers.{underscore, number_in, base_and_rest, constant_len, sign_len, is_base, base_of, has_base, begins_constant, bits_of_digit, digits_in, width_of, fits_width, are_digits, fits_behind, is_in_form, is_word_constant};
+ghost use Rattle.smv_text.specs.Numbers.{underscore, number_in, base_and_rest, behind_sign, constant_len, sign_len, is_base, base_of, has_base, begins_constant, bits_of_digit, digits_in, width_of, fits_width, are_digits, fits_behind, is_in_form, is_word_constant};
 ghost use Rattle.smv_text.specs.Lexemes.{integer_of, constant_of};
 
 use crate::Lexeme;
@@ -60,6 +60,14 @@ pub fn sign_len(text: &[u8]) -> usize
     }
 }
 
+/// The text behind the sign of a word constant.
+pub fn behind_sign(text: &[u8]) -> &[u8]
+    ensures { result.now ≡ behind_sign text.now }
+{
+    let (_, rest) = text.split_at(sign_len(text));
+    rest
+}
+
 /// Whether the letter says a base.
 fn is_base(letter: u8) -> bool
     ensures { result ≡ is_base letter }
@@ -110,11 +118,8 @@ pub fn begins_constant(text: &[u8]) -> bool
     ensures { result ≡ begins_constant text.now }
 {
     match text {
-        [first, rest @ ..] if *first == b'0' => {
-            let (_, unsigned) = rest.split_at(sign_len(rest));
-            has_base(unsigned)
-        }
-        _ => false,
+        [first, rest @ ..] => *first == b'0' && has_base(behind_sign(rest)),
+        [] => false,
     }
 }
 
@@ -164,22 +169,29 @@ pub fn fits_width(letter: u8, bits: u128, digits: &[u8]) -> bool
     }
 }
 
+/// Whether the digits write a number of as many bits as the word constant has.
+fn fits_own_width(letter: u8, width: &[u8], digits: &[u8]) -> bool
+    ensures { result ≡ fits_width letter (width_of letter width.now digits.now) digits.now }
+{
+    match width_of(letter, width, digits) {
+        Some(bits) => fits_width(letter, bits, digits),
+        None => false,
+    }
+}
+
 /// Whether `_` and digits that fit stand behind the width.
 fn fits_behind(letter: u8, width: &[u8], text: &[u8]) -> bool
     requires { length text.now < 2 ^ 32 }
     ensures { result ≡ fits_behind letter width.now text.now }
 {
     match text {
-        [first, digits @ ..] if *first == b'_' => {
-            if !are_digits(letter, digits) || digits_in(digits) < 1 {
-                return false;
-            }
-            match width_of(letter, width, digits) {
-                Some(bits) => fits_width(letter, bits, digits),
-                None => false,
-            }
+        [first, digits @ ..] => {
+            *first == b'_'
+                && are_digits(letter, digits)
+                && 1 <= digits_in(digits)
+                && fits_own_width(letter, width, digits)
         }
-        _ => false,
+        [] => false,
     }
 }
 
@@ -209,11 +221,8 @@ fn is_word_constant(text: &[u8]) -> bool
     ensures { result ≡ is_word_constant text.now }
 {
     match text {
-        [first, rest @ ..] if *first == b'0' => {
-            let (_, unsigned) = rest.split_at(sign_len(rest));
-            base_in_form(unsigned)
-        }
-        _ => false,
+        [first, rest @ ..] => *first == b'0' && base_in_form(behind_sign(rest)),
+        [] => false,
     }
 }
 

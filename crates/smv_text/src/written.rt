@@ -4,7 +4,7 @@ ghost use Rattle.std.specs.Prelude.{◌≡◌, ◌≤◌, suc, length, drop};
 ghost use Rattle.smv_text.specs.Numbers.{width_len};
 ghost use Rattle.smv_text.specs.Written.{word_of, word_behind_sign, is_signed, word_written};
 
-use crate::numbers::{base_of, fits_width, number_in, sign_len, width_of};
+use crate::numbers::{base_of, behind_sign, fits_width, number_in, width_of};
 use crate::runs::{Run, run_len};
 use smv_value::Value;
 
@@ -73,10 +73,7 @@ pub fn word_written(text: &[u8]) -> Option<Value>
     ensures { result ≡ word_written text.now }
 {
     match text {
-        [_, rest @ ..] => {
-            let (_, unsigned) = rest.split_at(sign_len(rest));
-            word_behind_sign(is_signed(rest), unsigned)
-        }
+        [_, rest @ ..] => word_behind_sign(is_signed(rest), behind_sign(rest)),
         [] => None,
     }
 }

@@ -42,8 +42,6 @@ names_in-chain first links =
     ap names_in (sym (expr.rolls-Chain first links)) ∙ fold-roll-Expr (List Name) names_of_node (Expr-F.Chain first links)
     ∙ ap (λ names. names_in first ++ names) (flat_map-map (λ (link : Place × Operator × List Name). link.2) _ links)
 
-pub ruleset names_of = (names_in-constant, names_in-name, names_in-group, names_in-next, names_in-apply, names_in-chain)
-
 -- a list to which the second part of some elements was added, after the first
 pub goes_on : {A T E : Type 0} (result : Result T E) (new mid old xs ys whole : List A) → OnOk result (new ≡ mid ++ ys) → mid ≡ old ++ xs → whole ≡ xs ++ ys → OnOk result (new ≡ old ++ whole)
 goes_on (Ok t) new mid old xs ys whole h m w = h ∙ ap (λ l. l ++ ys) m ∙ append_assoc old xs ys ∙ ap (λ l. old ++ l) (sym w)

@@ -22,7 +22,6 @@ pub fn names_in(alloc: Global, e: &Expr) -> Result<Vec<&Name>, AllocError>
 
 // Adds the names of an expression.
 #[cycle(names)]
-#[tactic(auto, using(crate::proofs::NamesOf::names_of))]
 fn push_names<'a>(names: &mut Vec<&'a Name>, e: &'a Expr) -> Result<(), AllocError>
     ensures { OnOk result (read names.new.items ≡ read names.old.items ++ names_in e.now) }
 {

@@ -1,8 +1,9 @@
 //! Operators on lists of operands.
 
-ghost use Rattle.std.specs.Prelude.{◌≡◌, count_by, pos};
+ghost use Rattle.std.specs.Prelude.{◌≡◌, ◌≢◌, ◌∷◌, [], IsTrue, count_by, pos};
 ghost use Rattle.std.specs.List.{list_all};
-ghost use Rattle.smv_value.specs.Results.{integer, is_true, is_value, result_of};
+ghost use Rattle.smv_value.specs.declared.operator.Operator.TheVariants.{Count};
+ghost use Rattle.smv_value.specs.Results.{fault_of, integer, is_true, is_value, result_of, unless, value_of};
 
 use crate::values::{
     absolute, constant_word, divided, extended, greatest, inverted, is_true, is_value, joined,
@@ -20,113 +21,68 @@ pub fn apply(operator: Operator, operands: &[Value]) -> Result<Option<Value>, Fa
         return Ok(None);
     }
     match operator {
-        Operator::Division(o) => match operands {
-            [a, b] => divided(o, *a, *b),
-            _ => Ok(None),
-        },
-        Operator::Shift(o) => match operands {
-            [a, b] => shifted(o, *a, *b),
-            _ => Ok(None),
-        },
-        Operator::Not => match operands {
-            [a] => Ok(inverted(*a)),
-            _ => Ok(None),
-        },
-        Operator::Logic(o) => match operands {
-            [a, b] => Ok(logical(o, *a, *b)),
-            _ => Ok(None),
-        },
-        Operator::Equal => match operands {
-            [a, b] => Ok(Some(Value::Bool(same(*a, *b)))),
-            _ => Ok(None),
-        },
-        Operator::NotEqual => match operands {
-            [a, b] => Ok(Some(Value::Bool(!same(*a, *b)))),
-            _ => Ok(None),
-        },
-        Operator::Order(o) => match operands {
-            [a, b] => Ok(ordered(o, *a, *b)),
-            _ => Ok(None),
-        },
-        Operator::Negate => match operands {
-            [a] => Ok(negated(*a)),
-            _ => Ok(None),
-        },
-        Operator::Arithmetic(o) => match operands {
-            [a, b] => Ok(summed(o, *a, *b)),
-            _ => Ok(None),
-        },
-        Operator::Absolute => match operands {
-            [a] => Ok(absolute(*a)),
-            _ => Ok(None),
-        },
-        Operator::Maximum => match operands {
-            [a, b] => Ok(greatest(*a, *b)),
-            _ => Ok(None),
-        },
-        Operator::Minimum => match operands {
-            [a, b] => Ok(least(*a, *b)),
-            _ => Ok(None),
-        },
         Operator::Count => Ok(number_of_true(operands)),
-        Operator::Join => match operands {
-            [a, b] => Ok(joined(*a, *b)),
+        _ => match operands {
+            [a] => Ok(of_one(operator, *a)),
+            [a, b] => of_two(operator, *a, *b),
+            [a, b, c] => Ok(of_three(operator, *a, *b, *c)),
             _ => Ok(None),
         },
-        Operator::Select => match operands {
-            [a, high, low] => Ok(selected(*a, *high, *low)),
-            _ => Ok(None),
-        },
-        Operator::Subscript => match operands {
-            [a] => Ok(subscript(*a)),
-            _ => Ok(None),
-        },
-        Operator::ToWord => match operands {
-            [a] => Ok(to_word(*a)),
-            _ => Ok(None),
-        },
-        Operator::ToBoolean => match operands {
-            [a] => Ok(to_boolean(*a)),
-            _ => Ok(None),
-        },
-        Operator::Signed => match operands {
-            [a] => Ok(with_sign(true, *a)),
-            _ => Ok(None),
-        },
-        Operator::Unsigned => match operands {
-            [a] => Ok(with_sign(false, *a)),
-            _ => Ok(None),
-        },
-        Operator::Extend => match operands {
-            [a, by] => Ok(extended(*a, *by)),
-            _ => Ok(None),
-        },
-        Operator::Resize => match operands {
-            [a, to] => Ok(resized(*a, *to)),
-            _ => Ok(None),
-        },
-        Operator::Size => match operands {
-            [a] => Ok(size(*a)),
-            _ => Ok(None),
-        },
-        Operator::UnsignedConstant => match operands {
-            [z, width] => Ok(constant_word(false, *z, *width)),
-            _ => Ok(None),
-        },
-        Operator::SignedConstant => match operands {
-            [z, width] => Ok(constant_word(true, *z, *width)),
-            _ => Ok(None),
-        },
-        Operator::Index => Ok(None),
-        Operator::WholeArray => Ok(None),
-        Operator::Members => Ok(None),
-        Operator::Union => Ok(None),
-        Operator::Range => Ok(None),
-        Operator::In => Ok(None),
-        Operator::Choice(_) => Ok(None),
-        Operator::Temporal(_) => Ok(None),
-        Operator::Bounded(..) => Ok(None),
-        Operator::Window(_) => Ok(None),
+    }
+}
+
+fn of_one(operator: Operator, a: Value) -> Option<Value>
+    requires value { IsTrue (is_value a) }
+    requires not_count { operator ≢ Count }
+    ensures { result ≡ value_of operator (a ∷ []) }
+{
+    match operator {
+        Operator::Not => inverted(a),
+        Operator::Negate => negated(a),
+        Operator::Absolute => absolute(a),
+        Operator::Subscript => subscript(a),
+        Operator::ToWord => to_word(a),
+        Operator::ToBoolean => to_boolean(a),
+        Operator::Signed => with_sign(true, a),
+        Operator::Unsigned => with_sign(false, a),
+        Operator::Size => size(a),
+        _ => None,
+    }
+}
+
+fn of_two(operator: Operator, a: Value, b: Value) -> Result<Option<Value>, FaultRule>
+    requires left { IsTrue (is_value a) }
+    requires right { IsTrue (is_value b) }
+    requires not_count { operator ≢ Count }
+    ensures { result ≡ unless (fault_of operator (a ∷ b ∷ [])) (value_of operator (a ∷ b ∷ [])) }
+{
+    match operator {
+        Operator::Division(o) => divided(o, a, b),
+        Operator::Shift(o) => shifted(o, a, b),
+        Operator::Logic(o) => Ok(logical(o, a, b)),
+        Operator::Equal => Ok(Some(Value::Bool(same(a, b)))),
+        Operator::NotEqual => Ok(Some(Value::Bool(!same(a, b)))),
+        Operator::Order(o) => Ok(ordered(o, a, b)),
+        Operator::Arithmetic(o) => Ok(summed(o, a, b)),
+        Operator::Maximum => Ok(greatest(a, b)),
+        Operator::Minimum => Ok(least(a, b)),
+        Operator::Join => Ok(joined(a, b)),
+        Operator::Extend => Ok(extended(a, b)),
+        Operator::Resize => Ok(resized(a, b)),
+        Operator::UnsignedConstant => Ok(constant_word(false, a, b)),
+        Operator::SignedConstant => Ok(constant_word(true, a, b)),
+        _ => Ok(None),
+    }
+}
+
+fn of_three(operator: Operator, a: Value, b: Value, c: Value) -> Option<Value>
+    requires value { IsTrue (is_value a) }
+    requires not_count { operator ≢ Count }
+    ensures { result ≡ value_of operator (a ∷ b ∷ c ∷ []) }
+{
+    match operator {
+        Operator::Select => selected(a, b, c),
+        _ => None,
     }
 }
 

@@ -1,9 +1,9 @@
 //! Operators on values.
 
-ghost use Rattle.std.specs.Prelude.{◌≡◌, Bool, IsTrue, false, pos, neg_ℤ, unsigned_abs, Some};
+ghost use Rattle.std.specs.Prelude.{◌≡◌, Bool, IsTrue, false, pos, nat_lt, neg_ℤ, unsigned_abs, Some};
 ghost use Rattle.std.specs.Int.{int_max, int_min};
 ghost use Rattle.smv_value.specs.declared.value.FaultRule.TheVariants.{DivisorZero, ShiftTooFar};
-ghost use Rattle.smv_value.specs.Results.{alike, constant_word, divided, extended, fault_if, inverted, is_too_far, is_true, is_value, is_word, is_zero, joined, logical, logic_truth, of_integer, of_integers, of_number, of_numbers, ordered, resized, same, selected, shifted, size, sum_of, to_boolean, to_word, unless, with_sign};
+ghost use Rattle.smv_value.specs.Results.{alike, constant_word, counted, divided, extended, fault_if, inverted, is_too_far, is_true, is_value, is_word, is_zero, joined, logical, logic_truth, moved, of_integer, of_integers, of_number, of_numbers, ordered, resized, same, selected, shifted, size, sum_of, to_boolean, to_word, unless, word, with_sign};
 
 use crate::integers::{integer, is_int, natural};
 use crate::whole::{all_ones, counted, whole_of};
@@ -316,10 +316,10 @@ pub fn shifted(o: Shift, a: Value, b: Value) -> Result<Option<Value>, FaultRule>
             },
             Value::Int(by),
         ) => {
-            if by < 0 || i64::from(width) < by {
+            if by < 0 {
                 Err(FaultRule::ShiftTooFar)
             } else {
-                Ok(Some(words::moved(o, signed, width, bits, by as u32)))
+                moved_by(o, signed, width, bits, by as u128)
             }
         }
         (
@@ -329,20 +329,30 @@ pub fn shifted(o: Shift, a: Value, b: Value) -> Result<Option<Value>, FaultRule>
                 bits,
             },
             Value::Word {
-                signed: other_signed,
+                signed: false,
                 bits: by,
                 ..
             },
-        ) => {
-            if other_signed {
-                Ok(None)
-            } else if u128::from(width) < by {
-                Err(FaultRule::ShiftTooFar)
-            } else {
-                Ok(Some(words::moved(o, signed, width, bits, by as u32)))
-            }
-        }
+        ) => moved_by(o, signed, width, bits, by),
         _ => Ok(None),
+    }
+}
+
+// A word moved by so many places, of which it has that many.
+fn moved_by(
+    o: Shift,
+    signed: bool,
+    width: u32,
+    bits: u128,
+    by: u128,
+) -> Result<Option<Value>, FaultRule>
+    requires { IsTrue (is_word width bits) }
+    ensures { result ≡ unless (fault_if (nat_lt width by) ShiftTooFar) (Some (word signed width (moved o (counted signed width bits) by))) }
+{
+    if u128::from(width) < by {
+        Err(FaultRule::ShiftTooFar)
+    } else {
+        Ok(Some(words::moved(o, signed, width, bits, by as u32)))
     }
 }
 

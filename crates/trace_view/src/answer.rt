@@ -1,6 +1,6 @@
 //! What is written for a report.
 
-ghost use Rattle.std.specs.Prelude.{◌≡◌, ◌≤◌, ◌==◌, find, IfOk};
+ghost use Rattle.std.specs.Prelude.{◌≡◌, ◌≤◌, ◌==◌, ◌++◌, find, string_bytes, IfOk, OnOk};
 ghost use Rattle.std.specs.Option.{option_copied};
 ghost use Rattle.trace_lines.specs.declared.trace.Trace.{Trace as TraceOf};
 ghost use Rattle.trace_view.specs.Answers as answers;
@@ -48,15 +48,21 @@ fn refused(alloc: Global, line: usize) -> Result<Answer, AllocError>
 }
 
 #[tactic(auto, unfolding(crate::specs::Answers::form_text))]
+fn write_form(alloc: Global, out: &mut String, form: Form, trace: &Trace) -> Result<(), AllocError>
+    ensures { OnOk result (string_bytes out.new ≡ string_bytes out.old ++ answers.form_text form trace.now) }
+{
+    match form {
+        Form::Table => write_table(alloc, out, trace),
+        Form::Vcd => write_vcd(alloc, out, trace),
+        Form::Svg => write_svg(alloc, out, trace),
+    }
+}
+
 fn form_text(alloc: Global, form: Form, trace: &Trace) -> Result<Text, AllocError>
     ensures { IfOk result (λ text. text ≡ answers.form_text form trace.now) }
 {
     let mut out = String::new(alloc);
-    match form {
-        Form::Table => write_table(alloc, &mut out, trace)?,
-        Form::Vcd => write_vcd(alloc, &mut out, trace)?,
-        Form::Svg => write_svg(alloc, &mut out, trace)?,
-    }
+    write_form(alloc, &mut out, form, trace)?;
     Text::from_str(alloc, out.as_str())
 }
 

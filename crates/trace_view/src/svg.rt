@@ -5,7 +5,7 @@ ghost use Rattle.std.specs.Option.{option_copied};
 ghost use Rattle.std.specs.Str.{chars};
 ghost use Rattle.trace_lines.specs.Reading.{head_row};
 ghost use Rattle.trace_view.specs.Svg as svg;
-ghost use Rattle.trace_table.specs.Table.{widths};
+ghost use Rattle.trace_table.specs.Table.{time, widths};
 
 use plain_text::Text;
 use sqlite_items::Items;
@@ -394,12 +394,24 @@ fn write_rows(
     Ok(())
 }
 
+fn write_time(
+    alloc: Global,
+    out: &mut String,
+    trace: &Trace,
+    grid: Grid,
+    i: usize,
+) -> Result<(), AllocError>
+    ensures { OnOk result (string_bytes out.new ≡ string_bytes out.old ++ svg.text_at (svg.x_of grid i + 6) 17 (time trace.now i)) }
+{
+    let text = time(alloc, trace, i)?;
+    write_text(alloc, out, x_of(grid, i) + 6, 17, text.as_str())
+}
+
 fn write_times(alloc: Global, out: &mut String, trace: &Trace, grid: Grid) -> Result<(), AllocError>
     ensures { OnOk result (string_bytes out.new ≡ string_bytes out.old ++ svg.times_text trace.now grid 0 trace.now.states) }
 {
     for (i, _) in trace.states.as_slice().iter().enumerate() {
-        let text = time(alloc, trace, i)?;
-        write_text(alloc, out, x_of(grid, i) + 6, 17, text.as_str())?;
+        write_time(alloc, out, trace, grid, i)?;
     }
     Ok(())
 }

@@ -2,7 +2,7 @@
 
 ghost use Rattle.std.specs.Prelude.{◌≡◌, ◌++◌, ◌≤◌, length, drop, string_bytes, IfOk, OnOk};
 ghost use Rattle.std.specs.Option.{option_copied};
-ghost use Rattle.trace_table.specs.Kinds.{kinds_from};
+ghost use Rattle.trace_table.specs.Kinds.{column_kind, kinds_from};
 ghost use Rattle.trace_lines.specs.Reading.{head_row};
 ghost use Rattle.trace_view.specs.Vcd as vcd;
 
@@ -45,6 +45,20 @@ fn write_var(
     write!(out, " {letter}{j} {name} $end\n")
 }
 
+fn write_column(
+    alloc: Global,
+    out: &mut String,
+    rows: &[Items<Binding>],
+    letter: &str,
+    j: usize,
+    name: &Text,
+) -> Result<(), AllocError>
+    ensures { OnOk result (string_bytes out.new ≡ string_bytes out.old ++ vcd.var_text (column_kind rows.now j) letter.now j name.now) }
+{
+    let kind = column_kind(alloc, rows, j)?;
+    write_var(out, kind, letter, j, name)
+}
+
 fn write_vars(
     alloc: Global,
     out: &mut String,
@@ -54,8 +68,7 @@ fn write_vars(
     ensures { OnOk result (string_bytes out.new ≡ string_bytes out.old ++ vcd.vars_text rows.now letter.now 0 (head_row rows.now)) }
 {
     for (j, b) in head_row(rows).iter().enumerate() {
-        let kind = column_kind(alloc, rows, j)?;
-        write_var(out, kind, letter, j, &b.name)?;
+        write_column(alloc, out, rows, letter, j, &b.name)?;
     }
     Ok(())
 }
@@ -337,7 +350,7 @@ fn kinds_of(alloc: Global, trace: &Trace) -> Result<Kinds, AllocError>
 pub fn write_vcd(alloc: Global, out: &mut String, trace: &Trace) -> Result<(), AllocError>
     ensures { OnOk result (string_bytes out.new ≡ string_bytes out.old ++ vcd.vcd_text trace.now) }
 {
-    let kinds = kinds_of(alloc, trace)?;
     write_head(alloc, out, trace)?;
+    let kinds = kinds_of(alloc, trace)?;
     write_with(alloc, out, trace, &kinds)
 }

@@ -1,4 +1,5 @@
-use Rattle.std.proofs.Common.{arith, rules, ◌^◌, ◌<◌, false, length, take, ◌∙◌, ap, sym, eqb, ◌&&◌, cond, get_or}
+use Rattle.std.proofs.Common.{arith, rules, ◌^◌, ◌<◌, false, length, take, ◌∙◌, ap, sym, eqb, ltb, ◌&&◌, cond, get_or, ◌≡◌}
+use Rattle.std.proofs.lemmas.List.{take_all}
 use Rattle.bit_graph.specs.declared.edge.Edge.{Edge}
 use Rattle.bit_graph.specs.Meaning.{edge_value}
 use Rattle.bit_arith.specs.Number.{bit, number_of}
@@ -28,3 +29,15 @@ bits-preserved c = record {
         c.in_ok-same.ensures.less v h ∙ ap (λ z. cond (eqb (bit x) (bit y)) z y) old.1 ∙ sym (less_step (2 ^ c.bits.i) a b x y la lb),
       );
 }
+
+pub returns-clause-equal : goal.returns-clause-equal
+returns-clause-equal c = λ v h.
+    let all_a : take c.bits.i c.args.a.now ≡ c.args.a.now = take_all c.bits.i c.args.a.now (omega arith) in
+    let all_b : take c.bits.i c.args.b.now ≡ c.args.b.now = take_all c.bits.i c.args.b.now (omega arith) in
+    (c.bits.invariant.value v h).0 ∙ (λ k. eqb (number_of v (all_a k)) (number_of v (all_b k)))
+
+pub returns-clause-less : goal.returns-clause-less
+returns-clause-less c = λ v h.
+    let all_a : take c.bits.i c.args.a.now ≡ c.args.a.now = take_all c.bits.i c.args.a.now (omega arith) in
+    let all_b : take c.bits.i c.args.b.now ≡ c.args.b.now = take_all c.bits.i c.args.b.now (omega arith) in
+    (c.bits.invariant.value v h).1 ∙ (λ k. ltb (number_of v (all_a k)) (number_of v (all_b k)))

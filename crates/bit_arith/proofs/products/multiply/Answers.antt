@@ -46,3 +46,18 @@ bits-preserved c = record {
       ∙ horner (2 ^ length c.args.a.now) (number_of v c.args.a.now) (number_of v (drop c.bits.i c.args.b.now)) (bit (edge_value v (get_or c.args.b.now i d))) (number_of v c.deref.result.now) (p ∙ old)
       ∙ sym (ap (λ l. (number_of v c.args.a.now * number_of v l) % 2 ^ length c.args.a.now) list);
 }
+
+pub step-requires-clause-product_stand : goal.step-requires-clause-product_stand
+step-requires-clause-product_stand c = rw c.deref.ensures.value c.bits.invariant.product_stand
+
+pub step-requires-clause-lengths : goal.step-requires-clause-lengths
+step-requires-clause-lengths c = ap length c.deref.ensures.value ∙ c.bits.invariant.count
+
+pub step-requires-clause-zeros : goal.step-requires-clause-zeros
+step-requires-clause-zeros c = c.deref-in-bits.ensures.value ∙ c.in_ok-zeros.ensures
+
+pub returns-clause-value : goal.returns-clause-value
+returns-clause-value c = λ v h.
+    let none : c.bits.i ≡ 0 = omega arith in
+    c.bits.invariant.value v h
+    ∙ ap (λ k. (number_of v c.args.a.now * number_of v (drop k c.args.b.now)) % 2 ^ length c.args.a.now) none

@@ -1,7 +1,9 @@
-use Rattle.std.proofs.Common.{arith, ◌≡◌, ◌+◌, ◌*◌, ◌^◌, ◌≤◌, ◌%◌, ◌∷◌, ◌∙◌, ap, length, take}
+use Rattle.std.proofs.Common.{arith, ◌≡◌, ◌+◌, ◌*◌, ◌^◌, ◌≤◌, ◌%◌, ◌∷◌, ◌∙◌, ap, sym, length, take}
 use Rattle.std.proofs.lemmas.List.{length-take-le}
-use Rattle.bit_graph.specs.Meaning.{edge_value}
-use Rattle.bit_arith.specs.Number.{bit, number_of}
+use Rattle.std.proofs.lemmas.List.Elements.{All-cons, All-take}
+use Rattle.bit_graph.specs.Meaning.{edge_value, Stands}
+use Rattle.bit_arith.specs.Number.{bit, number_of, AllStand}
+use Rattle.bit_arith.proofs.Numbers.{AllStand-extends}
 use Rattle.bit_arith.proofs.Horner.{AllStand-constant, number_of-zeros, number_of-chosen, number-take_mod, times_bit}
 use Rattle.bit_arith.proofs.products.step.Goals as goal
 
@@ -25,3 +27,22 @@ returns-clause-value c = λ v h.
     ap (number_of v) c.deref-2.ensures.value ∙ part ∙ times_bit (edge_value v c.args.bit_edge) (number_of v c.args.a.now) (number_of v c.args.zeros.now) none in
     let size : length (take n c.deref.result.now) ≡ n = length-take-le n c.deref.result.now long in
     sum ∙ (λ i. (low i + high i) % 2 ^ size i)
+
+pub add-requires-clause-b_stand : goal.add-requires-clause-b_stand
+add-requires-clause-b_stand c = rw c.deref-2.ensures.value c.in_ok-partial.ensures.stands
+
+pub add-requires-clause-a_stand : goal.add-requires-clause-a_stand
+add-requires-clause-a_stand c =
+    let g = c.select.new.graph in
+    let zero : Stands g c.args.zero = omega (arith, c.requires.zero_stands, c.in_ok-partial.ensures.extends.longer) in
+    let product : AllStand g c.args.product.now =
+    AllStand-extends c.args.graph.now g c.args.product.now c.in_ok-partial.ensures.extends c.requires.product_stand in
+    All-take (Stands g) (length c.args.a.now) c.deref.result.now
+    (rw (c.deref.ensures.value, c.in_ok-doubled.ensures) (All-cons (Stands g) c.args.zero c.args.product.now zero product))
+
+pub add-requires-clause-lengths : goal.add-requires-clause-lengths
+add-requires-clause-lengths c =
+    let n = length c.args.a.now in
+    let list : c.deref.result.now ≡ c.args.zero ∷ c.args.product.now = c.deref.ensures.value ∙ c.in_ok-doubled.ensures in
+    let long : n ≤ length c.deref.result.now = omega (arith, ap length list, c.requires.lengths) in
+    length-take-le n c.deref.result.now long ∙ sym (ap length c.deref-2.ensures.value ∙ c.in_ok-partial.ensures.length)

@@ -1,8 +1,9 @@
 use Rattle.std.proofs.Common.{arith, ◌≡◌, ◌+◌, ◌*◌, ◌^◌, ◌<◌, ◌≤◌, ◌%◌, ◌∷◌, ◌∙◌, ap, sym, length, cond, subst, ℕ}
 use Rattle.std.proofs.Math.Nat.{pow-suc}
-use Rattle.bit_graph.specs.Meaning.{edge_value}
+use Rattle.std.proofs.lemmas.List.Elements.{All-cons, All-take}
+use Rattle.bit_graph.specs.Meaning.{edge_value, Stands}
 use Rattle.bit_arith.specs.Number.{bit, number_of}
-use Rattle.bit_arith.proofs.Numbers.{bit-le, number-lt}
+use Rattle.bit_arith.proofs.Numbers.{bit-le, number-lt, AllStand-extends}
 use Rattle.bit_arith.proofs.Horner.{number_of-chosen, number-take_mod}
 use Rattle.bit_arith.proofs.Digits.{takes}
 use Rattle.bit_arith.proofs.quotients.digit.Goals as goal
@@ -34,3 +35,22 @@ returns-clause-value c = λ v h.
     takes n (number_of v c.args.rest.now) (bit (edge_value v c.args.low)) (number_of v c.args.divisor.now) (number_of v c.in_ok-difference.difference.items)
     (number_of v c.in_ok-chosen.chosen.items) (number_of v c.in_ok-kept.kept.items) (edge_value v c.in_ok-difference.fits) (bit-le (edge_value v c.args.low))
     (number-lt (edge_value v) c.args.rest.now) d small chosen next
+
+pub subtract_carry-requires-clause-a_stand : goal.subtract_carry-requires-clause-a_stand
+subtract_carry-requires-clause-a_stand c =
+    rw (c.deref.ensures.value, c.in_ok-whole.ensures) (All-cons (Stands c.args.graph.now) c.args.low c.args.rest.now c.requires.low_stands c.requires.rest_stand)
+
+pub select-requires-clause-a_stand : goal.select-requires-clause-a_stand
+select-requires-clause-a_stand c = rw c.deref-2.ensures.value c.in_ok-difference.ensures.stands.0
+
+pub select-requires-clause-b_stand : goal.select-requires-clause-b_stand
+select-requires-clause-b_stand c =
+    rw (c.deref-3.ensures.value, c.in_ok-whole.ensures)
+    (AllStand-extends c.args.graph.now c.subtract_carry.new.graph (c.args.low ∷ c.args.rest.now) c.in_ok-difference.ensures.extends
+    (All-cons (Stands c.args.graph.now) c.args.low c.args.rest.now c.requires.low_stands c.requires.rest_stand))
+
+pub returns-clause-stands : goal.returns-clause-stands
+returns-clause-stands c = (
+  omega (arith, c.in_ok-difference.ensures.stands.1, c.in_ok-chosen.ensures.extends.longer),
+  rw (c.in_ok-kept.ensures.items, c.deref-4.ensures.value) (All-take (Stands c.select.new.graph) (length c.args.rest.now) c.in_ok-chosen.chosen.items c.in_ok-chosen.ensures.stands),
+)

@@ -1,4 +1,4 @@
-use Rattle.std.proofs.Common.{arith, rules, ◌/◌, Bool, eqb, inl, inr, List, ◌≡◌, ◌+◌, ◌-◌, ◌*◌, ◌^◌, ◌<◌, ◌%◌, ◌∷◌, ◌∙◌, ap, sym, length, cond, suc, false, get_or, drop, drop-cons, set, subst, ℕ, ◌++◌, []}
+use Rattle.std.proofs.Common.{arith, rules, ◌/◌, Bool, eqb, inl, inr, List, ◌≡◌, ◌+◌, ◌-◌, ◌*◌, ◌^◌, ◌<◌, ◌%◌, ◌∷◌, ◌∙◌, ap, sym, length, cond, suc, false, get_or, drop, drop-cons, set, subst, ℕ, ◌++◌, [], length-append}
 use Rattle.std.proofs.lemmas.List.{length-map, drop-set}
 use Rattle.std.proofs.lemmas.List.Elements.{All-push, All-set}
 use Rattle.std.proofs.lemmas.Bool.{cases_Bool, eqb-true, eqb-false}
@@ -152,3 +152,17 @@ returns-clause-remainder c = λ v h.
           (divided v c.args.a.now c.args.b.now c.bits.quotient.items c.bits.rest.items c.bits.i e (c.bits.invariant.value v h) pos).1
           ∙ sym (ap (λ c. cond c a (a % b)) z)
     ]
+
+pub digit-requires-clause-lengths : goal.digit-requires-clause-lengths
+digit-requires-clause-lengths c =
+    let rest : length c.deref.result.now ≡ length c.args.b.now = ap length c.deref.ensures.value ∙ c.bits.invariant.rest_count ∙ c.requires.lengths in
+    let divisor : length c.deref-in-bits.result.now ≡ length c.args.b.now + 1 =
+    ap length (c.deref-in-bits.ensures.value ∙ c.in_ok-push.ensures.items ∙ ap (λ l. l ++ c.constant-zero.result ∷ []) c.in_ok-divisor.ensures.items)
+    ∙ length-append c.args.b.now (c.constant-zero.result ∷ []) in
+    ap (λ n. n + 1) rest ∙ sym divisor
+
+pub digit-requires-clause-rest_stand : goal.digit-requires-clause-rest_stand
+digit-requires-clause-rest_stand c = rw c.deref.ensures.value c.bits.invariant.rest_stand
+
+pub digit-requires-clause-divisor_stand : goal.digit-requires-clause-divisor_stand
+digit-requires-clause-divisor_stand c = rw c.deref-in-bits.ensures.value c.bits.invariant.divisor_stand

@@ -1,4 +1,5 @@
 use Rattle.std.proofs.Common.{◌≡◌, ◌<◌, ◌∙◌, ◌+◌, ◌^◌, ℕ, false, arith, rules, ap, sym, subst, length, get_or, inl, take, cond, refl}
+use Rattle.std.proofs.lemmas.List.{take_all}
 use Rattle.bit_graph.specs.declared.edge.Edge.{Edge}
 use Rattle.bit_graph.specs.Meaning.{edge_value}
 use Rattle.bit_arith.specs.Number.{number_of}
@@ -52,3 +53,12 @@ bits-preserved c = record {
       (stage c.args.left fill b n (number_of v (take c.bits.j c.args.amount.now)) c.bits.step (2 ^ c.bits.j) (number_of v c.args.a.now) current
       (number_of v c.in_ok-next.next.items) c.bits.invariant.step (number-lt (edge_value v) c.args.a.now) small old chosen);
 }
+
+pub select-requires-clause-b_stand : goal.select-requires-clause-b_stand
+select-requires-clause-b_stand c = rw c.deref-in-bits-2.ensures.value c.bits.invariant.current_stand
+
+pub returns-clause-value : goal.returns-clause-value
+returns-clause-value c = λ v h.
+    let all : take c.bits.j c.args.amount.now ≡ c.args.amount.now = take_all c.bits.j c.args.amount.now (omega arith) in
+    c.bits.invariant.value v h
+    ∙ ap (λ es. shifted c.args.left (length c.args.a.now) (number_of v es) (edge_value v c.args.fill) (number_of v c.args.a.now)) all

@@ -1,17 +1,38 @@
 use Rattle.std.proofs.Common.{◌≡◌, ◌^◌, ◌<◌, ◌∙◌, ap, sym, length, subst, ℕ, false, refl}
+use Rattle.std.proofs.lemmas.Result.{IfOk-weaker}
 use Rattle.bit_graph.specs.Meaning.{edge_value, exclusive_or}
 use Rattle.bit_arith.specs.Number.{number_of}
 use Rattle.bit_arith.specs.Words.{is_negative, quotient, remainder}
-use Rattle.bit_arith.proofs.Numbers.{number-lt}
+use Rattle.bit_arith.proofs.Numbers.{number-lt, AllStand-extends}
 use Rattle.bit_arith.proofs.TwosComplement.{size, size_of, signed_quotient, signed_remainder}
 use Rattle.bit_arith.proofs.signs.divide_signed.Goals as goal
 
+pub negate_if-requires-2-clause-a_stand : goal.negate_if-requires-2-clause-a_stand
+negate_if-requires-2-clause-a_stand c = AllStand-extends c.args.graph.now c.negate_if.new.graph c.args.b.now c.in_ok-size_a.ensures.extends c.requires.b_stand
+
+pub divide_sizes-requires-clause-lengths : goal.divide_sizes-requires-clause-lengths
+divide_sizes-requires-clause-lengths c =
+    ap length c.deref.ensures.value ∙ c.in_ok-size_a.ensures.length ∙ c.requires.lengths
+    ∙ sym (ap length c.deref-2.ensures.value ∙ c.in_ok-size_b.ensures.length)
+
+pub divide_sizes-requires-clause-size_a_stand : goal.divide_sizes-requires-clause-size_a_stand
+divide_sizes-requires-clause-size_a_stand c =
+    rw c.deref.ensures.value
+    (AllStand-extends c.negate_if.new.graph c.negate_if-2.new.graph c.in_ok-size_a.size_a.items c.in_ok-size_b.ensures.extends c.in_ok-size_a.ensures.stands)
+
+pub divide_sizes-requires-clause-size_b_stand : goal.divide_sizes-requires-clause-size_b_stand
+divide_sizes-requires-clause-size_b_stand c = rw c.deref-2.ensures.value c.in_ok-size_b.ensures.stands
+
+pub returns-clause-length : goal.returns-clause-length
+returns-clause-length c =
+    let width : length c.deref.result.now ≡ length c.args.a.now = ap length c.deref.ensures.value ∙ c.in_ok-size_a.ensures.length in
+    IfOk-weaker c.divide_sizes.result _ _ (λ r e. (e.0 ∙ width, e.1 ∙ width)) c.divide_sizes.ensures.length
+
 pub returns-clause-quotient : goal.returns-clause-quotient
-returns-clause-quotient c = λ v h.
-    let after_quotient = c.in_ok-remainder.ensures.extends.kept v h in
-    let after_apart = c.in_ok-quotient.ensures.extends.kept v after_quotient in
-    let after_size = c.in_ok-apart.ensures.extends.kept v after_apart in
-    let after_b = c.in_ok-size.ensures.extends.kept v after_size in
+returns-clause-quotient c =
+    IfOk-weaker c.divide_sizes.result _ _
+    (λ r f v h.
+    let after_b = c.divide_sizes.ensures.extends.kept v h in
     let after_a = c.in_ok-size_b.ensures.extends.kept v after_b in
     let first = c.in_ok-size_a.ensures.extends.kept v after_a in
     let n = length c.args.a.now in
@@ -28,21 +49,17 @@ returns-clause-quotient c = λ v h.
     let y : number_of v c.deref-2.result.now ≡ size t n b =
     ap (number_of v) c.deref-2.ensures.value ∙ c.in_ok-size_b.ensures.value v after_b ∙ ap (λ m. size t m b) lengths in
     let width : length c.deref.result.now ≡ n = ap length c.deref.ensures.value ∙ c.in_ok-size_a.ensures.length in
-    let q : number_of v c.in_ok-size.size.items ≡ quotient false n (size s n a) (size t n b) =
-    c.in_ok-size.ensures.quotient v after_size ∙ (λ i. quotient false (width i) (x i) (y i)) in
-    let long : length c.deref-3.result.now ≡ n = ap length c.deref-3.ensures.value ∙ c.in_ok-size.ensures.length.0 ∙ width in
-    let r : number_of v c.in_ok-quotient.quotient.items ≡ size (exclusive_or s t) n (number_of v c.in_ok-size.size.items) =
-    c.in_ok-quotient.ensures.value v after_quotient
-    ∙ (λ i. size (c.in_ok-apart.ensures.value v after_apart i) (long i) (number_of v (c.deref-3.ensures.value i))) in
-    signed_quotient n s t a b (size s n a) (size t n b) (number_of v c.in_ok-size.size.items) (number_of v c.in_ok-quotient.quotient.items)
-    s_is small_a (size_of s n a s_is small_a) (size_of t n b t_is small_b) q r
+    let q = quotient false n (size s n a) (size t n b) in
+    signed_quotient n s t a b (size s n a) (size t n b) q (number_of v r.0.items)
+    s_is small_a (size_of s n a s_is small_a) (size_of t n b t_is small_b) refl
+    (f v h ∙ (λ i. size (exclusive_or s t) (width i) (quotient false (width i) (x i) (y i)))))
+    c.divide_sizes.ensures.quotient
 
 pub returns-clause-remainder : goal.returns-clause-remainder
-returns-clause-remainder c = λ v h.
-    let after_quotient = c.in_ok-remainder.ensures.extends.kept v h in
-    let after_apart = c.in_ok-quotient.ensures.extends.kept v after_quotient in
-    let after_size = c.in_ok-apart.ensures.extends.kept v after_apart in
-    let after_b = c.in_ok-size.ensures.extends.kept v after_size in
+returns-clause-remainder c =
+    IfOk-weaker c.divide_sizes.result _ _
+    (λ r f v h.
+    let after_b = c.divide_sizes.ensures.extends.kept v h in
     let after_a = c.in_ok-size_b.ensures.extends.kept v after_b in
     let first = c.in_ok-size_a.ensures.extends.kept v after_a in
     let n = length c.args.a.now in
@@ -59,10 +76,8 @@ returns-clause-remainder c = λ v h.
     let y : number_of v c.deref-2.result.now ≡ size t n b =
     ap (number_of v) c.deref-2.ensures.value ∙ c.in_ok-size_b.ensures.value v after_b ∙ ap (λ m. size t m b) lengths in
     let width : length c.deref.result.now ≡ n = ap length c.deref.ensures.value ∙ c.in_ok-size_a.ensures.length in
-    let q : number_of v c.in_ok-size.rest.items ≡ remainder false n (size s n a) (size t n b) =
-    c.in_ok-size.ensures.remainder v after_size ∙ (λ i. remainder false (width i) (x i) (y i)) in
-    let long : length c.deref-4.result.now ≡ n = ap length c.deref-4.ensures.value ∙ c.in_ok-size.ensures.length.1 ∙ width in
-    let r : number_of v c.in_ok-remainder.remainder.items ≡ size s n (number_of v c.in_ok-size.rest.items) =
-    c.in_ok-remainder.ensures.value v h ∙ (λ i. size s (long i) (number_of v (c.deref-4.ensures.value i))) in
-    signed_remainder n s t a b (size s n a) (size t n b) (number_of v c.in_ok-size.rest.items) (number_of v c.in_ok-remainder.remainder.items)
-    (size_of s n a s_is small_a) refl (size_of t n b t_is small_b) q r
+    let m = remainder false n (size s n a) (size t n b) in
+    signed_remainder n s t a b (size s n a) (size t n b) m (number_of v r.1.items)
+    (size_of s n a s_is small_a) refl (size_of t n b t_is small_b) refl
+    (f v h ∙ (λ i. size s (width i) (remainder false (width i) (x i) (y i)))))
+    c.divide_sizes.ensures.remainder

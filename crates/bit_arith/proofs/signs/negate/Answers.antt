@@ -18,3 +18,6 @@ returns-clause-value c = λ v h.
     ap (number_of v) (c.deref.ensures.value ∙ c.in_ok-zeros.ensures) ∙ number_of-zeros v c.constant-zero.result c.args.a.now (c.constant-zero.ensures.value v kept) in
     let none : 0 + 2 ^ length c.args.a.now - a ≡ 2 ^ length c.args.a.now - a = omega arith in
     c.in_ok-less.ensures.value v h ∙ (λ i. difference (size i) (zero i) a) ∙ ap (λ m. m % 2 ^ length c.args.a.now) none
+
+pub subtract-requires-clause-lengths : goal.subtract-requires-clause-lengths
+subtract-requires-clause-lengths c = ap length (c.deref.ensures.value ∙ c.in_ok-zeros.ensures) ∙ length-map c.args.a.now _

@@ -2,6 +2,7 @@
 use Rattle.std.proofs.Common.{◌≡◌, ◌∙◌, ◌+◌, ◌*◌, Bool, true, false, ◌&&◌, ◌||◌, cond, ap, refl}
 use Rattle.bit_graph.specs.Meaning.{edge_value, exclusive_or}
 use Rattle.bit_arith.specs.Number.{bit}
+use Rattle.bit_arith.proofs.Numbers.{Extends-trans}
 use Rattle.bit_arith.proofs.sums.full_adder.Goals as goal
 
 adds : (x y z : Bool) → bit (exclusive_or (exclusive_or x y) z) + 2 * bit (cond x (y || z) (y && z)) ≡ bit x + bit y + bit z
@@ -28,3 +29,11 @@ returns-clause-value c = λ v ok.
     let both = c.in_ok-both.ensures.value v before_over in
     let over = c.in_ok-over.ensures.value v ok ∙ (λ i. cond x (either i) (both i)) in
     (λ i. bit (sum i) + 2 * bit (over i)) ∙ adds x y z
+
+pub returns-clause-extends : goal.returns-clause-extends
+returns-clause-extends c =
+    Extends-trans (Extends-trans (Extends-trans (Extends-trans c.in_ok-half.ensures.extends c.in_ok-sum.ensures.extends) c.in_ok-either.ensures.extends) c.in_ok-both.ensures.extends) c.in_ok-over.ensures.extends
+
+pub returns-in_err-over-clause-extends : goal.returns-in_err-over-clause-extends
+returns-in_err-over-clause-extends c =
+    Extends-trans (Extends-trans (Extends-trans (Extends-trans c.in_ok-half.ensures.extends c.in_ok-sum.ensures.extends) c.in_ok-either.ensures.extends) c.in_ok-both.ensures.extends) c.choose.ensures.extends

@@ -1,6 +1,7 @@
-use Rattle.std.proofs.Common.{arith, ◌≡◌, ◌^◌, ◌∙◌, ap, length, map}
+use Rattle.std.proofs.Common.{arith, ◌≡◌, ◌^◌, ◌∙◌, ap, length, map, sym}
 use Rattle.bit_graph.specs.Meaning.{edge_value}
 use Rattle.bit_arith.specs.Number.{bit, number_of, flip}
+use Rattle.std.proofs.lemmas.List.{length-map}
 use Rattle.bit_arith.proofs.Numbers.{number_of-flip, AllStand-flip}
 use Rattle.bit_arith.proofs.sums.subtract_carry.Goals as goal
 
@@ -16,3 +17,7 @@ returns-clause-value c = λ v h.
     let n = number_of-flip v c.args.b.now in
     let l : 2 ^ length c.args.a.now ≡ 2 ^ length c.args.b.now = ap (λ n. 2 ^ n) c.requires.lengths in
     omega (arith, e, z, i, n, l)
+
+pub add_carry-requires-clause-lengths : goal.add_carry-requires-clause-lengths
+add_carry-requires-clause-lengths c =
+    c.requires.lengths ∙ sym (ap length (c.deref.ensures.value ∙ c.in_ok-inverted.ensures) ∙ length-map c.args.b.now _)

@@ -12,8 +12,8 @@ returns-in-Added-clause-done c =
     let f : FrameState = c.args.levels.now in
     let p : ProvedClause = c.args.proved in
     let n : ℕ = c.in-Added.field-0 in
-    let now : FrameState = c.insert.new.self in
-    let done : InsertsSame f p (insertion.Added n) now = subst (λ (r : Insertion). InsertsSame f p r now) c.in-Added.is c.in-Ok-insert.ensures.done in
+    let now : FrameState = c.insert_copy.new.levels in
+    let done : InsertsSame f p (insertion.Added n) now = subst (λ (r : Insertion). InsertsSame f p r now) c.in-Added.is c.in-Ok.ensures.done in
     let e = c.into_parts-clause.ensures in
     let r = added_is f now c.args.made.now c.args.o n p c.into_parts-clause.result.clause c.level-level.result c.into_parts-clause.result.parents.items
     c.requires.subject c.requires.level c.requires.unmet c.requires.same e.shown done e.clause c.level-level.ensures e.parents in
@@ -24,8 +24,8 @@ returns-in-Held-clause-done c =
     let f : FrameState = c.args.levels.now in
     let p : ProvedClause = c.args.proved in
     let n : ℕ = c.in-Held.lemma in
-    let now : FrameState = c.insert.new.self in
-    let done : InsertsSame f p (insertion.Held n) now = subst (λ (r : Insertion). InsertsSame f p r now) c.in-Held.is c.in-Ok-insert.ensures.done in
+    let now : FrameState = c.insert_copy.new.levels in
+    let done : InsertsSame f p (insertion.Held n) now = subst (λ (r : Insertion). InsertsSame f p r now) c.in-Held.is c.in-Ok.ensures.done in
     let e = c.into_parts-clause.ensures in
     let r = held_is f now c.args.made.now c.args.o n p c.into_parts-clause.result.clause c.level-level.result
     c.requires.subject c.requires.level c.requires.unmet done e.clause c.level-level.ensures in

@@ -1,4 +1,5 @@
-use Rattle.std.proofs.Common.{sym, ap, ◌∙◌, subst}
+use Rattle.std.proofs.Common.{refl, sym, ◌∙◌, subst}
+use Rattle.std.proofs.lemmas.Result.{IfOk-weaker}
 use Rattle.clause_core.specs.Systems.{IsSystem}
 use Rattle.ltl_meaning.specs.Temporal.{formula_of}
 use Rattle.ltl_meaning.specs.Unfolded.{unfolded}
@@ -8,17 +9,18 @@ use Rattle.ltl_monitor.specs.Drafting.{all_moved}
 use Rattle.ltl_monitor.proofs.Whole.{is_system, is_monitor, assembled_same, room_same, room}
 use Rattle.ltl_monitor.proofs.monitoring.monitored.Goals as goal
 
-pub assemble-requires-clause-valid : goal.assemble-requires-clause-valid
-assemble-requires-clause-valid c =
+pub with_draft-requires-clause-valid : goal.with_draft-requires-clause-valid
+with_draft-requires-clause-valid c =
+    let sys = c.args.system.now in
     let f = unfolded (formula_of c.args.formula.now.root) in
+    let p = c.in_ok-layout.layout in
     subst IsSystem
-    (sym (assembled_same c.args.system.now f c.args.atoms.now c.in_ok-layout.layout c.in_ok-nodes.nodes c.in_ok-bad.bad c.in_ok-good.good c.in_ok-draft.draft
-    c.in_ok-nodes.ensures c.in_ok-layout.ensures (c.in_ok-bad.ensures ∙ ap (all_moved c.in_ok-layout.layout Space.System) c.bad.ensures)
-    (c.in_ok-good.ensures ∙ ap (all_moved c.in_ok-layout.layout Space.System) c.good.ensures) c.in_ok-draft.ensures))
-    (is_system c.args.system.now f c.args.atoms.now c.law.ensures c.requires.numbers c.requires.within c.requires.given)
+    (sym (assembled_same sys f c.args.atoms.now p c.in_ok-nodes.nodes (all_moved p Space.System sys.bad) (all_moved p Space.System sys.good) c.in_ok-draft.draft
+    c.in_ok-nodes.ensures c.in_ok-layout.ensures refl refl c.in_ok-draft.ensures))
+    (is_system sys f c.args.atoms.now c.law.ensures c.requires.numbers c.requires.within c.requires.given)
 
-pub assemble-requires-clause-room : goal.assemble-requires-clause-room
-assemble-requires-clause-room c =
+pub with_draft-requires-clause-room : goal.with_draft-requires-clause-room
+with_draft-requires-clause-room c =
     let f = unfolded (formula_of c.args.formula.now.root) in
     room_same c.args.system.now f c.args.atoms.now c.in_ok-layout.layout c.in_ok-nodes.nodes c.in_ok-draft.draft
     c.in_ok-nodes.ensures c.in_ok-layout.ensures c.in_ok-draft.ensures
@@ -26,11 +28,14 @@ assemble-requires-clause-room c =
 
 pub returns : goal.returns
 returns c =
+    let sys = c.args.system.now in
     let f = unfolded (formula_of c.args.formula.now.root) in
-    subst (IsMonitor c.args.system.now f c.args.atoms.now)
+    let p = c.in_ok-layout.layout in
+    IfOk-weaker c.with_draft.result _ _
+    (λ m e. subst (IsMonitor sys f c.args.atoms.now)
     (sym
-    (c.in_ok-system.ensures
-    ∙ assembled_same c.args.system.now f c.args.atoms.now c.in_ok-layout.layout c.in_ok-nodes.nodes c.in_ok-bad.bad c.in_ok-good.good c.in_ok-draft.draft
-    c.in_ok-nodes.ensures c.in_ok-layout.ensures (c.in_ok-bad.ensures ∙ ap (all_moved c.in_ok-layout.layout Space.System) c.bad.ensures)
-    (c.in_ok-good.ensures ∙ ap (all_moved c.in_ok-layout.layout Space.System) c.good.ensures) c.in_ok-draft.ensures))
-    (is_monitor c.args.system.now f c.args.atoms.now c.law.ensures c.requires.numbers c.requires.within c.requires.given)
+    (e
+    ∙ assembled_same sys f c.args.atoms.now p c.in_ok-nodes.nodes (all_moved p Space.System sys.bad) (all_moved p Space.System sys.good) c.in_ok-draft.draft
+    c.in_ok-nodes.ensures c.in_ok-layout.ensures refl refl c.in_ok-draft.ensures))
+    (is_monitor sys f c.args.atoms.now c.law.ensures c.requires.numbers c.requires.within c.requires.given))
+    c.with_draft.ensures

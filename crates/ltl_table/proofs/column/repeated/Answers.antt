@@ -1,5 +1,4 @@
 use Rattle.std.proofs.Common.{◌+◌, arith, subst, sym}
-use Rattle.ltl_meaning.specs.Ltl.{past_height}
 use Rattle.ltl_meaning.specs.Unfolded.{repeated}
 use Rattle.ltl_meaning.specs.Truth.{Satisfies}
 use Rattle.ltl_meaning.specs.Lasso.{on}

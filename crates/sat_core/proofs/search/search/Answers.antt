@@ -183,3 +183,95 @@ follow-requires-clause-rest g c i li =
     let new = c.propagate.new.self in
     (levels_went (g.P.Propagator.trail old) (g.P.Propagator.trail new) (g.P.Propagator.clauses old) (g.P.Propagator.clauses new) c.args.assumptions.now
     c.search.invariant.levels c.in_ok-k.ensures.extends c.in_ok-k.ensures.clauses_kept i li).0
+
+pub returns-in_err-k-clause-learned : goal.returns-in_err-k-clause-learned
+returns-in_err-k-clause-learned g c =
+    let first = c.args.inner.now in
+    let P : List (List Lit) → Type 0 = GrowsByLearning (length (g.P.Propagator.trail first).values.items) c.args.assumptions.now (g.P.Propagator.clauses first) in
+    subst P (sym (c.in_err-k.ensures.clauses_kept)) c.search.invariant.learned
+
+pub returns-in_err-k-clause-vars : goal.returns-in_err-k-clause-vars
+returns-in_err-k-clause-vars g c = c.in_err-k.ensures.extends.vars ∙ c.search.invariant.vars
+
+pub returns-then-len-eq0-clause-learned : goal.returns-then-len-eq0-clause-learned
+returns-then-len-eq0-clause-learned g c =
+    let first = c.args.inner.now in
+    let P : List (List Lit) → Type 0 = GrowsByLearning (length (g.P.Propagator.trail first).values.items) c.args.assumptions.now (g.P.Propagator.clauses first) in
+    subst P (sym (c.in_ok-k.ensures.clauses_kept)) c.search.invariant.learned
+
+pub returns-then-len-eq0-clause-vars : goal.returns-then-len-eq0-clause-vars
+returns-then-len-eq0-clause-vars g c = c.in_ok-k.ensures.extends.vars ∙ c.search.invariant.vars
+
+pub returns-in_err-learned-in-Some-clause-learned : goal.returns-in_err-learned-in-Some-clause-learned
+returns-in_err-learned-in-Some-clause-learned g c =
+    let first = c.args.inner.now in
+    let P : List (List Lit) → Type 0 = GrowsByLearning (length (g.P.Propagator.trail first).values.items) c.args.assumptions.now (g.P.Propagator.clauses first) in
+    subst P (sym (c.in_ok-k.ensures.clauses_kept)) c.search.invariant.learned
+
+pub returns-in_err-learned-in-Some-clause-vars : goal.returns-in_err-learned-in-Some-clause-vars
+returns-in_err-learned-in-Some-clause-vars g c = c.in_ok-k.ensures.extends.vars ∙ c.search.invariant.vars
+
+pub returns-in-Spent-clause-learned : goal.returns-in-Spent-clause-learned
+returns-in-Spent-clause-learned g c =
+    let first = c.args.inner.now in
+    let P : List (List Lit) → Type 0 = GrowsByLearning (length (g.P.Propagator.trail first).values.items) c.args.assumptions.now (g.P.Propagator.clauses first) in
+    subst P (sym (c.in_ok-k.ensures.clauses_kept)) c.search.invariant.learned
+
+pub returns-in-Spent-clause-vars : goal.returns-in-Spent-clause-vars
+returns-in-Spent-clause-vars g c = c.in_ok-k.ensures.extends.vars ∙ c.search.invariant.vars
+
+pub returns-then-len-eq0-clause-paid : goal.returns-then-len-eq0-clause-paid
+returns-then-len-eq0-clause-paid g c =
+    let P : List (List Lit) → Type 0 = PaidFor (g.Q.Purse.tickets c.args.purse.now) (g.Q.Purse.tickets c.search.purse) (g.P.Propagator.clauses c.args.inner.now) in
+    subst P (sym (c.in_ok-k.ensures.clauses_kept)) c.search.invariant.paid
+
+pub returns-in_err-follow-in-Some-clause-learned : goal.returns-in_err-follow-in-Some-clause-learned
+returns-in_err-follow-in-Some-clause-learned g c =
+    let first = c.args.inner.now in
+    let P : List (List Lit) → Type 0 = GrowsByLearning (length (g.P.Propagator.trail first).values.items) c.args.assumptions.now (g.P.Propagator.clauses first) in
+    subst P (sym (c.in_err-follow-in-Some.ensures.failed ∙ c.in_ok-k.ensures.clauses_kept)) c.search.invariant.learned
+
+pub returns-in_err-follow-in-Some-clause-vars : goal.returns-in_err-follow-in-Some-clause-vars
+returns-in_err-follow-in-Some-clause-vars g c = c.in_err-follow-in-Some.ensures.vars ∙ c.in_ok-k.ensures.extends.vars ∙ c.search.invariant.vars
+
+pub returns-in_err-e-in-None-clause-learned : goal.returns-in_err-e-in-None-clause-learned
+returns-in_err-e-in-None-clause-learned g c =
+    let first = c.args.inner.now in
+    let P : List (List Lit) → Type 0 = GrowsByLearning (length (g.P.Propagator.trail first).values.items) c.args.assumptions.now (g.P.Propagator.clauses first) in
+    subst P (sym (c.choose.ensures.clauses ∙ c.in_ok-k.ensures.clauses_kept)) c.search.invariant.learned
+
+pub returns-in_err-e-in-None-clause-vars : goal.returns-in_err-e-in-None-clause-vars
+returns-in_err-e-in-None-clause-vars g c = c.choose.ensures.vars ∙ c.in_ok-k.ensures.extends.vars ∙ c.search.invariant.vars
+
+pub returns-in-Some-2-clause-learned : goal.returns-in-Some-2-clause-learned
+returns-in-Some-2-clause-learned g c =
+    let first = c.args.inner.now in
+    let P : List (List Lit) → Type 0 = GrowsByLearning (length (g.P.Propagator.trail first).values.items) c.args.assumptions.now (g.P.Propagator.clauses first) in
+    subst P (sym (c.choose.ensures.clauses ∙ c.in_ok-k.ensures.clauses_kept)) c.search.invariant.learned
+
+pub returns-in-Some-2-clause-vars : goal.returns-in-Some-2-clause-vars
+returns-in-Some-2-clause-vars g c = c.choose.ensures.vars ∙ c.in_ok-k.ensures.extends.vars ∙ c.search.invariant.vars
+
+pub returns-in-Some-2-clause-paid : goal.returns-in-Some-2-clause-paid
+returns-in-Some-2-clause-paid g c =
+    let P : List (List Lit) → Type 0 = PaidFor (g.Q.Purse.tickets c.args.purse.now) (g.Q.Purse.tickets c.search.purse) (g.P.Propagator.clauses c.args.inner.now) in
+    subst P (sym (c.choose.ensures.clauses ∙ c.in_ok-k.ensures.clauses_kept)) c.search.invariant.paid
+
+pub search-preserved : goal.search-preserved
+search-preserved g c =
+    let first = c.args.inner.now in
+    let inv = c.search.invariant in
+    let said = c.in_ok-e-in-None.ensures in
+    let same : g.P.Propagator.clauses c.choose.new.inner ≡ g.P.Propagator.clauses c.search.inner = said.clauses ∙ c.in_ok-k.ensures.clauses_kept in
+    let L : List (List Lit) → Type 0 = GrowsByLearning (length (g.P.Propagator.trail first).values.items) c.args.assumptions.now (g.P.Propagator.clauses first) in
+    let K : List (List Lit) → Type 0 = PaidFor (g.Q.Purse.tickets c.args.purse.now) (g.Q.Purse.tickets c.search.purse) (g.P.Propagator.clauses first) in
+    record {
+      learned = subst L (sym same) inv.learned;
+      vars = said.vars ∙ c.in_ok-k.ensures.extends.vars ∙ inv.vars;
+      levels = said.levels;
+      seen = said.seen;
+      kept = inv.kept;
+      ready = inv.ready;
+      budget = inv.budget;
+      paid = subst K (sym same) inv.paid;
+    }

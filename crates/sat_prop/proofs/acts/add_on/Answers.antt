@@ -1,5 +1,8 @@
 use Rattle.std.proofs.Common.{◌∷◌, ◌++◌, List, [], length, take, arith, subst, sym, ap, ◌∙◌}
+use Rattle.std.specs.List.{All}
+use Rattle.std.proofs.lemmas.List.Elements.{All-push}
 use Rattle.clause_core.specs.declared.literal.Lit.{Lit}
+use Rattle.clause_core.specs.Literals.{Within}
 use Rattle.sat_prop.specs.Packing.{pairs}
 use Rattle.sat_prop.specs.declared.watch.Watches.{Watches}
 use Rattle.sat_prop.specs.Trails.{Based}
@@ -32,6 +35,40 @@ pub attach-requires-clause-b_cell : goal.attach-requires-clause-b_cell
 attach-requires-clause-b_cell c big =
     let v = head_cell (length c.args.trail.now.values.items) c.args.c.now c.watches_of-h.result.b c.requires.within (c.watches_of-h.ensures.0 big).1 in
     omega (arith, cell_in c.watches_of-h.result.b (length c.args.trail.now.values.items) v, c.requires.cells)
+
+pub returns-in_err-attach-clause-based_in : goal.returns-in_err-attach-clause-based_in
+returns-in_err-attach-clause-based_in c =
+    let t = c.args.trail.now in
+    let P : List (List Lit) → Type 0 = Based t.literals.items t.reasons.items in
+    subst P (sym c.in_err-attach.ensures.failed) c.requires.based_in
+
+pub returns-in_err-attach-clause-within_in : goal.returns-in_err-attach-clause-within_in
+returns-in_err-attach-clause-within_in c =
+    let P : List (List Lit) → Type 0 = All (Within (length c.args.trail.now.values.items)) in
+    subst P (sym c.in_err-attach.ensures.failed) c.requires.within_in
+
+pub returns-in_err-attach-clause-cells : goal.returns-in_err-attach-clause-cells
+returns-in_err-attach-clause-cells c = c.in_err-attach.ensures.cells ∙ c.requires.cells
+
+pub returns-in_err-attach-clause-queue : goal.returns-in_err-attach-clause-queue
+returns-in_err-attach-clause-queue c =
+    let tr = c.args.trail.now.literals.items in
+    let said = c.in_err-attach.ensures in
+    let P : List (List Lit) → Type 0 = λ x. AllGuarded x (pairs c.attach.new.rows) (take c.args.head.now tr) tr in
+    let Q : List (List Lit) → Type 0 = λ x. AllGuarded c.args.clauses.now (pairs x) (take c.args.head.now tr) tr in
+    subst P (sym said.failed) (subst Q (sym said.failed_rows) c.requires.queue)
+
+pub returns-clause-within_in : goal.returns-clause-within_in
+returns-clause-within_in c =
+    let vars = length c.args.trail.now.values.items in
+    let P : List (List Lit) → Type 0 = All (Within vars) in
+    subst P (sym c.in_ok-attach.ensures.done) (All-push (Within vars) c.args.clauses.now c.args.c.now c.requires.within_in c.requires.within)
+
+pub returns-clause-cells : goal.returns-clause-cells
+returns-clause-cells c = c.in_ok-attach.ensures.cells ∙ c.requires.cells
+
+pub returns-clause-low : goal.returns-clause-low
+returns-clause-low c = omega (arith, c.head_for-n.ensures.low, c.requires.low)
 
 pub returns-in_err-attach-clause-levels : goal.returns-in_err-attach-clause-levels
 returns-in_err-attach-clause-levels c =

@@ -13,7 +13,7 @@ use Rattle.sat_prop.specs.declared.trail.Trail.{Trail}
 use Rattle.sat_prop.specs.declared.watch.Watches.{Watches}
 use Rattle.sat_prop.specs.declared.lists.Watcher.{Watcher}
 use Rattle.sat_prop.specs.Trails.{among, Based}
-use Rattle.sat_prop.specs.Entries.{fits, numbers, numbers_of}
+use Rattle.sat_prop.specs.Entries.{AllEntries, fits, numbers, numbers_of}
 use Rattle.sat_prop.specs.Sifted.{put_back, whole}
 use Rattle.sat_prop.specs.Slots.{entry_of}
 use Rattle.sat_prop.specs.Watches.{watches_at, HasTwo, AllListed, AllWatchesIn, cell, DoneWith, Kept, KeepsTwo}
@@ -21,7 +21,7 @@ use Rattle.sat_prop.proofs.Listing.{fits_below, entries_push, numbers_push}
 use Rattle.sat_prop.proofs.Matching.{all_back, all_over, match_move, pair_at, pairs_len, pairs_move, unit_over, watched_off}
 use Rattle.sat_prop.proofs.Packed.{literal_cell}
 use Rattle.sat_prop.proofs.Sifting.{done_all, fit_front, fit_keep, fit_skip, listed_keep, listed_skip, pushed_back, row_in}
-use Rattle.sat_prop.proofs.Sweeps.{false_on, went_push, went_none, based_push, contains_among}
+use Rattle.sat_prop.proofs.Sweeps.{false_on, went_push, went_same, went_none, based_push, contains_among}
 use Rattle.sat_prop.proofs.Visits.{apart_from, beside_which, bigs_move, cell_in, done_grows, done_move, done_true, head_new, heads_move, in_hand, kept_move, lists_move, low_cell, move_facts, var_in, went_grows}
 use Rattle.sat_prop.proofs.Watching.{cell_same, true_from}
 use Rattle.sat_prop.proofs.Ways.{among_here, at_end}
@@ -461,3 +461,28 @@ visit-preserved c =
       two_kept = inv.two_kept;
       done = subst Z (sym c.keep-in-Force.ensures.kept) (All-push (D new.literals.items) s.kept x below (done_true cs H new.literals.items f k hit));
     }
+
+pub returns-in_err-push-in-Move-clause-all_listed : goal.returns-in_err-push-in-Move-clause-all_listed
+returns-in_err-push-in-Move-clause-all_listed c =
+    let P : List (List Watcher) → Type 0 = λ x. AllListed (pairs c.visit.rows) (numbers_of (put_back x c.args.f c.visit.sieve)) in
+    subst P (sym c.in_err-push-in-Move.ensures.failed) c.visit.invariant.all_listed
+
+pub returns-in_err-push-in-Move-clause-cells : goal.returns-in_err-push-in-Move-clause-cells
+returns-in_err-push-in-Move-clause-cells c = ap length c.in_err-push-in-Move.ensures.failed ∙ c.visit.invariant.cells
+
+pub returns-in_err-push-in-Move-clause-fit : goal.returns-in_err-push-in-Move-clause-fit
+returns-in_err-push-in-Move-clause-fit c =
+    let P : List (List Watcher) → Type 0 = λ x. AllEntries (fits c.args.clauses.now) (put_back x c.args.f c.visit.sieve) in
+    subst P (sym c.in_err-push-in-Move.ensures.failed) c.visit.invariant.fit
+
+pub returns-in_err-imply-in-Force-clause-based : goal.returns-in_err-imply-in-Force-clause-based
+returns-in_err-imply-in-Force-clause-based c =
+    let said = c.in_err-imply-in-Force.ensures in
+    let P : List Lit → Type 0 = λ x. Based x c.imply.new.self.reasons.items c.args.clauses.now in
+    let Q : List ℕ → Type 0 = λ x. Based c.visit.trail.literals.items x c.args.clauses.now in
+    subst P (sym said.literals_kept) (subst Q (sym said.reasons_kept) c.visit.invariant.based)
+
+pub returns-in_err-imply-in-Force-clause-extends : goal.returns-in_err-imply-in-Force-clause-extends
+returns-in_err-imply-in-Force-clause-extends c =
+    let said = c.in_err-imply-in-Force.ensures in
+    went_same c.args.trail.now c.visit.trail c.imply.new.self c.visit.invariant.extends said.literals_kept said.values_kept said.level_starts

@@ -6,7 +6,7 @@ use Rattle.smv_tree.specs.declared.place.Place.{Place}
 use Rattle.smv_value.specs.declared.operator.Operator.{Operator}
 use Rattle.smv_tree.specs.declared.tree.Expr.{Expr}
 use Rattle.smv_tree.specs.Occurring.{names_in, read}
-use Rattle.smv_tree.proofs.NamesOf.{goes_on, names_in-constant, names_in-name, names_in-apply, names_in-chain}
+use Rattle.smv_tree.proofs.NamesOf.{goes_on, names_in-constant, names_in-name, names_in-group, names_in-next, names_in-apply, names_in-chain}
 use Rattle.smv_tree.proofs.occurring.+names.Goals as goal
 
 pub push_names-returns-in-Constant : goal.push_names-returns-in-Constant
@@ -16,6 +16,12 @@ pub push_names-returns-in_ok-push-in-Name : goal.push_names-returns-in_ok-push-i
 push_names-returns-in_ok-push-in-Name t c =
     ap read c.in_ok-push-in-Name.ensures.items ∙ map-append _ c.args.names.now.items _
     ∙ sym (ap (λ l. read c.args.names.now.items ++ l) (ap names_in c.in-Name.is ∙ names_in-name _))
+
+pub push_names-returns-in-Group : goal.push_names-returns-in-Group
+push_names-returns-in-Group t c = rw (ap names_in c.in-Group.is ∙ names_in-group _ _) (rw c.get.ensures at c.push_names.ensures)
+
+pub push_names-returns-in-Next : goal.push_names-returns-in-Next
+push_names-returns-in-Next t c = rw (ap names_in c.in-Next.is ∙ names_in-next _ _) (rw c.get-in-Next.ensures at c.push_names-in-Next.ensures)
 
 pub push_names-returns-in_ok-push_all-in-Apply : goal.push_names-returns-in_ok-push_all-in-Apply
 push_names-returns-in_ok-push_all-in-Apply t c =

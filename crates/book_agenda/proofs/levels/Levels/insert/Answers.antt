@@ -1,12 +1,13 @@
-use Rattle.std.proofs.Common.{◌≡◌, ◌<◌, ℕ, List, length, true, sym, ap, subst, ◌∙◌}
+use Rattle.std.proofs.Common.{◌≡◌, ◌<◌, ℕ, List, length, false, true, sym, ap, subst, ◌∙◌, arith}
 use Rattle.clause_core.specs.Assignments.{assignment_of}
 use Rattle.frame_core.specs.declared.parts.Lemma.{Lemma}
 use Rattle.frame_core.specs.declared.outcomes.Insertion.{Insertion}
 use Rattle.frame_core.specs.declared.outcomes.Insertion.TheVariants.{Added}
 use Rattle.frame_core.specs.Facts.{ProvedClause}
 use Rattle.frame_core.specs.FrameLaw.{FrameState, lemma_at, obligation_at}
-use Rattle.frame_core.specs.Changes.{InsertsSame}
+use Rattle.frame_core.specs.Changes.{IsOfSystem, InsertsSame}
 use Rattle.book_agenda.specs.Values.{AreBlocked, IsLifted, blocked_at}
+use Rattle.book_agenda.proofs.Agendas.{agenda_same, not_added}
 use Rattle.book_agenda.proofs.Blocked.{blocked_added, lemma_last}
 use Rattle.book_agenda.proofs.levels.Levels.insert.Goals as goal
 
@@ -36,3 +37,20 @@ returns-in-Added-clause-done c =
     let now : FrameState = c.insert_same.new.self in
     subst (λ (f : FrameState). InsertsSame f p (Added c.in-Added.n) now) c.self.view_is
     (subst (λ (r : Insertion). InsertsSame c.self.inside.frames p r now) c.in-Added.is c.in_ok-insertion.ensures.done)
+
+pub insert_same-requires-clause-same : goal.insert_same-requires-clause-same
+insert_same-requires-clause-same c = subst (λ (z : FrameState). IsOfSystem z 0 false c.args.proved.now.system) (sym c.self.view_is) c.requires.same
+
+pub lift-requires-clause-met : goal.lift-requires-clause-met
+lift-requires-clause-met c = λ o lt below. absurd (omega (arith, below))
+
+pub invariant_of-self : goal.invariant_of-self
+invariant_of-self c =
+    agenda_same c.self.inside.frames c.insert_same.new.self c.self.inside.blocked.items c.self.inside.floors.items c.in_err-insertion.ensures.err c.self.invariant
+
+pub invariant_of-self-in_default : goal.invariant_of-self-in_default
+invariant_of-self-in_default c =
+    let f : FrameState = c.self.inside.frames in
+    let now : FrameState = c.insert_same.new.self in
+    agenda_same f now c.self.inside.blocked.items c.self.inside.floors.items
+    (not_added f now c.args.proved.now c.in_ok-insertion.insertion c.in_default.not-Added c.in_ok-insertion.ensures.done) c.self.invariant

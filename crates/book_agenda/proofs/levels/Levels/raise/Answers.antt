@@ -1,11 +1,12 @@
-use Rattle.std.proofs.Common.{◌<◌, ◌≤◌, ℕ, List, length, sym, subst, arith}
+use Rattle.std.proofs.Common.{◌<◌, ◌≤◌, ℕ, List, length, false, sym, subst, arith}
 use Rattle.clause_core.specs.Assignments.{assignment_of}
 use Rattle.frame_core.specs.declared.outcomes.Raising.{Raising}
 use Rattle.frame_core.specs.declared.outcomes.Raising.TheVariants.{Raised}
 use Rattle.frame_core.specs.Facts.{ProvedClause}
 use Rattle.frame_core.specs.FrameLaw.{FrameState, lemma_at, obligation_at, raised_at}
-use Rattle.frame_core.specs.Changes.{RaisesSame}
+use Rattle.frame_core.specs.Changes.{IsOfSystem, RaisesSame}
 use Rattle.book_agenda.specs.Values.{AreBlocked, IsLifted, blocked_at}
+use Rattle.book_agenda.proofs.Agendas.{agenda_same, not_raised}
 use Rattle.book_agenda.proofs.Blocked.{blocked_raised}
 use Rattle.book_agenda.proofs.Blocked.{is_lower}
 use Rattle.book_agenda.proofs.levels.Levels.raise.Goals as goal
@@ -29,3 +30,13 @@ invariant_of-self c =
           (blocked_raised f.lemmas f.obligations n p.level bs cs c.self.invariant.follow lt lower c.lift.ensures.length each);
       floors' = c.lift.ensures.floors;
     }
+
+pub raise_same-raising-requires-clause-same : goal.raise_same-raising-requires-clause-same
+raise_same-raising-requires-clause-same c = subst (λ (z : FrameState). IsOfSystem z 0 false c.args.proved.now.system) (sym c.self.view_is) c.requires.same
+
+pub invariant_of-self-in_default : goal.invariant_of-self-in_default
+invariant_of-self-in_default c =
+    let f : FrameState = c.self.inside.frames in
+    let now : FrameState = c.raise_same-raising.new.self in
+    agenda_same f now c.self.inside.blocked.items c.self.inside.floors.items
+    (not_raised f now c.args.n c.args.proved.now c.raise_same-raising.result c.in_default.not-Raised c.raise_same-raising.ensures) c.self.invariant

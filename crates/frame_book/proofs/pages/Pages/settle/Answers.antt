@@ -10,10 +10,11 @@ use Rattle.frame_book.specs.Claims.{ClaimView, IsClaimOf}
 use Rattle.book_agenda.specs.Register.{outs}
 use Rattle.frame_book.specs.Marked.{Marking}
 use Rattle.frame_book.specs.Steps.{lags, grows, head_of, HasSettled}
-use Rattle.frame_book.specs.Pages.{state_of}
+use Rattle.frame_book.specs.Pages.{state_of, ArePages}
+use Rattle.frame_book.specs.Rooms.{Room}
 use Rattle.frame_book.specs.Book.{BookView, entered}
 use Rattle.book_agenda.proofs.Orderly.{outs_some}
-use Rattle.frame_book.proofs.Turning.{turned, turned_by}
+use Rattle.frame_book.proofs.Turning.{turned, turned_by, roomier}
 use Rattle.std.proofs.Common.{Vec, Global}
 use Rattle.frame_book.specs.declared.claim.Outcome.{Outcome}
 use Rattle.frame_book.specs.Claims.{IsOutHere}
@@ -145,3 +146,24 @@ returns-clause-done c =
     let e : Entry = entry.Settle v.worker v.number changes in
     let now : BookView = turned b f c.end.new.self m c.push_reserved.new.self.items in
     subst (λ (z : BookView). IsOutHere z.state v × ((x : Entry) × SettlesBy z v o x × (now ≡ entered z x))) c.self.view_is ((d, is), (e, t.2, t.0))
+
+pub come-requires-clause-fits : goal.come-requires-clause-fits
+come-requires-clause-fits c =
+    let d : Made = c.in-Some.made in
+    let is : IsClaimOf c.args.self.now.state c.args.claim d = c.in-Some.ensures in
+    let at : claim_at c.self.inside.register.made c.args.claim.number ≡ Some d =
+    subst (λ (z : BookView). claim_at z.state.claims c.args.claim.number ≡ Some d) (sym c.self.view_is) is.out.0 in
+    c.self.invariant.sane.fit c.args.claim.number d at
+
+pub invariant_of-self : goal.invariant_of-self
+invariant_of-self c =
+    let p = c.self.inside in
+    let b : BookView = record { systems = p.levels.systems; limits = p.limits; carried = p.carried; history = p.history.items; state = state_of p.levels p.register p.marks } in
+    let cap = vec_capacity p.history in
+    let rooms : Room = c.give.new.self in
+    let count : rooms.count ≡ c.take-changes.new.self.count + 1 = ap (λ (z : Room). z.count) c.give.ensures in
+    let size : rooms.size ≡ c.take-changes.new.self.size = ap (λ (z : Room). z.size) c.give.ensures in
+    let one = c.take-changes.ensures.count in
+    let P : FrameState → Type 0 =
+    λ f. ArePages record { systems = f.systems; limits = p.limits; carried = p.carried; history = p.history.items; state = state_of f p.register p.marks } cap rooms in
+    subst P (sym c.in-Err.ensures.err.1) (roomier b cap cap p.rooms rooms c.self.invariant (omega arith) (omega arith) (size ∙ c.take-changes.ensures.size))

@@ -1,46 +1,15 @@
-use Rattle.std.proofs.Common.{◌≡◌, List, [], ◌∷◌, ◌++◌, length, sym, ap, subst, ◌∙◌, arith}
-use Rattle.std.specs.Prelude.{vec_capacity, vec_len}
-use Rattle.frame_core.specs.FrameLaw.{FramesHold}
-use Rattle.frame_history.specs.declared.entries.Entry.{Entry}
-use Rattle.frame_history.specs.declared.entries.Entry.TheVariants as entry
-use Rattle.frame_history.specs.History.{IsLawfulClaim}
-use Rattle.book_agenda.specs.Register.{IsNewIn, outs}
-use Rattle.frame_book.specs.Picking.{IsLevelOf}
-use Rattle.frame_book.specs.Pages.{state_of}
-use Rattle.frame_book.specs.Book.{BookView}
-use Rattle.frame_book.proofs.Turning.{claimed, up_to_task}
+use Rattle.std.proofs.Common.{sym, subst}
+use Rattle.frame_core.specs.FrameLaw.{FrameState}
+use Rattle.frame_book.specs.Pages.{IsIn}
+use Rattle.frame_book.proofs.Turning.{in_task}
 use Rattle.frame_book.proofs.pages.Pages.take.Goals as goal
 
-pub claim-requires-clause-new : goal.claim-requires-clause-new
-claim-requires-clause-new c =
-    let p = c.self.inside in
-    let new : IsNewIn p.register c.args.subject c.args.level =
-    subst (λ (z : BookView). IsNewIn record { made = z.state.claims; growth = z.state.growth } c.args.subject c.args.level) (sym c.self.view_is) c.requires.lawful.new in
-    new
+pub values_of-requires : goal.values_of-requires
+values_of-requires c =
+    let b = c.args.self.now in
+    subst (λ (z : FrameState). IsIn z c.args.subject) (sym c.frames.ensures.value) (in_task b.limits b.state c.args.subject c.args.level c.requires.lawful.task)
 
-pub claim-requires-clause-up_to : goal.claim-requires-clause-up_to
-claim-requires-clause-up_to c =
-    let p = c.self.inside in
-    let is : IsLevelOf p.levels c.args.subject c.args.level =
-    subst (λ (z : BookView). IsLevelOf z.state.frames c.args.subject c.args.level) (sym c.self.view_is) c.requires.level in
-    up_to_task p.levels p.register c.args.subject c.args.level c.self.invariant.sane is
-
-pub invariant_of-self-2 : goal.invariant_of-self-2
-invariant_of-self-2 c =
-    let p = c.self.inside in
-    let b : BookView = record { systems = p.levels.systems; limits = p.limits; carried = p.carried; history = p.history.items; state = state_of p.levels p.register p.marks } in
-    let is : IsLevelOf p.levels c.args.subject c.args.level =
-    subst (λ (z : BookView). IsLevelOf z.state.frames c.args.subject c.args.level) (sym c.self.view_is) c.requires.level in
-    let lawful : IsLawfulClaim b.limits b.state c.args.subject c.args.level =
-    subst (λ (z : BookView). IsLawfulClaim z.limits z.state c.args.subject c.args.level) (sym c.self.view_is) c.requires.lawful in
-    let law : FramesHold p.levels = subst FramesHold c.frames.ensures c.systems-systems.ensures.law in
-    let items : c.push_reserved.new.self.items ≡ b.history ++ entry.Claim c.args.worker c.args.subject c.args.level ∷ [] =
-    c.push_reserved.ensures.items ∙ ap (λ (z : List Entry). z ++ entry.Claim c.args.worker c.args.subject c.args.level ∷ []) c.in_ok-reserve.ensures.items in
-    let out : c.out-out.result ≡ outs p.register.made = c.out-out.ensures in
-    let room = c.in_ok-reserve.ensures.ok in
-    let len : vec_len c.reserve.new.self ≡ length b.history = c.reserve.new.self.ok.0 ∙ ap length c.in_ok-reserve.ensures.items in
-    let cap = c.push_reserved.ensures.capacity in
-    let many = c.in_ok-make.ensures.done in
-    (claimed b (vec_capacity p.history) (vec_capacity c.push_reserved.new.self) p.rooms c.make.new.self c.args.worker c.args.subject c.args.level c.claim.new.self
-    c.push_reserved.new.self.items c.self.invariant law lawful is c.in_ok-claim.ensures.done items (omega (arith, out, room, len, cap)) (omega (arith, out, many))
-    c.in_ok-make.ensures.size).1
+pub clause_of-requires : goal.clause_of-requires
+clause_of-requires c =
+    let b = c.args.self.now in
+    subst (λ (z : FrameState). IsIn z c.args.subject) (sym c.frames-2.ensures.value) (in_task b.limits b.state c.args.subject c.args.level c.requires.lawful.task)

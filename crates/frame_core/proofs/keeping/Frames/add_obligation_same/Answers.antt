@@ -30,3 +30,10 @@ invariant_of-self-2 c =
     subst (λ (xs : List Obligation). IsKept record f { obligations = xs } counts c.mark.new.marks.items) (sym items)
     (subst (λ (ms : List (Option ℕ)). IsKept (with_obligation f j g parent) counts ms) (sym marked)
     (kept_noted f j g parent counts marks c.self.invariant lt same c.system-system.ensures.shown may))
+
+pub invariant_of-self : goal.invariant_of-self
+invariant_of-self c =
+    let f : FrameState =
+    record { systems = c.self.inside.systems.now; lemmas = c.self.inside.lemmas; tops = c.self.inside.tops.items; obligations = c.self.inside.obligations.items } in
+    subst (λ (xs : List Obligation). IsKept record f { obligations = xs } c.self.inside.counts.items c.self.inside.marks.items)
+    (sym c.in_err-reserve.ensures.items) c.self.invariant

@@ -12,7 +12,7 @@ invariant_of-self c =
     let f : FrameState =
     record { systems = c.self.inside.systems.now; lemmas = c.self.inside.lemmas; tops = c.self.inside.tops.items; obligations = c.self.inside.obligations.items } in
     let are : AreCounts f.lemmas c.count_below.new.counts.items =
-    subst (λ (z : List Lemma). AreCounts z c.count_below.new.counts.items) c.as_slice-2.ensures c.in_err-count_below.ensures.counted in
+    subst (λ (z : List Lemma). AreCounts z c.count_below.new.counts.items) c.as_slice.ensures c.in_err-count_below.ensures.counted in
     kept_counted f c.self.inside.counts.items c.count_below.new.counts.items c.self.inside.marks.items c.self.invariant are c.in_err-count_below.ensures.longer
 
 pub invariant_of-self-2 : goal.invariant_of-self-2
@@ -27,14 +27,13 @@ invariant_of-self-2 c =
     let lt' : j < length f.tops = let e = c.self.invariant.law.tops in omega arith in
     let top : c.index-top.result.now ≡ top_at f.tops j = get_or_read f.tops j c.index-top.result.now lt' c.index-top.ensures 0 in
     let same : IsOfSystem f j true k.system = subst (λ (z : FrameState). IsOfSystem z j true k.system) (sym c.self.view_is) c.requires.same in
-    let at : k.level ≡ top_at f.tops j = sym c.level.ensures ∙ c.if-level-top.false ∙ top in
+    let h = c.in_default.ensures.answer in
+    let at : k.level ≡ top_at f.tops j = subst (λ (z : FrameState). k.level ≡ top_at z.tops j) (sym c.self.view_is) h.0 in
     let stand : AllStand f.lemmas (top_at f.tops j) k.parents =
-    subst (λ (z : ℕ). AllStand f.lemmas z k.parents) top
-    (subst (λ (z : List Lemma). AllStand z c.index-top.result.now k.parents) c.as_slice.ensures
-    (subst (AllStand c.as_slice.result.now c.index-top.result.now) c.parents.ensures c.in_default.ensures)) in
-    let are : AreCounts f.lemmas counts = subst (λ (z : List Lemma). AreCounts z counts) c.as_slice-2.ensures c.in_ok-count_below.ensures.counted in
+    subst (λ (z : FrameState). AllStand z.lemmas (top_at z.tops j) k.parents) (sym c.self.view_is) h.1 in
+    let are : AreCounts f.lemmas counts = subst (λ (z : List Lemma). AreCounts z counts) c.as_slice.ensures c.in_ok-count_below.ensures.counted in
     let kept = kept_counted f c.self.inside.counts.items counts marks c.self.invariant are c.in_ok-count_below.ensures.longer in
     let enough : top_at f.tops j + 1 ≤ length counts = let e = c.in_ok-count_below.ensures.enough in omega arith in
     let tops : c.set_top.new.tops.items ≡ set f.tops j (top_at f.tops j + 1) = c.set_top.ensures ∙ ap (λ (z : ℕ). set f.tops j (z + 1)) top in
     subst (λ (xs : List ℕ). IsKept record f { tops = xs } counts marks) (sym tops)
-    (kept_opened f j k counts marks kept lt same c.system-system.ensures.shown at stand enough)
+    (kept_opened f j k counts marks kept lt same c.in_default.ensures.shown at stand enough)

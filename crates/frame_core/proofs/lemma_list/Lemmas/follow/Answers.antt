@@ -1,7 +1,8 @@
-use Rattle.std.proofs.Common.{◌≡◌, ℕ, List, ◌∷◌, ◌+◌, drop, get_or, subst, arith}
+use Rattle.std.proofs.Common.{◌≡◌, ◌<◌, ℕ, List, [], ◌∷◌, ◌++◌, ◌+◌, length, drop, get_or, sym, ap, ◌∙◌, subst, arith, length-append}
 use Rattle.std.proofs.lemmas.List.{drop_more}
 use Rattle.frame_core.specs.Copies.{LagsBehind}
-use Rattle.frame_core.proofs.Copied.{caught_all}
+use Rattle.frame_core.specs.FrameLaw.{lemma_at}
+use Rattle.frame_core.proofs.Copied.{caught_all, caught_more}
 use Rattle.frame_core.proofs.lemma_list.Lemmas.follow.Goals as goal
 
 pub changes-preserved : goal.changes-preserved
@@ -17,3 +18,16 @@ returns-clause-done c = λ lags.
     let short = h.0.shorter in
     let end = c.len-n-end.ensures in
     caught_all c.args.lemmas.now c.adds.self (omega (arith, h.1, end, c.adds.auto.n-end)) h.0
+
+pub adds-preserved : goal.adds-preserved
+adds-preserved c = λ lags.
+    let lemmas = c.args.lemmas.now in
+    let copy = c.adds.self in
+    let l = c.lemma.result.now in
+    let h = c.adds.invariant lags in
+    let is : l ≡ lemma_at lemmas (length copy) = c.lemma.ensures ∙ ap (lemma_at lemmas) (sym h.1) in
+    let lt : length copy < length lemmas = omega (arith, h.1, c.adds-test.true, c.len-n-end.ensures) in
+    let more : c.add_copy.new.self ≡ copy ++ l ∷ [] = c.in_ok-add_copy.ensures.done in (
+      subst (LagsBehind lemmas []) (sym more) (caught_more lemmas copy l is lt h.0),
+      omega (arith, h.1, ap length more, length-append copy (l ∷ [])),
+    )

@@ -3,7 +3,7 @@ use Rattle.ltl_meaning.specs.Ltl.{Ltl}
 use Rattle.ltl_meaning.specs.Unfolded.{repeated}
 use Rattle.ltl_monitor.specs.declared.draft.Draft.{Draft}
 use Rattle.ltl_monitor.specs.declared.draft.Scene.{Scene}
-use Rattle.ltl_monitor.specs.Drafting.{Drafted, drafted}
+use Rattle.ltl_monitor.specs.Drafting.{drafted}
 use Rattle.ltl_monitor.proofs.draft.Draft.repeated.Given as goal
 
 -- what was added is the operator as often as the loop was gone through

@@ -1,4 +1,4 @@
-use Rattle.std.proofs.Common.{ℕ, List, subst, sym}
+use Rattle.std.proofs.Common.{arith, ℕ, List, subst, sym}
 use Rattle.std.specs.List.{All}
 use Rattle.clause_core.specs.Literals.{Within}
 use Rattle.sat_prop.specs.Roots.{ShortSwept, root}
@@ -14,3 +14,9 @@ pub invariant_of-self-clause-within_in : goal.invariant_of-self-clause-within_in
 invariant_of-self-clause-within_in c =
     let P : ℕ → Type 0 = λ n. All (Within n) c.args.self.now.clauses in
     subst P (sym c.undo_on.ensures.vars) c.args.self.now.within_in
+
+pub invariant_of-self-clause-room : goal.invariant_of-self-clause-room
+invariant_of-self-clause-room c = omega (arith, c.undo_on.ensures.vars, c.args.self.now.room)
+
+pub invariant_of-self-clause-cells : goal.invariant_of-self-clause-cells
+invariant_of-self-clause-cells c = omega (arith, c.undo_on.ensures.vars, c.args.self.now.cells)
