@@ -1,5 +1,6 @@
 pub mod UnderTypes
 pub mod Parts
+pub mod Choices
 pub mod OfTypes
 pub mod TypeLoop
 pub mod OfPrograms

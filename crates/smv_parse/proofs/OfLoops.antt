@@ -8,7 +8,7 @@ use Rattle.smv_tree.specs.declared.token.TokenKind.TheVariants as kind
 use Rattle.smv_tree.specs.declared.tree.Expr.{Expr}
 use Rattle.smv_tree.specs.declared.tree.Expr.TheVariants as expr
 use Rattle.smv_tree.specs.declared.tree.Name.{Name}
-use Rattle.smv_tree.specs.Kinds.{is_kind}
+use Rattle.smv_tree.specs.Kinds.{is_kind, is_identifier}
 use Rattle.smv_phrases.specs.declared.reading.Stop.{Stop}
 use Rattle.smv_phrases.specs.declared.reading.Stop.TheVariants.{Refused, NoMemory}
 use Rattle.smv_phrases.specs.Reading.{Stops}
@@ -36,8 +36,16 @@ parameters = record { lawful = further_parameter_lawful; full = refl; apart = pa
 pub declarations : Repeats (declaration 0)
 declarations = record { lawful = declaration_lawful 0; full = declarations_full 0; apart = declarations_apart 0 }
 
+pub declaration_begins : (ts : List Token) → head is_identifier ts ≡ head (declaration 0).first ts
+unfolding declaration
+declaration_begins ts = begins_same is_identifier ts
+
 pub definitions : Repeats (definition 0)
 definitions = record { lawful = definition_lawful 0; full = definitions_full 0; apart = definitions_apart 0 }
+
+pub definition_begins : (ts : List Token) → head is_identifier ts ≡ head (definition 0).first ts
+unfolding definition
+definition_begins ts = begins_same is_identifier ts
 
 pub indices : (room : ℕ) → Repeats (index_within 0 room)
 indices room = record { lawful = index_lawful 0 room; full = indices_full 0 room; apart = indices_apart 0 room }

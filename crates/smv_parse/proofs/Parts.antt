@@ -1,12 +1,16 @@
--- How a phrase is refused where one of its parts is.
-use Rattle.std.proofs.Common.{◌≡◌, List, Ok, Err, refl, ap}
+-- How a phrase is read, or refused, where its parts are.
+use Rattle.std.proofs.Common.{◌≡◌, ℕ, ◌<◌, Bool, List, Result, Ok, Err, IfOk, refl, sym, ◌∙◌}
 use Rattle.phrase_forms.specs.declared.fault.Fault.{Fault}
-use Rattle.phrase_forms.specs.Forms.{Form, to, ◌⨾◌, ◌◃◌}
-use Rattle.phrase_forms.proofs.Lists.{bind_ok, ok_is}
+use Rattle.phrase_forms.specs.Forms.{Form, Read, to, ◌⨾◌, ◌▹◌, ◌◃◌, ◌>>=◌}
 use Rattle.smv_tree.specs.declared.token.Token.{Token}
+use Rattle.smv_tree.specs.declared.token.TokenKind.{TokenKind}
+use Rattle.smv_tree.specs.Kinds.{is_kind}
 use Rattle.smv_phrases.specs.declared.reading.Stop.{Stop}
 use Rattle.smv_phrases.specs.declared.reading.Stop.TheVariants.{Refused, NoMemory}
 use Rattle.smv_phrases.specs.Reading.{Stops}
+use Rattle.smv_phrases.specs.Names.{just, opening}
+use Rattle.smv_expressions.specs.Expressions.{is_zero}
+use Rattle.smv_expressions.proofs.Levels.{room_left}
 
 -- the part between two tokens
 module _ {A B C D : Type 0} (a : Form Token A) (b : Form Token B) (c : Form Token C) (f : A × B → D) (ts us : List Token) (x : A) (e1 : a.parse ts ≡ Ok (x, us)) where
@@ -17,16 +21,47 @@ module _ {A B C D : Type 0} (a : Form Token A) (b : Form Token B) (c : Form Toke
   inside_stops (Refused fault rest) e2 = inside_refused (fault, rest.now) e2
   inside_stops NoMemory e2 = tt
 
--- the last of three parts, where the second was read for what is made of it
-module _ {A B C D E : Type 0} (a : Form Token A) (b : Form Token B) (c : Form Token C) (g : B → E) (f : A × (B × C) → D) (ts us vs : List Token) (x : A) (y : E)
-    (e1 : a.parse ts ≡ Ok (x, us)) (e2 : (to g b).parse us ≡ Ok (y, vs)) where
-  last_refused : (d : Fault × List Token) → c.parse vs ≡ Err d → (to f (a ⨾ b ⨾ c)).parse ts ≡ Err d
-  last_refused d e3 =
-      let p = bind_ok (b.parse us) (λ (z : B × List Token). Ok (g z.0, z.1)) (y, vs) e2 in
-      let same : p.0.1 ≡ vs = ap (λ (w : E × List Token). w.1) (ok_is (g p.0.0, p.0.1) (y, vs) p.2) in
-      let e4 : c.parse p.0.1 ≡ Err d = rw same e3 in
-      rw (e1, p.1, e4) refl
+abbrev made : {A B : Type 0} → (A → B) → Read Token A → Read Token B
+made f read = read >>= λ z. Ok (f z.0, z.1)
 
-  pub last_stops : (stop : Stop) → Stops stop (c.parse vs) → Stops stop ((to f (a ⨾ b ⨾ c)).parse ts)
-  last_stops (Refused fault rest) e3 = last_refused (fault, rest.now) e3
-  last_stops NoMemory e3 = tt
+abbrev beside : {A B : Type 0} → A → Read Token B → Read Token (A × B)
+beside x read = read >>= λ z. Ok ((x, z.0), z.1)
+
+-- a phrase behind a first one: where that was read, the phrase itself is still to come
+module _ {A B : Type 0} (a : Form Token A) (b : Form Token B) (ts us : List Token) (x : A) where
+  pub still_stands : a.parse ts ≡ Ok (x, us) → b.parse us ≡ (a ▹ b).parse ts
+  still_stands e = rw e (go (b.parse us))
+    where
+      go : (read : Read Token B) → read ≡ made (λ (z : A × B). z.1) (beside x read)
+      go (Ok z) = refl
+      go (Err d) = refl
+
+-- a phrase between a first one and a token: where both were read, that token is still to come
+module _ {A B C : Type 0} (a : Form Token A) (b : Form Token B) (k : TokenKind) (f : A × B → C) (ts us vs : List Token) (x : A) (y : B) where
+  pub still_follows : a.parse ts ≡ Ok (x, us) → b.parse us ≡ Ok (y, vs) → (to (λ t. f (x, y)) (just k)).parse vs ≡ (to f (a ⨾ b ◃ just k)).parse ts
+  still_follows e1 e2 = rw (e1, e2) (go ((just k).parse vs))
+    where
+      go : (read : Read Token Token) → made (λ t. f (x, y)) read ≡ made f (beside x (made (λ (z : B × Token). z.0) (beside y read)))
+      go (Ok z) = refl
+      go (Err d) = refl
+
+-- the same where the first one opens a level, and the code has read the phrase with one level less to open
+module _ {A C : Type 0} (closed : Bool) (room : ℕ) (k j : TokenKind) (inner code : Form Token A) (same : (us : List Token) → 0 < room → code.parse us ≡ inner.parse us) (f : Token × A → C)
+    (ts us : List Token) (t : Token) where
+  opened : closed ≡ is_zero room → (opening closed k).parse ts ≡ Ok (t, us) → (opening (is_zero room) k).parse ts ≡ Ok (t, us)
+  opened is e1 = rw is at e1
+
+  under_level : closed ≡ is_zero room → (opening closed k).parse ts ≡ Ok (t, us) → code.parse us ≡ inner.parse us
+  under_level is e1 = same us (room_left closed room (is_kind k) ts (t, us) is e1)
+
+  pub still_closes : (vs : List Token) (y : A) → closed ≡ is_zero room → (opening closed k).parse ts ≡ Ok (t, us) → code.parse us ≡ Ok (y, vs)
+      → (to (λ u. f (t, y)) (just j)).parse vs ≡ (to f (opening (is_zero room) k ⨾ inner ◃ just j)).parse ts
+  still_closes vs y is e1 e2 = still_follows (opening (is_zero room) k) inner j f ts us vs t y (opened is e1) (sym (under_level is e1) ∙ e2)
+
+  pub inner_stops : (stop : Stop) → closed ≡ is_zero room → (opening closed k).parse ts ≡ Ok (t, us) → Stops stop (code.parse us) → Stops stop ((to f (opening (is_zero room) k ⨾ inner ◃ just j)).parse ts)
+  inner_stops stop is e1 e2 = inside_stops (opening (is_zero room) k) inner (just j) f ts us t (opened is e1) stop (rw (under_level is e1) at e2)
+
+-- what does not speak of the value holds where there is one
+pub held : {A E P : Type 0} (read : Result A E) → P → IfOk read (λ x. P)
+held (Ok x) h = h
+held (Err e) h = tt

@@ -1,46 +1,47 @@
 //! Declarations, read from the front of tokens (NuSMV 2.6 User Manual, 2.3.1 and 2.3.4).
 
 ghost use Rattle.std.specs.Prelude.{◌≡◌, false};
-ghost use Rattle.phrase_forms.specs.Forms.{token, to, many, head};
-ghost use Rattle.smv_phrases.specs.Names.{identifier, identifier_of};
+ghost use Rattle.phrase_forms.specs.Forms.{token, to, many, head, ◌▹◌, ◌◃◌};
+ghost use Rattle.smv_tree.specs.declared.token.TokenKind.TheVariants as kind;
+ghost use Rattle.smv_phrases.specs.Names.{just, identifier, identifier_of};
 ghost use Rattle.smv_phrases.specs.Lists.{further, listed};
 ghost use Rattle.smv_phrases.specs.Reading.{Gives};
+ghost use Rattle.smv_expressions.specs.Expressions.{most_levels};
+ghost use Rattle.smv_parse.specs.Types.{written_type};
 ghost use Rattle.smv_parse.specs.Programs.{declaration, declares, kind_declared, variables, constants};
 
-use crate::types::{MOST_LEVELS, written_type};
+use crate::edges::{begins_identifier, followed_by};
+use crate::types::{MOST_LEVELS, Written, written_type};
 use phrase_forms::Fault;
-use smv_phrases::{Stop, begins, identifier, identifier_of, is_identifier, just};
+use smv_phrases::{Stop, begins, identifier, identifier_of, just};
 use smv_tree::{Identifier, Section, Token, TokenKind, Variable, VariableKind};
 use sqlite_items::Items;
 use std::alloc::Global;
+
+/// `:` type `;`
+fn declared_type<'a>(alloc: Global, tokens: &'a [Token]) -> Result<(Written, &'a [Token]), Stop<'a>>
+    ensures { Gives (λ x. ((x.0.0, x.0.1), x.1.now)) result ((just kind.Colon ▹ written_type 0 most_levels ◃ just kind.Semicolon).parse tokens.now) }
+{
+    let (_, tokens) = just(TokenKind::Colon, tokens)?;
+    let (declared, tokens) = written_type(alloc, MOST_LEVELS, tokens)?;
+    followed_by(TokenKind::Semicolon, declared, tokens)
+}
 
 /// Identifier `:` type `;`
 #[tactic(auto, unfolding(crate::specs::Programs::declaration))]
 fn declaration<'a>(alloc: Global, tokens: &'a [Token]) -> Result<(Variable, &'a [Token]), Stop<'a>>
     ensures { Gives (λ x. (x.0, x.1.now)) result ((declaration 0).parse tokens.now) }
 {
-    let (name, tokens) = identifier(tokens)?;
-    let (_, tokens) = just(TokenKind::Colon, tokens)?;
-    let ((dimensions, declared), tokens) = written_type(alloc, MOST_LEVELS, tokens)?;
-    let (_, tokens) = just(TokenKind::Semicolon, tokens)?;
+    let (named, tokens) = identifier(tokens)?;
+    let name = named.text.copy(alloc)?;
+    let ((dimensions, declared), tokens) = declared_type(alloc, tokens)?;
     let variable = Variable {
-        place: name.place,
-        name: name.text.copy(alloc)?,
+        place: named.place,
+        name,
         dimensions,
         declared,
     };
     Ok((variable, tokens))
-}
-
-/// Whether a declaration begins here.
-#[tactic(auto, unfolding(crate::specs::Programs::declaration))]
-fn begins_declaration(tokens: &[Token]) -> bool
-    ensures { result ≡ head (declaration 0).first tokens.now }
-{
-    match tokens {
-        [first, ..] => is_identifier(first),
-        [] => false,
-    }
 }
 
 /// As many declarations as there are.
@@ -52,7 +53,7 @@ fn declarations<'a>(
 {
     let mut all = Items::new(alloc);
     let mut rest = tokens;
-    'phrases: while begins_declaration(rest) {
+    'phrases: while begins_identifier(rest) {
         let (one, after) = declaration(alloc, rest)?;
         all.push(one)?;
         rest = after;
@@ -79,6 +80,16 @@ pub fn declares(token: &Token) -> bool
     kind_declared(token.kind).is_some()
 }
 
+/// Whether variables are declared here.
+pub fn begins_variables(tokens: &[Token]) -> bool
+    ensures { result ≡ head declares tokens.now }
+{
+    match tokens {
+        [first, ..] => declares(first),
+        [] => false,
+    }
+}
+
 /// `VAR`, `IVAR` or `FROZENVAR`.
 fn declaring(tokens: &[Token]) -> Result<(&Token, &[Token]), Stop<'_>>
     ensures { Gives (λ x. (x.0.now, x.1.now)) result ((token false declares).parse tokens.now) }
@@ -95,8 +106,8 @@ pub fn variables<'a>(alloc: Global, tokens: &'a [Token]) -> Result<(Section, &'a
     ensures { Gives (λ x. (x.0, x.1.now)) result ((variables 0).parse tokens.now) }
 {
     let (keyword, tokens) = declaring(tokens)?;
-    let (declarations, tokens) = declarations(alloc, tokens)?;
     let kind = kind_declared(keyword.kind).unwrap_or(VariableKind::State);
+    let (declarations, tokens) = declarations(alloc, tokens)?;
     Ok((Section::Variables(kind, declarations), tokens))
 }
 
@@ -117,8 +128,7 @@ fn further_constant<'a>(
     ensures { Gives (λ x. (x.0, x.1.now)) result ((further (to identifier_of identifier)).parse tokens.now) }
 {
     let (_, tokens) = just(TokenKind::Comma, tokens)?;
-    let (constant, tokens) = constant(alloc, tokens)?;
-    Ok((constant, tokens))
+    constant(alloc, tokens)
 }
 
 /// Identifiers with commas between them.

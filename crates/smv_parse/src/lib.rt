@@ -2,6 +2,7 @@
 #![tactic(auto)]
 
 mod declarations;
+mod edges;
 mod one_parse;
 mod parsing;
 mod programs;

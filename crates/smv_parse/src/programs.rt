@@ -1,20 +1,22 @@
 //! Sections, modules and programs, read from the front of tokens (NuSMV 2.6 User Manual, 2.3).
 
-ghost use Rattle.std.specs.Prelude.{◌≡◌, false, IfOk};
-ghost use Rattle.phrase_forms.specs.Forms.{token, many, maybe, to, head};
+ghost use Rattle.std.specs.Prelude.{◌≡◌, false, Ok, IfOk};
+ghost use Rattle.phrase_forms.specs.Forms.{token, many, maybe, to, head, ◌▹◌, ◌◃◌};
+ghost use Rattle.smv_tree.specs.declared.tree.AssignmentKind.TheVariants as side;
+ghost use Rattle.smv_tree.specs.declared.token.TokenKind.TheVariants as kind;
 ghost use Rattle.std.specs.Option.{option_copied};
-ghost use Rattle.smv_phrases.specs.Names.{identifier};
+ghost use Rattle.smv_phrases.specs.Names.{just, identifier};
 ghost use Rattle.smv_phrases.specs.Lists.{further, listed, maybe_listed, bracketed};
-ghost use Rattle.smv_parse.specs.Programs.{expression, definition, definitions, target, sided, left_side, assignment, assignments, formula, constrains, kind_asked, constraint, claims, kind_claimed, given_name, specification, section_form, parameter_of, module_form, program};
+ghost use Rattle.smv_expressions.specs.Expressions.{most_levels};
+ghost use Rattle.smv_parse.specs.Programs.{expression, definition, definitions, target, under_one, sided, left_side, assignment, assignments, formula, constrains, kind_asked, constraint, claims, kind_claimed, given_name, specification, section_form, parameter_of, module_form, program};
 ghost use Rattle.smv_phrases.specs.Reading.{Gives};
 
-use crate::declarations::{constants, declares, variables};
+use crate::declarations::{begins_variables, constants, declares, variables};
+use crate::edges::{begins_identifier, followed_by, name_begins};
 use crate::types::MOST_LEVELS;
 use phrase_forms::Fault;
 use smv_expressions::indexed;
-use smv_phrases::{
-    Stop, begins, begins_name, identifier, is_identifier, is_kind, just, name, place_of,
-};
+use smv_phrases::{Stop, begins, identifier, is_kind, just, name, place_of};
 use smv_tree::{
     Assignment, AssignmentKind, Constraint, ConstraintKind, Definition, Expr, Module, Parameter,
     Place, Program, Section, Specification, SpecificationKind, Token, TokenKind,
@@ -35,32 +37,29 @@ fn expression<'a>(alloc: Global, tokens: &'a [Token]) -> Result<(Expr, &'a [Toke
     smv_expressions::expression(alloc, MOST_LEVELS, tokens)
 }
 
+/// `:=` expression `;`
+fn given_value<'a>(alloc: Global, tokens: &'a [Token]) -> Result<(Expr, &'a [Token]), Stop<'a>>
+    ensures { Gives (λ x. (x.0, x.1.now)) result ((just kind.Becomes ▹ expression 0 ◃ just kind.Semicolon).parse tokens.now) }
+{
+    let (_, tokens) = just(TokenKind::Becomes, tokens)?;
+    let (value, tokens) = expression(alloc, tokens)?;
+    followed_by(TokenKind::Semicolon, value, tokens)
+}
+
 /// Identifier `:=` expression `;`
 #[tactic(auto, unfolding(crate::specs::Programs::definition))]
 fn definition<'a>(alloc: Global, tokens: &'a [Token]) -> Result<(Definition, &'a [Token]), Stop<'a>>
     ensures { Gives (λ x. (x.0, x.1.now)) result ((definition 0).parse tokens.now) }
 {
-    let (name, tokens) = identifier(tokens)?;
-    let (_, tokens) = just(TokenKind::Becomes, tokens)?;
-    let (body, tokens) = expression(alloc, tokens)?;
-    let (_, tokens) = just(TokenKind::Semicolon, tokens)?;
+    let (named, tokens) = identifier(tokens)?;
+    let name = named.text.copy(alloc)?;
+    let (body, tokens) = given_value(alloc, tokens)?;
     let definition = Definition {
-        place: name.place,
-        name: name.text.copy(alloc)?,
+        place: named.place,
+        name,
         body,
     };
     Ok((definition, tokens))
-}
-
-/// Whether a definition begins here.
-#[tactic(auto, unfolding(crate::specs::Programs::definition))]
-fn begins_definition(tokens: &[Token]) -> bool
-    ensures { result ≡ head (definition 0).first tokens.now }
-{
-    match tokens {
-        [first, ..] => is_identifier(first),
-        [] => false,
-    }
 }
 
 /// As many definitions as there are.
@@ -72,7 +71,7 @@ fn many_definitions<'a>(
 {
     let mut all = Items::new(alloc);
     let mut rest = tokens;
-    'phrases: while begins_definition(rest) {
+    'phrases: while begins_identifier(rest) {
         let (one, after) = definition(alloc, rest)?;
         all.push(one)?;
         rest = after;
@@ -110,6 +109,18 @@ fn target<'a>(
     Ok(((place, whole), rest))
 }
 
+/// `(` target `)`
+fn enclosed_target<'a>(
+    alloc: Global,
+    tokens: &'a [Token],
+) -> Result<((Place, Expr), &'a [Token]), Stop<'a>>
+    ensures { Gives (λ x. ((x.0.0, x.0.1), x.1.now)) result ((just kind.LeftParen ▹ target 0 under_one ◃ just kind.RightParen).parse tokens.now) }
+{
+    let (_, tokens) = just(TokenKind::LeftParen, tokens)?;
+    let (target, tokens) = target(alloc, UNDER_ONE, tokens)?;
+    followed_by(TokenKind::RightParen, target, tokens)
+}
+
 /// Keyword `(` target `)`
 fn sided<'a>(
     alloc: Global,
@@ -120,26 +131,29 @@ fn sided<'a>(
     ensures { Gives (λ x. (x.0, x.1.now)) result ((sided 0 keyword kind).parse tokens.now) }
 {
     let (first, tokens) = just(keyword, tokens)?;
-    let (_, tokens) = just(TokenKind::LeftParen, tokens)?;
-    let ((_, target), tokens) = target(alloc, UNDER_ONE, tokens)?;
-    let (_, tokens) = just(TokenKind::RightParen, tokens)?;
+    let ((_, target), tokens) = enclosed_target(alloc, tokens)?;
     Ok(((first.place, kind, target), tokens))
 }
 
+/// Target.
+fn current_target<'a>(alloc: Global, tokens: &'a [Token]) -> Result<(Left, &'a [Token]), Stop<'a>>
+    ensures { Gives (λ x. (x.0, x.1.now)) result ((to (λ x. (x.0, side.Current, x.1)) (target 0 most_levels)).parse tokens.now) }
+{
+    let ((place, target), tokens) = target(alloc, MOST_LEVELS, tokens)?;
+    Ok(((place, AssignmentKind::Current, target), tokens))
+}
+
 /// Target, `init` `(` target `)`, or `next` `(` target `)`.
-#[tactic(auto, unfolding(crate::specs::Programs::left_side, crate::specs::Programs::target, smv_phrases::specs::Names::name_from))]
+#[tactic(auto, using(crate::proofs::Choices::left_reads))]
 fn left_side<'a>(alloc: Global, tokens: &'a [Token]) -> Result<(Left, &'a [Token]), Stop<'a>>
     ensures { Gives (λ x. (x.0, x.1.now)) result ((left_side 0).parse tokens.now) }
 {
-    match tokens {
-        [first, ..] if begins_name(first) => {
-            let ((place, target), tokens) = target(alloc, MOST_LEVELS, tokens)?;
-            Ok(((place, AssignmentKind::Current, target), tokens))
-        }
-        [first, ..] if is_kind(TokenKind::Init, first) => {
-            sided(alloc, TokenKind::Init, AssignmentKind::Init, tokens)
-        }
-        _ => sided(alloc, TokenKind::Next, AssignmentKind::Next, tokens),
+    if name_begins(tokens) {
+        current_target(alloc, tokens)
+    } else if begins(TokenKind::Init, tokens) {
+        sided(alloc, TokenKind::Init, AssignmentKind::Init, tokens)
+    } else {
+        sided(alloc, TokenKind::Next, AssignmentKind::Next, tokens)
     }
 }
 
@@ -149,9 +163,7 @@ fn assignment<'a>(alloc: Global, tokens: &'a [Token]) -> Result<(Assignment, &'a
     ensures { Gives (λ x. (x.0, x.1.now)) result ((assignment 0).parse tokens.now) }
 {
     let ((place, kind, target), tokens) = left_side(alloc, tokens)?;
-    let (_, tokens) = just(TokenKind::Becomes, tokens)?;
-    let (value, tokens) = expression(alloc, tokens)?;
-    let (_, tokens) = just(TokenKind::Semicolon, tokens)?;
+    let (value, tokens) = given_value(alloc, tokens)?;
     let assignment = Assignment {
         place,
         kind,
@@ -162,16 +174,11 @@ fn assignment<'a>(alloc: Global, tokens: &'a [Token]) -> Result<(Assignment, &'a
 }
 
 /// Whether an assignment begins here.
-#[tactic(auto, unfolding(crate::specs::Programs::assignment, crate::specs::Programs::left_side, crate::specs::Programs::target, smv_phrases::specs::Names::name_from))]
+#[tactic(auto, using(crate::proofs::Choices::assignment_begins))]
 fn begins_assignment(tokens: &[Token]) -> bool
     ensures { result ≡ head (assignment 0).first tokens.now }
 {
-    match tokens {
-        [first, ..] => {
-            begins_name(first) || is_kind(TokenKind::Init, first) || is_kind(TokenKind::Next, first)
-        }
-        [] => false,
-    }
+    name_begins(tokens) || begins(TokenKind::Init, tokens) || begins(TokenKind::Next, tokens)
 }
 
 /// As many assignments as there are.
@@ -201,16 +208,24 @@ fn assignments<'a>(alloc: Global, tokens: &'a [Token]) -> Result<(Section, &'a [
     Ok((Section::Assignments(assignments), tokens))
 }
 
+/// `;` or nothing.
+fn maybe_semicolon(tokens: &[Token]) -> (Option<&Token>, &[Token])
+    ensures { (maybe (just kind.Semicolon)).parse tokens.now ≡ Ok (option_copied result.0, result.1.now) }
+{
+    match tokens {
+        [first, rest @ ..] if is_kind(TokenKind::Semicolon, first) => (Some(first), rest),
+        _ => (None, tokens),
+    }
+}
+
 /// Expression, and `;` or nothing.
 #[tactic(auto, unfolding(crate::specs::Programs::formula))]
 fn formula<'a>(alloc: Global, tokens: &'a [Token]) -> Result<(Expr, &'a [Token]), Stop<'a>>
     ensures { Gives (λ x. (x.0, x.1.now)) result ((formula 0).parse tokens.now) }
 {
     let (formula, tokens) = expression(alloc, tokens)?;
-    match tokens {
-        [first, rest @ ..] if is_kind(TokenKind::Semicolon, first) => Ok((formula, rest)),
-        _ => Ok((formula, tokens)),
-    }
+    let (_, tokens) = maybe_semicolon(tokens);
+    Ok((formula, tokens))
 }
 
 /// What a constraint behind this keyword speaks of.
@@ -234,6 +249,16 @@ fn constrains(token: &Token) -> bool
     kind_asked(token.kind).is_some()
 }
 
+/// Whether a constraint begins here.
+fn begins_constraint(tokens: &[Token]) -> bool
+    ensures { result ≡ head constrains tokens.now }
+{
+    match tokens {
+        [first, ..] => constrains(first),
+        [] => false,
+    }
+}
+
 /// `INIT`, `INVAR`, `TRANS`, `JUSTICE` or `FAIRNESS`.
 fn constraining(tokens: &[Token]) -> Result<(&Token, &[Token]), Stop<'_>>
     ensures { Gives (λ x. (x.0.now, x.1.now)) result ((token false constrains).parse tokens.now) }
@@ -250,10 +275,11 @@ fn constraint<'a>(alloc: Global, tokens: &'a [Token]) -> Result<(Section, &'a [T
     ensures { Gives (λ x. (x.0, x.1.now)) result ((constraint 0).parse tokens.now) }
 {
     let (keyword, tokens) = constraining(tokens)?;
+    let kind = kind_asked(keyword.kind).unwrap_or(ConstraintKind::Init);
     let (formula, tokens) = formula(alloc, tokens)?;
     let constraint = Constraint {
         place: keyword.place,
-        kind: kind_asked(keyword.kind).unwrap_or(ConstraintKind::Init),
+        kind,
         formula,
     };
     Ok((Section::Constraint(constraint), tokens))
@@ -317,29 +343,35 @@ fn claiming(tokens: &[Token]) -> Result<(&Token, &[Token]), Stop<'_>>
 fn specification<'a>(alloc: Global, tokens: &'a [Token]) -> Result<(Section, &'a [Token]), Stop<'a>>
     ensures { Gives (λ x. (x.0, x.1.now)) result ((specification 0).parse tokens.now) }
 {
-    let (first, tokens) = claiming(tokens)?;
+    let (keyword, tokens) = claiming(tokens)?;
+    let kind = kind_claimed(keyword.kind).unwrap_or(SpecificationKind::Invariant);
     let (_, tokens) = maybe_given_name(tokens)?;
     let (formula, tokens) = formula(alloc, tokens)?;
     let specification = Specification {
-        place: first.place,
-        kind: kind_claimed(first.kind).unwrap_or(SpecificationKind::Invariant),
+        place: keyword.place,
+        kind,
         formula,
     };
     Ok((Section::Specification(specification), tokens))
 }
 
 /// A section of a module.
-#[tactic(auto, unfolding(crate::specs::Programs::section_form, crate::specs::Programs::variables, crate::specs::Programs::definitions, crate::specs::Programs::constants, crate::specs::Programs::assignments, crate::specs::Programs::constraint))]
+#[tactic(auto, using(crate::proofs::Choices::section_reads))]
 fn section<'a>(alloc: Global, tokens: &'a [Token]) -> Result<(Section, &'a [Token]), Stop<'a>>
     ensures { Gives (λ x. (x.0, x.1.now)) result ((section_form 0).parse tokens.now) }
 {
-    match tokens {
-        [first, ..] if declares(first) => variables(alloc, tokens),
-        [first, ..] if is_kind(TokenKind::Define, first) => definitions(alloc, tokens),
-        [first, ..] if is_kind(TokenKind::Constants, first) => constants(alloc, tokens),
-        [first, ..] if is_kind(TokenKind::Assign, first) => assignments(alloc, tokens),
-        [first, ..] if constrains(first) => constraint(alloc, tokens),
-        _ => specification(alloc, tokens),
+    if begins_variables(tokens) {
+        variables(alloc, tokens)
+    } else if begins(TokenKind::Define, tokens) {
+        definitions(alloc, tokens)
+    } else if begins(TokenKind::Constants, tokens) {
+        constants(alloc, tokens)
+    } else if begins(TokenKind::Assign, tokens) {
+        assignments(alloc, tokens)
+    } else if begins_constraint(tokens) {
+        constraint(alloc, tokens)
+    } else {
+        specification(alloc, tokens)
     }
 }
 
@@ -398,8 +430,7 @@ fn further_parameter<'a>(
     ensures { Gives (λ x. (x.0, x.1.now)) result ((further (to parameter_of identifier)).parse tokens.now) }
 {
     let (_, tokens) = just(TokenKind::Comma, tokens)?;
-    let (parameter, tokens) = parameter(alloc, tokens)?;
-    Ok((parameter, tokens))
+    parameter(alloc, tokens)
 }
 
 /// Parameters with commas between them.
@@ -428,10 +459,23 @@ fn maybe_parameters<'a>(
 ) -> Result<(Items<Parameter>, &'a [Token]), Stop<'a>>
     ensures { Gives (λ x. (x.0, x.1.now)) result ((maybe_listed (to parameter_of identifier)).parse tokens.now) }
 {
-    match tokens {
-        [first, ..] if is_identifier(first) => listed_parameters(alloc, tokens),
-        _ => Ok((Items::new(alloc), tokens)),
+    if begins_identifier(tokens) {
+        listed_parameters(alloc, tokens)
+    } else {
+        Ok((Items::new(alloc), tokens))
     }
+}
+
+/// `(`, the parameters of a module, and `)`.
+fn enclosed_parameters<'a>(
+    alloc: Global,
+    tokens: &'a [Token],
+) -> Result<(Items<Parameter>, &'a [Token]), Stop<'a>>
+    ensures { Gives (λ x. (x.0, x.1.now)) result ((just kind.LeftParen ▹ maybe_listed (to parameter_of identifier) ◃ just kind.RightParen).parse tokens.now) }
+{
+    let (_, tokens) = just(TokenKind::LeftParen, tokens)?;
+    let (parameters, tokens) = maybe_parameters(alloc, tokens)?;
+    followed_by(TokenKind::RightParen, parameters, tokens)
 }
 
 /// `(`, the parameters of a module, and `)`; or nothing.
@@ -441,13 +485,11 @@ fn parameters<'a>(
 ) -> Result<(Items<Parameter>, &'a [Token]), Stop<'a>>
     ensures { Gives (λ x. (x.0, x.1.now)) result ((bracketed (to parameter_of identifier)).parse tokens.now) }
 {
-    if !begins(TokenKind::LeftParen, tokens) {
-        return Ok((Items::new(alloc), tokens));
+    if begins(TokenKind::LeftParen, tokens) {
+        enclosed_parameters(alloc, tokens)
+    } else {
+        Ok((Items::new(alloc), tokens))
     }
-    let (_, tokens) = just(TokenKind::LeftParen, tokens)?;
-    let (parameters, tokens) = maybe_parameters(alloc, tokens)?;
-    let (_, tokens) = just(TokenKind::RightParen, tokens)?;
-    Ok((parameters, tokens))
 }
 
 /// `MODULE`, an identifier, parameters and sections.
@@ -456,13 +498,14 @@ fn module<'a>(alloc: Global, tokens: &'a [Token]) -> Result<(Module, &'a [Token]
     ensures { Gives (λ x. (x.0, x.1.now)) result ((module_form 0).parse tokens.now) }
 {
     let (first, tokens) = just(TokenKind::Module, tokens)?;
-    let (name, tokens) = identifier(tokens)?;
+    let (named, tokens) = identifier(tokens)?;
+    let name = named.text.copy(alloc)?;
     let (parameters, tokens) = parameters(alloc, tokens)?;
     let (sections, tokens) = sections(alloc, tokens)?;
     let module = Module {
         place: first.place,
-        name_place: name.place,
-        name: name.text.copy(alloc)?,
+        name_place: named.place,
+        name,
         parameters,
         sections,
     };

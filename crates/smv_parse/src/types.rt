@@ -2,22 +2,26 @@
 //! levels may be opened in it.
 
 ghost use Rattle.std.specs.Prelude.{◌≡◌, ◌<◌, ◌++◌, false, IfOk};
-ghost use Rattle.phrase_forms.specs.Forms.{token, to, head};
+ghost use Rattle.phrase_forms.specs.Forms.{token, to, head, ◌⨾◌};
+ghost use Rattle.smv_tree.specs.declared.token.TokenKind.TheVariants as kind;
+ghost use Rattle.smv_tree.specs.declared.tree.TypeExpr.TheVariants as type;
+ghost use Rattle.smv_phrases.specs.Names.{just, opening, identifier};
 ghost use Rattle.smv_phrases.specs.Lists.{further, listed, maybe_listed};
 ghost use Rattle.smv_phrases.specs.Reading.{Gives};
-ghost use Rattle.smv_expressions.specs.Expressions.{is_zero, limit_within, expression_within};
+ghost use Rattle.smv_expressions.specs.Tokens.{begins_expression};
+ghost use Rattle.smv_expressions.specs.Expressions.{is_zero, chained, limit_within, limited_within, expression_within};
 ghost use Rattle.smv_parse.specs.Types.{width, word_type, is_sign, signed_type, symbol_of, integer_of, negative_of, element, enumeration, upper, instance_of, given, goes_on_range, named_range, range_of, behind_identifier, identifier_type, range_type, plain_type, dimension, array_head, written_type};
 
+use crate::edges::{begins_identifier, followed_by};
 use phrase_forms::Fault;
 use plain_text::Text;
 use smv_expressions::{
     begins_expression, goes_on_limit, is_closed, limit, limit_start, limited, listed,
 };
 use smv_phrases::{
-    Stop, begins, identifier, identifier_of, is_identifier, is_kind, just, members, number_of,
-    opening,
+    Stop, begins, identifier, identifier_of, is_kind, just, members, number_of, opening,
 };
-use smv_tree::{Dimension, Expr, Name, Start, Token, TokenKind, TypeExpr, WrittenElement};
+use smv_tree::{Dimension, Expr, Name, Place, Start, Token, TokenKind, TypeExpr, WrittenElement};
 use sqlite_items::Items;
 use std::alloc::{AllocError, Global};
 
@@ -28,7 +32,6 @@ pub const MOST_LEVELS: usize = 256;
 pub type Written = (Items<Dimension>, TypeExpr);
 
 /// `[` limit `]`
-#[tactic(auto, using(smv_expressions::proofs::Levels::under_limit))]
 fn width<'a>(
     alloc: Global,
     room: usize,
@@ -38,8 +41,7 @@ fn width<'a>(
 {
     let (_, tokens) = opening(is_closed(room), TokenKind::LeftBracket, tokens)?;
     let (width, tokens) = limit(alloc, room - 1, tokens)?;
-    let (_, tokens) = just(TokenKind::RightBracket, tokens)?;
-    Ok((width, tokens))
+    followed_by(TokenKind::RightBracket, width, tokens)
 }
 
 /// `word` width
@@ -61,6 +63,16 @@ fn is_sign(token: &Token) -> bool
     ensures { result ≡ is_sign token.now }
 {
     is_kind(TokenKind::Unsigned, token) || is_kind(TokenKind::Signed, token)
+}
+
+/// Whether `unsigned` or `signed` stands here.
+fn begins_sign(tokens: &[Token]) -> bool
+    ensures { result ≡ head is_sign tokens.now }
+{
+    match tokens {
+        [first, ..] => is_sign(first),
+        [] => false,
+    }
 }
 
 /// `unsigned` or `signed`.
@@ -89,28 +101,6 @@ fn signed_type<'a>(
     Ok((TypeExpr::Word(sign.place, signed, width), tokens))
 }
 
-/// The element that an identifier is.
-fn symbol_of(alloc: Global, token: &Token) -> Result<WrittenElement, AllocError>
-    ensures { IfOk result (λ e. e ≡ symbol_of token.now) }
-{
-    Ok(WrittenElement {
-        place: token.place,
-        text: token.text.copy(alloc)?,
-        number: None,
-    })
-}
-
-/// The element that an integer is.
-fn integer_of(alloc: Global, token: &Token) -> Result<WrittenElement, AllocError>
-    ensures { IfOk result (λ e. e ≡ integer_of token.now) }
-{
-    Ok(WrittenElement {
-        place: token.place,
-        text: token.text.copy(alloc)?,
-        number: Some(number_of(token) as i32),
-    })
-}
-
 /// Two texts, one behind the other.
 fn joined(alloc: Global, first: &Text, second: &Text) -> Result<Text, AllocError>
     ensures { IfOk result (λ text. text ≡ first.now ++ second.now) }
@@ -131,8 +121,51 @@ fn negative_of(alloc: Global, minus: &Token, token: &Token) -> Result<WrittenEle
     })
 }
 
+/// An identifier.
+fn symbol<'a>(alloc: Global, tokens: &'a [Token]) -> Result<(WrittenElement, &'a [Token]), Stop<'a>>
+    ensures { Gives (λ x. (x.0, x.1.now)) result ((to symbol_of identifier).parse tokens.now) }
+{
+    let (word, tokens) = identifier(tokens)?;
+    let symbol = WrittenElement {
+        place: word.place,
+        text: word.text.copy(alloc)?,
+        number: None,
+    };
+    Ok((symbol, tokens))
+}
+
+/// An integer.
+fn integer<'a>(
+    alloc: Global,
+    tokens: &'a [Token],
+) -> Result<(WrittenElement, &'a [Token]), Stop<'a>>
+    ensures { Gives (λ x. (x.0, x.1.now)) result ((to integer_of (just kind.Integer)).parse tokens.now) }
+{
+    let (token, tokens) = just(TokenKind::Integer, tokens)?;
+    let integer = WrittenElement {
+        place: token.place,
+        text: token.text.copy(alloc)?,
+        number: Some(number_of(token) as i32),
+    };
+    Ok((integer, tokens))
+}
+
+/// `-` integer, where no level may be opened if `closed` is true.
+fn negative<'a>(
+    alloc: Global,
+    closed: bool,
+    tokens: &'a [Token],
+) -> Result<(WrittenElement, &'a [Token]), Stop<'a>>
+    ensures { Gives (λ x. (x.0, x.1.now)) result ((to negative_of (opening closed kind.Minus ⨾ just kind.Integer)).parse tokens.now) }
+{
+    let (minus, tokens) = opening(closed, TokenKind::Minus, tokens)?;
+    let (number, tokens) = just(TokenKind::Integer, tokens)?;
+    let negative = negative_of(alloc, minus, number)?;
+    Ok((negative, tokens))
+}
+
 /// Identifier, integer, or `-` integer, where no level may be opened if `closed` is true.
-#[tactic(auto, unfolding(crate::specs::Types::element))]
+#[tactic(auto, using(crate::proofs::Choices::element_reads))]
 fn element<'a>(
     alloc: Global,
     closed: bool,
@@ -140,17 +173,12 @@ fn element<'a>(
 ) -> Result<(WrittenElement, &'a [Token]), Stop<'a>>
     ensures { Gives (λ x. (x.0, x.1.now)) result ((element closed).parse tokens.now) }
 {
-    match tokens {
-        [first, rest @ ..] if is_identifier(first) => Ok((symbol_of(alloc, first)?, rest)),
-        [first, rest @ ..] if is_kind(TokenKind::Integer, first) => {
-            Ok((integer_of(alloc, first)?, rest))
-        }
-        _ => {
-            let (minus, tokens) = opening(closed, TokenKind::Minus, tokens)?;
-            let (number, tokens) = just(TokenKind::Integer, tokens)?;
-            let element = negative_of(alloc, minus, number)?;
-            Ok((element, tokens))
-        }
+    if begins_identifier(tokens) {
+        symbol(alloc, tokens)
+    } else if begins(TokenKind::Integer, tokens) {
+        integer(alloc, tokens)
+    } else {
+        negative(alloc, closed, tokens)
     }
 }
 
@@ -163,8 +191,7 @@ fn further_element<'a>(
     ensures { Gives (λ x. (x.0, x.1.now)) result ((further (element closed)).parse tokens.now) }
 {
     let (_, tokens) = just(TokenKind::Comma, tokens)?;
-    let (element, tokens) = element(alloc, closed, tokens)?;
-    Ok((element, tokens))
+    element(alloc, closed, tokens)
 }
 
 /// Elements with commas between them.
@@ -198,8 +225,8 @@ fn enumeration<'a>(
 {
     let (brace, tokens) = opening(is_closed(room), TokenKind::LeftBrace, tokens)?;
     let (elements, tokens) = listed_elements(alloc, is_closed(room - 1), tokens)?;
-    let (_, tokens) = just(TokenKind::RightBrace, tokens)?;
-    Ok((TypeExpr::Enumeration(brace.place, elements), tokens))
+    let enumeration = TypeExpr::Enumeration(brace.place, elements);
+    followed_by(TokenKind::RightBrace, enumeration, tokens)
 }
 
 /// `..` limit
@@ -211,8 +238,17 @@ fn upper<'a>(
     ensures { Gives (λ x. (x.0, x.1.now)) result ((upper 0 room).parse tokens.now) }
 {
     let (_, tokens) = just(TokenKind::DotDot, tokens)?;
-    let (upper, tokens) = limit(alloc, room, tokens)?;
-    Ok((upper, tokens))
+    limit(alloc, room, tokens)
+}
+
+/// Whether an expression begins here.
+fn expression_begins(tokens: &[Token]) -> bool
+    ensures { result ≡ head begins_expression tokens.now }
+{
+    match tokens {
+        [first, ..] => begins_expression(first),
+        [] => false,
+    }
 }
 
 /// Expressions with commas between them, or nothing.
@@ -224,14 +260,14 @@ fn maybe_arguments<'a>(
 ) -> Result<(Items<Expr>, &'a [Token]), Stop<'a>>
     ensures { Gives (λ x. (x.0, x.1.now)) result ((maybe_listed (expression_within 0 room)).parse tokens.now) }
 {
-    match tokens {
-        [first, ..] if begins_expression(first) => listed(alloc, room, tokens),
-        _ => Ok((Items::new(alloc), tokens)),
+    if expression_begins(tokens) {
+        listed(alloc, room, tokens)
+    } else {
+        Ok((Items::new(alloc), tokens))
     }
 }
 
 /// `(`, what an instance is given, and `)`.
-#[tactic(auto, using(crate::proofs::UnderTypes::under_arguments))]
 fn given<'a>(
     alloc: Global,
     room: usize,
@@ -241,8 +277,7 @@ fn given<'a>(
 {
     let (_, tokens) = opening(is_closed(room), TokenKind::LeftParen, tokens)?;
     let (given, tokens) = maybe_arguments(alloc, room - 1, tokens)?;
-    let (_, tokens) = just(TokenKind::RightParen, tokens)?;
-    Ok((given, tokens))
+    followed_by(TokenKind::RightParen, given, tokens)
 }
 
 /// The instance of the module of this name, and what it is given.
@@ -254,9 +289,24 @@ fn instance<'a>(
 ) -> Result<(TypeExpr, &'a [Token]), Stop<'a>>
     ensures { Gives (λ x. (x.0, x.1.now)) result ((to (instance_of word.now) (given 0 room)).parse tokens.now) }
 {
-    let (given, tokens) = given(alloc, room, tokens)?;
     let name = word.text.copy(alloc)?;
+    let (given, tokens) = given(alloc, room, tokens)?;
     Ok((TypeExpr::Instance(word.place, name, given), tokens))
+}
+
+/// The range at this place whose first limit begins with this expression: what goes on that limit, and the other one.
+fn range_at<'a>(
+    alloc: Global,
+    room: usize,
+    place: Place,
+    first: Expr,
+    tokens: &'a [Token],
+) -> Result<(TypeExpr, &'a [Token]), Stop<'a>>
+    ensures { Gives (λ x. (x.0, x.1.now)) result ((to (λ y. type.Range place (chained first y.0) y.1) (limited_within 0 room ⨾ upper 0 room)).parse tokens.now) }
+{
+    let (lower, tokens) = limited(alloc, room, first, tokens)?;
+    let (upper, tokens) = upper(alloc, room, tokens)?;
+    Ok((TypeExpr::Range(place, lower, upper), tokens))
 }
 
 /// The range whose first limit begins with this identifier.
@@ -272,9 +322,7 @@ fn range_of<'a>(
     let (members, tokens) = members(alloc, tokens)?;
     let start = Start::Own(identifier_of(alloc, word)?);
     let first = Expr::Name(Name { start, members });
-    let (lower, tokens) = limited(alloc, room, first, tokens)?;
-    let (upper, tokens) = upper(alloc, room, tokens)?;
-    Ok((TypeExpr::Range(word.place, lower, upper), tokens))
+    range_at(alloc, room, word.place, first, tokens)
 }
 
 /// Whether a range goes on an identifier here.
@@ -332,13 +380,19 @@ fn range_type<'a>(
     ensures { Gives (λ x. (x.0, x.1.now)) result ((range_type 0 room).parse tokens.now) }
 {
     let ((place, first), tokens) = limit_start(alloc, room, tokens)?;
-    let (lower, tokens) = limited(alloc, room, first, tokens)?;
-    let (upper, tokens) = upper(alloc, room, tokens)?;
-    Ok((TypeExpr::Range(place, lower, upper), tokens))
+    range_at(alloc, room, place, first, tokens)
+}
+
+/// `boolean`
+fn boolean(tokens: &[Token]) -> Result<(TypeExpr, &[Token]), Stop<'_>>
+    ensures { Gives (λ x. (x.0, x.1.now)) result ((to (λ t. type.Boolean t.place) (just kind.Boolean)).parse tokens.now) }
+{
+    let (word, tokens) = just(TokenKind::Boolean, tokens)?;
+    Ok((TypeExpr::Boolean(word.place), tokens))
 }
 
 /// `boolean`, a word, an enumeration, an instance of a module, or a range.
-#[tactic(auto, unfolding(crate::specs::Types::plain_type, crate::specs::Types::word_type, crate::specs::Types::signed_type, crate::specs::Types::enumeration, crate::specs::Types::identifier_type))]
+#[tactic(auto, using(crate::proofs::Choices::type_reads))]
 fn plain_type<'a>(
     alloc: Global,
     room: usize,
@@ -346,15 +400,18 @@ fn plain_type<'a>(
 ) -> Result<(TypeExpr, &'a [Token]), Stop<'a>>
     ensures { Gives (λ x. (x.0, x.1.now)) result ((plain_type 0 room).parse tokens.now) }
 {
-    match tokens {
-        [first, rest @ ..] if is_kind(TokenKind::Boolean, first) => {
-            Ok((TypeExpr::Boolean(first.place), rest))
-        }
-        [first, ..] if is_kind(TokenKind::Word, first) => word_type(alloc, room, tokens),
-        [first, ..] if is_sign(first) => signed_type(alloc, room, tokens),
-        [first, ..] if is_kind(TokenKind::LeftBrace, first) => enumeration(alloc, room, tokens),
-        [first, ..] if is_identifier(first) => identifier_type(alloc, room, tokens),
-        _ => range_type(alloc, room, tokens),
+    if begins(TokenKind::Boolean, tokens) {
+        boolean(tokens)
+    } else if begins(TokenKind::Word, tokens) {
+        word_type(alloc, room, tokens)
+    } else if begins_sign(tokens) {
+        signed_type(alloc, room, tokens)
+    } else if begins(TokenKind::LeftBrace, tokens) {
+        enumeration(alloc, room, tokens)
+    } else if begins_identifier(tokens) {
+        identifier_type(alloc, room, tokens)
+    } else {
+        range_type(alloc, room, tokens)
     }
 }
 
@@ -367,13 +424,12 @@ fn dimension<'a>(
     ensures { Gives (λ x. (x.0, x.1.now)) result ((dimension (limit_within 0 room)).parse tokens.now) }
 {
     let (low, tokens) = limit(alloc, room, tokens)?;
-    let (_, tokens) = just(TokenKind::DotDot, tokens)?;
-    let (high, tokens) = limit(alloc, room, tokens)?;
+    let (high, tokens) = upper(alloc, room, tokens)?;
     Ok((Dimension { low, high }, tokens))
 }
 
 /// `array` dimension `of`
-#[tactic(auto, using(crate::proofs::UnderTypes::under_dimension), unfolding(crate::specs::Types::array_head))]
+#[tactic(auto, unfolding(crate::specs::Types::array_head))]
 fn array_head<'a>(
     alloc: Global,
     room: usize,
@@ -384,8 +440,7 @@ fn array_head<'a>(
 {
     let (_, tokens) = opening(is_closed(room), TokenKind::Array, tokens)?;
     let (dimension, tokens) = dimension(alloc, room - 1, tokens)?;
-    let (_, tokens) = just(TokenKind::Of, tokens)?;
-    Ok((dimension, tokens))
+    followed_by(TokenKind::Of, dimension, tokens)
 }
 
 /// An array, or a type that is none.

@@ -1,5 +1,5 @@
 -- The elements of lists one after another, by their numbers.
-use Rattle.std.proofs.Common.{◌≡◌, ℕ, zero, suc, ◌+◌, ◌<◌, Bool, true, false, cond, List, [], ◌∷◌, ◌++◌, length, get_or, drop, map, Some, None, position, slice_get, refl, sym, ap, ◌∙◌, arith, drop-cons, add-one, add-zero, take, append-nil}
+use Rattle.std.proofs.Common.{◌≡◌, ℕ, zero, suc, ◌+◌, ◌<◌, ◌≤◌, Bool, true, false, cond, List, [], ◌∷◌, ◌++◌, length, get_or, drop, map, Some, None, position, slice_get, refl, sym, ap, ◌∙◌, arith, drop-cons, add-one, add-zero, take, take_all, append-nil, append_assoc}
 use Rattle.std.specs.List.{flat_map, position_from}
 use Rattle.std.proofs.lemmas.List.{drop_more, take_more}
 use Rattle.std.proofs.lemmas.List.Concat.{flat_map-append}
@@ -53,3 +53,14 @@ flat_map-take f xs k x h e =
 -- what is left of a list, from this element on
 pub drop_next : {X : Type 0} (xs : List X) (i : ℕ) (x : X) → i < length xs → x ≡ get_or xs i x → drop i xs ≡ x ∷ drop (i + 1) xs
 drop_next xs i x within here = drop_more xs i x within ∙ ap (λ y. y ∷ drop (i + 1) xs) (sym here)
+
+-- the pieces so far behind a list, and the next one
+pub flat_map-more : {X A : Type 0} (f : X → List A) (xs : List X) (k : ℕ) (x : X) (first old new ys : List A) → k < length xs → x ≡ get_or xs k x → new ≡ old ++ ys → f x ≡ ys
+    → old ≡ first ++ flat_map f (take k xs) → new ≡ first ++ flat_map f (take (k + 1) xs)
+flat_map-more f xs k x first old new ys h e is piece before =
+    is ∙ ap (λ zs. zs ++ ys) before ∙ append_assoc first (flat_map f (take k xs)) ys
+    ∙ ap (λ zs. first ++ zs) (ap (λ zs. flat_map f (take k xs) ++ zs) (sym piece) ∙ sym (flat_map-take f xs k x h e))
+
+-- all the pieces
+pub flat_map-all : {X A : Type 0} (f : X → List A) (xs : List X) (k : ℕ) (first all : List A) → length xs ≤ k → all ≡ first ++ flat_map f (take k xs) → all ≡ first ++ flat_map f xs
+flat_map-all f xs k first all h is = is ∙ ap (λ zs. first ++ flat_map f zs) (take_all k xs h)

@@ -9,7 +9,8 @@ ghost use Rattle.smv_tree.specs.declared.tree.Variable.{Variable};
 ghost use Rattle.smv_scope.specs.Enumerated.{first_instance, symbol_in, symbols_in, symbols_in_type, symbols_if, symbols_from};
 
 use crate::Instance;
-use crate::symbols::{note_name, number_first};
+use crate::named::first_numbers;
+use crate::symbols::number_first;
 use indexmap::IndexMap;
 use plain_text::Text;
 use smv_tree::{Identifier, Module, Section, TypeExpr, Variable, WrittenElement};
@@ -28,7 +29,7 @@ pub fn numbered_symbols(
     ensures numbers { IfOk result (λ symbols. (name : List ℕ) → get_by_text symbols.1 name ≡ position (λ (symbol : List ℕ). bytes_eq name symbol) (symbols_from tree.now 0 modules.now)) }
 {
     let all = symbols_of(alloc, modules, tree)?;
-    let numbers = symbol_numbers(alloc, all.as_slice())?;
+    let numbers = first_numbers(alloc, all.as_slice())?;
     Ok((all, numbers))
 }
 
@@ -42,11 +43,26 @@ fn symbols_of(
 {
     let first = first_instances(alloc, tree)?;
     let mut all = Items::new(alloc);
+    push_symbols_by(alloc, &mut all, modules, tree, &first)?;
+    Ok(all)
+}
+
+// The same by the number of the first instance of each module that has one.
+fn push_symbols_by(
+    alloc: Global,
+    all: &mut Items<Text>,
+    modules: &[Module],
+    _tree: &[Instance],
+    first: &HashMap<usize, usize>,
+) -> Result<(), AllocError>
+    requires { (m : ℕ) → get (λ x y. x == y) first.now m ≡ first_instance _tree.now m }
+    ensures { OnOk result (all.new ≡ all.old ++ symbols_from _tree.now 0 modules.now) }
+{
     for (m, module) in modules.iter().enumerate() {
         let instance = first.get(&m).copied();
-        push_symbols_if(alloc, &mut all, instance, module.sections.as_slice())?;
+        push_symbols_if(alloc, all, instance, module.sections.as_slice())?;
     }
-    Ok(all)
+    Ok(())
 }
 
 // The number of the first instance of each module that has one.
@@ -163,15 +179,4 @@ fn push_names(alloc: Global, all: &mut Items<Text>, names: &[Identifier]) -> Res
         all.push(x.name.copy(alloc)?)?;
     }
     Ok(())
-}
-
-// The number of each symbol: where it is named first.
-fn symbol_numbers(alloc: Global, names: &[Text]) -> Result<IndexMap<String, usize>, AllocError>
-    ensures { IfOk result (λ table. (name : List ℕ) → get_by_text table name ≡ position (λ (symbol : List ℕ). bytes_eq name symbol) names.now) }
-{
-    let mut table = IndexMap::new(alloc);
-    for (k, x) in names.iter().enumerate() {
-        note_name(alloc, &mut table, x.as_str(), k)?;
-    }
-    Ok(table)
 }

@@ -1,15 +1,18 @@
 //! The variables that have values, counted: those of a module before each of its variables, and those of all instances before
 //! each one.
 
-ghost use Rattle.std.specs.Prelude.{◌≡◌, ◌≤◌, ℕ, List, slice_get, IfOk, OnOk};
+ghost use Rattle.std.specs.Prelude.{◌≡◌, ◌≤◌, ◌++◌, ℕ, List, map, slice_get, IfOk, OnOk};
+ghost use Rattle.std.specs.Borrow.{Bor};
 ghost use Rattle.std.specs.List.{flat_map};
+ghost use Rattle.smv_tree.specs.declared.tree.Variable.{Variable};
+ghost use Rattle.smv_tree.specs.declared.tree.VariableKind.{VariableKind};
 ghost use Rattle.smv_scope.specs.Modules.{is_array, parameters_of, sections_of, variables_in, variables_of};
 ghost use Rattle.smv_scope.specs.Holders.{held_by, held_in, holds, rank_of};
 ghost use Rattle.smv_scope.specs.Symbols.{IsTableOf, first_holders_from, ranks_from};
 
 use crate::modules::variables_of;
 use crate::{Instance, Scope, SymbolTable};
-use smv_tree::{Program, Section, TypeExpr, Variable};
+use smv_tree::{Program, Section, TypeExpr, Variable, VariableKind};
 use sqlite_items::Items;
 use std::alloc::{AllocError, Global};
 
@@ -27,24 +30,34 @@ pub fn holds(variable: &Variable) -> bool
     is_array(variable) || !matches!(&variable.declared, TypeExpr::Instance(..))
 }
 
-/// For each variable of these sections how many of those before it have values, and how many do in all.
-pub(crate) fn ranks_of(
+/// For each variable of these sections how many of those before it have values; gives how many do in all.
+pub(crate) fn push_ranks_of(
     alloc: Global,
+    ranks: &mut Items<usize>,
     sections: &[Section],
-) -> Result<(Items<usize>, usize), AllocError>
-    ensures ranks { IfOk result (λ counted. counted.0 ≡ ranks_from 0 (flat_map variables_in sections.now)) }
-    ensures all { IfOk result (λ counted. counted.1 ≡ held_by (flat_map variables_in sections.now)) }
+) -> Result<usize, AllocError>
+    ensures ranks { OnOk result (ranks.new ≡ ranks.old ++ ranks_from 0 (flat_map variables_in sections.now)) }
+    ensures all { IfOk result (λ count. count ≡ held_by (flat_map variables_in sections.now)) }
 {
     let variables = variables_of(alloc, sections)?;
-    let mut ranks = Items::new(alloc);
+    push_ranks(ranks, variables.as_slice())
+}
+
+fn push_ranks(
+    ranks: &mut Items<usize>,
+    variables: &[(VariableKind, &Variable)],
+) -> Result<usize, AllocError>
+    ensures ranks { OnOk result (ranks.new ≡ ranks.old ++ ranks_from 0 (map (λ (x : VariableKind × Bor Variable). (x.0, x.1.now)) variables.now)) }
+    ensures all { IfOk result (λ count. count ≡ held_by (map (λ (x : VariableKind × Bor Variable). (x.0, x.1.now)) variables.now)) }
+{
     let mut count = 0;
-    for x in variables.iter() {
+    for x in variables {
         ranks.push(count)?;
         if holds(x.1) {
             count += 1;
         }
     }
-    Ok((ranks, count))
+    Ok(count)
 }
 
 /// How many of the variables before this one of a module have values.
@@ -74,6 +87,20 @@ pub(crate) fn first_holders(
     ensures few { OnOk result (held_in program.now tree.now ≤ 18446744073709551615) }
 {
     let mut firsts = Items::new(alloc);
+    push_first_holders(&mut firsts, program, symbols, tree)?;
+    Ok(firsts)
+}
+
+fn push_first_holders(
+    firsts: &mut Items<usize>,
+    program: &Program,
+    symbols: &[SymbolTable],
+    tree: &[Instance],
+) -> Result<(), AllocError>
+    requires { (m : ℕ) → IsTableOf (parameters_of program.now m) (sections_of program.now m) (slice_get symbols.now m) }
+    ensures counted { OnOk result (firsts.new ≡ firsts.old ++ first_holders_from program.now 0 tree.now) }
+    ensures few { OnOk result (held_in program.now tree.now ≤ 18446744073709551615) }
+{
     let mut count: usize = 0;
     for x in tree {
         firsts.push(count)?;
@@ -83,7 +110,7 @@ pub(crate) fn first_holders(
         }
         count += held;
     }
-    Ok(firsts)
+    Ok(())
 }
 
 // So many variables of the module of this number have values.

@@ -1,8 +1,11 @@
 //! The instances of a program.
 
 ghost use Rattle.std.specs.Prelude.{◌≡◌, ◌≢◌, ◌<◌, ◌≤◌, ◌-◌, ◌++◌, length, map, reverse, IfOk, IfErr, OnOk};
+ghost use Rattle.std.specs.Borrow.{Bor};
+ghost use Rattle.smv_tree.specs.declared.tree.Variable.{Variable};
+ghost use Rattle.smv_tree.specs.declared.tree.VariableKind.{VariableKind};
 ghost use Rattle.smv_scope.specs.declared.instance.Instance.{Instance};
-ghost use Rattle.smv_scope.specs.Instances.{child, children, subtree, instances_of, most_instances};
+ghost use Rattle.smv_scope.specs.Instances.{child, children, children_from, subtree, instances_of, most_instances};
 ghost use Rattle.smv_scope.specs.Symbols.{AreNumbered};
 
 use crate::holders::is_array;
@@ -10,7 +13,7 @@ use crate::layout::LayoutStop;
 use crate::modules::{sections_of, variables_of};
 use crate::symbols::{ModuleNumbers, module_numbers};
 use crate::{Instance, Parent};
-use smv_tree::{Program, TypeExpr, Variable};
+use smv_tree::{Program, TypeExpr, Variable, VariableKind};
 use sqlite_items::Items;
 use std::alloc::{AllocError, Global};
 
@@ -134,10 +137,25 @@ fn children_of(
 {
     let variables = variables_of(alloc, sections_of(program, x.of_module))?;
     let mut all = Items::new(alloc);
-    for (v, variable) in variables.iter().enumerate() {
-        push_child(&mut all, program, names, at, v, variable.1)?;
-    }
+    push_declared(&mut all, program, names, at, variables.as_slice())?;
     Ok(all)
+}
+
+// The instances that the variables of an instance are.
+fn push_declared(
+    all: &mut Items<Instance>,
+    program: &Program,
+    names: &ModuleNumbers,
+    at: usize,
+    variables: &[(VariableKind, &Variable)],
+) -> Result<(), AllocError>
+    requires { AreNumbered program.now.modules names.now }
+    ensures { OnOk result (all.new ≡ all.old ++ children_from program.now.modules at 0 (map (λ (x : VariableKind × Bor Variable). (x.0, x.1.now)) variables.now)) }
+{
+    for (v, variable) in variables.iter().enumerate() {
+        push_child(all, program, names, at, v, variable.1)?;
+    }
+    Ok(())
 }
 
 // The instance that a variable is, if it is one.

@@ -9,6 +9,7 @@ mod instances;
 mod layout;
 mod lookup;
 mod modules;
+mod named;
 mod paths;
 mod scope;
 mod symbols;

@@ -9,7 +9,7 @@ ghost use Rattle.smv_scope.specs.Modules.{variables_of, definitions_of};
 ghost use Rattle.smv_scope.specs.Instances.{module_at, child_number};
 ghost use Rattle.smv_scope.specs.Holders.{holder_number, rank_of};
 ghost use Rattle.smv_scope.specs.Enumerated.{symbol_number};
-ghost use Rattle.smv_scope.specs.Lookup.{holder_target, instance_target, symbol_target, or_symbol, typed_target, variable_target, definition_target, named_target, member_target, arguments_with, arguments_by, given_by, parent_at, own_target, start_target, members_target, name_target_by, as_instance, depth_limit, instance_by_node, instance_within, name_target};
+ghost use Rattle.smv_scope.specs.Lookup.{holder_target, instance_target, symbol_target, or_symbol, typed_target, variable_target, definition_target, named_target, member_target, arguments_with, arguments_by, given_by, parent_at, own_target, start_target, members_target, whole_only, name_target_by, as_instance, depth_limit, instance_by_node, instance_within, name_target};
 ghost use Rattle.smv_scope.specs.Targets.{seen};
 
 use crate::holders::{holds, is_array, rank_of};
@@ -53,11 +53,26 @@ fn name_target_within<'a>(
             owner,
             argument,
             ..
-        } => match instance_within(scope, depth, owner, argument) {
-            NameTarget::Whole(i) => members_target(scope, i, members),
-            NameTarget::TooFar => NameTarget::TooFar,
-            _ => NameTarget::Unknown,
-        },
+        } => members_behind(
+            scope,
+            instance_within(scope, depth, owner, argument),
+            members,
+        ),
+        _ => NameTarget::Unknown,
+    }
+}
+
+// The members of the instance that a target is.
+fn members_behind<'a>(
+    scope: &'a Scope,
+    target: NameTarget<'a>,
+    members: &[Identifier],
+) -> NameTarget<'a>
+    ensures { seen result ≡ whole_only (λ i. members_target scope.now.program i members.now) (seen target.entry) }
+{
+    match target {
+        NameTarget::Whole(i) => members_target(scope, i, members),
+        NameTarget::TooFar => NameTarget::TooFar,
         _ => NameTarget::Unknown,
     }
 }

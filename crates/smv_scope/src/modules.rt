@@ -1,6 +1,6 @@
 //! Modules, and what they declare.
 
-ghost use Rattle.std.specs.Prelude.{◌≡◌, IfOk, map, option_map, position, slice_get, bytes_eq};
+ghost use Rattle.std.specs.Prelude.{◌≡◌, ◌++◌, IfOk, OnOk, map, option_map, position, slice_get, bytes_eq};
 ghost use Rattle.std.specs.Borrow.{Bor};
 ghost use Rattle.std.specs.List.{flat_map};
 ghost use Rattle.std.specs.Option.{option_copied, option_and_then};
@@ -123,13 +123,37 @@ pub fn variables_of<'a>(
     ensures { IfOk result (λ all. map (λ (x : VariableKind × Bor Variable). (x.0, x.1.now)) all.items ≡ flat_map variables_in sections.now) }
 {
     let mut all = Vec::new(alloc);
+    push_variables_of(&mut all, sections)?;
+    Ok(all)
+}
+
+fn push_variables_of<'a>(
+    all: &mut Vec<(VariableKind, &'a Variable)>,
+    sections: &'a [Section],
+) -> Result<(), AllocError>
+    ensures { OnOk result (map {B = VariableKind × Variable} (λ (x : VariableKind × Bor Variable). (x.0, x.1.now)) all.new.items
+        ≡ map {B = VariableKind × Variable} (λ (x : VariableKind × Bor Variable). (x.0, x.1.now)) all.old.items ++ flat_map variables_in sections.now) }
+{
     for section in sections {
         let (kind, variables) = variables_in(section);
-        for variable in variables {
-            all.push((kind, variable))?;
-        }
+        push_variables(all, kind, variables)?;
     }
-    Ok(all)
+    Ok(())
+}
+
+// The variables of a section of this kind.
+fn push_variables<'a>(
+    all: &mut Vec<(VariableKind, &'a Variable)>,
+    kind: VariableKind,
+    variables: &'a [Variable],
+) -> Result<(), AllocError>
+    ensures { OnOk result (map {B = VariableKind × Variable} (λ (x : VariableKind × Bor Variable). (x.0, x.1.now)) all.new.items
+        ≡ map {B = VariableKind × Variable} (λ (x : VariableKind × Bor Variable). (x.0, x.1.now)) all.old.items ++ map {B = VariableKind × Variable} (λ (v : Variable). (kind, v)) variables.now) }
+{
+    for variable in variables {
+        all.push((kind, variable))?;
+    }
+    Ok(())
 }
 
 /// The definitions of sections, in the order of the source.
@@ -140,11 +164,30 @@ pub fn definitions_of<'a>(
     ensures { IfOk result (λ all. map (λ (d : Bor Definition). d.now) all.items ≡ flat_map definitions_in sections.now) }
 {
     let mut all = Vec::new(alloc);
-    for section in sections {
-        let definitions = definitions_in(section);
-        for definition in definitions {
-            all.push(definition)?;
-        }
-    }
+    push_definitions_of(&mut all, sections)?;
     Ok(all)
+}
+
+fn push_definitions_of<'a>(
+    all: &mut Vec<&'a Definition>,
+    sections: &'a [Section],
+) -> Result<(), AllocError>
+    ensures { OnOk result (map (λ (d : Bor Definition). d.now) all.new.items ≡ map (λ (d : Bor Definition). d.now) all.old.items ++ flat_map definitions_in sections.now) }
+{
+    for section in sections {
+        push_definitions(all, definitions_in(section))?;
+    }
+    Ok(())
+}
+
+fn push_definitions<'a>(
+    all: &mut Vec<&'a Definition>,
+    definitions: &'a [Definition],
+) -> Result<(), AllocError>
+    ensures { OnOk result (map (λ (d : Bor Definition). d.now) all.new.items ≡ map (λ (d : Bor Definition). d.now) all.old.items ++ definitions.now) }
+{
+    for definition in definitions {
+        all.push(definition)?;
+    }
+    Ok(())
 }

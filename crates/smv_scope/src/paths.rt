@@ -22,11 +22,19 @@ fn path_to(alloc: Global, scope: &Scope, at: usize) -> Result<String, AllocError
     ensures { IfOk result (λ path. string_bytes path ≡ path_of scope.now.program at) }
 {
     let mut path = String::new(alloc);
-    let mut left = names_up(alloc, scope, at)?;
-    while let Some(name) = left.pop() {
-        push_name(&mut path, name)?;
-    }
+    let mut names = names_up(alloc, scope, at)?;
+    push_names(&mut path, &mut names)?;
     Ok(path)
+}
+
+// The names come behind a path, the last of them first.
+fn push_names(path: &mut String, names: &mut Vec<&str>) -> Result<(), AllocError>
+    ensures { OnOk result (string_bytes path.new ≡ fold joined (string_bytes path.old) (reverse (map (λ (x : Bor (List ℕ)). x.now) names.old.items))) }
+{
+    while let Some(name) = names.pop() {
+        push_name(path, name)?;
+    }
+    Ok(())
 }
 
 // The names of the variables that lead from an instance up to `main`.
@@ -34,15 +42,27 @@ fn names_up<'a>(alloc: Global, scope: &'a Scope, at: usize) -> Result<Vec<&'a st
     ensures { IfOk result (λ names. fold joined [] (reverse (map (λ (x : Bor (List ℕ)). x.now) names.items)) ≡ path_of scope.now.program at) }
 {
     let mut names = Vec::new(alloc);
+    push_names_up(&mut names, scope, at)?;
+    Ok(names)
+}
+
+fn push_names_up<'a>(
+    names: &mut Vec<&'a str>,
+    scope: &'a Scope,
+    at: usize,
+) -> Result<(), AllocError>
+    ensures { OnOk result (fold joined [] (reverse (map (λ (x : Bor (List ℕ)). x.now) names.new.items))
+        ≡ fold joined (path_of scope.now.program at) (reverse (map (λ (x : Bor (List ℕ)). x.now) names.old.items))) }
+{
     let mut here = at;
     for level in 0..scope.tree.len() {
         let Some(parent) = parent_at(scope, here) else {
-            return Ok(names);
+            return Ok(());
         };
         names.push(variable_name(scope, parent.instance, parent.variable))?;
         here = parent.instance;
     }
-    Ok(names)
+    Ok(())
 }
 
 // A name comes behind a path.

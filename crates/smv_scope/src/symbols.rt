@@ -1,6 +1,6 @@
 //! Symbol tables: which declaration a name is, found without a search.
 
-ghost use Rattle.std.specs.Prelude.{◌≡◌, ◌==◌, ◌&&◌, ◌++◌, ℕ, List, Some, IfOk, OnOk, position, slice_get, bytes_eq};
+ghost use Rattle.std.specs.Prelude.{◌≡◌, ◌==◌, ◌&&◌, ◌++◌, ℕ, List, [], None, Some, IfOk, OnOk, position, slice_get, bytes_eq};
 ghost use Rattle.std.specs.List.{flat_map};
 ghost use Rattle.std.specs.HashMap.{get, get_by_text};
 ghost use Rattle.smv_tree.specs.declared.tree.Parameter.{Parameter};
@@ -13,8 +13,9 @@ ghost use Rattle.smv_scope.specs.Instances.{is_declared_by};
 ghost use Rattle.smv_scope.specs.declared.instance.Instance.{Instance};
 ghost use Rattle.smv_scope.specs.Symbols.{first_of, same_variable, spots_in, spots_of, AreNumbered, IsTableOf};
 
-use crate::holders::ranks_of;
+use crate::holders::push_ranks_of;
 use crate::modules::{definitions_in, definitions_of, variables_in, variables_of};
+use crate::named::{first_numbers, note_names};
 use crate::{Instance, Parent};
 use indexmap::IndexMap;
 use smv_tree::{Definition, Module, Parameter, Program, Section, Variable, VariableKind};
@@ -53,12 +54,24 @@ pub fn symbol_tables(alloc: Global, program: &Program) -> Result<Items<SymbolTab
     ensures { IfOk result (λ tables. (m : ℕ) → IsTableOf (parameters_of program.now m) (sections_of program.now m) (slice_get tables m)) }
 {
     let mut tables = Items::new(alloc);
+    push_tables(alloc, &mut tables, program)?;
+    Ok(tables)
+}
+
+fn push_tables(
+    alloc: Global,
+    tables: &mut Items<SymbolTable>,
+    program: &Program,
+) -> Result<(), AllocError>
+    requires { tables.old ≡ [] }
+    ensures { OnOk result ((m : ℕ) → IsTableOf (parameters_of program.now m) (sections_of program.now m) (slice_get tables.new m)) }
+{
     for module in program.modules.as_slice() {
         let parameters = module.parameters.as_slice();
         let table = symbol_table(alloc, parameters, module.sections.as_slice())?;
         tables.push(table)?;
     }
-    Ok(tables)
+    Ok(())
 }
 
 fn symbol_table(
@@ -68,134 +81,95 @@ fn symbol_table(
 ) -> Result<SymbolTable, AllocError>
     ensures { IfOk result (λ table. IsTableOf parameters.now sections.now (Some table)) }
 {
-    let ranks = ranks_of(alloc, sections)?;
-    let spots = declared_spots(alloc, sections)?;
-    let numbers = declared_numbers(alloc, sections)?;
-    let parameters = parameter_numbers(alloc, parameters)?;
-    Ok(SymbolTable {
-        parameters,
-        variables: numbers.0,
-        definitions: numbers.1,
-        variable_spots: spots.0,
-        definition_spots: spots.1,
-        ranks: ranks.0,
-        holders: ranks.1,
-    })
+    let mut table = empty_table(alloc);
+    declare(alloc, &mut table, parameters, sections)?;
+    Ok(table)
 }
 
-// The number of the first variable of each name, and of the first definition.
-fn declared_numbers(
-    alloc: Global,
-    sections: &[Section],
-) -> Result<(IndexMap<String, usize>, IndexMap<String, usize>), AllocError>
-    ensures variables { IfOk result (λ tables. (name : List ℕ) → get_by_text tables.0 name ≡ position (λ (x : VariableKind × Variable). bytes_eq name x.1.name) (flat_map variables_in sections.now)) }
-    ensures definitions { IfOk result (λ tables. (name : List ℕ) → get_by_text tables.1 name ≡ position (λ (d : Definition). bytes_eq name d.name) (flat_map definitions_in sections.now)) }
+// The table of a module that declares nothing.
+fn empty_table(alloc: Global) -> SymbolTable
+    ensures { IsTableOf [] [] (Some result) }
 {
-    let variables = variable_numbers(alloc, sections)?;
-    let definitions = definition_numbers(alloc, sections)?;
-    Ok((variables, definitions))
+    SymbolTable {
+        parameters: IndexMap::new(alloc),
+        variables: IndexMap::new(alloc),
+        definitions: IndexMap::new(alloc),
+        variable_spots: Items::new(alloc),
+        definition_spots: Items::new(alloc),
+        ranks: Items::new(alloc),
+        holders: 0,
+    }
 }
 
-// Where each variable stands, and each definition.
-fn declared_spots(
+// What a module declares comes into an empty table.
+fn declare(
     alloc: Global,
+    table: &mut SymbolTable,
+    parameters: &[Parameter],
     sections: &[Section],
-) -> Result<(Items<Spot>, Items<Spot>), AllocError>
-    ensures variables { IfOk result (λ spots. spots.0 ≡ spots_of variables_in 0 sections.now) }
-    ensures definitions { IfOk result (λ spots. spots.1 ≡ spots_of definitions_in 0 sections.now) }
+) -> Result<(), AllocError>
+    requires { IsTableOf [] [] (Some table.old) }
+    ensures { OnOk result (IsTableOf parameters.now sections.now (Some table.new)) }
 {
-    let variables = variable_spots(alloc, sections)?;
-    let definitions = definition_spots(alloc, sections)?;
-    Ok((variables, definitions))
+    note_names(alloc, &mut table.parameters, parameters)?;
+    note_variables(alloc, &mut table.variables, sections)?;
+    note_definitions(alloc, &mut table.definitions, sections)?;
+    push_variable_spots(&mut table.variable_spots, sections)?;
+    push_definition_spots(&mut table.definition_spots, sections)?;
+    table.holders = push_ranks_of(alloc, &mut table.ranks, sections)?;
+    Ok(())
 }
 
 /// The number of the first module of each name.
 pub fn module_numbers(alloc: Global, modules: &[Module]) -> Result<ModuleNumbers, AllocError>
     ensures { IfOk result (λ table. AreNumbered modules.now table) }
 {
-    let mut table = IndexMap::new(alloc);
-    for (k, x) in modules.iter().enumerate() {
-        note_name(alloc, &mut table, x.name.as_str(), k)?;
-    }
-    Ok(table)
+    first_numbers(alloc, modules)
 }
 
-fn parameter_numbers(
-    alloc: Global,
-    parameters: &[Parameter],
-) -> Result<IndexMap<String, usize>, AllocError>
-    ensures { IfOk result (λ table. (name : List ℕ) → get_by_text table name ≡ position (λ (x : Parameter). bytes_eq name x.name) parameters.now) }
-{
-    let mut table = IndexMap::new(alloc);
-    for (k, x) in parameters.iter().enumerate() {
-        note_name(alloc, &mut table, x.name.as_str(), k)?;
-    }
-    Ok(table)
-}
-
-fn variable_numbers(
-    alloc: Global,
-    sections: &[Section],
-) -> Result<IndexMap<String, usize>, AllocError>
-    ensures { IfOk result (λ table. (name : List ℕ) → get_by_text table name ≡ position (λ (x : VariableKind × Variable). bytes_eq name x.1.name) (flat_map variables_in sections.now)) }
-{
-    let variables = variables_of(alloc, sections)?;
-    let mut table = IndexMap::new(alloc);
-    for (k, x) in variables.iter().enumerate() {
-        note_name(alloc, &mut table, x.1.name.as_str(), k)?;
-    }
-    Ok(table)
-}
-
-fn definition_numbers(
-    alloc: Global,
-    sections: &[Section],
-) -> Result<IndexMap<String, usize>, AllocError>
-    ensures { IfOk result (λ table. (name : List ℕ) → get_by_text table name ≡ position (λ (d : Definition). bytes_eq name d.name) (flat_map definitions_in sections.now)) }
-{
-    let definitions = definitions_of(alloc, sections)?;
-    let mut table = IndexMap::new(alloc);
-    for (k, d) in definitions.iter().enumerate() {
-        note_name(alloc, &mut table, d.name.as_str(), k)?;
-    }
-    Ok(table)
-}
-
-// A name that has no number yet gets this one.
-pub(crate) fn note_name(
+// A name that has no number yet gets that of the first variable that bears it.
+fn note_variables(
     alloc: Global,
     table: &mut IndexMap<String, usize>,
-    name: &str,
-    number: usize,
+    sections: &[Section],
 ) -> Result<(), AllocError>
-    ensures { OnOk result ((q : List ℕ) → get_by_text table.new q ≡ first_of (get_by_text table.old q) (bytes_eq q name.now) number) }
+    ensures { OnOk result ((name : List ℕ) → get_by_text table.old name ≡ None → get_by_text table.new name ≡ position (λ (x : VariableKind × Variable). bytes_eq name x.1.name) (flat_map variables_in sections.now)) }
 {
-    if table.contains_key(name) {
-        return Ok(());
+    let variables = variables_of(alloc, sections)?;
+    note_names(alloc, table, variables.as_slice())
+}
+
+// A name that has no number yet gets that of the first definition that bears it.
+fn note_definitions(
+    alloc: Global,
+    table: &mut IndexMap<String, usize>,
+    sections: &[Section],
+) -> Result<(), AllocError>
+    ensures { OnOk result ((name : List ℕ) → get_by_text table.old name ≡ None → get_by_text table.new name ≡ position (λ (d : Definition). bytes_eq name d.name) (flat_map definitions_in sections.now)) }
+{
+    let definitions = definitions_of(alloc, sections)?;
+    note_names(alloc, table, definitions.as_slice())
+}
+
+// Where each variable stands.
+fn push_variable_spots(spots: &mut Items<Spot>, sections: &[Section]) -> Result<(), AllocError>
+    ensures { OnOk result (spots.new ≡ spots.old ++ spots_of variables_in 0 sections.now) }
+{
+    for (k, section) in sections.iter().enumerate() {
+        let (_, variables) = variables_in(section);
+        push_spots(spots, k, variables.len())?;
     }
-    table.insert(String::from_str(alloc, name)?, number)?;
     Ok(())
 }
 
-fn variable_spots(alloc: Global, sections: &[Section]) -> Result<Items<Spot>, AllocError>
-    ensures { IfOk result (λ spots. spots ≡ spots_of variables_in 0 sections.now) }
+// Where each definition stands.
+fn push_definition_spots(spots: &mut Items<Spot>, sections: &[Section]) -> Result<(), AllocError>
+    ensures { OnOk result (spots.new ≡ spots.old ++ spots_of definitions_in 0 sections.now) }
 {
-    let mut spots = Items::new(alloc);
     for (k, section) in sections.iter().enumerate() {
-        let (_, variables) = variables_in(section);
-        push_spots(&mut spots, k, variables.len())?;
+        push_spots(spots, k, definitions_in(section).len())?;
     }
-    Ok(spots)
-}
-
-fn definition_spots(alloc: Global, sections: &[Section]) -> Result<Items<Spot>, AllocError>
-    ensures { IfOk result (λ spots. spots ≡ spots_of definitions_in 0 sections.now) }
-{
-    let mut spots = Items::new(alloc);
-    for (k, section) in sections.iter().enumerate() {
-        push_spots(&mut spots, k, definitions_in(section).len())?;
-    }
-    Ok(spots)
+    Ok(())
 }
 
 // The spots of so many declarations of a section.
@@ -213,10 +187,18 @@ pub fn child_numbers(alloc: Global, tree: &[Instance]) -> Result<HashMap<Parent,
     ensures { IfOk result (λ table. (x : Parent) → get same_variable table x ≡ position (λ (y : Instance). is_declared_by x.instance x.variable y.parent) tree.now) }
 {
     let mut table = HashMap::new(alloc);
-    for (k, x) in tree.iter().enumerate() {
-        note_parent(&mut table, x.parent, k)?;
-    }
+    note_parents(&mut table, tree)?;
     Ok(table)
+}
+
+// A variable that has no number yet gets that of the first instance that it is.
+fn note_parents(table: &mut HashMap<Parent, usize>, tree: &[Instance]) -> Result<(), AllocError>
+    ensures { OnOk result ((x : Parent) → get same_variable table.old x ≡ None → get same_variable table.new x ≡ position (λ (y : Instance). is_declared_by x.instance x.variable y.parent) tree.now) }
+{
+    for (k, x) in tree.iter().enumerate() {
+        note_parent(table, x.parent, k)?;
+    }
+    Ok(())
 }
 
 fn note_parent(

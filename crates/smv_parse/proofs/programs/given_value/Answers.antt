@@ -1,0 +1,12 @@
+use Rattle.smv_tree.specs.declared.token.Token.{Token}
+use Rattle.smv_tree.specs.declared.token.TokenKind.TheVariants as kind
+use Rattle.smv_tree.specs.declared.tree.Expr.{Expr}
+use Rattle.smv_phrases.specs.Names.{just}
+use Rattle.smv_parse.specs.Programs.{expression}
+use Rattle.smv_parse.proofs.Parts.{still_follows}
+use Rattle.smv_parse.proofs.programs.given_value.Goals as goal
+
+pub returns : goal.returns
+returns c =
+    rw (still_follows (just kind.Becomes) (expression 0) kind.Semicolon (λ (x : Token × Expr). x.1)
+    c.args.tokens.now _ _ _ _ c.in_ok-tokens.ensures c.in_ok-value.ensures) at c.followed_by.ensures
