@@ -14,12 +14,17 @@ fn graph(alloc: Global, successors: &[&[usize]]) -> Result<Vec<Items<usize>>, Al
     Ok(g)
 }
 
-// Whether a cycle is found in the graph; a successor that is no node counts as one.
-fn is_cyclic(alloc: Global, g: &[Items<usize>]) -> Result<bool, AllocError> {
-    if !is_closed(g) || g.len() >= 100 {
-        return Ok(true);
+// The cycle that is found, if there is one; an empty one where a successor is no node.
+fn cycle_of(alloc: Global, g: &[Items<usize>]) -> Result<Option<Items<usize>>, AllocError> {
+    if is_closed(g) && g.len() < 100 {
+        canonical_cycle(alloc, g)
+    } else {
+        Ok(Some(Items::new(alloc)))
     }
-    match canonical_cycle(alloc, g)? {
+}
+
+fn is_cyclic(alloc: Global, g: &[Items<usize>]) -> Result<bool, AllocError> {
+    match cycle_of(alloc, g)? {
         Some(cycle) => {
             drop(cycle);
             Ok(true)
@@ -30,10 +35,7 @@ fn is_cyclic(alloc: Global, g: &[Items<usize>]) -> Result<bool, AllocError> {
 
 // Whether this is the cycle that is found.
 fn is_cycle(alloc: Global, g: &[Items<usize>], wanted: &[usize]) -> Result<bool, AllocError> {
-    if !is_closed(g) || g.len() >= 100 {
-        return Ok(wanted.is_empty());
-    }
-    match canonical_cycle(alloc, g)? {
+    match cycle_of(alloc, g)? {
         Some(cycle) => {
             let is_wanted = cycle.as_slice() == wanted;
             drop(cycle);
