@@ -1,4 +1,5 @@
 pub mod Again
+pub mod Begun
 pub mod Followed
 pub mod Found
 pub mod PaidBad

@@ -3,6 +3,9 @@
 
 ghost use Rattle.std.specs.Prelude.{◌≡◌, ◌⊎◌, ⊤, MatchBool, ◌-◌, ◌<◌, ◌≤◌, ◌++◌, ℕ, Bool, List, IfOk, All, Contains, length, take, IfSome};
 ghost use Rattle.frame_core.specs.declared.parts.Lemma.{Lemma as ALemma};
+ghost use Rattle.frame_core.specs.declared.parts.Parent.{Parent as AParent};
+ghost use Rattle.clause_core.specs.declared.literal.Lit.{Lit as ALit};
+ghost use Rattle.clause_core.specs.Systems.{TransitionSystem};
 ghost use Rattle.clause_core.specs.Literals.{Within};
 ghost use Rattle.frame_core.specs.Facts.{IsPart, IsProved};
 ghost use Rattle.frame_core.specs.FrameLaw.{AreAlike, system_at};
@@ -10,6 +13,7 @@ ghost use Rattle.frame_solver.specs.Groups.{base as base_of, step_heads, state_h
 ghost use Rattle.frame_solver.specs.Engines.{IsLoaded, known_of};
 ghost use Rattle.frame_solver.specs.Firsts.{AllFirstsMeet};
 ghost use Rattle.frame_solver.specs.Paying.{Steps, PaysOne};
+ghost use Rattle.frame_solver.specs.Stepping.{Ends, Finds};
 ghost use Rattle.frame_query.specs.Dropping.{IsBroken};
 ghost use Rattle.frame_query.specs.Trying.{proof_of, Tries, PaysFor, PaysNew, IsOthers, IsNeeded, IsSplit, IsSame};
 
@@ -168,6 +172,26 @@ pub(crate) fn both(alloc: Global, a: &[Lit], b: &[Lit]) -> Result<Vec<Lit>, Allo
     Ok(all)
 }
 
+// What the draft shows of a clause that has its part, where first states meet `met`.
+fn shown_by_draft(alloc: Global, draft: &Draft, met: Clause) -> Result<Trial, AllocError>
+    ensures { IfOk result (λ t. (sys : TransitionSystem) (lemmas : List ALemma) (level : ℕ) (d : List ALit) (b : ℕ) (over : Bool) → Ends sys level d draft.now.parents.items draft.now.part.items → IsPart draft.now.part.items d → AllFirstsMeet sys met → IsPart met d → Tries sys lemmas level draft.now.parents.items d b over t) }
+{
+    let parents = copy_parents(alloc, &draft.parents)?;
+    let part = Vec::from_slice(alloc, &draft.part)?;
+    Ok(Trial::Holds { parents, part, met })
+}
+
+// The outcome of a trial, by what was found of steps, where first states meet `met`.
+fn trial_of(found: Stepping, met: Clause) -> Trial
+    ensures { (sys : TransitionSystem) (lemmas : List ALemma) (level : ℕ) (given : List AParent) (d : List ALit) (b : ℕ) (over : Bool) → Finds sys lemmas level d b over found → AllFirstsMeet sys met → IsPart met d → Tries sys lemmas level given d b over result }
+{
+    match found {
+        Stepping::Holds { parents, part } => Trial::Holds { parents, part, met },
+        Stepping::Leaves(_) => Trial::Fails,
+        Stepping::Spent { drawn, budget } => Trial::Spent { drawn, budget },
+    }
+}
+
 // Whether a step leaves the clause, a part of the draft's that first states meet. Where it has the draft's own
 // part, no query is needed: the draft shows it.
 fn steps_or_draft<Q: Purse>(
@@ -201,15 +225,10 @@ fn steps_or_draft<Q: Purse>(
     ensures budget { Q.budget purse.new ≡ Q.budget purse.old }
 {
     if is_part_of(&draft.part, clause) {
-        let parents = copy_parents(alloc, &draft.parents)?;
-        let part = Vec::from_slice(alloc, &draft.part)?;
-        return Ok(Trial::Holds { parents, part, met });
+        return shown_by_draft(alloc, draft, met);
     }
-    match steps_of(alloc, systems, lemmas, steps, known, clause, level, purse)? {
-        Stepping::Holds { parents, part } => Ok(Trial::Holds { parents, part, met }),
-        Stepping::Leaves(_) => Ok(Trial::Fails),
-        Stepping::Spent { drawn, budget } => Ok(Trial::Spent { drawn, budget }),
-    }
+    let found = steps_of(alloc, systems, lemmas, steps, known, clause, level, purse)?;
+    Ok(trial_of(found, met))
 }
 
 // Whether the clause, a part of the draft's, is inductive at the level: first whether first states meet it, then

@@ -64,11 +64,20 @@ pub(crate) fn bounds_of(alloc: Global, all: &[Limits]) -> Result<Items<Bounds>, 
 {
     let mut bounds = Items::new(alloc);
     for limits in all {
-        let (low, high) = range_of(*limits)?;
-        let count = count_between(low, high);
-        bounds.push(Bounds { low, count })?;
+        let dimension = bounds_in(*limits)?;
+        bounds.push(dimension)?;
     }
     Ok(bounds)
+}
+
+// The indices of a dimension.
+fn bounds_in(limits: Limits) -> Result<Bounds, TextStop>
+    ensures judged { Judges result (wide_limits limits) }
+    ensures bounds { IfOk result (λ bounds. bounds ≡ bounds_in limits) }
+{
+    let (low, high) = range_of(limits)?;
+    let count = count_between(low, high);
+    Ok(Bounds { low, count })
 }
 
 // How many integers there are from the one to the other.

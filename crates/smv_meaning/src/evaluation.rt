@@ -1,12 +1,14 @@
 //! The values of expressions.
 
-ghost use Rattle.std.specs.Prelude.{◌≡◌, [], ℕ, List, IfOk, IsSome, Some};
+ghost use Rattle.std.specs.Prelude.{◌≡◌, [], ◌∷◌, ℕ, List, IfOk, IsSome, Some};
 ghost use Rattle.std.specs.Option.{option_copied};
 ghost use Rattle.smv_value.specs.declared.value.Value.{Value};
 ghost use Rattle.smv_resolve.specs.Resolved.{part_of};
-ghost use Rattle.smv_slots.specs.Slots.{item_of};
+ghost use Rattle.smv_slots.specs.Slots.{item_of, slots_of};
+ghost use Rattle.smv_layout.specs.Layout.{laid_expression};
 ghost use Rattle.smv_scope.specs.Targets.{seen as seen_target};
 ghost use Rattle.smv_meaning.specs.Answers.{Evaluates};
+ghost use Rattle.smv_meaning.specs.Outcomes.{applied};
 ghost use Rattle.smv_meaning.specs.Paths.{instance_at, whole_of};
 ghost use Rattle.smv_meaning.specs.Tables.{outcome_at, outcome_by, outcomes_of, seen};
 ghost use Rattle.smv_meaning.specs.Values.{outcome};
@@ -14,11 +16,11 @@ ghost use Rattle.smv_meaning.specs.Values.{outcome};
 use crate::outcome::{one, valued};
 use crate::{Inputs, Outcome, Path, State, Typed, applied};
 use smv_layout::lay_out_expression;
-use smv_resolve::{Node, ResolveStop, first, last, resolve_expression};
+use smv_resolve::{Node, ResolveStop, Single, first, last, resolve_expression};
 use smv_scope::{NameTarget, member_target};
 use smv_slots::Slot;
-use smv_tree::{Expr, VariableKind};
-use smv_value::Value;
+use smv_tree::{Expr, Place, VariableKind};
+use smv_value::{Operator, Value};
 use sqlite_items::at;
 use std::alloc::{AllocError, Global};
 
@@ -85,17 +87,34 @@ fn eval_at(
     ensures { Evaluates typed.now.scope.program at e.now s.now u.now next.now result }
 {
     let resolved = resolve_expression(alloc, &typed.scope, at, e)?;
-    let single = lay_out_expression(alloc, typed.variables.as_slice(), &resolved)?;
+    let outcome = outcome_of_resolved(alloc, typed, &resolved, s, u, next);
+    drop(resolved);
+    Ok(outcome?)
+}
+
+// The outcome of a resolved expression.
+fn outcome_of_resolved(
+    alloc: Global,
+    typed: &Typed,
+    resolved: &Single,
+    s: &State,
+    u: &Inputs,
+    next: &State,
+) -> Result<Outcome, AllocError>
+    ensures { IfOk result (λ o. o ≡ outcome (slots_of typed.now.scope.program) s.now u.now next.now (laid_expression typed.now.scope.program (part_of resolved.now.nodes resolved.now.root))) }
+{
+    let laid = lay_out_expression(alloc, typed.variables.as_slice(), resolved)?;
     let outcome = outcome_of(
         alloc,
         typed.slots.as_slice(),
-        single.nodes.as_slice(),
-        single.root,
+        laid.nodes.as_slice(),
+        laid.root,
         s.as_slice(),
         u.as_slice(),
         next.as_slice(),
-    )?;
-    Ok(outcome)
+    );
+    drop(laid);
+    outcome
 }
 
 // The outcome of the node of this number, in a state with inputs and the next state.
@@ -207,13 +226,27 @@ fn outcome_by(
         Node::Named(_, _, a) | Node::Operand(a) => copy_at(alloc, here, a),
         Node::Next(_, a) => copy_at(alloc, later, a),
         Node::Apply(place, operator, count) => applied(alloc, operator, place, last(here, count)),
-        Node::Link(place, operator, a, b) => {
-            let left = copy_at(alloc, here, a)?;
-            let right = copy_at(alloc, here, b)?;
-            let operands = [left, right];
-            applied(alloc, operator, place, &operands)
-        }
+        Node::Link(place, operator, a, b) => linked(alloc, operator, place, here, a, b),
     }
+}
+
+// The outcome of an operator over the nodes of these numbers.
+fn linked(
+    alloc: Global,
+    operator: Operator,
+    place: Place,
+    outcomes: &[Outcome],
+    a: usize,
+    b: usize,
+) -> Result<Outcome, AllocError>
+    ensures { IfOk result (λ o. o ≡ applied operator place (outcome_at outcomes.now a ∷ outcome_at outcomes.now b ∷ [])) }
+{
+    let left = copy_at(alloc, outcomes, a)?;
+    let right = copy_at(alloc, outcomes, b)?;
+    let operands = [left, right];
+    let outcome = applied(alloc, operator, place, &operands);
+    drop(operands);
+    outcome
 }
 
 // The value that a state and inputs give to the slot of this number.

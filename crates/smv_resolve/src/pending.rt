@@ -38,15 +38,30 @@ pub fn find_named(scope: &Scope, memo: &mut Memo, at: usize, e: &Expr) -> Result
     ensures grows { OnOk result (Grows memo.old.nodes memo.new.nodes) }
 {
     let mut pending = Items::new(memo.alloc);
-    let mut goes_on = push_names(scope, memo, &mut pending, at, e)?;
+    if !push_names(scope, memo, &mut pending, at, e)? {
+        return Ok(());
+    }
+    find_pending(scope, memo, &mut pending)
+}
+
+// Finds what is on the list until nothing is, or a name leads nowhere, too far or to itself.
+fn find_pending<'a>(
+    scope: &'a Scope,
+    memo: &mut Memo,
+    pending: &mut Items<Pending<'a>>,
+) -> Result<(), AllocError>
+    requires known { AllKnown scope.now.program memo.old }
+    requires lead { AllLead scope.now.program pending.old }
+    ensures known { OnOk result (AllKnown scope.now.program memo.new) }
+    ensures grows { OnOk result (Grows memo.old.nodes memo.new.nodes) }
+{
     'pending: for _ in 0..u64::MAX {
-        if !goes_on {
-            return Ok(());
-        }
         let Some(next) = pending.pop() else {
             return Ok(());
         };
-        goes_on = take_up(scope, memo, &mut pending, next)?;
+        if !take_up(scope, memo, pending, next)? {
+            return Ok(());
+        }
     }
     Ok(())
 }
@@ -107,7 +122,21 @@ fn push_names<'a>(
     ensures { OnOk result (AllLead scope.now.program pending.new) }
 {
     let names = names_in(memo.alloc, e)?;
-    for name in names.as_slice() {
+    push_each(scope, memo, pending, at, names.as_slice())
+}
+
+// The same of these names.
+fn push_each<'a>(
+    scope: &'a Scope,
+    memo: &Memo,
+    pending: &mut Items<Pending<'a>>,
+    at: usize,
+    names: &[&Name],
+) -> Result<bool, AllocError>
+    requires { AllLead scope.now.program pending.old }
+    ensures { OnOk result (AllLead scope.now.program pending.new) }
+{
+    for name in names {
         if !push_name(scope, memo, pending, at, name)? {
             return Ok(false);
         }

@@ -141,6 +141,13 @@ run_goes t low high l h =
     ap (list_all (λ v. is_of_type v t)) (run_more low high l)
     ∙ ap (λ (b : Bool). b && list_all (λ v. is_of_type v t) (run (low +ℤ pos 1) high)) (sym h)
 
+-- an empty run is of each type, and one of a single integer is where that is
+pub run_past : (t : ValueType) (low high : ℤ) → high <ℤ low → true ≡ list_all (λ v. is_of_type v t) (run low high)
+run_past t low high past = sym (ap (list_all (λ v. is_of_type v t)) (run_none low high past))
+
+pub run_ends : (t : ValueType) (low high : ℤ) → low ≤ℤ high → high ≤ℤ low → true ≡ is_of_type (value.Int low) t → true ≡ list_all (λ v. is_of_type v t) (run low high)
+run_ends t low high a b h = sym (ap (list_all (λ v. is_of_type v t)) (run_one low high a b) ∙ ap (λ (b : Bool). b && true) (sym h))
+
 -- a span that is not of the type, and one that is
 module _ (t : ValueType) where
   abbrev of_all : List Span → Bool

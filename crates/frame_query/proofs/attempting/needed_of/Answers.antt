@@ -1,8 +1,9 @@
-use Rattle.std.proofs.Common.{◌≡◌, ◌++◌, ◌∷◌, [], List, take, get_or, length, subst, sym, ◌<◌}
-use Rattle.std.proofs.lemmas.List.{take_more}
+use Rattle.std.proofs.Common.{◌≡◌, ◌++◌, ◌∷◌, [], List, take, get_or, length, subst, sym, arith, ◌<◌}
+use Rattle.std.proofs.lemmas.List.{take_more, take_all}
 use Rattle.clause_core.specs.declared.literal.Lit.{Lit}
 use Rattle.clause_core.specs.Literals.{none_lit}
 use Rattle.frame_query.specs.Trying.{IsNeeded}
+use Rattle.frame_query.proofs.Begun.{needed_none}
 use Rattle.frame_query.proofs.Tried.{needed_push, needed_skip}
 use Rattle.frame_query.proofs.attempting.needed_of.Goals as goal
 use Rattle.frame_query.proofs.attempting.needed_of.Goals.{then-is_wanted+in_ok-push, else-is_wanted}
@@ -25,3 +26,13 @@ literals-preserved c =
           let e : c.if-is_wanted.needed.items ≡ needed = cc w.needed-is in
           subst P (sym more) (subst Q (sym e) (needed_skip (take i left) c.args.part.now c.args.met.now needed l c.literals.invariant w.if-is_wanted.ensures))
     ]
+
+pub literals-init : goal.literals-init
+literals-init c =
+    let Q : List Lit → Type 0 = IsNeeded [] c.args.part.now c.args.met.now in
+    subst Q (sym c.new-needed.ensures.items) (needed_none c.args.part.now c.args.met.now)
+
+pub returns : goal.returns
+returns c =
+    let P : List Lit → Type 0 = λ xs. IsNeeded xs c.args.part.now c.args.met.now c.literals.needed.items in
+    subst P (take_all c.literals.l-index c.args.left.now (omega (arith, c.literals-test.false))) c.literals.invariant

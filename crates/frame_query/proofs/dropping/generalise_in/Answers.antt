@@ -33,3 +33,69 @@ returns-in-Done-clause-found g c =
       needed = subst N (sym clause) ends.2;
       stands = λ s. subst S (sym (ap (λ (p : ProvedClause). p.parents) is)) (ends.3 s);
     }
+
+pub returns-in-Done-clause-pays : goal.returns-in-Done-clause-pays
+returns-in-Done-clause-pays g c = c.generalised.ensures.pays
+
+pub returns-in-Done-clause-steps : goal.returns-in-Done-clause-steps
+returns-in-Done-clause-steps g c = c.generalised.ensures.steps
+
+pub returns-in-Done-clause-states : goal.returns-in-Done-clause-states
+returns-in-Done-clause-states g c = c.generalised.ensures.states
+
+pub returns-in-Done-clause-known : goal.returns-in-Done-clause-known
+returns-in-Done-clause-known g c = c.generalised.ensures.known
+
+pub returns-in-Done-clause-kept : goal.returns-in-Done-clause-kept
+returns-in-Done-clause-kept g c = c.generalised.ensures.kept
+
+pub returns-in-Done-clause-ready : goal.returns-in-Done-clause-ready
+returns-in-Done-clause-ready g c = c.generalised.ensures.ready
+
+pub returns-in-Done-clause-budget : goal.returns-in-Done-clause-budget
+returns-in-Done-clause-budget g c = c.generalised.ensures.budget
+
+pub returns-clause-pays : goal.returns-clause-pays
+returns-clause-pays g c = c.generalised.ensures.pays
+
+pub returns-clause-steps : goal.returns-clause-steps
+returns-clause-steps g c = c.generalised.ensures.steps
+
+pub returns-clause-states : goal.returns-clause-states
+returns-clause-states g c = c.generalised.ensures.states
+
+pub returns-clause-known : goal.returns-clause-known
+returns-clause-known g c = c.generalised.ensures.known
+
+pub returns-clause-kept : goal.returns-clause-kept
+returns-clause-kept g c = c.generalised.ensures.kept
+
+pub returns-clause-ready : goal.returns-clause-ready
+returns-clause-ready g c = c.generalised.ensures.ready
+
+pub returns-clause-budget : goal.returns-clause-budget
+returns-clause-budget g c = c.generalised.ensures.budget
+
+pub generalised-requires-clause-some : goal.generalised-requires-clause-some
+generalised-requires-clause-some g c = c.requires.some
+
+pub generalised-requires-clause-alike : goal.generalised-requires-clause-alike
+generalised-requires-clause-alike g c = c.requires.alike
+
+pub generalised-requires-clause-lemmas : goal.generalised-requires-clause-lemmas
+generalised-requires-clause-lemmas g c = c.requires.lemmas
+
+pub generalised-requires-clause-steps : goal.generalised-requires-clause-steps
+generalised-requires-clause-steps g c = c.requires.steps
+
+pub generalised-requires-clause-states : goal.generalised-requires-clause-states
+generalised-requires-clause-states g c = c.requires.states
+
+pub generalised-requires-clause-system : goal.generalised-requires-clause-system
+generalised-requires-clause-system g c = c.requires.system
+
+pub generalised-requires-clause-known : goal.generalised-requires-clause-known
+generalised-requires-clause-known g c = c.requires.known
+
+pub generalised-requires-clause-ready : goal.generalised-requires-clause-ready
+generalised-requires-clause-ready g c = c.requires.ready

@@ -116,3 +116,135 @@ returns-clause-ends g c =
       way_end (system_at c.args.systems.now 0) c.args.lemmas.now c.args.given.now c.literals.walk.draft c.literals.walk.kept.items c.literals.walk.rest.items none way,
       way.stands,
     )
+
+pub returns-in_err-hint-clause-steps : goal.returns-in_err-hint-clause-steps
+returns-in_err-hint-clause-steps g c = c.requires.steps
+
+pub returns-in_err-hint-clause-states : goal.returns-in_err-hint-clause-states
+returns-in_err-hint-clause-states g c = c.requires.states
+
+pub returns-in_err-hint-clause-known : goal.returns-in_err-hint-clause-known
+returns-in_err-hint-clause-known g c = refl
+
+pub returns-in_err-hint-clause-kept : goal.returns-in_err-hint-clause-kept
+returns-in_err-hint-clause-kept g c = g.met.Q.Purse.kept_refl c.args.purse.now
+
+pub returns-in_err-hint-clause-ready : goal.returns-in_err-hint-clause-ready
+returns-in_err-hint-clause-ready g c = c.requires.ready
+
+pub returns-in_err-hint-clause-budget : goal.returns-in_err-hint-clause-budget
+returns-in_err-hint-clause-budget g c = refl
+
+pub returns-in_err-rest-clause-steps : goal.returns-in_err-rest-clause-steps
+returns-in_err-rest-clause-steps g c = c.requires.steps
+
+pub returns-in_err-rest-clause-states : goal.returns-in_err-rest-clause-states
+returns-in_err-rest-clause-states g c = c.requires.states
+
+pub returns-in_err-rest-clause-known : goal.returns-in_err-rest-clause-known
+returns-in_err-rest-clause-known g c = refl
+
+pub returns-in_err-rest-clause-kept : goal.returns-in_err-rest-clause-kept
+returns-in_err-rest-clause-kept g c = g.met.Q.Purse.kept_refl c.args.purse.now
+
+pub returns-in_err-rest-clause-ready : goal.returns-in_err-rest-clause-ready
+returns-in_err-rest-clause-ready g c = c.requires.ready
+
+pub returns-in_err-rest-clause-budget : goal.returns-in_err-rest-clause-budget
+returns-in_err-rest-clause-budget g c = refl
+
+pub returns-in_err-draft-clause-steps : goal.returns-in_err-draft-clause-steps
+returns-in_err-draft-clause-steps g c = c.requires.steps
+
+pub returns-in_err-draft-clause-states : goal.returns-in_err-draft-clause-states
+returns-in_err-draft-clause-states g c = c.requires.states
+
+pub returns-in_err-draft-clause-known : goal.returns-in_err-draft-clause-known
+returns-in_err-draft-clause-known g c = refl
+
+pub returns-in_err-draft-clause-kept : goal.returns-in_err-draft-clause-kept
+returns-in_err-draft-clause-kept g c = g.met.Q.Purse.kept_refl c.args.purse.now
+
+pub returns-in_err-draft-clause-ready : goal.returns-in_err-draft-clause-ready
+returns-in_err-draft-clause-ready g c = c.requires.ready
+
+pub returns-in_err-draft-clause-budget : goal.returns-in_err-draft-clause-budget
+returns-in_err-draft-clause-budget g c = refl
+
+pub returns-in_err-drawn-clause-steps : goal.returns-in_err-drawn-clause-steps
+returns-in_err-drawn-clause-steps g c = c.next.ensures.steps
+
+pub returns-in_err-drawn-clause-states : goal.returns-in_err-drawn-clause-states
+returns-in_err-drawn-clause-states g c = c.next.ensures.states
+
+pub returns-in_err-drawn-clause-known : goal.returns-in_err-drawn-clause-known
+returns-in_err-drawn-clause-known g c = c.next.ensures.known ∙ c.literals.invariant.known ∙ sym c.requires.known
+
+pub returns-in_err-drawn-clause-kept : goal.returns-in_err-drawn-clause-kept
+returns-in_err-drawn-clause-kept g c = g.met.Q.Purse.kept_trans c.args.purse.now c.literals.purse c.next.new.purse c.literals.invariant.kept c.next.ensures.kept
+
+pub returns-in_err-drawn-clause-ready : goal.returns-in_err-drawn-clause-ready
+returns-in_err-drawn-clause-ready g c = c.next.ensures.ready
+
+pub returns-in_err-drawn-clause-budget : goal.returns-in_err-drawn-clause-budget
+returns-in_err-drawn-clause-budget g c = c.next.ensures.budget ∙ c.literals.invariant.budget
+
+pub returns-in-Spent-clause-steps : goal.returns-in-Spent-clause-steps
+returns-in-Spent-clause-steps g c = c.next.ensures.steps
+
+pub returns-in-Spent-clause-states : goal.returns-in-Spent-clause-states
+returns-in-Spent-clause-states g c = c.next.ensures.states
+
+pub returns-in-Spent-clause-known : goal.returns-in-Spent-clause-known
+returns-in-Spent-clause-known g c = c.next.ensures.known ∙ c.literals.invariant.known ∙ sym c.requires.known
+
+pub returns-in-Spent-clause-kept : goal.returns-in-Spent-clause-kept
+returns-in-Spent-clause-kept g c = g.met.Q.Purse.kept_trans c.args.purse.now c.literals.purse c.next.new.purse c.literals.invariant.kept c.next.ensures.kept
+
+pub returns-in-Spent-clause-ready : goal.returns-in-Spent-clause-ready
+returns-in-Spent-clause-ready g c = c.next.ensures.ready
+
+pub returns-in-Spent-clause-budget : goal.returns-in-Spent-clause-budget
+returns-in-Spent-clause-budget g c = c.next.ensures.budget ∙ c.literals.invariant.budget
+
+pub returns-clause-steps : goal.returns-clause-steps
+returns-clause-steps g c = c.literals.invariant.steps
+
+pub returns-clause-states : goal.returns-clause-states
+returns-clause-states g c = c.literals.invariant.states
+
+pub returns-clause-known : goal.returns-clause-known
+returns-clause-known g c = c.literals.invariant.known ∙ sym c.requires.known
+
+pub returns-clause-kept : goal.returns-clause-kept
+returns-clause-kept g c = c.literals.invariant.kept
+
+pub returns-clause-ready : goal.returns-clause-ready
+returns-clause-ready g c = c.literals.invariant.ready
+
+pub returns-clause-budget : goal.returns-clause-budget
+returns-clause-budget g c = c.literals.invariant.budget
+
+pub next-requires-clause-some : goal.next-requires-clause-some
+next-requires-clause-some g c = c.requires.some
+
+pub next-requires-clause-alike : goal.next-requires-clause-alike
+next-requires-clause-alike g c = c.requires.alike
+
+pub next-requires-clause-lemmas : goal.next-requires-clause-lemmas
+next-requires-clause-lemmas g c = c.requires.lemmas
+
+pub next-requires-clause-steps : goal.next-requires-clause-steps
+next-requires-clause-steps g c = c.literals.invariant.steps
+
+pub next-requires-clause-states : goal.next-requires-clause-states
+next-requires-clause-states g c = c.literals.invariant.states
+
+pub next-requires-clause-going : goal.next-requires-clause-going
+next-requires-clause-going g c = c.literals.invariant.going
+
+pub next-requires-clause-known : goal.next-requires-clause-known
+next-requires-clause-known g c = c.literals.invariant.known
+
+pub next-requires-clause-ready : goal.next-requires-clause-ready
+next-requires-clause-ready g c = c.literals.invariant.ready

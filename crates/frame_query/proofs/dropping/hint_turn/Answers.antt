@@ -1,4 +1,4 @@
-use Rattle.std.proofs.Common.{◌≡◌, ◌≤◌, ◌+◌, ◌++◌, ◌∙◌, Option, ℕ, List, length, sym, ap, subst}
+use Rattle.std.proofs.Common.{◌≡◌, ◌≤◌, ◌+◌, ◌++◌, ◌∙◌, Option, ℕ, List, length, refl, sym, ap, subst}
 use Rattle.std.proofs.lemmas.Result.{IfOk-from_err, IfOk-weaker}
 use Rattle.clause_core.specs.declared.literal.Lit.{Lit}
 use Rattle.clause_core.specs.Literals.{Within}
@@ -141,3 +141,96 @@ returns-clause-pays g c =
           (subst N c.level-level.ensures (subst T is c.in_ok-trial.ensures.tried)) (subst C cand (subst A c.deref-6.ensures.value moves)))
           c.hint_moved.ensures.moves,
     )
+
+pub returns-in_err-left-clause-steps : goal.returns-in_err-left-clause-steps
+returns-in_err-left-clause-steps g c = c.requires.steps
+
+pub returns-in_err-left-clause-states : goal.returns-in_err-left-clause-states
+returns-in_err-left-clause-states g c = c.requires.states
+
+pub returns-in_err-left-clause-known : goal.returns-in_err-left-clause-known
+returns-in_err-left-clause-known g c = refl
+
+pub returns-in_err-left-clause-kept : goal.returns-in_err-left-clause-kept
+returns-in_err-left-clause-kept g c = g.met.Q.Purse.kept_refl c.args.purse.now
+
+pub returns-in_err-left-clause-ready : goal.returns-in_err-left-clause-ready
+returns-in_err-left-clause-ready g c = c.requires.ready
+
+pub returns-in_err-left-clause-budget : goal.returns-in_err-left-clause-budget
+returns-in_err-left-clause-budget g c = refl
+
+pub returns-in_err-candidate-clause-steps : goal.returns-in_err-candidate-clause-steps
+returns-in_err-candidate-clause-steps g c = c.requires.steps
+
+pub returns-in_err-candidate-clause-states : goal.returns-in_err-candidate-clause-states
+returns-in_err-candidate-clause-states g c = c.requires.states
+
+pub returns-in_err-candidate-clause-known : goal.returns-in_err-candidate-clause-known
+returns-in_err-candidate-clause-known g c = refl
+
+pub returns-in_err-candidate-clause-kept : goal.returns-in_err-candidate-clause-kept
+returns-in_err-candidate-clause-kept g c = g.met.Q.Purse.kept_refl c.args.purse.now
+
+pub returns-in_err-candidate-clause-ready : goal.returns-in_err-candidate-clause-ready
+returns-in_err-candidate-clause-ready g c = c.requires.ready
+
+pub returns-in_err-candidate-clause-budget : goal.returns-in_err-candidate-clause-budget
+returns-in_err-candidate-clause-budget g c = refl
+
+pub returns-in_err-trial-clause-steps : goal.returns-in_err-trial-clause-steps
+returns-in_err-trial-clause-steps g c = c.attempt.ensures.steps
+
+pub returns-in_err-trial-clause-states : goal.returns-in_err-trial-clause-states
+returns-in_err-trial-clause-states g c = c.attempt.ensures.states
+
+pub returns-in_err-trial-clause-known : goal.returns-in_err-trial-clause-known
+returns-in_err-trial-clause-known g c = c.attempt.ensures.known
+
+pub returns-in_err-trial-clause-kept : goal.returns-in_err-trial-clause-kept
+returns-in_err-trial-clause-kept g c = c.attempt.ensures.kept
+
+pub returns-in_err-trial-clause-ready : goal.returns-in_err-trial-clause-ready
+returns-in_err-trial-clause-ready g c = c.attempt.ensures.ready
+
+pub returns-in_err-trial-clause-budget : goal.returns-in_err-trial-clause-budget
+returns-in_err-trial-clause-budget g c = c.attempt.ensures.budget
+
+pub returns-clause-steps : goal.returns-clause-steps
+returns-clause-steps g c = c.attempt.ensures.steps
+
+pub returns-clause-states : goal.returns-clause-states
+returns-clause-states g c = c.attempt.ensures.states
+
+pub returns-clause-known : goal.returns-clause-known
+returns-clause-known g c = c.attempt.ensures.known
+
+pub returns-clause-kept : goal.returns-clause-kept
+returns-clause-kept g c = c.attempt.ensures.kept
+
+pub returns-clause-ready : goal.returns-clause-ready
+returns-clause-ready g c = c.attempt.ensures.ready
+
+pub returns-clause-budget : goal.returns-clause-budget
+returns-clause-budget g c = c.attempt.ensures.budget
+
+pub attempt-requires-clause-some : goal.attempt-requires-clause-some
+attempt-requires-clause-some g c = c.requires.some
+
+pub attempt-requires-clause-alike : goal.attempt-requires-clause-alike
+attempt-requires-clause-alike g c = c.requires.alike
+
+pub attempt-requires-clause-lemmas : goal.attempt-requires-clause-lemmas
+attempt-requires-clause-lemmas g c = c.requires.lemmas
+
+pub attempt-requires-clause-steps : goal.attempt-requires-clause-steps
+attempt-requires-clause-steps g c = c.requires.steps
+
+pub attempt-requires-clause-states : goal.attempt-requires-clause-states
+attempt-requires-clause-states g c = c.requires.states
+
+pub attempt-requires-clause-known : goal.attempt-requires-clause-known
+attempt-requires-clause-known g c = c.requires.known
+
+pub attempt-requires-clause-ready : goal.attempt-requires-clause-ready
+attempt-requires-clause-ready g c = c.requires.ready

@@ -1,4 +1,4 @@
-use Rattle.std.proofs.Common.{◌≡◌, ◌+◌, ◌++◌, ◌∙◌, ℕ, List, length, sym, ap, subst}
+use Rattle.std.proofs.Common.{◌≡◌, ◌+◌, ◌++◌, ◌∙◌, ℕ, List, length, refl, sym, ap, subst}
 use Rattle.std.proofs.lemmas.Result.{IfOk-from_err, IfOk-weaker}
 use Rattle.std.specs.Option.{IfSome}
 use Rattle.clause_core.specs.declared.literal.Lit.{Lit}
@@ -133,3 +133,96 @@ pub attempt_new-requires-clause-failed : goal.attempt_new-requires-clause-failed
 attempt_new-requires-clause-failed g c =
     let P : ℕ → Type 0 = λ k. IfSome c.args.walk.now.failed (IsBroken (system_at c.args.systems.now 0) c.args.lemmas.now k) in
     subst P (sym c.level-level.ensures) c.requires.going.fell
+
+pub returns-in_err-left-clause-steps : goal.returns-in_err-left-clause-steps
+returns-in_err-left-clause-steps g c = c.requires.steps
+
+pub returns-in_err-left-clause-states : goal.returns-in_err-left-clause-states
+returns-in_err-left-clause-states g c = c.requires.states
+
+pub returns-in_err-left-clause-known : goal.returns-in_err-left-clause-known
+returns-in_err-left-clause-known g c = refl
+
+pub returns-in_err-left-clause-kept : goal.returns-in_err-left-clause-kept
+returns-in_err-left-clause-kept g c = g.met.Q.Purse.kept_refl c.args.purse.now
+
+pub returns-in_err-left-clause-ready : goal.returns-in_err-left-clause-ready
+returns-in_err-left-clause-ready g c = c.requires.ready
+
+pub returns-in_err-left-clause-budget : goal.returns-in_err-left-clause-budget
+returns-in_err-left-clause-budget g c = refl
+
+pub returns-in_err-candidate-clause-steps : goal.returns-in_err-candidate-clause-steps
+returns-in_err-candidate-clause-steps g c = c.requires.steps
+
+pub returns-in_err-candidate-clause-states : goal.returns-in_err-candidate-clause-states
+returns-in_err-candidate-clause-states g c = c.requires.states
+
+pub returns-in_err-candidate-clause-known : goal.returns-in_err-candidate-clause-known
+returns-in_err-candidate-clause-known g c = refl
+
+pub returns-in_err-candidate-clause-kept : goal.returns-in_err-candidate-clause-kept
+returns-in_err-candidate-clause-kept g c = g.met.Q.Purse.kept_refl c.args.purse.now
+
+pub returns-in_err-candidate-clause-ready : goal.returns-in_err-candidate-clause-ready
+returns-in_err-candidate-clause-ready g c = c.requires.ready
+
+pub returns-in_err-candidate-clause-budget : goal.returns-in_err-candidate-clause-budget
+returns-in_err-candidate-clause-budget g c = refl
+
+pub returns-in_err-trial-clause-steps : goal.returns-in_err-trial-clause-steps
+returns-in_err-trial-clause-steps g c = c.attempt_new.ensures.steps
+
+pub returns-in_err-trial-clause-states : goal.returns-in_err-trial-clause-states
+returns-in_err-trial-clause-states g c = c.attempt_new.ensures.states
+
+pub returns-in_err-trial-clause-known : goal.returns-in_err-trial-clause-known
+returns-in_err-trial-clause-known g c = c.attempt_new.ensures.known
+
+pub returns-in_err-trial-clause-kept : goal.returns-in_err-trial-clause-kept
+returns-in_err-trial-clause-kept g c = c.attempt_new.ensures.kept
+
+pub returns-in_err-trial-clause-ready : goal.returns-in_err-trial-clause-ready
+returns-in_err-trial-clause-ready g c = c.attempt_new.ensures.ready
+
+pub returns-in_err-trial-clause-budget : goal.returns-in_err-trial-clause-budget
+returns-in_err-trial-clause-budget g c = c.attempt_new.ensures.budget
+
+pub returns-clause-steps : goal.returns-clause-steps
+returns-clause-steps g c = c.attempt_new.ensures.steps
+
+pub returns-clause-states : goal.returns-clause-states
+returns-clause-states g c = c.attempt_new.ensures.states
+
+pub returns-clause-known : goal.returns-clause-known
+returns-clause-known g c = c.attempt_new.ensures.known
+
+pub returns-clause-kept : goal.returns-clause-kept
+returns-clause-kept g c = c.attempt_new.ensures.kept
+
+pub returns-clause-ready : goal.returns-clause-ready
+returns-clause-ready g c = c.attempt_new.ensures.ready
+
+pub returns-clause-budget : goal.returns-clause-budget
+returns-clause-budget g c = c.attempt_new.ensures.budget
+
+pub attempt_new-requires-clause-some : goal.attempt_new-requires-clause-some
+attempt_new-requires-clause-some g c = c.requires.some
+
+pub attempt_new-requires-clause-alike : goal.attempt_new-requires-clause-alike
+attempt_new-requires-clause-alike g c = c.requires.alike
+
+pub attempt_new-requires-clause-lemmas : goal.attempt_new-requires-clause-lemmas
+attempt_new-requires-clause-lemmas g c = c.requires.lemmas
+
+pub attempt_new-requires-clause-steps : goal.attempt_new-requires-clause-steps
+attempt_new-requires-clause-steps g c = c.requires.steps
+
+pub attempt_new-requires-clause-states : goal.attempt_new-requires-clause-states
+attempt_new-requires-clause-states g c = c.requires.states
+
+pub attempt_new-requires-clause-known : goal.attempt_new-requires-clause-known
+attempt_new-requires-clause-known g c = c.requires.known
+
+pub attempt_new-requires-clause-ready : goal.attempt_new-requires-clause-ready
+attempt_new-requires-clause-ready g c = c.requires.ready

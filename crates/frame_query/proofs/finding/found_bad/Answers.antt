@@ -30,3 +30,33 @@ new-requires-in-Known g c =
 
 pub returns-clause-pays : goal.returns-clause-pays
 returns-clause-pays g c = c.flag_of.ensures.pays
+
+pub returns-then-top-eq0-clause-engine : goal.returns-then-top-eq0-clause-engine
+returns-then-top-eq0-clause-engine g c = c.requires.engine
+
+pub returns-then-top-eq0-clause-known : goal.returns-then-top-eq0-clause-known
+returns-then-top-eq0-clause-known g c = refl
+
+pub returns-then-top-eq0-clause-kept : goal.returns-then-top-eq0-clause-kept
+returns-then-top-eq0-clause-kept g c = g.met.Q.Purse.kept_refl c.args.purse.now
+
+pub returns-then-top-eq0-clause-ready : goal.returns-then-top-eq0-clause-ready
+returns-then-top-eq0-clause-ready g c = c.requires.ready
+
+pub returns-then-top-eq0-clause-budget : goal.returns-then-top-eq0-clause-budget
+returns-then-top-eq0-clause-budget g c = refl
+
+pub returns-clause-engine : goal.returns-clause-engine
+returns-clause-engine g c = c.flag_of.ensures.engine
+
+pub returns-clause-known : goal.returns-clause-known
+returns-clause-known g c = c.flag_of.ensures.known
+
+pub returns-clause-kept : goal.returns-clause-kept
+returns-clause-kept g c = c.flag_of.ensures.kept
+
+pub returns-clause-ready : goal.returns-clause-ready
+returns-clause-ready g c = c.flag_of.ensures.ready
+
+pub returns-clause-budget : goal.returns-clause-budget
+returns-clause-budget g c = c.flag_of.ensures.budget

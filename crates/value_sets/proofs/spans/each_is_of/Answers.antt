@@ -1,11 +1,11 @@
 -- The first integer of a run, and the others.
-use Rattle.std.proofs.Common.{◌≡◌, ◌∙◌, Bool, ℤ, sym, ap, arith, pos, ◌+ℤ◌, ◌≤ℤ◌, to_z, of_z, w64}
+use Rattle.std.proofs.Common.{◌≡◌, ◌∙◌, Bool, ℤ, sym, ap, arith, pos, ◌+ℤ◌, ◌<ℤ◌, ◌≤ℤ◌, to_z, of_z, w64}
 use Rattle.std.specs.List.{list_all}
 use Rattle.std.proofs.lemmas.Int.{ints, to_z-of_z}
 use Rattle.value_types.specs.declared.value_type.ValueType.{ValueType}
 use Rattle.value_types.specs.Types.{is_of_type}
 use Rattle.value_sets.specs.Members.{run}
-use Rattle.value_sets.proofs.Runs.{run_fails, run_goes}
+use Rattle.value_sets.proofs.Runs.{run_ends, run_fails, run_goes, run_past}
 use Rattle.value_sets.proofs.spans.each_is_of.Goals as goal
 
 abbrev all_from : ValueType → ℤ → ℤ → Bool
@@ -36,3 +36,30 @@ loop-z-preserved c =
     ∙ sym (run_goes t z c.args.high within c.if-not-contains.ensures)
     ∙ ap (λ (h : ℤ). all_from t z h) (sym high)
     ∙ c.loop-z.invariant
+
+pub returns-then-high-z : goal.returns-then-high-z
+returns-then-high-z c =
+    let t = c.args.t.now in
+    let z = to_z w64 c.loop-z.z-bits in
+    let high = to_z-of_z w64 c.args.high c.ranges.high in
+    let low = to_z-of_z w64 c.args.low c.ranges.low in
+    let within : z ≤ℤ c.args.high = omega (arith, ints, high) in
+    let last : c.args.high ≤ℤ z = omega (arith, ints, high) in
+    run_ends t z c.args.high within last c.if-not-contains.ensures
+    ∙ ap (λ (h : ℤ). all_from t z h) (sym high)
+    ∙ c.loop-z.invariant
+    ∙ ap (λ (h : ℤ). all_from t (to_z w64 (of_z w64 c.args.low)) h) high
+    ∙ ap (λ (i : ℤ). all_from t i c.args.high) low
+
+pub returns : goal.returns
+returns c =
+    let t = c.args.t.now in
+    let z = to_z w64 c.loop-z.z-bits in
+    let high = to_z-of_z w64 c.args.high c.ranges.high in
+    let low = to_z-of_z w64 c.args.low c.ranges.low in
+    let past : c.args.high <ℤ z = omega (arith, ints, high) in
+    run_past t z c.args.high past
+    ∙ ap (λ (h : ℤ). all_from t z h) (sym high)
+    ∙ c.loop-z.invariant
+    ∙ ap (λ (h : ℤ). all_from t (to_z w64 (of_z w64 c.args.low)) h) high
+    ∙ ap (λ (i : ℤ). all_from t i c.args.high) low

@@ -1,8 +1,10 @@
-use Rattle.std.proofs.Common.{Bool, List, subst}
+use Rattle.std.proofs.Common.{◌∙◌, Bool, List, subst}
 use Rattle.std.specs.Result.{IfOk}
 use Rattle.std.proofs.lemmas.Result.{IfOk-from_err}
 use Rattle.frame_core.specs.declared.parts.Lemma.{Lemma}
-use Rattle.frame_solver.specs.Engines.{known_of}
+use Rattle.frame_core.specs.FrameLaw.{system_at}
+use Rattle.frame_solver.specs.Engines.{IsLoaded, known_of}
+use Rattle.frame_solver.specs.Groups.{base, state_heads, clauses_of}
 use Rattle.frame_query.specs.Findings.{SolverView, FindsBad, IsTheState, PaysBad}
 use Rattle.frame_query.proofs.PaidBad.{bad_right}
 use Rattle.frame_query.proofs.keeping.FrameSolver.bad.Goals as goal
@@ -44,3 +46,35 @@ returns-clause-found g c =
     let K : SolverView → Type 0 = λ v. FindsBad v.systems v.lemmas c.args.j c.args.top budget over c.in_ok-found.found in
     let L : List Lemma → Type 0 = λ xs. FindsBad c.self.inside.systems.now xs c.args.j c.args.top budget over c.in_ok-found.found in
     subst K c.self.view_is (subst L c.as_slice.ensures c.in_ok-found.ensures.found)
+
+pub returns-in_err-found-clause-kept : goal.returns-in_err-found-clause-kept
+returns-in_err-found-clause-kept g c = c.bad_of.ensures.kept
+
+pub returns-in_err-found-clause-ready : goal.returns-in_err-found-clause-ready
+returns-in_err-found-clause-ready g c = c.bad_of.ensures.ready
+
+pub returns-in_err-found-clause-budget : goal.returns-in_err-found-clause-budget
+returns-in_err-found-clause-budget g c = c.bad_of.ensures.budget
+
+pub returns-clause-kept : goal.returns-clause-kept
+returns-clause-kept g c = c.bad_of.ensures.kept
+
+pub returns-clause-ready : goal.returns-clause-ready
+returns-clause-ready g c = c.bad_of.ensures.ready
+
+pub returns-clause-budget : goal.returns-clause-budget
+returns-clause-budget g c = c.bad_of.ensures.budget
+
+pub invariant_of-self : goal.invariant_of-self
+invariant_of-self g c =
+    let systems = c.self.inside.systems.now in
+    let E : List Lemma → Type 0 = λ xs. IsLoaded (base (system_at systems 0)) (state_heads systems) (clauses_of xs) c.bad_of.new.engine in
+    record {
+      some = c.self.invariant.some;
+      alike = c.self.invariant.alike;
+      within = c.self.invariant.within;
+      for_steps = c.self.invariant.for_steps;
+      for_states = subst E c.as_slice.ensures c.bad_of.ensures.engine;
+      of_first = c.bad_of.ensures.known ∙ c.self.invariant.of_first;
+      again = c.self.invariant.again;
+    }
