@@ -18,7 +18,7 @@ use bit_outcomes::{Told, false_edge, takes_edge, true_edge};
 use smv_resolve::Item;
 use std::alloc::{AllocError, Global};
 
-/// The edge that is true where the node of this number is TRUE. Want of memory is answered too where there is no such node, or it is
+/// The edge that is true where the node of this number is TRUE. Out of memory is answered too where there is no such node, or it is
 /// told as something else than TRUE, FALSE or a fault.
 pub fn true_at(graph: &mut Graph, told: &[Told], k: usize) -> Result<Edge, AllocError>
     requires { AllTold graph.old told.now }

@@ -54,7 +54,7 @@ pub fn nowhere(alloc: Global, graph: &mut Graph, typed: &Typed) -> Result<Items<
 
 /// The state whose bits have these edges, where the types are those of its slots.
 ///
-/// Operators over values of many bits have gates as circuits do. The errors are as of `nowhere`. Want of memory is answered too where
+/// Operators over values of many bits have gates as circuits do. The errors are as of `nowhere`. Out of memory is answered too where
 /// an input slot is of a type with no value, an enumeration with no element, which no source can write.
 pub fn told_state(
     alloc: Global,

@@ -102,7 +102,7 @@ pub fn read_inputs(
     Ok(inputs)
 }
 
-// The edge that is true where the node of this number is TRUE. Want of memory is answered too where there is no such node.
+// The edge that is true where the node of this number is TRUE. Out of memory is answered too where there is no such node.
 fn true_at(graph: &mut Graph, told: &[Told], k: usize) -> Result<Edge, AllocError>
     requires { AllTold graph.old told.now }
     ensures extends { Extends graph.old graph.new }

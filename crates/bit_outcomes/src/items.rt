@@ -25,7 +25,7 @@ use std::alloc::{AllocError, Global};
 use value_sets::ValueSet;
 use value_types::ValueType;
 
-/// The edge that is true where the variable has a value of the expression. Want of memory is answered too where the variable has no
+/// The edge that is true where the variable has a value of the expression. Out of memory is answered too where the variable has no
 /// one value, or nothing is told.
 pub fn takes_edge(alloc: Global, graph: &mut Graph, x: &Told, e: &Told) -> Result<Edge, AllocError>
     requires x_stands { ToldStands graph.old x.now }
@@ -71,7 +71,7 @@ fn takes_value(
     }
 }
 
-/// The edge that is true where the outcome is TRUE. Want of memory is answered too where it is told as something else than TRUE, FALSE
+/// The edge that is true where the outcome is TRUE. Out of memory is answered too where it is told as something else than TRUE, FALSE
 /// or a fault.
 pub fn true_edge(graph: &mut Graph, e: &Told) -> Result<Edge, AllocError>
     requires { ToldStands graph.old e.now }
@@ -93,7 +93,7 @@ pub fn true_edge(graph: &mut Graph, e: &Told) -> Result<Edge, AllocError>
     }
 }
 
-/// The edge that is true where the outcome is FALSE. Want of memory is answered too where it is told as something else than TRUE,
+/// The edge that is true where the outcome is FALSE. Out of memory is answered too where it is told as something else than TRUE,
 /// FALSE or a fault.
 pub fn false_edge(graph: &mut Graph, e: &Told) -> Result<Edge, AllocError>
     requires { ToldStands graph.old e.now }
@@ -117,7 +117,7 @@ pub fn false_edge(graph: &mut Graph, e: &Told) -> Result<Edge, AllocError>
     }
 }
 
-/// The edge that is true where the outcome is a fault. Want of memory is answered where nothing is told.
+/// The edge that is true where the outcome is a fault. Out of memory is answered where nothing is told.
 pub fn fault_edge(e: &Told) -> Result<Edge, AllocError>
     ensures stands { IfOk result (λ r. (g : List Node) → ToldStands g e.now → Stands g r) }
     ensures value { IfOk result (λ r. (v : ℕ → Bool) (o : Outcome) → Tells v e.now o → is_given o ≡ true → edge_value v r ≡ is_some (fault_in o)) }
@@ -129,7 +129,7 @@ pub fn fault_edge(e: &Told) -> Result<Edge, AllocError>
     }
 }
 
-/// The edge that is true where some value is none of the type. Want of memory is answered too where nothing is told.
+/// The edge that is true where some value is none of the type. Out of memory is answered too where nothing is told.
 pub fn outside_edge(
     alloc: Global,
     graph: &mut Graph,

@@ -49,8 +49,8 @@ pub fn framed_state(
     Ok(state)
 }
 
-/// The inputs of a step whose bits are these inputs of the graph. Each edge that was made earlier keeps its value, also after want of
-/// memory, which is the only error.
+/// The inputs of a step whose bits are these inputs of the graph. Each edge that was made earlier keeps its value, also after running out
+/// of memory, which is the only error.
 pub fn framed_inputs(
     alloc: Global,
     graph: &mut Graph,

@@ -39,7 +39,9 @@ pub struct StateConditions {
 /// What is asked of a step, over a graph with an input for each bit of the state, of the next one and of the inputs.
 #[derive(Drop)]
 pub struct StepConditions {
+    /// The gates over these inputs.
     pub graph: Graph,
+    /// The conditions, all of which are asked; each is a pair of edges, one of which is to be true.
     pub step: Vec<Either>,
 }
 

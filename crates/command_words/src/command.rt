@@ -36,7 +36,7 @@ pub struct Effort {
     pub workers: u32,
     /// How many tickets: one for each query to the solver, and one for each clause that it learns.
     pub conflicts: u64,
-    /// How many steps the lassos have at most that are looked for.
+    /// How many states the lassos have at most that are looked for.
     pub bound: usize,
     /// The greatest level of the frames at which states that break an invariant are looked for.
     pub frames: u32,

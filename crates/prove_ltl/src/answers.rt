@@ -40,6 +40,8 @@ pub enum LtlAnswer {
 /// An answer, and the histories of the frames for 0, 1, .. signals that led to it.
 #[derive(Drop)]
 pub struct LtlDone {
+    /// What is known of the formula.
     pub answer: LtlAnswer,
+    /// The work for each number of signals, from 0 on.
     pub work: Vec<Work>,
 }

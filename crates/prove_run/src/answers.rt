@@ -27,12 +27,15 @@ pub enum Answer {
 /// What was done: the history of the frames that all systems share.
 #[derive(Drop)]
 pub struct Work {
+    /// Each claim and each settlement, in their order.
     pub history: Vec<Entry>,
 }
 
 /// An answer for each system, in their order, and the work that led to them.
 #[derive(Drop)]
 pub struct Done {
+    /// One for each system.
     pub answers: Vec<Answer>,
+    /// What was done for all of them.
     pub work: Work,
 }

@@ -99,7 +99,7 @@ struct Places {
     others: Vec<usize>,
 }
 
-// Finds the literals of the clause that conflict k teaches, without those that the others imply. The last level begins at
+// Finds the literals of the clause that is learned from conflict k, without those that the others imply. The last level begins at
 // `floor`; `marks` and `low` are room to work in.
 fn resolved_places<P: Propagator>(
     alloc: Global,
@@ -129,7 +129,7 @@ fn resolved_places<P: Propagator>(
     Ok(Places { point, others })
 }
 
-// Finds the literals of the clause that conflict k teaches, without those that the others imply. The last level begins at
+// Finds the literals of the clause that is learned from conflict k, without those that the others imply. The last level begins at
 // `floor`.
 fn places_of<P: Propagator>(
     alloc: Global,

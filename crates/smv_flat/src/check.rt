@@ -16,6 +16,7 @@ use std::alloc::Global;
 /// all instances; their nodes hold each definition of each instance once.
 #[derive(Debug, Drop)]
 pub struct Flat {
+    /// The program with its instances, its slots and its items.
     pub typed: Typed,
     pub ghost assignable: { AreAssignable typed.scope.program } by { Prim.hlevel props },
 }

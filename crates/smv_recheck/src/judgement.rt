@@ -26,6 +26,8 @@ pub enum Judgement {
 #[derive(Drop)]
 pub struct Record {
     pub number: usize,
+    /// What kind of specification it is, for the line that is printed.
     pub kind: SpecificationKind,
+    /// What its trace or its certificate shows.
     pub judgement: Judgement,
 }

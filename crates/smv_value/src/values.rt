@@ -9,7 +9,7 @@ use crate::integers::{integer, is_int, natural};
 use crate::whole::{all_ones, counted, whole_of};
 use crate::{Arithmetic, Division, FaultRule, Logic, Order, Shift, Value, integers, whole, words};
 
-// Whether the numbers in it are those of a value.
+/// Whether the numbers in it are those of a value. A word has from 1 to 128 bits, and none is set past its width.
 pub fn is_value(v: Value) -> bool
     ensures { result ≡ is_value v }
 {
@@ -43,6 +43,7 @@ fn alike(signed: bool, width: u32, other_signed: bool, other_width: u32) -> bool
     signed == other_signed && width == other_width
 }
 
+/// Whether two values are the same, as `=` compares them. Words of two types are not; it takes no memory.
 pub fn same(a: Value, b: Value) -> bool
     ensures { result ≡ same a b }
 {
