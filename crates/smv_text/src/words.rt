@@ -1,6 +1,7 @@
 //! The words and symbols of the language.
 
 ghost use Rattle.std.specs.Prelude.{◌≡◌, map};
+ghost use Rattle.std.specs.Str.{bytes_eq};
 ghost use Rattle.smv_text.specs.Words.{kind_in, kind_of_word, symbol_of};
 
 use smv_tree::TokenKind;
@@ -125,12 +126,19 @@ const SYMBOLS: [(&[u8], TokenKind); 31] = [
     (b">>", TokenKind::ShiftRight),
 ];
 
+/// Whether two texts are equal. Most have different lengths, which is seen first.
+fn is_same(a: &[u8], b: &[u8]) -> bool
+    ensures { result ≡ bytes_eq a.now b.now }
+{
+    a.len() == b.len() && a == b
+}
+
 /// The kind beside the text in a table.
 fn kind_in(mut table: &[(&[u8], TokenKind)], text: &[u8]) -> Option<TokenKind>
     ensures { result ≡ kind_in (map (λ entry. (entry.0.now, entry.1)) table.entry.now) text.now }
 {
     while let [entry, rest @ ..] = table {
-        if entry.0 == text {
+        if is_same(entry.0, text) {
             return Some(entry.1);
         }
         table = rest;
