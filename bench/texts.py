@@ -261,7 +261,7 @@ class Reader:
     """Reads phrases from tokens; each token is refused where no program begins so."""
 
     def __init__(self, tokens):
-        self.tokens, self.at, self.levels, self.brackets = tokens, 0, 0, 0
+        self.tokens, self.at, self.levels = tokens, 0, 0
 
     # tokens
     @property
@@ -559,10 +559,8 @@ class Reader:
         return Node('unary', place, [operand], '!')
 
     def selected(self):
-        found, brackets = self.primary(), 0
+        found = self.primary()
         while self.sees('['):
-            brackets += 1
-            self.brackets = max(self.brackets, brackets)
             place = self.open().place
             first = self.expression()
             if self.sees(':'):
@@ -765,10 +763,28 @@ ARITY = {'abs': 1, 'max': 2, 'min': 2, 'word1': 1, 'bool': 1, 'signed': 1, 'unsi
 
 DEPARTURES = {
     'wide': 'a limit with a part of more than 128 bits is outside (409; 402 and 413 without a detail), never empty (403)',
-    'brackets': 'a text with more than 2000 `[ ]` behind one operand ends with status 7',
+    'brackets': 'a text with more than 2000 `[ ]` one over another, on either side of `:=`, ends with status 7',
 }
 """Where the program is known to read the rules otherwise than this judge. A difference that one of these explains is
 counted by its name, and kept with `--strict` alone."""
+
+
+def brackets_over(tokens):
+    """How many `[ ]` stand one over another at most: each stands over those in it and over all that it is behind."""
+    most, over, row, closed = 0, 0, 0, []
+    for token in reversed(tokens):
+        text = token.text if token.kind == 'fixed' else ''
+        if text in (']', ')', '}', 'esac'):
+            if text == ']':
+                row += 1
+            closed.append((over, row if text == ']' else 0))
+            over, row = over + row, 0
+            most = max(most, over)
+        elif text in ('[', '(', '{', 'case'):
+            over, row = closed.pop() if closed else (0, 0)
+        else:
+            row = 0
+    return most
 
 
 class Judge:
@@ -797,10 +813,9 @@ class Judge:
         for token in tokens:
             if token.kind == 'fixed' and token.text in UNSUPPORTED:
                 raise Refused(203, token.place, token.text)
-        reader = Reader(tokens)
-        self.modules = reader.program()
-        if 'brackets' in self.known and reader.brackets > DEPTH_LIMIT:
+        if 'brackets' in self.known and brackets_over(tokens) > DEPTH_LIMIT:
             raise Refused(0, (1, 1))
+        self.modules = Reader(tokens).program()
         self.check_modules()
         self.make_instances()
         self.check_names()
@@ -2056,6 +2071,13 @@ def limits():
     yield main + 'INIT ' + 'TRUE & ' * 3000 + 'TRUE'
     yield main + 'VAR w : word[8]; INIT w' + '[0:0]' * 2000 + ' = 0b_1'
     yield main + 'VAR w : word[8]; INIT w' + '[0:0]' * 2001 + ' = 0b_1'
+    for count in (1000, 1001):
+        yield main + 'VAR w : word[8]; INIT (w' + '[0:0]' * 1000 + ')' + '[0:0]' * count + ' = 0b_1'
+        yield main + 'VAR a : array 0..0 of 0..0; INIT a[a' + '[0]' * 1000 + ']' + '[0]' * (count - 1) + ' = 0'
+    for count in (2000, 2001):
+        yield main + 'VAR a : array 0..0 of boolean; ASSIGN a' + '[0]' * count + ' := TRUE;'
+        yield main + 'VAR a : array 0..0 of boolean; ASSIGN init(a[a' + '[0]' * (count - 1) + ']) := TRUE;'
+    yield main + 'VAR a : array 0..0 of boolean; ASSIGN a' + '[0]' * 100000 + ' := TRUE;'
     yield main + 'INIT ' + '1 + ' * 3000 + '1 = 1'
     yield doubled(15, 'VAR x : boolean;')
     yield doubled(16, '')

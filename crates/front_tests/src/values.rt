@@ -473,7 +473,7 @@ const GREATER: Operator = Operator::Order(Order::Greater);
 const AT_LEAST: Operator = Operator::Order(Order::AtLeast);
 
 // An operator that compares, its operands, and what it gives.
-const COMPARED: [(Operator, Given, Given, Option<Given>); 40] = [
+const COMPARED: [(Operator, Given, Given, Option<Given>); 58] = [
     (Operator::Equal, Int(-1), Int(-1), Some(Bool(true))),
     (Operator::Equal, Int(-1), Int(1), Some(Bool(false))),
     (Operator::Equal, Sym(0), Sym(0), Some(Bool(true))),
@@ -576,6 +576,75 @@ const COMPARED: [(Operator, Given, Given, Option<Given>); 40] = [
         Signed(128, u128::MAX),
         Some(Bool(true)),
     ),
+    (
+        Operator::NotEqual,
+        Signed(8, 255),
+        Signed(8, 254),
+        Some(Bool(true)),
+    ),
+    (
+        Operator::NotEqual,
+        Unsigned(64, HIGH_64),
+        Unsigned(64, HIGH_64),
+        Some(Bool(false)),
+    ),
+    // With a sign, the highest bit alone is the least word, and all bits are -1.
+    (
+        LESS,
+        Unsigned(64, 1),
+        Unsigned(64, HIGH_64),
+        Some(Bool(true)),
+    ),
+    (LESS, Signed(64, 1), Signed(64, HIGH_64), Some(Bool(false))),
+    (AT_MOST, Unsigned(1, 1), Unsigned(1, 0), Some(Bool(false))),
+    (AT_MOST, Signed(1, 1), Signed(1, 0), Some(Bool(true))),
+    (
+        AT_MOST,
+        Unsigned(64, ALL_64),
+        Unsigned(64, ALL_64),
+        Some(Bool(true)),
+    ),
+    (
+        AT_MOST,
+        Signed(64, 0),
+        Signed(64, ALL_64),
+        Some(Bool(false)),
+    ),
+    (
+        AT_MOST,
+        Unsigned(128, HIGH_128),
+        Unsigned(128, 1),
+        Some(Bool(false)),
+    ),
+    (
+        AT_MOST,
+        Signed(128, HIGH_128),
+        Signed(128, 1),
+        Some(Bool(true)),
+    ),
+    (GREATER, Unsigned(1, 1), Unsigned(1, 0), Some(Bool(true))),
+    (GREATER, Signed(1, 1), Signed(1, 0), Some(Bool(false))),
+    (
+        GREATER,
+        Unsigned(128, HIGH_128),
+        Unsigned(128, 1),
+        Some(Bool(true)),
+    ),
+    (
+        GREATER,
+        Signed(128, HIGH_128),
+        Signed(128, 1),
+        Some(Bool(false)),
+    ),
+    (AT_LEAST, Unsigned(1, 0), Unsigned(1, 1), Some(Bool(false))),
+    (AT_LEAST, Signed(1, 0), Signed(1, 1), Some(Bool(true))),
+    (
+        AT_LEAST,
+        Unsigned(8, 200),
+        Unsigned(8, 100),
+        Some(Bool(true)),
+    ),
+    (AT_LEAST, Signed(8, 200), Signed(8, 100), Some(Bool(false))),
     // Kinds that do not fit.
     (LESS, Unsigned(8, 1), Signed(8, 1), None),
     (LESS, Unsigned(8, 1), Unsigned(9, 1), None),
@@ -742,7 +811,7 @@ const NUMBERS: [(Operator, Given, Given, Option<Given>); 50] = [
 ];
 
 // An operator that makes other words, its operands, and what it gives.
-const WIDTHS: [(Operator, Given, Given, Option<Given>); 43] = [
+const WIDTHS: [(Operator, Given, Given, Option<Given>); 44] = [
     (
         Operator::Join,
         Unsigned(1, 1),
@@ -897,6 +966,12 @@ const WIDTHS: [(Operator, Given, Given, Option<Given>); 43] = [
         Int(2147483647),
         Int(128),
         Some(Unsigned(128, 2147483647)),
+    ),
+    (
+        Operator::UnsignedConstant,
+        Int(2147483647),
+        Int(64),
+        Some(Unsigned(64, 2147483647)),
     ),
     (Operator::UnsignedConstant, Int(0), Int(129), None),
     (

@@ -407,6 +407,41 @@ const ARRAYS: [(usize, &str, &str); 10] = [
     (255, "signed word[4];", ""),
 ];
 
+/// A head, what opens each operand and what closes it, how many stand one in another, and whether that is out of memory. Each
+/// of these adds eight selections that stand over the operand, or one.
+const SELECTIONS: [(&str, &str, &str, usize, bool); 6] = [
+    (
+        "MODULE main INIT ",
+        "(",
+        ")[0][0][0][0][0][0][0][0]",
+        250,
+        false,
+    ),
+    (
+        "MODULE main INIT ",
+        "(",
+        ")[0][0][0][0][0][0][0][0]",
+        251,
+        true,
+    ),
+    (
+        "MODULE main ASSIGN ",
+        "a[",
+        "][0][0][0][0][0][0][0]",
+        250,
+        false,
+    ),
+    (
+        "MODULE main ASSIGN ",
+        "a[",
+        "][0][0][0][0][0][0][0]",
+        251,
+        true,
+    ),
+    ("MODULE main ASSIGN ", "", "[0]", 2000, false),
+    ("MODULE main ASSIGN ", "", "[0]", 100_000, true),
+];
+
 fn is_refused_by(alloc: Global, stop: &TextStop, wanted: &str) -> bool {
     match stop {
         TextStop::Refused(refusal) => match refusal.to_string(alloc) {
@@ -467,6 +502,26 @@ fn first_wrong_level(alloc: Global) -> Option<usize> {
     None
 }
 
+fn is_out_of_memory(alloc: Global, source: &str) -> bool {
+    match program_of(alloc, source.as_bytes()) {
+        Err(TextStop::NoMemory) => true,
+        _ => false,
+    }
+}
+
+fn first_wrong_selection(alloc: Global) -> Option<usize> {
+    for (n, (head, open, close, count, wanted)) in SELECTIONS.iter().enumerate() {
+        let right = match nested(alloc, *head, *open, *close, *count) {
+            Ok(source) => is_out_of_memory(alloc, source.as_str()) == *wanted,
+            Err(_) => false,
+        };
+        if !right {
+            return Some(n);
+        }
+    }
+    None
+}
+
 fn arrays(alloc: Global, count: usize, element: &str) -> Result<String, AllocError> {
     let mut text = String::from_str(alloc, "MODULE main\nVAR v : ")?;
     push_times(&mut text, "array 0..1 of ", count)?;
@@ -504,6 +559,13 @@ fn sources_are_judged(rt: HostRuntime) -> Result<(), Fail> {
 #[test]
 fn levels_are_counted(rt: HostRuntime) -> Result<(), Fail> {
     let wrong = first_wrong_level(rt.alloc());
+    assert_eq!(rt; wrong, None);
+    Ok(())
+}
+
+#[test]
+fn selections_are_counted(rt: HostRuntime) -> Result<(), Fail> {
+    let wrong = first_wrong_selection(rt.alloc());
     assert_eq!(rt; wrong, None);
     Ok(())
 }

@@ -28,7 +28,7 @@ const SHOWN: &str = "-- spec 1 LTLSPEC is shown true\n";
 
 const VIOLATED: &str = "-- spec 1 LTLSPEC is shown false\n";
 
-const CASES: [Case; 28] = [
+const CASES: [Case; 29] = [
     ("check", INFINITELY_OFTEN, TRUE, 0),
     (
         "check --counter 1",
@@ -111,6 +111,12 @@ const CASES: [Case; 28] = [
         "MODULE main\nVAR x : boolean;\nASSIGN init(x) := FALSE; next(x) := !x;\nLTLSPEC G F [0,1] x\n",
         TRUE,
         0,
+    ),
+    (
+        "check",
+        "MODULE main\nVAR x : boolean;\nASSIGN init(x) := FALSE; next(x) := !x;\nLTLSPEC G F [2,1] x\n",
+        "-- refused 413 BadBound at 4:11: 2,1\n",
+        3,
     ),
     (
         "check",

@@ -546,6 +546,77 @@ const ARRAYS: [Case; 25] = [
     ),
 ];
 
+// Examples of rules on modules, definitions and instances, and of items that fault.
+const EXAMPLES: [Case; 11] = [
+    (
+        "check",
+        "MODULE main MODULE main",
+        "-- refused 303 DuplicateModule at 1:13: main\n",
+        3,
+    ),
+    (
+        "check",
+        "MODULE main(a)",
+        "-- refused 302 MainHasParameters at 1:13\n",
+        3,
+    ),
+    (
+        "check",
+        "MODULE m(a) MODULE main VAR x : m;",
+        "-- refused 307 ArgumentCount at 1:33: m\n",
+        3,
+    ),
+    (
+        "check",
+        "MODULE main\nDEFINE d := d;\n",
+        "-- refused 309 DefineCycle at 2:8: d\n",
+        3,
+    ),
+    (
+        "check",
+        "MODULE m MODULE main IVAR x : m;",
+        "-- refused 401 TypeMismatch at 1:31\n",
+        3,
+    ),
+    (
+        "check",
+        "MODULE main\nVAR x : boolean;\nASSIGN x := TRUE; init(x) := TRUE;\n",
+        "-- refused 501 AssignedTwice at 3:19: x\n",
+        3,
+    ),
+    // These have no specification; an item that ever faults is refused all the same.
+    (
+        "check",
+        "MODULE main\nVAR x : boolean;\nASSIGN next(x) := case x : FALSE; esac;\n",
+        "-- refused 601 CaseOpen at 3:19: x = FALSE\n",
+        3,
+    ),
+    (
+        "check",
+        "MODULE main\nVAR x : 0..3;\nASSIGN next(x) := x + 1;\n",
+        "-- refused 602 OutOfRange at 3:19: x = 3\n",
+        3,
+    ),
+    (
+        "check",
+        "MODULE main\nVAR i : 0..2; a : array 0..1 of boolean;\nINVAR a[i]\n",
+        "-- refused 603 IndexOutside at 3:8: i = 2, a[0] = FALSE, a[1] = FALSE\n",
+        3,
+    ),
+    (
+        "check",
+        "MODULE main\nVAR x : 0..1;\nINVAR 1 / x = 1\n",
+        "-- refused 604 DivisorZero at 3:9: x = 0\n",
+        3,
+    ),
+    (
+        "check",
+        "MODULE main\nVAR n : 0..2;\nINIT 0ub1_1 << n = 0ub1_0\n",
+        "-- refused 605 ShiftTooFar at 3:13: n = 2\n",
+        3,
+    ),
+];
+
 #[test]
 fn declared_types_are_judged(rt: HostRuntime) -> Result<(), Fail> {
     let wrong = first_wrong(&rt, rt.alloc(), &DECLARED)?;
@@ -556,6 +627,13 @@ fn declared_types_are_judged(rt: HostRuntime) -> Result<(), Fail> {
 #[test]
 fn operands_are_judged(rt: HostRuntime) -> Result<(), Fail> {
     let wrong = first_wrong(&rt, rt.alloc(), &OPERANDS)?;
+    assert_eq!(rt; wrong, None);
+    Ok(())
+}
+
+#[test]
+fn examples_are_refused(rt: HostRuntime) -> Result<(), Fail> {
+    let wrong = first_wrong(&rt, rt.alloc(), &EXAMPLES)?;
     assert_eq!(rt; wrong, None);
     Ok(())
 }
@@ -577,7 +655,7 @@ type Nested = (
     u8,
 );
 
-const REPEATED: [Nested; 3] = [
+const REPEATED: [Nested; 4] = [
     (
         "MODULE main\nINIT ",
         "!",
@@ -594,6 +672,15 @@ const REPEATED: [Nested; 3] = [
         "",
         "-- refused 202 TooDeep at 2:267\n",
         3,
+    ),
+    // So many indices in a row are answered as out of memory.
+    (
+        "MODULE main\nVAR x : array 0..1 of boolean;\nASSIGN x",
+        "[0]",
+        100_000,
+        " := TRUE;\n",
+        "",
+        7,
     ),
 ];
 

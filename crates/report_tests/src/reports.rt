@@ -824,7 +824,7 @@ const MODELS: [Case; 19] = [
 ];
 
 // A model with lines of traces and certificates, and what is said of them.
-const RECHECKS: [Case; 12] = [
+const RECHECKS: [Case; 22] = [
     (
         "recheck",
         "MODULE main\nVAR x : boolean;\nASSIGN init(x) := FALSE; next(x) := x;\nINVARSPEC !x\n--% cert 1 spec 1 counter none\n--% clause -1 0\n--% part first 1\n--% step 0\n--% part kept 1\n--% step 0\n--% part safe 0\n--% step 0\n--% end\n",
@@ -836,6 +836,39 @@ const RECHECKS: [Case; 12] = [
         "MODULE main\nVAR x : boolean;\nASSIGN init(x) := FALSE; next(x) := x;\nINVARSPEC !x\n--% cert 1 spec 1 counter none\n--% clause 1 0\n--% part first 1\n--% step 0\n--% part kept 1\n--% step 0\n--% part safe 0\n--% step 0\n--% end\n",
         "-- spec 1 INVARSPEC is rejected: part first 1\n",
         1,
+    ),
+    // The last step is not empty.
+    (
+        "recheck",
+        "MODULE main\nVAR x : boolean;\nASSIGN init(x) := FALSE; next(x) := x;\nINVARSPEC !x\n--% cert 1 spec 1 counter none\n--% clause -1 0\n--% part first 1\n--% step 0\n--% part kept 1\n--% step 0\n--% part safe 0\n--% step 1 0\n--% end\n",
+        "-- spec 1 INVARSPEC is rejected: part safe 0\n",
+        1,
+    ),
+    // Made anew it has hints, and so it is shown true again.
+    (
+        "recheck --upgrade",
+        "MODULE main\nVAR x : boolean;\nASSIGN init(x) := FALSE; next(x) := x;\nINVARSPEC !x\n--% cert 1 spec 1 counter none\n--% clause -1 0\n--% part first 1\n--% step 0\n--% part kept 1\n--% step 0\n--% part safe 0\n--% step 0\n--% end\n",
+        "-- spec 1 INVARSPEC is shown true\n--% cert 2 spec 1 counter none\n--% clause -1 0\n--% part first 1\n--% step 0 1 2 0\n--% part kept 1\n--% step 0 1 4 2 0\n--% part safe 0\n--% step 0 1 2 0\n--% end\n",
+        0,
+    ),
+    (
+        "recheck",
+        "MODULE main\nVAR x : boolean;\nASSIGN init(x) := FALSE; next(x) := x;\nINVARSPEC !x\n--% cert 2 spec 1 counter none\n--% clause -1 0\n--% part first 1\n--% step 0 1 2 0\n--% part kept 1\n--% step 0 1 4 2 0\n--% part safe 0\n--% step 0 1 2 0\n--% end\n",
+        "-- spec 1 INVARSPEC is shown true\n",
+        0,
+    ),
+    // Without hints nothing follows, and without the end of its hints a step is none.
+    (
+        "recheck",
+        "MODULE main\nVAR x : boolean;\nASSIGN init(x) := FALSE; next(x) := x;\nINVARSPEC !x\n--% cert 2 spec 1 counter none\n--% clause -1 0\n--% part first 1\n--% step 0 0\n--% part kept 1\n--% step 0 0\n--% part safe 0\n--% step 0 0\n--% end\n",
+        "-- spec 1 INVARSPEC is rejected: part first 1\n",
+        1,
+    ),
+    (
+        "recheck",
+        "MODULE main\nVAR x : boolean;\nASSIGN init(x) := FALSE; next(x) := x;\nINVARSPEC !x\n--% cert 2 spec 1 counter none\n--% clause -1 0\n--% part first 1\n--% step 0\n--% part kept 1\n--% step 0\n--% part safe 0\n--% step 0\n--% end\n",
+        "-- refused 701 BadCertificate at 8:1\n",
+        3,
     ),
     // The model toggles, so that the clause is not kept.
     (
@@ -889,6 +922,38 @@ const RECHECKS: [Case; 12] = [
         "MODULE main\nVAR x : boolean;\nINVARSPEC !x\n--% cert 1 spec 2 counter none\n--% end\n",
         "-- refused 701 BadCertificate at 4:1\n",
         3,
+    ),
+    (
+        "recheck",
+        "MODULE main\nVAR x : boolean;\nASSIGN init(x) := FALSE; next(x) := x;\nINVARSPEC !x\n--% clause -1 0\n",
+        "-- refused 701 BadCertificate at 5:1\n",
+        3,
+    ),
+    (
+        "recheck",
+        "MODULE main\nVAR x : boolean;\nASSIGN init(x) := FALSE; next(x) := x;\nINVARSPEC !x\n--% cert 1 spec 2 counter none\n",
+        "-- refused 701 BadCertificate at 5:1\n",
+        3,
+    ),
+    // The first state has number 0, and x no number as its value.
+    (
+        "recheck",
+        "MODULE main\nVAR x : boolean;\nASSIGN init(x) := FALSE; next(x) := !x;\nINVARSPEC !x\n--@ spec 1\n--@ state 1: x = TRUE\n",
+        "-- refused 702 BadTrace at 6:1\n",
+        3,
+    ),
+    (
+        "recheck",
+        "MODULE main\nVAR x : boolean;\nASSIGN init(x) := FALSE; next(x) := !x;\nINVARSPEC !x\n--@ spec 1\n--@ state 0: x = 7\n",
+        "-- spec 1 INVARSPEC is rejected: trace values 0\n",
+        1,
+    ),
+    // The lasso of a model without JUSTICE.
+    (
+        "recheck",
+        "MODULE main\nVAR x : boolean;\nJUSTICE x\nLTLSPEC F x\n-- spec 1 LTLSPEC is false\n--@ spec 1\n--@ state 0: x = FALSE\n--@ loop 0\n",
+        "-- spec 1 LTLSPEC is rejected: trace fair 0\n",
+        1,
     ),
     // To the other commands they are comments.
     (

@@ -23,7 +23,7 @@ const MODULO: &str =
 
 const INVARIANT: &str = "-- spec 1 INVARSPEC is true\n";
 
-const CASES: [Case; 21] = [
+const CASES: [Case; 24] = [
     (
         "check",
         "MODULE main\nVAR x : boolean; y : 0..1;\nASSIGN next(y) := case x : 0; esac;\n",
@@ -74,6 +74,13 @@ const CASES: [Case; 21] = [
         "-- refused 402 WordWidth at 2:14: 129\n",
         3,
     ),
+    ("check", "MODULE main\nVAR w : word[65];\n", "", 0),
+    (
+        "check",
+        "MODULE main\nINVARSPEC 0uh128_ffffffffffffffffffffffffffffffff + 0uh128_1 = 0uh128_0\n",
+        INVARIANT,
+        0,
+    ),
     // A definition is judged where it is used; one that is not used does no harm.
     (
         "check",
@@ -86,6 +93,13 @@ const CASES: [Case; 21] = [
         "MODULE main\nVAR i : 0..2;\nDEFINE d := 4 / i;\n",
         "",
         0,
+    ),
+    // An item is judged without a specification, too.
+    (
+        "check",
+        "MODULE main\nVAR y : 0..3;\nASSIGN next(y) := y + 1;\n",
+        "-- refused 602 OutOfRange at 3:19: y = 3\n",
+        3,
     ),
     (
         "check --conflicts 0",
@@ -149,6 +163,113 @@ const CASES: [Case; 21] = [
 #[test]
 fn values(rt: HostRuntime) -> Result<(), Fail> {
     let wrong = first_wrong(&rt, rt.alloc(), &CASES)?;
+    assert_eq!(rt; wrong, None);
+    Ok(())
+}
+
+// A construct a row: a specification that is true just where it means what docs/LANGUAGE.md says, and one that is false.
+const CONSTRUCTS: [Case; 15] = [
+    // The examples of its table of operators.
+    (
+        "check",
+        "MODULE main\nINVARSPEC (0ub2_10 xor 0ub2_11) = 0ub2_01\nINVARSPEC 0ud8_1 != 0ud8_2\nINVARSPEC 0ud8_200 > 0ud8_100\nINVARSPEC 0sd8_200 < 0sd8_100\nINVARSPEC 0ud8_200 + 0ud8_100 = 0ud8_44\nINVARSPEC -7 / 2 = -3\nINVARSPEC 0ub4_0110 << 2 = 0ub4_1000\nINVARSPEC 0sb4_1010 >> 1 = 0sb4_1101\nINVARSPEC 0ub1_1 :: 0ub2_00 = 0ub3_100\nINVARSPEC 0ub4_1100[3:1] = 0ub3_110\nINVARSPEC 5 in 4..5 union 1\nINVARSPEC (0 > 1 ? 2 : 3) = 3\nINVARSPEC abs(-2) = 2\nINVARSPEC max(-2, 1) = 1\nINVARSPEC min(-2, 1) = -2\nINVARSPEC count(TRUE, FALSE, TRUE) = 2\nINVARSPEC word1(TRUE) = 0ud1_1\nINVARSPEC bool(0ud1_1) = TRUE\nINVARSPEC signed(0ud2_3) = 0sd2_3\nINVARSPEC unsigned(0sd2_3) = 0ud2_3\nINVARSPEC extend(0ub2_10, 1) = 0ub3_010\nINVARSPEC extend(0sb2_10, 1) = 0sb3_110\nINVARSPEC resize(0ub3_110, 2) = 0ub2_10\nINVARSPEC resize(0sb2_10, 3) = 0sb3_110\nINVARSPEC sizeof(0ud5_1) = 5\nINVARSPEC uwconst(5, 4) = 0ub4_0101\nINVARSPEC swconst(-3, 4) = 0sb4_1101\n",
+        "-- spec 1 INVARSPEC is true\n-- spec 2 INVARSPEC is true\n-- spec 3 INVARSPEC is true\n-- spec 4 INVARSPEC is true\n-- spec 5 INVARSPEC is true\n-- spec 6 INVARSPEC is true\n-- spec 7 INVARSPEC is true\n-- spec 8 INVARSPEC is true\n-- spec 9 INVARSPEC is true\n-- spec 10 INVARSPEC is true\n-- spec 11 INVARSPEC is true\n-- spec 12 INVARSPEC is true\n-- spec 13 INVARSPEC is true\n-- spec 14 INVARSPEC is true\n-- spec 15 INVARSPEC is true\n-- spec 16 INVARSPEC is true\n-- spec 17 INVARSPEC is true\n-- spec 18 INVARSPEC is true\n-- spec 19 INVARSPEC is true\n-- spec 20 INVARSPEC is true\n-- spec 21 INVARSPEC is true\n-- spec 22 INVARSPEC is true\n-- spec 23 INVARSPEC is true\n-- spec 24 INVARSPEC is true\n-- spec 25 INVARSPEC is true\n-- spec 26 INVARSPEC is true\n-- spec 27 INVARSPEC is true\n",
+        0,
+    ),
+    // A symbol of no type is a value all the same.
+    (
+        "check",
+        "MODULE main\nCONSTANTS on, off;\nVAR c : boolean;\nDEFINE s := c ? on : off;\nINVARSPEC s = on <-> c\nINVARSPEC s = off\n",
+        "-- spec 1 INVARSPEC is true\n-- spec 2 INVARSPEC is false\n--@ spec 2\n--@ state 0: c = TRUE\n",
+        1,
+    ),
+    // A frozen variable is what it was at first.
+    (
+        "check",
+        "MODULE main\nFROZENVAR limit : {low, high};\nVAR n : {low, high};\nASSIGN init(n) := limit; next(n) := n;\nINVARSPEC n = limit\nINVARSPEC limit = low\n",
+        "-- spec 1 INVARSPEC is true\n-- spec 2 INVARSPEC is false\n--@ spec 2\n--@ state 0: limit = high, n = high\n",
+        1,
+    ),
+    // The first index chooses an array, the second its element.
+    (
+        "check",
+        "MODULE main\nVAR i : 0..1; a : array 0..1 of array 1..2 of 1..4;\nASSIGN a[0][1] := 1; a[0][2] := 2; a[1][1] := 3; a[1][2] := 4;\nINVARSPEC a[i][2] = 2 * i + 2\nINVARSPEC a[1][i + 1] = 3\n",
+        "-- spec 1 INVARSPEC is true\n-- spec 2 INVARSPEC is false\n--@ spec 2\n--@ state 0: i = 1, a[0][1] = 1, a[0][2] = 2, a[1][1] = 3, a[1][2] = 4\n",
+        1,
+    ),
+    (
+        "check",
+        "MODULE main\nVAR x : 0..7;\nASSIGN x := 1 union {4, 5};\nINVARSPEC x in 4..5 union 1\nINVARSPEC x in {1, 4}\n",
+        "-- spec 1 INVARSPEC is true\n-- spec 2 INVARSPEC is false\n--@ spec 2\n--@ state 0: x = 5\n",
+        1,
+    ),
+    // The left word has the high bits.
+    (
+        "check",
+        "MODULE main\nVAR a : word[1]; b : word[2];\nINVARSPEC (a :: b)[2:2] = a & (a :: b)[1:0] = b & 0ub1_1 :: 0ub2_00 = 0ub3_100\nINVARSPEC a :: b != 0ub3_100\n",
+        "-- spec 1 INVARSPEC is true\n-- spec 2 INVARSPEC is false\n--@ spec 2\n--@ state 0: a = 0ud1_1, b = 0ud2_0\n",
+        1,
+    ),
+    (
+        "check",
+        "MODULE main\nVAR w : word[4];\nDEFINE s := signed(w);\nINVARSPEC w << 1 = w + w & w >> 1 = w / 0ud4_2 & s >> 4 = (s < 0sd4_0 ? 0sd4_15 : 0sd4_0) & 0sb4_1010 >> 1 = 0sb4_1101\nINVARSPEC s >> 1 = 0sd4_15 -> s = 0sd4_15\n",
+        "-- spec 1 INVARSPEC is true\n-- spec 2 INVARSPEC is false\n--@ spec 2\n--@ state 0: w = 0ud4_14\n",
+        1,
+    ),
+    (
+        "check",
+        "MODULE main\nVAR w : word[2];\nDEFINE s := signed(w);\nINVARSPEC extend(w, 1) = 0ub1_0 :: w & unsigned(extend(s, 1)) = w[1:1] :: w & extend(0sb2_10, 1) = 0sb3_110\nINVARSPEC extend(s, 1) != 0sd3_7\n",
+        "-- spec 1 INVARSPEC is true\n-- spec 2 INVARSPEC is false\n--@ spec 2\n--@ state 0: w = 0ud2_3\n",
+        1,
+    ),
+    (
+        "check",
+        "MODULE main\nVAR w : word[3];\nDEFINE s := signed(w);\nINVARSPEC resize(w, 2) = w[1:0] & resize(w, 5) = extend(w, 2) & resize(s, 5) = extend(s, 2) & resize(0ub3_110, 2) = 0ub2_10\nINVARSPEC resize(w, 4) != 0ud4_6\n",
+        "-- spec 1 INVARSPEC is true\n-- spec 2 INVARSPEC is false\n--@ spec 2\n--@ state 0: w = 0ud3_6\n",
+        1,
+    ),
+    (
+        "check",
+        "MODULE main\nINVARSPEC sizeof(0ud5_1) = 5 & sizeof(0ud5_1 :: 0ud5_1) = 10\nINVARSPEC sizeof(0ud5_7[3:2]) = 4\n",
+        "-- spec 1 INVARSPEC is true\n-- spec 2 INVARSPEC is false\n--@ spec 2\n--@ state 0:\n",
+        1,
+    ),
+    (
+        "check",
+        "MODULE main\nINVARSPEC swconst(-3, 4) = 0sb4_1101 & unsigned(swconst(-1, 2)) = uwconst(3, 2)\nINVARSPEC swconst(-1, 2) > swconst(0, 2)\n",
+        "-- spec 1 INVARSPEC is true\n-- spec 2 INVARSPEC is false\n--@ spec 2\n--@ state 0:\n",
+        1,
+    ),
+    (
+        "check",
+        "MODULE main\nVAR a : boolean; b : boolean; c : boolean;\nINVARSPEC count(a, b, c) = (a ? 1 : 0) + (b ? 1 : 0) + (c ? 1 : 0) & count(TRUE, FALSE, TRUE) = 2\nINVARSPEC count(a, b, c) < 3\n",
+        "-- spec 1 INVARSPEC is true\n-- spec 2 INVARSPEC is false\n--@ spec 2\n--@ state 0: a = TRUE, b = TRUE, c = TRUE\n",
+        1,
+    ),
+    (
+        "check",
+        "MODULE main\nVAR n : -2..2;\nINVARSPEC abs(n) = max(n, -n) & min(n, -n) = -abs(n) & max(-2, 1) = 1 & min(-2, 1) = -2\nINVARSPEC abs(n) + max(n, 1) < 4\n",
+        "-- spec 1 INVARSPEC is true\n-- spec 2 INVARSPEC is false\n--@ spec 2\n--@ state 0: n = 2\n",
+        1,
+    ),
+    (
+        "check",
+        "MODULE main\nVAR b : boolean;\nINVARSPEC word1(b) = (b ? 0ud1_1 : 0ud1_0) & bool(word1(b)) = b\nINVARSPEC word1(b) = 0ud1_0\n",
+        "-- spec 1 INVARSPEC is true\n-- spec 2 INVARSPEC is false\n--@ spec 2\n--@ state 0: b = TRUE\n",
+        1,
+    ),
+    // The bits stay, and the highest one counts below 0.
+    (
+        "check",
+        "MODULE main\nVAR w : word[2];\nINVARSPEC (signed(w) < 0sd2_0 <-> w > 0ud2_1) & unsigned(signed(w)) = w & signed(0ud2_3) = swconst(-1, 2)\nINVARSPEC signed(w) != 0sd2_3\n",
+        "-- spec 1 INVARSPEC is true\n-- spec 2 INVARSPEC is false\n--@ spec 2\n--@ state 0: w = 0ud2_3\n",
+        1,
+    ),
+];
+
+#[test]
+fn constructs_mean_what_is_said(rt: HostRuntime) -> Result<(), Fail> {
+    let wrong = first_wrong(&rt, rt.alloc(), &CONSTRUCTS)?;
     assert_eq!(rt; wrong, None);
     Ok(())
 }

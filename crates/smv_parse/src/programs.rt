@@ -27,6 +27,10 @@ use std::alloc::{AllocError, Global};
 /// So many levels may be open under one.
 const UNDER_ONE: usize = 255;
 
+/// So many selections may stand one over another, as `w[7:4][1:0]` has two and `a[i[1]][0]` three; of more the nodes
+/// would stand too deep one in another.
+const MOST_SELECTIONS: usize = 2000;
+
 /// The left side of an assignment: its place, what it speaks of, and the variable.
 type Left = (Place, AssignmentKind, Expr);
 
@@ -537,11 +541,88 @@ fn modules<'a>(alloc: Global, tokens: &'a [Token]) -> Result<(Items<Module>, &'a
     Ok((all, rest))
 }
 
-/// The program at the front of the tokens, and the tokens behind it.
+// How many selections stand over a token, and how many more stand behind it in a row.
+#[derive(Clone, Copy)]
+struct Over {
+    selections: usize,
+    row: usize,
+}
+
+impl Over {
+    // Over what nothing stands behind.
+    fn nothing() -> Over {
+        Over {
+            selections: 0,
+            row: 0,
+        }
+    }
+
+    // Whether the token closes what may stand before a selection, but for a selection.
+    fn is_closing(token: &Token) -> bool {
+        is_kind(TokenKind::RightParen, token)
+            || is_kind(TokenKind::RightBrace, token)
+            || is_kind(TokenKind::Esac, token)
+    }
+
+    // Whether the token opens a selection, or what may stand before one.
+    fn is_opening(token: &Token) -> bool {
+        is_kind(TokenKind::LeftBracket, token)
+            || is_kind(TokenKind::LeftParen, token)
+            || is_kind(TokenKind::LeftBrace, token)
+            || is_kind(TokenKind::Case, token)
+    }
+
+    // What stands over the tokens before one that closes, where it ends a row of so many. What stands over its opening is kept.
+    fn inside(self, row: usize, closed: &mut Vec<Over>) -> Result<Over, AllocError> {
+        closed.push(Over {
+            selections: self.selections,
+            row,
+        })?;
+        Ok(Over {
+            selections: self.selections.saturating_add(self.row.max(row)),
+            row: 0,
+        })
+    }
+
+    // What stands over the tokens before this one.
+    fn before(self, token: &Token, closed: &mut Vec<Over>) -> Result<Over, AllocError> {
+        if is_kind(TokenKind::RightBracket, token) {
+            self.inside(self.row.saturating_add(1), closed)
+        } else if Over::is_closing(token) {
+            self.inside(0, closed)
+        } else if Over::is_opening(token) {
+            Ok(closed.pop().unwrap_or(Over::nothing()))
+        } else {
+            Ok(Over {
+                selections: self.selections,
+                row: 0,
+            })
+        }
+    }
+
+    // Whether more selections than may stand one over another. The tokens are read from the last one on.
+    fn is_too_deep(alloc: Global, tokens: &[Token]) -> Result<bool, AllocError> {
+        let mut closed = Vec::new(alloc);
+        let mut over = Over::nothing();
+        for n in (0..tokens.len()).rev() {
+            over = over.before(&tokens[n], &mut closed)?;
+            if over.selections > MOST_SELECTIONS {
+                return Ok(true);
+            }
+        }
+        Ok(false)
+    }
+}
+
+/// The program at the front of the tokens, and the tokens behind it. More than 2000 selections one over another are
+/// answered as out of memory.
 #[tactic(auto, unfolding(crate::specs::Programs::program))]
 pub fn program<'a>(alloc: Global, tokens: &'a [Token]) -> Result<(Program, &'a [Token]), Stop<'a>>
     ensures { Gives (λ x. (x.0, x.1.now)) result ((program 0).parse tokens.now) }
 {
+    if Over::is_too_deep(alloc, tokens)? {
+        return Err(Stop::NoMemory);
+    }
     let (modules, tokens) = modules(alloc, tokens)?;
     Ok((Program { modules }, tokens))
 }
