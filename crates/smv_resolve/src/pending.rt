@@ -15,6 +15,7 @@ use std::alloc::AllocError;
 
 // So many nodes stand one in another in an expression that is parsed, names aside: up to 256 levels of it are open, and between
 // two of them there are at most fifteen nodes, one for each level of precedence that opens none, and what opens the next level.
+// Selections come on top: of more than 250 one over another some names may find no room, which is answered as out of memory.
 const ROOM: usize = 16 * 257;
 
 // What names share is found however deep it lies.
