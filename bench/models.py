@@ -3,14 +3,24 @@
 
     bench/models.py [--live | --words] [--only WORDS] [--limit SECONDS] [--runs N] [--program FILE] [--folder FOLDER] [WORDS OF check ..]
     bench/models.py --recheck [--live | --words | --examples] [..]
+    bench/models.py --by-workers 1,2,4 [--live | --words] [..]
+    bench/models.py --clauses [--words] [..]
 
-The first prints a line for each model: the answers, the seconds of processor time of each (the least of N runs), and their ratio; then
-the geometric mean of the ratios, with times below a hundredth of a second taken as that. The models are boolean ones with an invariant,
-or with --live those of bench/models/liveness.py, or with --words those of bench/models/words.py. For --live the number of signals is
-shown that the certificate counts (its `counter`), and ABC's model is that after the transformation from liveness to safety.
+The first prints a line for each model: the answers, the seconds of processor time of each (those of the run of N that has the least),
+our seconds by the clock, and the ratio of the processor times; then the geometric mean of the ratios, with times below a hundredth of a
+second taken as that. The models are boolean ones with an invariant, or with --live those of bench/models/liveness.py, or with --words
+those of bench/models/words.py. For --live the number of signals is shown that the certificate counts (its `counter`), and ABC's model is
+that after the transformation from liveness to safety.
 
 The second runs `check`, `check --cert`, and `recheck` of what that printed, and prints the times and what was shown. It goes through all
 models and examples, or through those that are named.
+
+The third runs `check` with each of these numbers of workers. It prints the processor time and the time by the clock of each, and the
+geometric means of how many times the time by the clock of the first number the others take.
+
+The fourth prints the variables and clauses of the step of each model, beside those that ABC writes of the same circuit (`strash; comb;
+write_cnf`), and the geometric means of their ratios. Ours have a variable for each bit of the next state, and clauses for bad states and
+for good ones. They are counted by an unproved program, which `rt try` builds in some minutes.
 
 With --only, only the models whose names hold one of these words, between commas. With --folder the models are written to that folder,
 and stay there; those of words.py are taken from it where they are there.
@@ -25,6 +35,7 @@ import tempfile
 
 HERE = os.path.dirname(os.path.abspath(__file__))
 sys.path.insert(0, os.path.join(HERE, "models"))
+import clauses  # noqa: E402
 import generate  # noqa: E402
 import liveness  # noqa: E402
 import words as word_models  # noqa: E402
@@ -74,15 +85,15 @@ def beside_abc(options, path):
 
 
 def compared(options, folder, name):
-    """One line of the table: both answers, both times or None, and what else is shown."""
+    """One line of the table: both answers, our times and ABC's or None, and what else is shown."""
     path = os.path.join(folder, name)
     text = text_of(path + ".smv")
     run = check(options, text)
     ours = answer_of(run)
-    seconds = run.seconds if is_decided(ours) else None
+    seconds, wall = (run.seconds, run.wall) if is_decided(ours) else (None, None)
     theirs, their_seconds = beside_abc(options, path)
     more = [signals(options, text, ours)] if options.live else []
-    return ours, seconds, theirs, their_seconds, more
+    return ours, seconds, wall, theirs, their_seconds, more
 
 
 def is_wrong(name, *answers):
@@ -94,9 +105,9 @@ def is_wrong(name, *answers):
 def compare(options, folder, names):
     """Prints the table beside ABC, and gives the names of the models that were answered wrong."""
     wrong, ratios, solved, missed = [], [], [0, 0], []
-    head("Model", "smvcheck", "s", "ABC pdr", "s", "ratio", *(["k or length"] if options.live else []))
+    head("Model", "smvcheck", "s", "s by the clock", "ABC pdr", "s", "ratio", *(["k or length"] if options.live else []))
     for name in names:
-        ours, seconds, theirs, their_seconds, more = compared(options, folder, name)
+        ours, seconds, wall, theirs, their_seconds, more = compared(options, folder, name)
         if is_wrong(name, ours, theirs):
             wrong.append(name)
         solved[0] += seconds is not None
@@ -106,13 +117,55 @@ def compare(options, folder, names):
         both = seconds is not None and their_seconds is not None
         if both:
             ratios.append(ratio(seconds, their_seconds))
-        row(f"`{name}`", ours, shown(seconds), theirs, shown(their_seconds), f"{ratios[-1]:.2f}" if both else "-", *more)
+        times = [theirs, shown(their_seconds), f"{ratios[-1]:.2f}" if both else "-"]
+        row(f"`{name}`", ours, shown(seconds), shown(wall), *times, *more)
     print(f"\nOf {len(names)} models, decided: {solved[0]} by smvcheck, {solved[1]} by ABC.")
     if missed:
         print("Decided by ABC alone: " + ", ".join(missed) + ".")
     if ratios:
         print(f"Geometric mean of the ratio, of the {len(ratios)} that both decided: {geometric_mean(ratios):.2f}")
     return wrong
+
+
+# With several workers.
+
+
+def by_workers(options, folder, names):
+    """Prints the table of so many workers, and gives the names of the models that were answered wrong."""
+    wrong, ratios = [], [[] for _ in options.by_workers]
+    head("Model", "smvcheck", *(f"{part}, workers: {count}" for count in options.by_workers for part in ("s", "s by the clock")))
+    for name in names:
+        text = text_of(os.path.join(folder, name + ".smv"))
+        runs = [check(options, text, "--workers", str(count)) for count in options.by_workers]
+        answers = [answer_of(run) for run in runs]
+        if is_wrong(name, *answers):
+            wrong.append(name)
+        if all(is_decided(answer) for answer in answers):
+            for run, group in zip(runs, ratios):
+                group.append(ratio(run.wall, runs[0].wall))
+        row(f"`{name}`", ", ".join(sorted(set(answers))), *(shown(time) for run in runs for time in (run.seconds, run.wall)))
+    if ratios[0]:
+        means = "; ".join(f"{count}: {geometric_mean(group):.2f}" for count, group in zip(options.by_workers, ratios))
+        print(f"\nGeometric means of the time by the clock, over {len(ratios[0])} models, in times of the first, by workers: {means}.")
+    return wrong
+
+
+# Clauses.
+
+
+def count_clauses(folder, names):
+    """Prints the variables and clauses of each model beside ABC's."""
+    if not has_abc():
+        sys.exit("Berkeley ABC is not installed (apt-get install berkeley-abc)")
+    paths = [os.path.join(folder, name) for name in names]
+    mine = clauses.ours([text_of(path + ".smv") for path in paths])
+    others = [clauses.theirs(path + ".aig") for path in paths]
+    head("Model", "variables", "clauses", "ABC: variables", "clauses", "variables: times ABC's", "clauses: times ABC's")
+    ratios = [[own / other for own, other in zip(*both)] for both in zip(mine, others)]
+    for name, own, other, times in zip(names, mine, others, ratios):
+        row(f"`{name}`", *own, *other, *(f"{value:.2f}" for value in times))
+    means = [geometric_mean(group) for group in zip(*ratios)]
+    print(f"\nGeometric means over {len(names)} models: {means[0]:.2f} times the variables, {means[1]:.2f} times the clauses.")
 
 
 # Judged again.
@@ -252,10 +305,13 @@ def read_options():
     parser.add_argument("--words", dest="words_set", action="store_true")
     parser.add_argument("--examples", action="store_true")
     parser.add_argument("--recheck", action="store_true")
+    parser.add_argument("--by-workers", default="")
+    parser.add_argument("--clauses", action="store_true")
     parser.add_argument("--program", default=BUILT)
     parser.add_argument("--folder")
     options, words = parser.parse_known_args()
     options.words = words
+    options.by_workers = [int(count) for count in options.by_workers.split(",") if count]
     options.only = [word for word in options.only.split(",") if word]
     return options
 
@@ -270,7 +326,11 @@ def main():
                 sys.exit("not shown: " + " ".join(unshown))
             return
         module = liveness if options.live else word_models if options.words_set else generate
-        wrong = compare(options, folder, written(module, folder, options.only))
+        if options.clauses:
+            count_clauses(folder, written(module, folder, options.only))
+            return
+        table = by_workers if options.by_workers else compare
+        wrong = table(options, folder, written(module, folder, options.only))
         if wrong:
             sys.exit("wrong: " + " ".join(wrong))
 

@@ -1,9 +1,10 @@
-"""Runs of smvcheck and of Berkeley ABC's pdr, with their answers and their processor times."""
+"""Runs of smvcheck and of Berkeley ABC's pdr, with their answers, their processor times, and their times by the clock."""
 import math
 import os
 import resource
 import shutil
 import subprocess
+import time
 
 HERE = os.path.dirname(os.path.abspath(__file__))
 BUILT = os.path.join(HERE, "..", "crates", "smvcheck", "out", "smvcheck")
@@ -16,12 +17,16 @@ PATIENCE = 100
 
 
 class Run:
-    """What a run printed, its processor time in seconds, and its status; `out` is None where it did not end in time."""
+    """What a run printed, its processor time and its time by the clock in seconds, and its status.
 
-    def __init__(self, out, seconds, status):
+    `out` is None where it did not end in time, and then so are the others.
+    """
+
+    def __init__(self, out=None, seconds=None, status=None, wall=None):
         self.out = out
         self.seconds = seconds
         self.status = status
+        self.wall = wall
 
     def ended(self):
         return self.out is not None
@@ -34,17 +39,19 @@ def timed(command, limit, given=b""):
         resource.setrlimit(resource.RLIMIT_CPU, (limit, limit + 1))
 
     before = resource.getrusage(resource.RUSAGE_CHILDREN)
+    begun = time.monotonic()
     try:
         run = subprocess.run(
             command, input=given, stdout=subprocess.PIPE, stderr=subprocess.STDOUT, preexec_fn=bound, timeout=PATIENCE * limit
         )
     except subprocess.TimeoutExpired:
-        return Run(None, None, None)
+        return Run()
+    wall = time.monotonic() - begun
     after = resource.getrusage(resource.RUSAGE_CHILDREN)
     seconds = after.ru_utime + after.ru_stime - before.ru_utime - before.ru_stime
     if run.returncode < 0 or seconds >= limit:
-        return Run(None, None, None)
-    return Run(run.stdout.decode(errors="replace"), seconds, run.returncode)
+        return Run()
+    return Run(run.stdout.decode(errors="replace"), seconds, run.returncode, wall)
 
 
 def least(runs, run):

@@ -46,6 +46,8 @@ def models():
         *[("parity", {"W": w}, True) for w in (8, 16, 32)],
         *[("serial", {"W": w}, True) for w in (3, 4)],
         *[("watchdog", {"W": w, "D": d}, False) for w, d in ((8, 30), (16, 100))],
+        *[("sender", {"W": w}, True) for w in (8, 16, 32)],
+        *[("uart", {"W": w}, True) for w in (2, 4, 8)],
         *[("register", {"W": w, "D": d}, True) for w, d in ((8, 5), (16, 4), (32, 2), (64, 3))],
         *[("account", integers(d), True) for d in (10, 100, 1000)],
         ("hours", {}, True),
