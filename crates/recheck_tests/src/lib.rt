@@ -5,6 +5,8 @@
 #[cfg(test)]
 mod changes;
 #[cfg(test)]
+mod faults;
+#[cfg(test)]
 mod formulas;
 #[cfg(test)]
 mod rows;

@@ -10,3 +10,4 @@ pub mod Ranges
 pub mod Recording
 pub mod Replays
 pub mod Reports
+pub mod SomeInputs

@@ -67,11 +67,12 @@ pub record IsJudged (bytes : List ℕ) (p : Program) (effort : Effort) (how : Pr
   pub prepared : IsPreparedWith p effort how
   pub right : AreRight p effort how records
 
--- what is shown of the specifications of a program holds: no run breaks, or no lasso violates, what is shown true, and some run or
--- lasso does what is shown false
+-- What is shown of the specifications of a program holds. Where one is shown true, no item of the program ever faults, and no run breaks,
+-- or no fair lasso violates it. What is shown false some run breaks, or some fair lasso violates, and nothing faults
+-- that is asked along it.
 abbrev pub ShownHolds : Program → List JudgedAgain → Type 0
 ShownHolds p records = (j : ℕ) (spec : ResolvedItem) (r : JudgedAgain) → slice_get (specifications_of p) j ≡ Some spec → slice_get records j ≡ Some r
-    → (is_shown_true r.judgement ≡ true → IsUpheld spec.kind p spec) × (is_shown_false r.judgement ≡ true → IsRefuted spec.kind p spec)
+    → (is_shown_true r.judgement ≡ true → IsFaultFree p × IsUpheld spec.kind p spec) × (is_shown_false r.judgement ≡ true → IsRefuted spec.kind p spec)
 
 -- what is said of the model that the bytes are, by the traces and certificates beside it, and it holds
 pub record IsJudgedAgain (bytes : List ℕ) (upgrade : Bool) (c : Checked) : Type 0 where

@@ -11,6 +11,7 @@ use Rattle.smv_tree.specs.declared.tree.Program.{Program}
 use Rattle.smv_tree.specs.declared.tree.SpecificationKind.{SpecificationKind}
 use Rattle.smv_resolve.specs.declared.item.Item.{Item}
 use Rattle.smv_resolve.specs.Items.{ResolvedItem, item_by}
+use Rattle.smv_meaning.specs.Faults.{IsFaultFree}
 use Rattle.smv_meaning.specs.Runs.{specifications_of}
 use Rattle.frame_core.specs.Runs.{IsBadRun}
 use Rattle.bit_conditions.specs.Asked.{is_invariant}
@@ -101,10 +102,17 @@ abbrev pub item_in : Checking → Item → ResolvedItem
 item_in model spec = item_by model.flat.typed.nodes spec
 
 -- the systems are those of the program, and the effort is one that words can say
+pub record IsBegun (model : Checking) : Type 0 where
+  pub built : IsBuilt (program_in model) model.built
+  pub narrow : bits_of (program_in model) ≤ bit_limit
+  pub range : IsInRange model.effort
+
+-- and no item of the program ever faults
 pub record IsReady (model : Checking) : Type 0 where
   pub built : IsBuilt (program_in model) model.built
   pub narrow : bits_of (program_in model) ≤ bit_limit
   pub range : IsInRange model.effort
+  pub fault_free : IsFaultFree (program_in model)
 
 -- the status after one more verdict
 abbrev pub status_with : ℕ → Verdict → ℕ

@@ -8,6 +8,7 @@ ghost use Rattle.ltl_lassos.specs.Violating.{AreViolating};
 ghost use Rattle.smv_resolve.specs.Items.{item_by};
 ghost use Rattle.smv_resolve.specs.declared.item.ItemKind.TheVariants as item;
 ghost use Rattle.smv_tree.specs.declared.tree.SpecificationKind.TheVariants as claim;
+ghost use Rattle.smv_meaning.specs.Faults.{IsFaultFree};
 ghost use Rattle.smv_meaning.specs.Lassos.{Violates};
 ghost use Rattle.bit_formula.specs.Standing.{StandsForFormula};
 ghost use Rattle.bit_runs.specs.Running.{lasso_at};
@@ -76,6 +77,7 @@ fn formula_verdict(
     formula: &FormulaSystem,
     answer: LtlAnswer,
 ) -> Result<Verdict, AllocError>
+    requires fault_free { IsFaultFree (program_in model.now) }
     requires first { 0 < number }
     requires temporal { spec.now.kind ≡ item.Specification claim.Temporal }
     requires numbered { specification_at (program_in model.now) number ≡ Some (item_in model.now spec.now) }
@@ -133,6 +135,7 @@ fn shown(
     formula: &FormulaSystem,
     lasso: &BitLasso,
 ) -> Result<Trace, AllocError>
+    requires fault_free { IsFaultFree typed.now.scope.program }
     requires first { 0 < number }
     requires temporal { spec.now.kind ≡ item.Specification claim.Temporal }
     requires numbered { specification_at typed.now.scope.program number ≡ Some (item_by typed.now.nodes spec.now) }
@@ -144,7 +147,7 @@ fn shown(
     replayed_lasso(alloc, typed, number, spec, &lasso)
 }
 
-// The trace of a lasso that violates a specification. It is replayed before it is printed, and the replay accepts it.
+// The trace of a lasso that violates a specification. It is replayed before it is printed, and the replay accepts it: no item faults.
 fn replayed_lasso(
     alloc: Global,
     typed: &Typed,
@@ -152,6 +155,7 @@ fn replayed_lasso(
     spec: &Item,
     lasso: &Lasso,
 ) -> Result<Trace, AllocError>
+    requires fault_free { IsFaultFree typed.now.scope.program }
     requires first { 0 < number }
     requires temporal { spec.now.kind ≡ item.Specification claim.Temporal }
     requires numbered { specification_at typed.now.scope.program number ≡ Some (item_by typed.now.nodes spec.now) }

@@ -4,6 +4,7 @@ ghost use Rattle.std.specs.Prelude.{◌≡◌, ◌<◌, ◌≤◌, ◌-◌, ◌+
 ghost use Rattle.smv_resolve.specs.declared.node.Node.{Node};
 ghost use Rattle.smv_resolve.specs.Items.{item_by};
 ghost use Rattle.smv_resolve.specs.declared.item.ItemKind.TheVariants as item;
+ghost use Rattle.smv_meaning.specs.Faults.{IsFaultFree};
 ghost use Rattle.smv_meaning.specs.Runs.{Breaks, specifications_of};
 ghost use Rattle.trace_replay.specs.Tests.{ShowsBroken, specification_at};
 ghost use Rattle.bit_system.specs.Building.{system_of};
@@ -13,6 +14,7 @@ ghost use Rattle.smv_cli.specs.Written.{IsAnswered, IsPool, IsReady, item_in, po
 
 use crate::checking::Checking;
 use crate::formulas::judge_formula;
+use crate::inhabited::some_inputs;
 use crate::record::{Reason, Record, Verdict};
 use bit_runs::{run_of, what_is_built_is_alike};
 use bit_system::{Built, copied, what_is_never_bad_is_unbroken};
@@ -276,7 +278,7 @@ fn verdict_of(
     }
 }
 
-// The trace of a run that breaks a specification. It is replayed before it is printed, and the replay accepts it.
+// The trace of a run that breaks a specification. It is replayed before it is printed, and the replay accepts it: no item faults.
 fn replayed(
     alloc: Global,
     typed: &Typed,
@@ -285,11 +287,13 @@ fn replayed(
     states: &[State],
     inputs: &[Inputs],
 ) -> Result<Trace, AllocError>
+    requires fault_free { IsFaultFree typed.now.scope.program }
     requires first { 0 < number }
     requires numbered { specification_at typed.now.scope.program number ≡ Some (item_by typed.now.nodes spec.now) }
     requires broken { Breaks typed.now.scope.program (item_by typed.now.nodes spec.now) states.now inputs.now }
     ensures { IfOk result (ShowsBroken typed.now.scope.program (item_by typed.now.nodes spec.now)) }
 {
+    some_inputs(alloc, typed)?;
     let trace = Trace::of_run(alloc, typed, states, inputs)?;
     match replay_run(alloc, typed, number, &trace)? {
         Replayed::Accepted => Ok(trace),

@@ -3,6 +3,7 @@
 
 mod checking;
 mod formulas;
+mod inhabited;
 mod input;
 mod judging;
 mod listing;

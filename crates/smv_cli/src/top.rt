@@ -10,10 +10,11 @@ ghost use Rattle.smv_meaning.specs.Runs.{is_claim, specifications_of};
 ghost use Rattle.smv_cli.specs.Listing.{listing_text};
 ghost use Rattle.smv_recheck.specs.Checking.{status_of as status_again};
 ghost use Rattle.smv_recheck.specs.Printed.{report_text};
+ghost use Rattle.smv_cli.specs.Prepared.{IsPreparedWith};
 ghost use Rattle.smv_cli.specs.Report.{Answered, Begun, CommandReport, IsTaken, Stage, effort_of, heading, input_of, ring_effort};
 ghost use Rattle.smv_cli.specs.Streams.{AppendsFront};
 ghost use Rattle.smv_cli.specs.Texts.{usage_text};
-ghost use Rattle.smv_cli.specs.Written.{CommandDone, CommandPart, IsCommandInRange, IsInRange, IsReady, Reported, ReportedPart, item_in, program_in};
+ghost use Rattle.smv_cli.specs.Written.{CommandDone, CommandPart, IsBegun, IsCommandInRange, IsInRange, IsReady, Reported, ReportedPart, item_in, program_in};
 
 use crate::checking::{Checking, begin};
 use crate::input::input;
@@ -83,7 +84,8 @@ fn report_model<R: Threads + Wait + Sync, K: Sink, G: Gate + Sync>(
     model: &Checking,
     gate: &G,
 ) -> Result<u8, Stop>
-    requires ready { IsReady model.now }
+    requires begun { IsBegun model.now }
+    requires prepared { IsPreparedWith (program_in model.now) model.now.effort model.now.preparation }
     ensures ok { IfOk result (λ status. Reported (program_in model.now) model.now.effort model.now.preparation (K.taken sink.old) (K.taken sink.new) status) }
     ensures small { IfOk result (λ status. status ≤ 2) }
     ensures part { ReportedPart (program_in model.now) model.now.effort model.now.preparation (K.taken sink.old) (K.taken sink.new) }

@@ -16,7 +16,7 @@ use Rattle.bit_system.specs.Claims.{IsUnbroken}
 use Rattle.bit_lassos.specs.Claims.{IsUnviolated}
 use Rattle.trace_replay.specs.Lassos.{lasso_told}
 use Rattle.trace_replay.specs.declared.trace.Trace.{Trace}
-use Rattle.trace_replay.proofs.OfLassos.{violates}
+use Rattle.trace_replay.proofs.OfLassos.{faultless, violates}
 use Rattle.trace_replay.proofs.Shows.{shows}
 use Rattle.sound_check.specs.declared.judging.Verdict.{Verdict}
 use Rattle.sound_check.specs.declared.judging.Verdict.TheVariants.{Sound, Rejected}
@@ -68,8 +68,8 @@ by_trace_never kind p spec t (ShownTrue again) h e = h
 by_trace_never kind p spec t other h e = cc
 
 refuted : (kind : SpecificationKind) (p : Program) (spec : ResolvedItem) (t : Trace) (j : Judgement) → IsByTrace kind p spec t j → is_shown_false j ≡ true → IsRefuted (item.Specification kind) p spec
-refuted claim.Invariant p spec t ShownFalse h e = let shown = shows p spec t h in (shown.states, (shown.inputs, shown.broken))
-refuted claim.Temporal p spec t ShownFalse h e = (lasso_told p t, violates p spec t h)
+refuted claim.Invariant p spec t ShownFalse h e = let shown = shows p spec t h in (shown.states, (shown.inputs, (shown.broken, shown.faultless)))
+refuted claim.Temporal p spec t ShownFalse h e = (lasso_told p t, (violates p spec t h, faultless p spec t h))
 refuted kind p spec t other h e = absurd (let never : ⊥ = cc in never)
 
 module _ (p : Program) (sys : TransitionSystem) (spec : ResolvedItem) (upgrade : Bool) where

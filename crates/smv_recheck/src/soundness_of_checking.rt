@@ -29,7 +29,7 @@ use sound_check::soundness_of_blocks::what_is_sound_is_never_met;
 
 /// What is said of a text holds, from the text alone. Where something is shown true, no item of the model faults in any state or step; no
 /// run breaks an invariant that is shown true, and no fair lasso violates a temporal formula that is. Some run breaks an invariant that is
-/// shown false, and some fair lasso violates a temporal formula that is. It does nothing.
+/// shown false, and some fair lasso violates a temporal formula that is. Nothing faults that is asked along these. It does nothing.
 pub fn what_is_shown_holds()
     ensures fault_free { (p : Program) (text : List ℕ) (upgrade : Bool) (c : Checked) (j : ℕ) (r : Record) → IsChecked p text upgrade c
         → slice_get c.records j ≡ Some r → is_shown_true r.judgement ≡ true → IsFaultFree p }

@@ -19,13 +19,15 @@ use Rattle.smv_layout.specs.Layout.{items_of}
 use Rattle.smv_slots.specs.declared.slot.Slot.{Slot}
 use Rattle.smv_slots.specs.Slots.{slots_of}
 use Rattle.smv_meaning.specs.declared.outcome.Outcome.{Outcome}
-use Rattle.smv_meaning.specs.Runs.{Breaks, allows_always, allows_first, allows_step, are_inputs, asks_always, asks_first, at_time, fits, input_slots, is_first_state, is_state, is_step, keeps_frozen, meets_invariants, outcome_of_target, state_slots}
+use Rattle.smv_meaning.specs.Runs.{Breaks, IsRun, allows_always, allows_first, allows_step, are_inputs, asks_always, asks_first, at_time, fits, input_slots, is_first_state, is_state, is_step, keeps_frozen, meets_invariants, outcome_of_target, state_slots}
 use Rattle.smv_meaning.specs.Values.{outcome_in}
 use Rattle.trace_replay.specs.declared.columns.Column.{Column}
 use Rattle.trace_replay.specs.declared.entry.Binding.{Binding}
 use Rattle.trace_replay.specs.declared.rule.ReplayRule.{ReplayRule}
 use Rattle.trace_replay.specs.declared.rule.ReplayRule.TheVariants as rule
 use Rattle.trace_replay.specs.declared.trace.Trace.{Trace}
+use Rattle.trace_replay.specs.declared.faultless.Asked.TheVariants.{First, Always, Step}
+use Rattle.trace_replay.specs.Faultless.{IsFaultlessRun, all_faultless, begins_well, stays_well, steps_well}
 use Rattle.trace_replay.specs.Rows.{AreTypes, bindings_of, column_of, given_rows, input_columns, inputs_told, line_read, row_read, run_trace, state_columns, state_read, states_told, terms_of}
 use Rattle.trace_replay.specs.Tests.{ShowsBroken, begins, ends, goes_on, inputs_fit, is_false, passes, state_fits, stays}
 use Rattle.trace_replay.proofs.Cells.{row_back}
@@ -65,6 +67,24 @@ module _ (p : Program) where
       let e = and_parts (is_state p s) (are_inputs p u) d.0 in
       let f = and_parts (meets_invariants p s) (meets_invariants p t) a.1 in
       (e.0, e.1, d.1, f.0, f.1)
+
+-- a step in which nothing faults that is asked of it and of its ends
+pub steps_so : (p : Program) (s u t : List Value) → is_step p s u t ≡ true → all_faultless Step p s u t ≡ true → all_faultless Always p s [] [] ≡ true → all_faultless Always p t [] [] ≡ true
+    → steps_well p s u t ≡ true
+steps_so p s u t stepped step from to =
+    and_from (is_step p s u t) (all_faultless Step p s u t && (all_faultless Always p s [] [] && all_faultless Always p t [] [])) stepped
+    (and_from (all_faultless Step p s u t) (all_faultless Always p s [] [] && all_faultless Always p t [] []) step
+    (and_from (all_faultless Always p s [] []) (all_faultless Always p t [] []) from to))
+
+-- what is known of the states of a run
+pub of_run : (p : Program) (states inputs : List (List Value)) → IsRun p states inputs → (i : ℕ) → i < length states
+    → (is_state p (at_time states i) ≡ true) × (meets_invariants p (at_time states i) ≡ true)
+of_run p states inputs run zero below = first_parts p (at_time states 0) run.first
+of_run p states inputs run (suc i) below =
+    let within : i < length inputs = let long = run.long in omega (arith, below, long) in
+    let parts = step_parts p (at_time states i) (at_time inputs i) (at_time states (i + 1)) (run.steps i within) in
+    let n : i + 1 ≡ suc i = omega arith in
+    (subst (λ k. is_state p (at_time states k) ≡ true) n parts.2, subst (λ k. meets_invariants p (at_time states k) ≡ true) n parts.4)
 
 module _ (p : Program) (types : AreTypes p) where
   -- rows of values
@@ -167,7 +187,7 @@ module _ (p : Program) (types : AreTypes p) where
       let within : k < length inputs = let whole = length-map-range_with_len read 0 (length inputs) in omega (arith, below, whole) in
       get_or-map-range_with_len read 0 (length inputs) k k d within (omega arith) ∙ inputs_at inputs k within (all k within) ∙ get_or_default inputs k [] d within)
 
-module _ (p : Program) (types : AreTypes p) (spec : ResolvedItem) (states inputs : List (List Value)) (b : Breaks p spec states inputs) where
+module _ (p : Program) (types : AreTypes p) (spec : ResolvedItem) (states inputs : List (List Value)) (b : Breaks p spec states inputs) (f : IsFaultlessRun p states inputs) where
   abbrev t : Trace
   t = run_trace p states inputs
 
@@ -175,12 +195,7 @@ module _ (p : Program) (types : AreTypes p) (spec : ResolvedItem) (states inputs
   stepped i below = b.run.steps i below
 
   each : (i : ℕ) → i < length states → (is_state p (at_time states i) ≡ true) × (meets_invariants p (at_time states i) ≡ true)
-  each zero below = first_parts p (at_time states 0) b.run.first
-  each (suc i) below =
-      let within : i < length inputs = omega (arith, below, b.run.long) in
-      let parts = step_parts p (at_time states i) (at_time inputs i) (at_time states (i + 1)) (stepped i within) in
-      let n : i + 1 ≡ suc i = omega arith in
-      (subst (λ k. is_state p (at_time states k) ≡ true) n parts.2, subst (λ k. meets_invariants p (at_time states k) ≡ true) n parts.4)
+  each i below = of_run p states inputs b.run i below
 
   inputs_are : (i : ℕ) → i < length inputs → are_inputs p (at_time inputs i) ≡ true
   inputs_are i below = (step_parts p (at_time states i) (at_time inputs i) (at_time states (i + 1)) (stepped i below)).1
@@ -206,14 +221,23 @@ module _ (p : Program) (types : AreTypes p) (spec : ResolvedItem) (states inputs
       (inputs_fitting p types inputs (length t.states) (counted ∙ b.run.long) inputs_are i)
 
   first_passes : (i : ℕ) → begins p states i ≡ true
-  first_passes i = unasked (eqb i 0) (is_first_state p (at_time states 0)) (λ e. b.run.first)
+  first_passes i =
+      let s = at_time states 0 in
+      unasked (eqb i 0) (begins_well p s) (λ e. and_from (is_first_state p s) (all_faultless First p s [] []) b.run.first f.first)
 
   inv_passes : (i : ℕ) → stays p states i ≡ true
-  inv_passes i = unasked (ltb i (length states)) (meets_invariants p (at_time states i)) (λ e. (each i (ltb-true i (length states) e)).1)
+  inv_passes i =
+      let s = at_time states i in
+      unasked (ltb i (length states)) (stays_well p s)
+      (λ e. let below = ltb-true i (length states) e in and_from (meets_invariants p s) (all_faultless Always p s [] []) (each i below).1 (f.each i below))
 
   step_passes : (i : ℕ) → goes_on p states inputs i ≡ true
-  step_passes i = unasked (ltb (i + 1) (length states)) (is_step p (at_time states i) (at_time inputs i) (at_time states (i + 1)))
-      (λ e. stepped i (let below = ltb-true (i + 1) (length states) e in omega (arith, below, b.run.long)))
+  step_passes i =
+      unasked (ltb (i + 1) (length states)) (steps_well p (at_time states i) (at_time inputs i) (at_time states (i + 1)))
+      (λ e.
+      let below = ltb-true (i + 1) (length states) e in
+      steps_so p (at_time states i) (at_time inputs i) (at_time states (i + 1)) (stepped i (omega (arith, below, b.run.long)))
+      (f.steps i below) (f.each i (omega (arith, below))) (f.each (i + 1) below))
 
   spec_passes : (i : ℕ) → ends p spec states i ≡ true
   spec_passes i =
@@ -233,4 +257,4 @@ module _ (p : Program) (types : AreTypes p) (spec : ResolvedItem) (states inputs
   run_passes rule.Spec i = subst (λ (ss : List (List Value)). ends p spec ss i ≡ true) (sym told_states) (spec_passes i)
 
 pub broken_passes : (p : Program) → AreTypes p → (spec : ResolvedItem) (t : Trace) → ShowsBroken p spec t → (r : ReplayRule) (i : ℕ) → passes p spec t r i ≡ true
-broken_passes p types spec t h r i = subst (λ (x : Trace). passes p spec x r i ≡ true) (sym h.told) (run_passes p types spec h.states h.inputs h.broken r i)
+broken_passes p types spec t h r i = subst (λ (x : Trace). passes p spec x r i ≡ true) (sym h.told) (run_passes p types spec h.states h.inputs h.broken h.faultless r i)

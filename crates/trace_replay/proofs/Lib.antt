@@ -14,3 +14,5 @@ pub mod OfForms
 pub mod Readable
 pub mod OfLassos
 pub mod Violated
+pub mod OfFaults
+pub mod FaultFree

@@ -19,19 +19,21 @@ use Rattle.smv_slots.specs.Slots.{slots_of}
 use Rattle.smv_meaning.specs.declared.outcome.Outcome.{Outcome}
 use Rattle.smv_meaning.specs.declared.outcome.Outcome.TheVariants.{Fault, Nothing, Values}
 use Rattle.smv_meaning.specs.Lassos.{Lasso, IsLasso, MeetsJustice, Violates, Holds}
-use Rattle.smv_meaning.specs.Runs.{at_time, is_first_state, is_step, is_true}
+use Rattle.smv_meaning.specs.Runs.{at_time, is_first_state, is_true, meets_invariants}
 use Rattle.smv_meaning.specs.Outcomes.{one}
 use Rattle.smv_meaning.specs.Values.{outcome_in}
 use Rattle.trace_replay.specs.declared.columns.Column.{Column}
 use Rattle.trace_replay.specs.declared.rule.ReplayRule.{ReplayRule}
 use Rattle.trace_replay.specs.declared.rule.ReplayRule.TheVariants as rule
 use Rattle.trace_replay.specs.declared.trace.Trace.{Trace}
-use Rattle.trace_replay.specs.Lassos.{LassoPasses, LassoFailsFirst, due_each, each_input_fits, each_input_told, each_value_fits, goes_back, is_fair, is_justice, is_loop, is_met, justices_of, lasso_told}
+use Rattle.trace_replay.specs.declared.faultless.Asked.TheVariants.{First, Always}
+use Rattle.trace_replay.specs.Faultless.{IsFaultlessLasso, all_faultless, begins_well, is_evaluated, stays_well, steps_well}
+use Rattle.trace_replay.specs.Lassos.{IsFalseOn, LassoPasses, LassoFailsFirst, due_each, each_input_fits, each_input_told, each_value_fits, goes_back, is_fair, is_justice, is_loop, is_met, justices_of, lasso_told}
 use Rattle.trace_replay.specs.Rows.{input_columns, inputs_read, state_columns, state_read, states_told, terms_of}
-use Rattle.trace_replay.specs.Telling.{FirstFailing}
+use Rattle.trace_replay.specs.Telling.{FirstFailing, IsFirstFailing}
 use Rattle.trace_replay.specs.Tests.{begins, goes_on, rank, state_fits, stays}
 use Rattle.trace_replay.proofs.OfTelling.{is_there, line_row}
-use Rattle.trace_replay.proofs.Shows.{unless}
+use Rattle.trace_replay.proofs.Shows.{Stepped, unless, well_begun, well_stepped}
 
 -- a test that is asked at all
 asked : (a b : Bool) → (not a || b) ≡ true → a ≡ true → b ≡ true
@@ -96,6 +98,10 @@ some_each p t fit =
     let value = is_there (state_read p t 0) told in
     let row = line_row (terms_of p) (state_columns p) (slice_get t.states 0) value.0 value.1 in
     slice_get_within t.states 0 row.0 row.1
+
+-- a lasso of these
+abbrev pub on : List (List Value) → List (List Value) → ℕ → Lasso
+on a b k = record { states = a; inputs = b; start = k }
 
 module _ (p : Program) (spec : ResolvedItem) (t : Trace) where
   abbrev pub AllPass : ReplayRule → Type 0
@@ -163,11 +169,11 @@ module _ (p : Program) (spec : ResolvedItem) (t : Trace) where
     same_steps between is i =
         ap (λ (x : List (List Value)). goes_on p states x i) is
         ∙ elim (cases_lt (i + 1) (length states)) [
-          | inl b ↦ ap (λ (u : List Value). not (ltb (i + 1) (length states)) || is_step p (at_time states i) u (at_time states (i + 1))) (get_or-take (length states - 1) inputs i [] (omega (arith, b)))
+          | inl b ↦ ap (λ (u : List Value). not (ltb (i + 1) (length states)) || steps_well p (at_time states i) u (at_time states (i + 1))) (get_or-take (length states - 1) inputs i [] (omega (arith, b)))
           | inr c ↦
               let past : ltb (i + 1) (length states) ≡ false = le-ltb (i + 1) (length states) c in
-              unasked (ltb (i + 1) (length states)) (is_step p (at_time states i) (at_time (take (length states - 1) inputs) i) (at_time states (i + 1))) (λ e. absurd (both_ways _ past e))
-              ∙ sym (unasked (ltb (i + 1) (length states)) (is_step p (at_time states i) (at_time inputs i) (at_time states (i + 1))) (λ e. absurd (both_ways _ past e)))
+              unasked (ltb (i + 1) (length states)) (steps_well p (at_time states i) (at_time (take (length states - 1) inputs) i) (at_time states (i + 1))) (λ e. absurd (both_ways _ past e))
+              ∙ sym (unasked (ltb (i + 1) (length states)) (steps_well p (at_time states i) (at_time inputs i) (at_time states (i + 1))) (λ e. absurd (both_ways _ past e)))
         ]
         ∙ ap (λ (x : List (List Value)). goes_on p x inputs i) ss
         ∙ ap (λ (x : List (List Value)). goes_on p (states_told p t) x i) us
@@ -215,24 +221,32 @@ module _ (p : Program) (spec : ResolvedItem) (t : Trace) where
       pub fair_passes : Below 5 → ((i : ℕ) → is_fair p (drop n states) i ≡ true) → Below 6
       fair_passes lower all = more rule.Fair lower (λ i. sym (fair_same i) ∙ all i)
 
-      lasso_same : Holds p (record { states = states; inputs = inputs; start = n }) spec.value 0 ≡ Holds p (lasso_told p t) spec.value 0
-      lasso_same =
-          ap (λ (x : List (List Value)). Holds p (record { states = x; inputs = inputs; start = n }) spec.value 0) ss
-          ∙ ap (λ (x : List (List Value)). Holds p (record { states = states_told p t; inputs = x; start = n }) spec.value 0) us
-          ∙ ap (λ (o : Option ℕ). Holds p (record { states = states_told p t; inputs = each_input_told p t; start = unwrap_or o 0 }) spec.value 0) (sym start)
+      false_same : IsFalseOn p spec (on states inputs n) ≡ IsFalseOn p spec (lasso_told p t)
+      false_same =
+          ap (λ (x : List (List Value)). IsFalseOn p spec (on x inputs n)) ss
+          ∙ ap (λ (x : List (List Value)). IsFalseOn p spec (on (states_told p t) x n)) us
+          ∙ ap (λ (o : Option ℕ). IsFalseOn p spec (on (states_told p t) (each_input_told p t) (unwrap_or o 0))) (sym start)
 
-      pub spec_fails : Below 6 → Holds p (record { states = states; inputs = inputs; start = n }) spec.value 0 → LassoFailsFirst p spec t rule.Spec 0
-      spec_fails lower holds =
-          fails_first rule.Spec 0 (λ h. h refl (subst (λ (X : Type 0). X) lasso_same holds)) (λ i h. absurd (let never : ⊥ = omega (arith, h) in never)) lower
+      none_false : Below 6 → (IsFalseOn p spec (on states inputs n) → ⊥) → LassoFailsFirst p spec t rule.Spec 0
+      none_false lower never =
+          fails_first rule.Spec 0 (λ h. never (subst (λ (X : Type 0). X) (sym false_same) (h refl))) (λ i h. absurd (let never : ⊥ = omega (arith, h) in never)) lower
 
-      pub spec_passes : Below 6 → (Holds p (record { states = states; inputs = inputs; start = n }) spec.value 0 → ⊥) → Below 7
-      spec_passes lower never = more rule.Spec lower (λ i e h. never (subst (λ (X : Type 0). X) (sym lasso_same) h))
+      -- it faults at some time, or holds at the first one
+      pub fault_fails : Below 6 → (o : Option ℕ) (k : ℕ) → IsFirstFailing (is_evaluated p spec states inputs) o → o ≡ Some k → LassoFailsFirst p spec t rule.Spec 0
+      fault_fails lower None k found is = absurd (let never : ⊥ = cc in never)
+      fault_fails lower (Some m) k found is = none_false lower (λ h. both_ways _ found.fails (h.1 m))
+
+      pub spec_fails : Below 6 → Holds p (on states inputs n) spec.value 0 → LassoFailsFirst p spec t rule.Spec 0
+      spec_fails lower holds = none_false lower (λ h. h.0 holds)
+
+      pub spec_passes : Below 6 → ((i : ℕ) → is_evaluated p spec states inputs i ≡ true) → (Holds p (on states inputs n) spec.value 0 → ⊥) → Below 7
+      spec_passes lower evaluated never = more rule.Spec lower (λ i e. subst (λ (X : Type 0). X) false_same (never, evaluated))
 
 -- the states of a loop
 pub loop_inside : (p : Program) (states inputs : List (List Value)) (n : ℕ) → is_loop p states inputs n ≡ true → n < length states
 loop_inside p states inputs n h =
     ltb-true n (length states)
-    (and_parts (ltb n (length states)) (is_step p (at_time states (length states - 1)) (at_time inputs (length states - 1)) (at_time states n)) h).0
+    (and_parts (ltb n (length states)) (steps_well p (at_time states (length states - 1)) (at_time inputs (length states - 1)) (at_time states n)) h).0
 
 pub loop_states : (states : List (List Value)) (n : ℕ) → n < length states → last_of (length states - n) states ≡ drop n states
 loop_states states n h = let e : length states - (length states - n) ≡ n = omega (arith, h) in ap (λ (k : ℕ). drop k states) e
@@ -373,17 +387,28 @@ module _ (p : Program) (spec : ResolvedItem) (t : Trace) (all : (r : ReplayRule)
   back_of None h = absurd (both_ways (goes_back p w.states w.inputs None 0) refl (h 0))
   back_of (Some n) h = asked (eqb n n) (is_loop p w.states w.inputs n) (h n) (eq-eqb n n refl)
 
-  back_parts : (ltb w.start (length w.states) ≡ true) × (is_step p (at_time w.states (length w.states - 1)) (at_time w.inputs (length w.states - 1)) (at_time w.states w.start) ≡ true)
-  back_parts = and_parts (ltb w.start (length w.states)) (is_step p (at_time w.states (length w.states - 1)) (at_time w.inputs (length w.states - 1)) (at_time w.states w.start)) (back_of t.start (all rule.Loop))
+  back_parts : (ltb w.start (length w.states) ≡ true) × (steps_well p (at_time w.states (length w.states - 1)) (at_time w.inputs (length w.states - 1)) (at_time w.states w.start) ≡ true)
+  back_parts =
+      and_parts (ltb w.start (length w.states)) (steps_well p (at_time w.states (length w.states - 1)) (at_time w.inputs (length w.states - 1)) (at_time w.states w.start)) (back_of t.start (all rule.Loop))
+
+  begun : (is_first_state p (at_time w.states 0) ≡ true) × (all_faultless First p (at_time w.states 0) [] [] ≡ true)
+  begun = well_begun p (at_time w.states 0) (asked (eqb 0 0) (begins_well p (at_time w.states 0)) (all rule.First 0) (eq-eqb 0 0 refl))
+
+  stepped : (i : ℕ) → i + 1 < length w.states → Stepped p (at_time w.states i) (at_time w.inputs i) (at_time w.states (i + 1))
+  stepped i below =
+      well_stepped p (at_time w.states i) (at_time w.inputs i) (at_time w.states (i + 1))
+      (asked (ltb (i + 1) (length w.states)) (steps_well p (at_time w.states i) (at_time w.inputs i) (at_time w.states (i + 1))) (all rule.Step i) (lt-ltb (i + 1) (length w.states) below))
+
+  back : Stepped p (at_time w.states (length w.states - 1)) (at_time w.inputs (length w.states - 1)) (at_time w.states w.start)
+  back = well_stepped p (at_time w.states (length w.states - 1)) (at_time w.inputs (length w.states - 1)) (at_time w.states w.start) back_parts.1
 
   is_lasso : IsLasso p w
   is_lasso = record {
     long = n_states ∙ sym n_inputs;
     inside = ltb-true w.start (length w.states) back_parts.0;
-    first = asked (eqb 0 0) (is_first_state p (at_time w.states 0)) (all rule.First 0) (eq-eqb 0 0 refl);
-    steps = λ i below.
-        asked (ltb (i + 1) (length w.states)) (is_step p (at_time w.states i) (at_time w.inputs i) (at_time w.states (i + 1))) (all rule.Step i) (lt-ltb (i + 1) (length w.states) below);
-    back = back_parts.1;
+    first = begun.0;
+    steps = λ i below. (stepped i below).0;
+    back = back.0;
   }
 
   justice : (x : ResolvedItem) → is_justice x.kind ≡ true → Contains (items_of p) x
@@ -404,4 +429,17 @@ module _ (p : Program) (spec : ResolvedItem) (t : Trace) (all : (r : ReplayRule)
   fair x within kind = justice x (ap is_justice kind) within
 
   pub violates : Violates p spec w
-  violates = record { lasso = record { lasso = is_lasso; fair = fair }; false = all rule.Spec 0 refl }
+  violates = record { lasso = record { lasso = is_lasso; fair = fair }; false = (all rule.Spec 0 refl).0 }
+
+  pub faultless : IsFaultlessLasso p spec w
+  faultless = record {
+    run = record {
+      first = begun.1;
+      each = λ i below.
+          (and_parts (meets_invariants p (at_time w.states i)) (all_faultless Always p (at_time w.states i) [] [])
+          (asked (ltb i (length w.states)) (stays_well p (at_time w.states i)) (all rule.Inv i) (lt-ltb i (length w.states) below))).1;
+      steps = λ i below. (stepped i below).1;
+    };
+    back = back.1;
+    formula = (all rule.Spec 0 refl).1;
+  }

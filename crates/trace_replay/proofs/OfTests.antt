@@ -7,11 +7,12 @@ use Rattle.std.proofs.lemmas.List.FromFn.{length-map-range_with_len}
 use Rattle.smv_tree.specs.declared.tree.Program.{Program}
 use Rattle.smv_value.specs.declared.value.Value.{Value}
 use Rattle.smv_resolve.specs.Items.{ResolvedItem}
-use Rattle.smv_meaning.specs.Runs.{at_time, is_step}
+use Rattle.smv_meaning.specs.Runs.{at_time}
 use Rattle.trace_replay.specs.declared.rule.ReplayRule.{ReplayRule}
 use Rattle.trace_replay.specs.declared.rule.ReplayRule.TheVariants as rule
 use Rattle.trace_replay.specs.declared.telling.Told.{Told}
 use Rattle.trace_replay.specs.declared.trace.Trace.{Trace}
+use Rattle.trace_replay.specs.Faultless.{is_evaluated, is_faultless, steps_well}
 use Rattle.trace_replay.specs.Telling.{FirstFailing, IsFirstFailing, IsTold}
 use Rattle.trace_replay.specs.Tests.{FailsFirst, goes_on, passes, rank, starts_at}
 use Rattle.trace_replay.proofs.OfTelling.{some_state}
@@ -137,10 +138,19 @@ at_read xs i x within is = is ∙ get_or_default xs i x [] within
 
 -- there is a step from one state more
 pub step_here : (p : Program) (states inputs : List (List Value)) (i : ℕ) (s u next : List Value) → i < length inputs → length states ≡ length inputs + 1
-    → s ≡ get_or states i s → u ≡ get_or inputs i u → next ≡ get_or states (i + 1) next → is_step p s u next ≡ true → goes_on p states inputs i ≡ true
+    → s ≡ get_or states i s → u ≡ get_or inputs i u → next ≡ get_or states (i + 1) next → steps_well p s u next ≡ true → goes_on p states inputs i ≡ true
 step_here p states inputs i s u next within long is given later stepped =
-    or_right (not (ltb (i + 1) (length states))) (is_step p (at_time states i) (at_time inputs i) (at_time states (i + 1)))
-    (ap (λ (x : List Value). is_step p x (at_time inputs i) (at_time states (i + 1))) (sym (at_read states i s (omega arith) is))
-    ∙ ap (λ (x : List Value). is_step p s x (at_time states (i + 1))) (sym (at_read inputs i u within given))
-    ∙ ap (λ (x : List Value). is_step p s u x) (sym (at_read states (i + 1) next (omega arith) later))
+    or_right (not (ltb (i + 1) (length states))) (steps_well p (at_time states i) (at_time inputs i) (at_time states (i + 1)))
+    (ap (λ (x : List Value). steps_well p x (at_time inputs i) (at_time states (i + 1))) (sym (at_read states i s (omega arith) is))
+    ∙ ap (λ (x : List Value). steps_well p s x (at_time states (i + 1))) (sym (at_read inputs i u within given))
+    ∙ ap (λ (x : List Value). steps_well p s u x) (sym (at_read states (i + 1) next (omega arith) later))
     ∙ stepped)
+
+-- the formula does not fault in one state more
+pub evaluated_here : (p : Program) (spec : ResolvedItem) (states inputs : List (List Value)) (i : ℕ) (s u : List Value) → i < length inputs → length states ≡ length inputs
+    → s ≡ get_or states i s → u ≡ get_or inputs i u → is_faultless p s u [] spec ≡ true → is_evaluated p spec states inputs i ≡ true
+evaluated_here p spec states inputs i s u within long is given faultless =
+    or_right (not (ltb i (length states))) (is_faultless p (at_time states i) (at_time inputs i) [] spec)
+    (ap (λ (x : List Value). is_faultless p x (at_time inputs i) [] spec) (sym (at_read states i s (omega (arith, within, long)) is))
+    ∙ ap (λ (x : List Value). is_faultless p s x [] spec) (sym (at_read inputs i u within given))
+    ∙ faultless)

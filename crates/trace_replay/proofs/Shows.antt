@@ -1,5 +1,5 @@
 -- A trace is accepted just where it is that of a run that breaks the specification.
-use Rattle.std.proofs.Common.{◌≡◌, inl, inr, ℕ, ◌+◌, ◌-◌, ◌<◌, ◌≤◌, max, Bool, true, false, not, cond, ◌||◌, List, [], ◌∷◌, length, map, get_or, Option, None, Some, refl, sym, ap, ◌∙◌, arith, unwrap_or, slice_get}
+use Rattle.std.proofs.Common.{◌≡◌, inl, inr, ℕ, ◌+◌, ◌-◌, ◌<◌, ◌≤◌, max, Bool, true, false, not, cond, ◌&&◌, ◌||◌, List, [], ◌∷◌, length, map, get_or, Option, None, Some, refl, sym, ap, ◌∙◌, arith, unwrap_or, slice_get}
 use lib.Dec.{eqb, leb, ltb}
 use Rattle.std.specs.List.{range_with_len}
 use Rattle.std.specs.Option.{is_some}
@@ -15,7 +15,7 @@ use Rattle.smv_resolve.specs.Items.{ResolvedItem}
 use Rattle.smv_slots.specs.Slots.{slots_of}
 use Rattle.smv_meaning.specs.declared.outcome.Outcome.{Outcome}
 use Rattle.smv_meaning.specs.declared.outcome.Outcome.TheVariants.{Fault, Nothing, Values}
-use Rattle.smv_meaning.specs.Runs.{IsRun, at_time, is_step}
+use Rattle.smv_meaning.specs.Runs.{IsRun, at_time, is_first_state, is_step, meets_invariants}
 use Rattle.smv_meaning.specs.Outcomes.{one}
 use Rattle.smv_meaning.specs.Values.{outcome_in}
 use Rattle.trace_replay.specs.declared.columns.Column.{Column}
@@ -23,6 +23,8 @@ use Rattle.trace_replay.specs.declared.entry.Binding.{Binding}
 use Rattle.trace_replay.specs.declared.rule.ReplayRule.{ReplayRule}
 use Rattle.trace_replay.specs.declared.rule.ReplayRule.TheVariants as rule
 use Rattle.trace_replay.specs.declared.trace.Trace.{Trace}
+use Rattle.trace_replay.specs.declared.faultless.Asked.TheVariants.{First, Always, Step}
+use Rattle.trace_replay.specs.Faultless.{IsFaultlessRun, all_faultless, begins_well, stays_well, steps_well}
 use Rattle.trace_replay.specs.Lassos.{due_each}
 use Rattle.trace_replay.specs.Rows.{Terms, bindings_of, given_rows, input_columns, inputs_read, inputs_told, line_read, row_read, run_trace, state_columns, state_read, states_told, terms_of}
 use Rattle.trace_replay.specs.Tests.{ShowsBroken, due_beside, inputs_fit, is_false, passes, starts_at, state_fits}
@@ -64,6 +66,20 @@ false_is (Values (value.Sym n ∷ [])) h = absurd (let never : ⊥ = cc in never
 false_is (Values (value.Word s w b ∷ [])) h = absurd (let never : ⊥ = cc in never)
 false_is (Values (v ∷ w ∷ vs)) h = absurd (let never : ⊥ = cc in never)
 false_is (Fault f place) h = absurd (let never : ⊥ = cc in never)
+
+-- a first state and a step, and that nothing faults which is asked of them
+
+pub well_begun : (p : Program) (s : List Value) → begins_well p s ≡ true → (is_first_state p s ≡ true) × (all_faultless First p s [] [] ≡ true)
+well_begun p s h = and_parts (is_first_state p s) (all_faultless First p s [] []) h
+
+abbrev pub Stepped : Program → List Value → List Value → List Value → Type 0
+Stepped p s u t = (is_step p s u t ≡ true) × (all_faultless Step p s u t ≡ true)
+
+pub well_stepped : (p : Program) (s u t : List Value) → steps_well p s u t ≡ true → Stepped p s u t
+well_stepped p s u t h =
+    let ends : Bool = all_faultless Always p s [] [] && all_faultless Always p t [] [] in
+    let both = and_parts (is_step p s u t) (all_faultless Step p s u t && ends) h in
+    (both.0, (and_parts (all_faultless Step p s u t) ends both.1).0)
 
 -- whether the inputs of a number are told as they should be, by the columns, where so many are due: beside the states of a run, and
 -- beside those of a lasso
@@ -178,13 +194,25 @@ module _ (p : Program) (spec : ResolvedItem) (t : Trace) (all : (r : ReplayRule)
       let c = some in
       omega (arith, a, b, c)
 
+  begun : (is_first_state p (at_time (states_told p t) 0) ≡ true) × (all_faultless First p (at_time (states_told p t) 0) [] [] ≡ true)
+  begun = well_begun p (at_time (states_told p t) 0) (all rule.First 0)
+
+  stepped : (i : ℕ) → i + 1 < length (states_told p t) → Stepped p (at_time (states_told p t) i) (at_time (inputs_told p t) i) (at_time (states_told p t) (i + 1))
+  stepped i below =
+      well_stepped p (at_time (states_told p t) i) (at_time (inputs_told p t) i) (at_time (states_told p t) (i + 1))
+      (asked (ltb (i + 1) (length (states_told p t))) (steps_well p (at_time (states_told p t) i) (at_time (inputs_told p t) i) (at_time (states_told p t) (i + 1)))
+      (all rule.Step i) (lt-ltb (i + 1) (length (states_told p t)) below))
+
   run : IsRun p (states_told p t) (inputs_told p t)
-  run = record {
-    long = long;
-    first = all rule.First 0;
-    steps = λ i below.
-        asked (ltb (i + 1) (length (states_told p t))) (is_step p (at_time (states_told p t) i) (at_time (inputs_told p t) i) (at_time (states_told p t) (i + 1)))
-        (all rule.Step i) (lt-ltb (i + 1) (length (states_told p t)) (omega (arith, below, long)));
+  run = record { long = long; first = begun.0; steps = λ i below. (stepped i (omega (arith, below, long))).0 }
+
+  faultless : IsFaultlessRun p (states_told p t) (inputs_told p t)
+  faultless = record {
+    first = begun.1;
+    each = λ i below.
+        (and_parts (meets_invariants p (at_time (states_told p t) i)) (all_faultless Always p (at_time (states_told p t) i) [] [])
+        (asked (ltb i (length (states_told p t))) (stays_well p (at_time (states_told p t) i)) (all rule.Inv i) (lt-ltb i (length (states_told p t)) below))).1;
+    steps = λ i below. (stepped i below).1;
   }
 
   pub shows : ShowsBroken p spec t
@@ -192,6 +220,7 @@ module _ (p : Program) (spec : ResolvedItem) (t : Trace) (all : (r : ReplayRule)
     states = states_told p t;
     inputs = inputs_told p t;
     told = told_as;
+    faultless = faultless;
     broken = record {
       run = run;
       broken =

@@ -16,18 +16,20 @@ use Rattle.smv_resolve.specs.declared.item.ItemKind.TheVariants as item
 use Rattle.smv_resolve.specs.Items.{ResolvedItem}
 use Rattle.smv_layout.specs.Layout.{items_of}
 use Rattle.smv_slots.specs.Slots.{slots_of}
-use Rattle.smv_meaning.specs.Lassos.{Holds, Lasso, Violates}
-use Rattle.smv_meaning.specs.Runs.{are_inputs, at_time, is_first_state, is_state, is_step, is_true, meets_invariants}
+use Rattle.smv_meaning.specs.Lassos.{IsLasso, Lasso, Violates}
+use Rattle.smv_meaning.specs.Runs.{are_inputs, at_time, is_first_state, is_state, is_true, meets_invariants}
 use Rattle.smv_meaning.specs.Values.{outcome_in}
 use Rattle.trace_replay.specs.declared.entry.Binding.{Binding}
 use Rattle.trace_replay.specs.declared.rule.ReplayRule.{ReplayRule}
 use Rattle.trace_replay.specs.declared.rule.ReplayRule.TheVariants as rule
 use Rattle.trace_replay.specs.declared.trace.Trace.{Trace}
-use Rattle.trace_replay.specs.Lassos.{LassoPasses, ShowsViolated, each_input_fits, each_input_told, each_value_fits, goes_back, is_fair, is_justice, is_loop, is_met, justices_of, lasso_told, lasso_trace}
+use Rattle.trace_replay.specs.declared.faultless.Asked.TheVariants.{First, Always}
+use Rattle.trace_replay.specs.Faultless.{IsFaultlessLasso, all_faultless, begins_well, stays_well, steps_well}
+use Rattle.trace_replay.specs.Lassos.{IsFalseOn, LassoPasses, ShowsViolated, each_input_fits, each_input_told, each_value_fits, goes_back, is_fair, is_justice, is_loop, is_met, justices_of, lasso_told, lasso_trace}
 use Rattle.trace_replay.specs.Rows.{AreTypes, bindings_of, given_rows, input_columns, line_read, state_columns, state_read, states_told, terms_of}
 use Rattle.trace_replay.specs.Tests.{begins, goes_on, state_fits, stays}
-use Rattle.trace_replay.proofs.Broken.{each_inputs_fitting, inputs_again, states_again, states_back, step_parts}
-use Rattle.trace_replay.proofs.OfLassos.{violates}
+use Rattle.trace_replay.proofs.Broken.{each_inputs_fitting, inputs_again, states_again, states_back, step_parts, steps_so}
+use Rattle.trace_replay.proofs.OfLassos.{faultless, violates}
 use Rattle.trace_replay.proofs.Shows.{at_some, each_fit, each_inputs_back, read_at, rows_back, unasked, unless}
 
 kind_is : (k : ItemKind) → is_justice k ≡ true → k ≡ item.Constraint asked.Justice
@@ -38,8 +40,26 @@ kind_is (item.Constraint asked.Trans) h = absurd (let never : ⊥ = cc in never)
 kind_is (item.Assignment kind) h = absurd (let never : ⊥ = cc in never)
 kind_is (item.Specification kind) h = absurd (let never : ⊥ = cc in never)
 
+-- What is known of the states of a lasso, and of their inputs.
+module _ (p : Program) (w : Lasso) (lasso : IsLasso p w) where
+  -- what a step from a state asks of the state and of its inputs
+  abbrev Typed : ℕ → Type 0
+  Typed i = (is_state p (at_time w.states i) ≡ true) × (are_inputs p (at_time w.inputs i) ≡ true) × (meets_invariants p (at_time w.states i) ≡ true)
+
+  pub of_lasso : (i : ℕ) → i < length w.states → Typed i
+  of_lasso i lt =
+      let states = w.states in
+      let inputs = w.inputs in
+      elim (cases_lt (i + 1) (length states)) [
+        | inl more ↦ let parts = step_parts p (at_time states i) (at_time inputs i) (at_time states (i + 1)) (lasso.steps i more) in (parts.0, parts.1, parts.3)
+        | inr last ↦
+            let e : length states - 1 ≡ i = omega (arith, lt, last) in
+            let parts = step_parts p (at_time states (length states - 1)) (at_time inputs (length states - 1)) (at_time states w.start) lasso.back in
+            subst Typed e (parts.0, parts.1, parts.3)
+      ]
+
 -- From a lasso to a trace that passes.
-module _ (p : Program) (types : AreTypes p) (spec : ResolvedItem) (w : Lasso) (v : Violates p spec w) where
+module _ (p : Program) (types : AreTypes p) (spec : ResolvedItem) (w : Lasso) (v : Violates p spec w) (f : IsFaultlessLasso p spec w) where
   abbrev t : Trace
   t = lasso_trace p w
 
@@ -49,18 +69,8 @@ module _ (p : Program) (types : AreTypes p) (spec : ResolvedItem) (w : Lasso) (v
   abbrev inputs : List (List Value)
   inputs = w.inputs
 
-  -- what a step from a state asks of the state and of its inputs
-  abbrev Typed : ℕ → Type 0
-  Typed i = (is_state p (at_time states i) ≡ true) × (are_inputs p (at_time inputs i) ≡ true) × (meets_invariants p (at_time states i) ≡ true)
-
-  typed : (i : ℕ) → i < length states → Typed i
-  typed i lt = elim (cases_lt (i + 1) (length states)) [
-    | inl more ↦ let parts = step_parts p (at_time states i) (at_time inputs i) (at_time states (i + 1)) (v.lasso.lasso.steps i more) in (parts.0, parts.1, parts.3)
-    | inr last ↦
-        let e : length states - 1 ≡ i = omega (arith, lt, last) in
-        let parts = step_parts p (at_time states (length states - 1)) (at_time inputs (length states - 1)) (at_time states w.start) v.lasso.lasso.back in
-        subst Typed e (parts.0, parts.1, parts.3)
-  ]
+  typed : (i : ℕ) → i < length states → (is_state p (at_time states i) ≡ true) × (are_inputs p (at_time inputs i) ≡ true) × (meets_invariants p (at_time states i) ≡ true)
+  typed i lt = of_lasso p w v.lasso.lasso i lt
 
   inputs_are : (i : ℕ) → i < length inputs → are_inputs p (at_time inputs i) ≡ true
   inputs_are i lt = (typed i (omega (arith, lt, v.lasso.lasso.long))).1
@@ -90,19 +100,33 @@ module _ (p : Program) (types : AreTypes p) (spec : ResolvedItem) (w : Lasso) (v
       (let long : length inputs ≡ length t.states = sym (counted ∙ v.lasso.lasso.long) in
       subst (λ n. each_fit (terms_of p) (input_columns p) (given_rows (terms_of p) (input_columns p) inputs) n i ≡ true) long (each_inputs_fitting p types inputs inputs_are i))
 
+  first_passes : (i : ℕ) → begins p states i ≡ true
+  first_passes i =
+      let s = at_time states 0 in
+      unasked (eqb i 0) (begins_well p s) (λ e. and_from (is_first_state p s) (all_faultless First p s [] []) v.lasso.lasso.first f.run.first)
+
   inv_passes : (i : ℕ) → stays p states i ≡ true
-  inv_passes i = unasked (ltb i (length states)) (meets_invariants p (at_time states i)) (λ e. (typed i (ltb-true i (length states) e)).2)
+  inv_passes i =
+      let s = at_time states i in
+      unasked (ltb i (length states)) (stays_well p s)
+      (λ e. let below = ltb-true i (length states) e in and_from (meets_invariants p s) (all_faultless Always p s [] []) (typed i below).2 (f.run.each i below))
 
   step_passes : (i : ℕ) → goes_on p states inputs i ≡ true
   step_passes i =
-      unasked (ltb (i + 1) (length states)) (is_step p (at_time states i) (at_time inputs i) (at_time states (i + 1)))
-      (λ e. v.lasso.lasso.steps i (ltb-true (i + 1) (length states) e))
+      unasked (ltb (i + 1) (length states)) (steps_well p (at_time states i) (at_time inputs i) (at_time states (i + 1)))
+      (λ e.
+      let below = ltb-true (i + 1) (length states) e in
+      steps_so p (at_time states i) (at_time inputs i) (at_time states (i + 1)) (v.lasso.lasso.steps i below)
+      (f.run.steps i below) (f.run.each i (omega (arith, below))) (f.run.each (i + 1) below))
 
   loop_passes : (i : ℕ) → goes_back p states inputs (Some w.start) i ≡ true
   loop_passes i =
       let last = length states - 1 in
+      let inside = v.lasso.lasso.inside in
       unasked (eqb i w.start) (is_loop p states inputs w.start)
-      (λ e. and_from (ltb w.start (length states)) (is_step p (at_time states last) (at_time inputs last) (at_time states w.start)) (lt-ltb w.start (length states) v.lasso.lasso.inside) v.lasso.lasso.back)
+      (λ e. and_from (ltb w.start (length states)) (steps_well p (at_time states last) (at_time inputs last) (at_time states w.start)) (lt-ltb w.start (length states) inside)
+      (steps_so p (at_time states last) (at_time inputs last) (at_time states w.start) v.lasso.lasso.back
+      f.back (f.run.each last (omega (arith, inside))) (f.run.each w.start inside)))
 
   met : (i : ℕ) (o : Option ResolvedItem) → slice_get (justices_of p) i ≡ o → is_met (slots_of p) (drop w.start states) o ≡ true
   met i None e = refl
@@ -127,16 +151,16 @@ module _ (p : Program) (types : AreTypes p) (spec : ResolvedItem) (w : Lasso) (v
   Passes u rule.Step i = goes_on p u.states u.inputs i ≡ true
   Passes u rule.Loop i = goes_back p u.states u.inputs (Some u.start) i ≡ true
   Passes u rule.Fair i = is_fair p (drop u.start u.states) i ≡ true
-  Passes u rule.Spec i = i ≡ 0 → Holds p u spec.value 0 → ⊥
+  Passes u rule.Spec i = i ≡ 0 → IsFalseOn p spec u
 
   passes : (r : ReplayRule) (i : ℕ) → Passes w r i
   passes rule.Values i = values_pass i
-  passes rule.First i = unasked (eqb i 0) (is_first_state p (at_time states 0)) (λ e. v.lasso.lasso.first)
+  passes rule.First i = first_passes i
   passes rule.Inv i = inv_passes i
   passes rule.Step i = step_passes i
   passes rule.Loop i = loop_passes i
   passes rule.Fair i = met i (slice_get (justices_of p) i) refl
-  passes rule.Spec i = λ e. v.false
+  passes rule.Spec i = λ e. (v.false, f.formula)
 
   as_told : (r : ReplayRule) (i : ℕ) → Passes (lasso_told p t) r i → LassoPasses p spec t r i
   as_told rule.Values i h = h
@@ -151,7 +175,7 @@ module _ (p : Program) (types : AreTypes p) (spec : ResolvedItem) (w : Lasso) (v
   lasso_passes r i = as_told r i (subst (λ (u : Lasso). Passes u r i) (sym told_is) (passes r i))
 
 pub violated_passes : (p : Program) → AreTypes p → (spec : ResolvedItem) (t : Trace) → ShowsViolated p spec t → (r : ReplayRule) (i : ℕ) → LassoPasses p spec t r i
-violated_passes p types spec t h r i = subst (λ (x : Trace). LassoPasses p spec x r i) (sym h.told) (lasso_passes p types spec h.lasso h.violates r i)
+violated_passes p types spec t h r i = subst (λ (x : Trace). LassoPasses p spec x r i) (sym h.told) (lasso_passes p types spec h.lasso h.violates h.faultless r i)
 
 -- From a trace that passes to a lasso.
 module _ (p : Program) (spec : ResolvedItem) (t : Trace) (all : (r : ReplayRule) (i : ℕ) → LassoPasses p spec t r i) where
@@ -179,4 +203,4 @@ module _ (p : Program) (spec : ResolvedItem) (t : Trace) (all : (r : ReplayRule)
       ∙ ap (λ (c : Option ℕ). made (map (bindings_of (terms_of p) (state_columns p)) (states_told p t)) (given_rows (terms_of p) (input_columns p) (each_input_told p t)) c) (start_is t.start (all rule.Loop))
 
   pub shows_violated : ShowsViolated p spec t
-  shows_violated = record { lasso = lasso_told p t; told = told_as; violates = violates p spec t all }
+  shows_violated = record { lasso = lasso_told p t; told = told_as; violates = violates p spec t all; faultless = faultless p spec t all }

@@ -1,4 +1,5 @@
--- The replay of a trace of a temporal specification: its tests, in their order, with the number of each.
+-- The replay of a trace of a temporal specification: its tests, in their order, with the number of each. A test whose evaluation faults
+-- fails; of a JUSTICE it is enough that it is TRUE in some state.
 use Rattle.std.specs.Prelude.{◌≡◌, ◌↔◌, ℕ, ◌-◌, ◌==◌, nat_le, nat_lt, Bool, true, false, not, ◌&&◌, ◌||◌, if◌then◌else◌, List, [], ◌∷◌, drop, filter, length, map, Option, None, Some, slice_get, unwrap_or}
 use Rattle.std.specs.List.{list_any, range_with_len}
 use Rattle.std.specs.Option.{is_some}
@@ -13,7 +14,7 @@ use Rattle.smv_layout.specs.Layout.{items_of}
 use Rattle.smv_slots.specs.declared.slot.Slot.{Slot}
 use Rattle.smv_slots.specs.Slots.{slots_of}
 use Rattle.smv_meaning.specs.Lassos.{Lasso, Holds, Violates}
-use Rattle.smv_meaning.specs.Runs.{at_time, is_step, is_true}
+use Rattle.smv_meaning.specs.Runs.{at_time, is_true}
 use Rattle.smv_meaning.specs.Values.{outcome_in}
 use Rattle.trace_replay.specs.declared.columns.Column.{Column}
 use Rattle.trace_replay.specs.declared.rule.ReplayRule.{ReplayRule}
@@ -24,6 +25,7 @@ use Rattle.trace_replay.specs.declared.telling.Told.{Told}
 use Rattle.trace_replay.specs.declared.telling.Telling.{Telling}
 use Rattle.trace_replay.specs.declared.telling.Telling.TheVariants as telling
 use Rattle.trace_replay.specs.declared.trace.Trace.{Trace}
+use Rattle.trace_replay.specs.Faultless.{IsFaultlessLasso, is_evaluated, steps_well}
 use Rattle.trace_replay.specs.Rows.{bindings_of, given_rows, input_columns, inputs_read, state_columns, states_told, terms_of}
 use Rattle.trace_replay.specs.Telling.{FirstFailing}
 use Rattle.trace_replay.specs.Tests.{IsEarlier, IsReplay, ShowsBroken, begins, goes_on, state_fits, stays}
@@ -69,7 +71,7 @@ each_value_fits p t i = state_fits p t i && each_input_fits p t i
 -- there is a step from the last state to the one of this number
 abbrev pub is_loop : Program → List (List Value) → List (List Value) → ℕ → Bool
 is_loop p states inputs n =
-    nat_lt n (length states) && is_step p (at_time states (length states - 1)) (at_time inputs (length states - 1)) (at_time states n)
+    nat_lt n (length states) && steps_well p (at_time states (length states - 1)) (at_time inputs (length states - 1)) (at_time states n)
 
 -- the loop is told, and there is a step from the last state to the one at which it begins
 abbrev pub goes_back : Program → List (List Value) → List (List Value) → Option ℕ → ℕ → Bool
@@ -85,6 +87,10 @@ is_met slots states (Some x) = list_any (λ (s : List Value). is_true (outcome_i
 abbrev pub is_fair : Program → List (List Value) → ℕ → Bool
 is_fair p states i = is_met (slots_of p) states (slice_get (justices_of p) i)
 
+-- the formula does not hold at the first time of the lasso, and it faults at no time
+abbrev pub IsFalseOn : Program → ResolvedItem → Lasso → Type 0
+IsFalseOn p spec w = (Holds p w spec.value 0 → ⊥) × ((i : ℕ) → is_evaluated p spec w.states w.inputs i ≡ true)
+
 -- whether a trace passes a test at a number
 abbrev pub LassoPasses : Program → ResolvedItem → Trace → ReplayRule → ℕ → Type 0
 LassoPasses p spec t rule.Values i = each_value_fits p t i ≡ true
@@ -93,7 +99,7 @@ LassoPasses p spec t rule.Inv i = stays p (states_told p t) i ≡ true
 LassoPasses p spec t rule.Step i = goes_on p (states_told p t) (each_input_told p t) i ≡ true
 LassoPasses p spec t rule.Loop i = goes_back p (states_told p t) (each_input_told p t) t.start i ≡ true
 LassoPasses p spec t rule.Fair i = is_fair p (drop (lasso_told p t).start (states_told p t)) i ≡ true
-LassoPasses p spec t rule.Spec i = i ≡ 0 → Holds p (lasso_told p t) spec.value 0 → ⊥
+LassoPasses p spec t rule.Spec i = i ≡ 0 → IsFalseOn p spec (lasso_told p t)
 
 -- this is the first test that fails
 pub record LassoFailsFirst (p : Program) (spec : ResolvedItem) (t : Trace) (rule : ReplayRule) (number : ℕ) : Type 0 where
@@ -110,14 +116,15 @@ abbrev pub IsReplayOf : ItemKind → Program → ResolvedItem → Trace → Repl
 IsReplayOf (item.Specification claim.Temporal) = IsLassoReplay
 IsReplayOf other = IsReplay
 
--- the trace is that of a lasso that violates the specification
+-- the trace is that of a lasso that violates the specification, evaluated without a fault
 pub record ShowsViolated (p : Program) (spec : ResolvedItem) (t : Trace) : Type 0 where
   pub lasso : Lasso
   pub told : t ≡ lasso_trace p lasso
   pub violates : Violates p spec lasso
+  pub faultless : IsFaultlessLasso p spec lasso
 
 -- What is accepted shows that the specification does not hold. A trace is accepted just where it is that of a run that breaks the
--- invariant, or of a lasso that violates the temporal specification.
+-- invariant, or of a lasso that violates the temporal specification, evaluated without a fault.
 abbrev pub Shows : ItemKind → Program → ResolvedItem → Trace → Replayed → Type 0
 Shows (item.Specification claim.Temporal) p spec t r = (r ≡ Accepted) ↔ ShowsViolated p spec t
 Shows other p spec t r = (r ≡ Accepted) ↔ ShowsBroken p spec t

@@ -1,3 +1,4 @@
+pub mod Faultless
 pub mod Forms
 pub mod Lassos
 pub mod Lines
@@ -5,5 +6,6 @@ pub mod Reading
 pub mod Rows
 pub mod Steps
 pub mod Telling
+pub mod Tables
 pub mod Tests
 pub mod Words

@@ -8,13 +8,14 @@ use Rattle.smv_slots.specs.Slots.{slots_of}
 use Rattle.smv_meaning.specs.declared.outcome.Outcome.{Outcome}
 use Rattle.smv_meaning.specs.Outcomes.{truth}
 use Rattle.smv_meaning.specs.Values.{outcome_in}
-use Rattle.smv_meaning.specs.Runs.{Breaks, at_time, is_first_state, is_step, meets_invariants, specifications_of}
+use Rattle.smv_meaning.specs.Runs.{Breaks, at_time, specifications_of}
 use Rattle.trace_replay.specs.declared.columns.Column.{Column}
 use Rattle.trace_replay.specs.declared.rule.ReplayRule.{ReplayRule}
 use Rattle.trace_replay.specs.declared.rule.ReplayRule.TheVariants as rule
 use Rattle.trace_replay.specs.declared.rule.Replayed.{Replayed}
 use Rattle.trace_replay.specs.declared.rule.Replayed.TheVariants.{Accepted, Rejected}
 use Rattle.trace_replay.specs.declared.trace.Trace.{Trace}
+use Rattle.trace_replay.specs.Faultless.{IsFaultlessRun, begins_well, stays_well, steps_well}
 use Rattle.trace_replay.specs.Rows.{input_columns, inputs_read, inputs_told, run_trace, state_read, states_told}
 
 abbrev pub rule_text : ReplayRule → List ℕ
@@ -71,15 +72,15 @@ values_fit p t i = state_fits p t i && inputs_fit p t i
 
 -- state 0 is a first state
 abbrev pub begins : Program → List (List Value) → ℕ → Bool
-begins p states i = not (i == 0) || is_first_state p (at_time states 0)
+begins p states i = not (i == 0) || begins_well p (at_time states 0)
 
 -- state i has what invariants ask
 abbrev pub stays : Program → List (List Value) → ℕ → Bool
-stays p states i = not (nat_lt i (length states)) || meets_invariants p (at_time states i)
+stays p states i = not (nat_lt i (length states)) || stays_well p (at_time states i)
 
 -- there is a step from state i to state i + 1
 abbrev pub goes_on : Program → List (List Value) → List (List Value) → ℕ → Bool
-goes_on p states inputs i = not (nat_lt (i + 1) (length states)) || is_step p (at_time states i) (at_time inputs i) (at_time states (i + 1))
+goes_on p states inputs i = not (nat_lt (i + 1) (length states)) || steps_well p (at_time states i) (at_time inputs i) (at_time states (i + 1))
 
 -- the specification is FALSE in the last state
 abbrev pub ends : Program → ResolvedItem → List (List Value) → ℕ → Bool
@@ -113,9 +114,10 @@ IsReplay p spec t (Rejected rule number) = FailsFirst p spec t rule number
 abbrev pub specification_at : Program → ℕ → Option ResolvedItem
 specification_at p number = slice_get (specifications_of p) (number - 1)
 
--- the trace is that of a run that breaks the specification
+-- the trace is that of a run that breaks the specification, evaluated without a fault
 pub record ShowsBroken (p : Program) (spec : ResolvedItem) (t : Trace) : Type 0 where
   pub states : List (List Value)
   pub inputs : List (List Value)
   pub told : t ≡ run_trace p states inputs
   pub broken : Breaks p spec states inputs
+  pub faultless : IsFaultlessRun p states inputs

@@ -1,4 +1,5 @@
-//! The replay of the trace of a temporal specification.
+//! The replay of the trace of a temporal specification. A test whose evaluation faults fails, but that of a JUSTICE: it asks for one state
+//! in which the JUSTICE is TRUE.
 
 ghost use Rattle.std.specs.Prelude.{◌≡◌, ◌↔◌, ◌<◌, List, map, length, IfOk, IsTrue};
 ghost use Rattle.std.specs.List.{list_any};
@@ -8,16 +9,18 @@ ghost use Rattle.smv_slots.specs.Slots.{slots_of};
 ghost use Rattle.smv_meaning.specs.Lassos.{Holds, Lasso};
 ghost use Rattle.smv_meaning.specs.Runs.{is_true};
 ghost use Rattle.smv_meaning.specs.Values.{outcome_in};
+ghost use Rattle.trace_replay.specs.Faultless.{is_evaluated};
 ghost use Rattle.trace_replay.specs.Lassos.{IsLassoReplay, IsLassoTold, is_fair, is_justice, is_loop, justices_of};
 ghost use Rattle.trace_replay.specs.Rows.{AreTypes};
 ghost use Rattle.trace_replay.specs.Telling.{IsFirstFailing};
 
+use crate::faultless::{is_faultless, steps_well};
 use crate::replaying::{failing_first, failing_inv, failing_step, outcome_in, rejected};
 use crate::telling::{Telling, Told, tell_lasso};
 use crate::{ReplayRule, Replayed, Trace};
 use ltl_table::table::Table;
 use smv_formulas::{formula_of, word_of};
-use smv_meaning::{Inputs, Outcome, State, Typed, meets_step};
+use smv_meaning::{Inputs, Outcome, State, Typed};
 use smv_resolve::{Item, ItemKind, first, last};
 use smv_tree::ConstraintKind;
 use sqlite_items::Items;
@@ -71,6 +74,9 @@ fn judge_values(
     if let Some(number) = failing_fair(alloc, typed, in_loop)? {
         return Ok(rejected(ReplayRule::Fair, number));
     }
+    if let Some(_) = failing_time(alloc, typed, spec, states, inputs)? {
+        return Ok(rejected(ReplayRule::Spec, 0));
+    }
     if holds_at_first(alloc, typed, spec, states, inputs, start)? {
         return Ok(rejected(ReplayRule::Spec, 0));
     }
@@ -93,7 +99,7 @@ fn is_loop(
         return Ok(false);
     }
     let last = states.len() - 1;
-    let met = meets_step(alloc, typed, &states[last], &inputs[last], &states[start])?;
+    let met = steps_well(alloc, typed, &states[last], &inputs[last], &states[start])?;
     Ok(met)
 }
 
@@ -152,6 +158,25 @@ fn is_true(outcome: &Outcome) -> bool
         None => false,
         Some(b) => b,
     }
+}
+
+// The first time of a lasso at which the specification faults.
+fn failing_time(
+    alloc: Global,
+    typed: &Typed,
+    spec: &Item,
+    states: &[State],
+    inputs: &[Inputs],
+) -> Result<Option<usize>, AllocError>
+    requires { length states.now ≡ length inputs.now }
+    ensures { IfOk result (IsFirstFailing (is_evaluated typed.now.scope.program (item_by typed.now.nodes spec.now) states.now inputs.now)) }
+{
+    for (i, inputs) in inputs.iter().enumerate() {
+        if !is_faultless(alloc, typed, spec, &states[i], inputs)? {
+            return Ok(Some(i));
+        }
+    }
+    Ok(None)
 }
 
 // Whether the specification holds at the first time of a lasso.

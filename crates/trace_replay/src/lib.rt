@@ -3,6 +3,7 @@
 
 mod columns;
 mod entry;
+mod faultless;
 mod forms;
 mod lassos;
 mod printing;

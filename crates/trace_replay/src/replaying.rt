@@ -1,4 +1,5 @@
-//! The replay of a trace: its states and steps are judged by the meaning of the program, as `smv_meaning` computes it.
+//! The replay of a trace: its states and steps are judged by the meaning of the program, as `smv_meaning` computes it. A test whose
+//! evaluation faults fails.
 
 ghost use Rattle.std.specs.Prelude.{◌≡◌, ◌+◌, ◌<◌, ◌≤◌, ◌↔◌, length, IfOk, IfSome};
 ghost use Rattle.smv_resolve.specs.Items.{item_by};
@@ -10,20 +11,18 @@ ghost use Rattle.trace_replay.specs.Rows.{AreTypes};
 ghost use Rattle.trace_replay.specs.Telling.{IsFirstFailing, IsTold};
 ghost use Rattle.trace_replay.specs.Tests.{IsReplay, ShowsBroken, begins, ends, goes_on, is_false, specification_at, stays};
 
+use crate::faultless::{begins_well, stays_well, steps_well};
 use crate::lassos::judge_lasso;
 use crate::telling::{Telling, Told, tell};
 use crate::{ReplayRule, Replayed, Trace};
-use smv_meaning::{
-    Inputs, Outcome, State, Typed, meets_init, meets_inv, meets_step, outcomes, slots,
-    specifications,
-};
+use smv_meaning::{Inputs, Outcome, State, Typed, outcomes, slots, specifications};
 use smv_resolve::{Item, ItemKind};
 use smv_tree::SpecificationKind;
 use std::alloc::{AllocError, Global};
 
 /// What comes of the tests of a trace of the specification of this number, counted from 1: it is accepted, or rejected by the
 /// first test that fails. The trace of an invariant is accepted just where it is that of a run that breaks it. The trace of a temporal
-/// specification is accepted just where it is that of a lasso that violates it.
+/// specification is accepted just where it is that of a lasso that violates it. Nothing that a test asks of an accepted trace faults.
 ///
 /// Memory may be refused. The time is that of the tests, each of them in the size of the model; that of a temporal specification is
 /// that of its formula's table.
@@ -44,7 +43,7 @@ pub fn replay(
 }
 
 /// The same of the trace of a run, where the specification of this number is taken as an invariant: it is accepted just where it is
-/// that of a run in whose last state the specification is FALSE.
+/// that of a run in whose last state the specification is FALSE, and nothing that is asked along it faults.
 pub fn replay_run(
     alloc: Global,
     typed: &Typed,
@@ -142,7 +141,7 @@ pub fn failing_first(
     requires { 0 < length states.now }
     ensures { IfOk result (IsFirstFailing (begins typed.now.scope.program states.now)) }
 {
-    if meets_init(alloc, typed, &states[0])? {
+    if begins_well(alloc, typed, &states[0])? {
         return Ok(None);
     }
     Ok(Some(0))
@@ -157,7 +156,7 @@ pub fn failing_inv(
     ensures { IfOk result (IsFirstFailing (stays typed.now.scope.program states.now)) }
 {
     for (i, state) in states.iter().enumerate() {
-        if !meets_inv(alloc, typed, state)? {
+        if !stays_well(alloc, typed, state)? {
             return Ok(Some(i));
         }
     }
@@ -175,7 +174,7 @@ pub fn failing_step(
     ensures { IfOk result (IsFirstFailing (goes_on typed.now.scope.program states.now inputs.now)) }
 {
     for (i, inputs) in inputs.iter().enumerate() {
-        if !meets_step(alloc, typed, &states[i], inputs, &states[i + 1])? {
+        if !steps_well(alloc, typed, &states[i], inputs, &states[i + 1])? {
             return Ok(Some(i));
         }
     }

@@ -1,10 +1,15 @@
 -- A report on a text whose specifications are decided.
-use Rattle.std.proofs.Common.{ℕ, IfOk, subst}
+use Rattle.std.proofs.Common.{ℕ, IfOk, subst, sym}
 use Rattle.command_words.specs.declared.command.Effort.{Effort}
-use Rattle.smv_cli.specs.Prepared.{IsRefusedOrFaulty}
+use Rattle.smv_cli.specs.Prepared.{IsPreparedWith, IsRefusedOrFaulty}
 use Rattle.smv_cli.specs.Written.{Reported, ReportedPart, program_in}
 use Rattle.smv_cli.proofs.Reports.{refused_on_check, refused-part, refused-result, heading-part, judged-result, judged-part, nothing-part, small_enough}
 use Rattle.smv_cli.proofs.top.check.Goals as goal
+
+pub report_model-requires-clause-prepared : goal.report_model-requires-clause-prepared
+report_model-requires-clause-prepared g c _ _ =
+    let model = c.in-Ok.model in
+    subst (λ (e : Effort). IsPreparedWith (program_in model) e model.preparation) (sym c.in-Ok.ensures.effort) c.in-Ok.ensures.prepared
 
 pub returns-in-Err-Refused-clause-ok : goal.returns-in-Err-Refused-clause-ok
 returns-in-Err-Refused-clause-ok g c =

@@ -28,7 +28,10 @@ returns-in-Ok-clause-ok g c =
     let again : IsJudgedAgain text upgrade checked = record {
       program = is.0;
       checked = is.1;
-      holds = λ j spec r at here. (law.shown_true is.0 text upgrade checked j spec r is.1 at here, law.shown_false is.0 text upgrade checked j spec r is.1 at here);
+      holds = λ j spec r at here. (
+        λ shown. (law.fault_free is.0 text upgrade checked j r is.1 here shown, law.shown_true is.0 text upgrade checked j spec r is.1 at here shown),
+        law.shown_false is.0 text upgrade checked j spec r is.1 at here,
+      );
     } in
     rechecked-result (Recheck upgrade) upgrade refl text checked (g.K.Sink.taken c.args.sink.now) (g.K.Sink.taken c.report_checked.new.sink) c.report_checked.result again c.report_checked.ensures.ok
 
@@ -42,7 +45,10 @@ returns-in-Ok-clause-part g c =
     let again : IsJudgedAgain text upgrade checked = record {
       program = is.0;
       checked = is.1;
-      holds = λ j spec r at here. (law.shown_true is.0 text upgrade checked j spec r is.1 at here, law.shown_false is.0 text upgrade checked j spec r is.1 at here);
+      holds = λ j spec r at here. (
+        λ shown. (law.fault_free is.0 text upgrade checked j r is.1 here shown, law.shown_true is.0 text upgrade checked j spec r is.1 at here shown),
+        law.shown_false is.0 text upgrade checked j spec r is.1 at here,
+      );
     } in
     rechecked-part (Recheck upgrade) upgrade refl text checked (g.K.Sink.taken c.args.sink.now) (g.K.Sink.taken c.report_checked.new.sink) again c.report_checked.ensures.part
 

@@ -1,12 +1,20 @@
--- The records where preparing spent the effort are those of the model.
+-- Where preparing shows it, no item faults. The records where preparing spent the effort are those of the model.
 use Rattle.std.proofs.Common.{◌≡◌, ◌∙◌, ℕ, List, IfOk, ap, map, subst, sym}
 use Rattle.smv_resolve.specs.declared.item.Item.{Item}
 use Rattle.smv_resolve.specs.Items.{ResolvedItem}
 use Rattle.smv_meaning.specs.Runs.{specifications_of}
 use Rattle.smv_cli.specs.declared.preparing.Preparation.{Preparation}
+use Rattle.smv_cli.specs.Prepared.{IsPreparedWith}
 use Rattle.smv_cli.specs.Written.{OpenRecorded, OpenRecordedPart, Reported, ReportedPart, item_in, program_in}
 use Rattle.smv_cli.proofs.OfPreparing.{open-part, open-result}
 use Rattle.smv_cli.proofs.top.report_model.Goals as goal
+
+pub report_sound-requires-clause-ready : goal.report_sound-requires-clause-ready
+report_sound-requires-clause-ready g c _ _ =
+    let model = c.args.model.now in
+    let p = program_in model in
+    let shown = subst (IsPreparedWith p model.effort) c.in-Sound.is c.requires.prepared in
+    record { built = c.requires.begun.built; narrow = c.requires.begun.narrow; range = c.requires.begun.range; fault_free = shown.fault_free }
 
 pub returns-clause-ok : goal.returns-clause-ok
 returns-clause-ok g c =

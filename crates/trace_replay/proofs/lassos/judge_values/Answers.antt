@@ -7,7 +7,7 @@ use Rattle.trace_replay.specs.declared.rule.ReplayRule.TheVariants as rule
 use Rattle.trace_replay.specs.Lassos.{IsLassoReplay, is_fair}
 use Rattle.trace_replay.specs.Telling.{IsFirstFailing}
 use Rattle.trace_replay.specs.Tests.{goes_on}
-use Rattle.trace_replay.proofs.OfLassos.{all_of, begin, both_ways, even_told, fair_fails, fair_passes, first_passes, inv_passes, loop_fails, loop_inside, loop_passes, loop_states, more, no_loop_fails, none_from, some_told, spec_fails, spec_passes, step_fails, step_passes}
+use Rattle.trace_replay.proofs.OfLassos.{all_of, begin, both_ways, even_told, fair_fails, fair_passes, fault_fails, first_passes, inv_passes, loop_fails, loop_inside, loop_passes, loop_states, more, no_loop_fails, none_from, some_told, spec_fails, spec_passes, step_fails, step_passes}
 use Rattle.trace_replay.proofs.OfTests.{passed_from}
 use Rattle.trace_replay.proofs.lassos.judge_values.Goals as goal
 
@@ -160,6 +160,42 @@ holds_at_first-requires-clause-long c =
     let us = c.as_slice-inputs.ensures ∙ c.requires.inputs in
     even_told p spec t states inputs ss us
 
+pub returns-in-Some-5 : goal.returns-in-Some-5
+returns-in-Some-5 c =
+    let p = c.args.typed.now.scope.program in
+    let t = c.args.trace.now in
+    let spec = item_by c.args.typed.now.nodes c.args.spec.now in
+    let states = c.as_slice-states.result.now in
+    let inputs = c.as_slice-inputs.result.now in
+    let ss = c.as_slice-states.ensures ∙ c.requires.states in
+    let us = c.as_slice-inputs.ensures ∙ c.requires.inputs in
+    let values = more p spec t rule.Values (begin p spec t) c.requires.fit in
+    let first = first_passes p spec t states inputs ss us values (passed_from _ _ c.in_ok-number.ensures c.in_default.not-Some) in
+    let inv = inv_passes p spec t states inputs ss us first (passed_from _ _ c.in_ok-number-2.ensures c.in_default-2.not-Some) in
+    let between = c.first-between.result.now in
+    let few = c.first-between.ensures in
+    let step = step_passes p spec t states inputs ss us between few inv (passed_from _ _ c.in_ok-number-3.ensures c.in_default-3.not-Some) in
+    let start = c.in-Some-start.start in
+    let at = c.in-Some-start.is in
+    let so = sym c.in_ok-is_loop.ensures ∙ c.if-not-branch.false in
+    let rest = c.last-in_loop.ensures ∙ loop_states states start (loop_inside p states inputs start so) in
+    let loop = loop_passes p spec t states inputs ss us start at step so in
+    let found = subst (λ (ls : List (List Value)). IsFirstFailing (is_fair p ls) c.in_ok-number-4.field-0) rest c.in_ok-number-4.ensures in
+    let fair = fair_passes p spec t states inputs ss us start at loop (passed_from (is_fair p (drop start states)) c.in_ok-number-4.field-0 found c.in_default-4.not-Some) in
+    subst (IsLassoReplay p spec t) (sym c.rejected-in-Some-5.ensures)
+    (fault_fails p spec t states inputs ss us start at fair _ c.in-Some-5.field-0 c.in_ok-failing_time.ensures c.in-Some-5.is)
+
+pub failing_time-requires : goal.failing_time-requires
+failing_time-requires c =
+    let p = c.args.typed.now.scope.program in
+    let t = c.args.trace.now in
+    let spec = item_by c.args.typed.now.nodes c.args.spec.now in
+    let states = c.as_slice-states.result.now in
+    let inputs = c.as_slice-inputs.result.now in
+    let ss = c.as_slice-states.ensures ∙ c.requires.states in
+    let us = c.as_slice-inputs.ensures ∙ c.requires.inputs in
+    even_told p spec t states inputs ss us
+
 pub returns-then-branch : goal.returns-then-branch
 returns-then-branch c =
     let p = c.args.typed.now.scope.program in
@@ -207,4 +243,5 @@ returns c =
     let loop = loop_passes p spec t states inputs ss us start at step so in
     let found = subst (λ (ls : List (List Value)). IsFirstFailing (is_fair p ls) c.in_ok-number-4.field-0) rest c.in_ok-number-4.ensures in
     let fair = fair_passes p spec t states inputs ss us start at loop (passed_from (is_fair p (drop start states)) c.in_ok-number-4.field-0 found c.in_default-4.not-Some) in
-    all_of p spec t (spec_passes p spec t states inputs ss us start at fair (λ h. both_ways _ c.if-branch.false (c.in_ok-holds_at_first.ensures.1 h)))
+    all_of p spec t
+    (spec_passes p spec t states inputs ss us start at fair (passed_from _ _ c.in_ok-failing_time.ensures c.in_default-5.not-Some) (λ h. both_ways _ c.if-branch.false (c.in_ok-holds_at_first.ensures.1 h)))

@@ -12,4 +12,4 @@ loop-i-preserved c =
     let i = c.loop-i.i in
     below_more (λ j. goes_on p states inputs j ≡ true) i c.loop-i.invariant
     (step_here p states inputs i _ _ _ (omega (arith, c.loop-i-test.true)) c.requires c.index-states-i.is c.index-inputs-i.is c.index-states-i-in-loop-i.is
-    (sym c.in_ok-meets_step.ensures ∙ c.if-not-branch.false))
+    (sym c.in_ok-steps_well.ensures ∙ c.if-not-branch.false))
