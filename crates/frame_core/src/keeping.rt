@@ -11,7 +11,7 @@ use crate::counting::{
 };
 use crate::facts::{Clear, Found, Proved};
 use crate::lemma_list::Lemmas;
-use crate::looking::{first_behind, holder};
+use crate::looking::{holder, some_behind};
 use crate::outcomes::{Insertion, Noting, Opening, Raising, Verdict};
 use crate::parts::{Lemma, Obligation};
 use crate::runs::BitRun;
@@ -218,7 +218,7 @@ impl<'a> Frames<'a> {
         if let Some(n) = holder(alloc, vars, &self.lemmas, proved.clause(), proved.level())? {
             return Ok(Some(Insertion::Held(n)));
         }
-        if let Some((parent, level)) = first_behind(
+        if let Some((parent, level)) = some_behind(
             self.lemmas.as_slice(),
             proved.level() - 1,
             proved.parents(),
@@ -263,7 +263,7 @@ impl<'a> Frames<'a> {
         if needs_no_raise(self.lemmas.as_slice(), n, level) {
             return Raising::Dropped;
         }
-        if let Some((parent, level)) = first_behind(
+        if let Some((parent, level)) = some_behind(
             self.lemmas.as_slice(),
             level - 1,
             proved.parents(),
@@ -346,7 +346,7 @@ impl<'a> Frames<'a> {
             return Some(Opening::Dropped);
         }
         let lemmas = self.all_lemmas();
-        if let Some((parent, level)) = first_behind(lemmas.as_slice(), top, clear.parents()) {
+        if let Some((parent, level)) = some_behind(lemmas.as_slice(), top, clear.parents()) {
             return Some(Opening::Behind { parent, level });
         }
         None

@@ -27,7 +27,7 @@ fn kept_level(lemmas: &[Lemma], parent: &Parent) -> u32
 }
 
 // A parent whose level here is below this one, with its level.
-pub(crate) fn first_behind(lemmas: &[Lemma], least: u32, parents: &[Parent]) -> Option<(usize, u32)>
+pub(crate) fn some_behind(lemmas: &[Lemma], least: u32, parents: &[Parent]) -> Option<(usize, u32)>
     ensures { MatchOption result (AllStand lemmas.now least parents.now) (λ b. IsBehind lemmas.now least parents.now b.0 b.1) }
 {
     for k in 0..parents.len() {
@@ -51,11 +51,11 @@ pub(crate) fn holder(
     ensures { IfOk result (λ r. MatchOption r (IsHeldByNone lemmas.now clause.now level) (IsHeldBy lemmas.now clause.now level)) }
 {
     let literals = LiteralSet::of(alloc, vars, clause)?;
-    Ok(first_holder(lemmas, clause, &literals, level))
+    Ok(some_holder(lemmas, clause, &literals, level))
 }
 
-// The first lemma that has a part of these literals, of which `literals` is the set, and at least this level.
-fn first_holder(lemmas: &Lemmas, clause: &[Lit], literals: &LiteralSet, level: u32) -> Option<usize>
+// A lemma that has a part of these literals, of which `literals` is the set, and at least this level.
+fn some_holder(lemmas: &Lemmas, clause: &[Lit], literals: &LiteralSet, level: u32) -> Option<usize>
     requires { IsSetOf clause.now (has_literal literals.now) }
     ensures { MatchOption result (IsHeldByNone lemmas.now clause.now level) (IsHeldBy lemmas.now clause.now level) }
 {

@@ -28,8 +28,8 @@ fn narrow(alloc: Global, flat: Flat) -> Result<Flat, TextStop>
     }))
 }
 
-/// The model that the bytes of a source are (NuSMV 2.6 User Manual, chapter 2, without real time and CTL; what is refused, by
-/// which rule, and in which order, is an own choice of this project).
+/// The model that the bytes of a source are (NuSMV 2.6 User Manual, chapter 2, without real time and CTL; what is refused, by which rule,
+/// and in which order, is an own choice of this project).
 ///
 /// Bytes that are none are refused by the first rule that they break, at that rule's first place, in this order:
 /// - the rules of tokens: 105, then 101 to 104;

@@ -41,7 +41,7 @@ pub fn eval(
 {
     match instance_at(typed, path) {
         Some(at) => eval_at(alloc, typed, at, e, s, u, next),
-        None => Err(ResolveStop::NoMemory),
+        None => unreachable!(),
     }
 }
 

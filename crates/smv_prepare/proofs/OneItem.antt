@@ -12,7 +12,7 @@ use Rattle.smv_slots.specs.Slots.{slots_of, types_of}
 use Rattle.smv_meaning.specs.Faults.{IsFaultFree, item_fault}
 use Rattle.smv_meaning.specs.Runs.{is_claim}
 use Rattle.bit_faults.specs.Questions.{NeverFaults, judged_items}
-use Rattle.fault_texts.specs.Refusals.{TellsFault, refusal_of}
+use Rattle.fault_texts.specs.Refusals.{TellsFault, refusal_at, refusal_of}
 use Rattle.smv_prepare.specs.Preparing.{IsRefusedByFaults}
 
 -- an item of which a fault is told faults
@@ -26,8 +26,26 @@ told_faults p x r never told =
 pub not_before : (p : Program) (r s : Refusal) (a : IsRefusedByFaults p r) (b : IsRefusedByFaults p s) → a.number < b.number → ⊥
 not_before p r s a b less = told_faults p a.item r (b.before a.number a.item less a.judged) a.told
 
-pub one_item : (p : Program) (r s : Refusal) (a : IsRefusedByFaults p r) (b : IsRefusedByFaults p s) → a.number ≡ b.number
-one_item p r s a b = omega (arith, not_before p r s a b, not_before p s r b a)
+pub one_number : (p : Program) (r s : Refusal) (a : IsRefusedByFaults p r) (b : IsRefusedByFaults p s) → a.number ≡ b.number
+one_number p r s a b = omega (arith, not_before p r s a b, not_before p s r b a)
+
+pub one_item : (p : Program) (r s : Refusal) (a : IsRefusedByFaults p r) (b : IsRefusedByFaults p s) → a.item ≡ b.item
+one_item p r s a b =
+    let here : slice_get (judged_items p) a.number ≡ Some a.item = a.judged in
+    let there : slice_get (judged_items p) b.number ≡ Some b.item = b.judged in
+    let same : a.number ≡ b.number = one_number p r s a b in
+    one_given (slice_get (judged_items p)) a.number b.number a.item b.item same here there
+  where
+    one_given : {A B : Type 0} (f : A → Option B) (m n : A) (x y : B) → m ≡ n → f m ≡ Some x → f n ≡ Some y → x ≡ y
+    one_given f m n x y e here there = cc
+
+pub one_refusal : (p : Program) (r s : Refusal) (a : IsRefusedByFaults p r) (b : IsRefusedByFaults p s)
+    → a.told.s ≡ b.told.s → a.told.u ≡ b.told.u → a.told.t ≡ b.told.t → r ≡ s
+one_refusal p r s a b state inputs next = one_given (refusal_at p) _ _ _ _ _ _ _ _ r s state inputs next (one_item p r s a b) a.told.told b.told.told
+  where
+    one_given : {A B C : Type 0} (f : A → A → A → B → Option C) (s s2 u u2 t t2 : A) (x y : B) (r q : C)
+        → s ≡ s2 → u ≡ u2 → t ≡ t2 → x ≡ y → f s u t x ≡ Some r → f s2 u2 t2 y ≡ Some q → r ≡ q
+    one_given f s s2 u u2 t t2 x y r q es eu et ex here there = cc
 
 none_of : {A : Type 0} (o : Option A) → is_none o ≡ true → o ≡ None
 none_of None e = refl

@@ -6,7 +6,7 @@ use Rattle.frame_core.specs.declared.parts.Parent.{Parent}
 use Rattle.frame_core.specs.FrameLaw.{Stands}
 use Rattle.frame_core.specs.Looking.{no_parent}
 use Rattle.frame_core.proofs.Looked.{kept_stands}
-use Rattle.frame_core.proofs.looking.first_behind.Goals as goal
+use Rattle.frame_core.proofs.looking.some_behind.Goals as goal
 
 pub loop-k-preserved : goal.loop-k-preserved
 loop-k-preserved c some =

@@ -2,7 +2,7 @@ use Rattle.std.proofs.Common.{◌≡◌, ◌<◌, length, true, false, sym, ◌�
 use borrow.Author.Count.{below_more}
 use Rattle.frame_core.specs.Looking.{has_literal, IsHeldBy}
 use Rattle.frame_core.proofs.Held.{held_by}
-use Rattle.frame_core.proofs.looking.first_holder.Goals as goal
+use Rattle.frame_core.proofs.looking.some_holder.Goals as goal
 
 pub returns-then-holds : goal.returns-then-holds
 returns-then-holds c =
