@@ -2,8 +2,8 @@
 //! conflict has no need of. Nothing rests on what it finds: `follows_by` tries it, and where it is wrong, or nothing
 //! was found, the passes of `search` decide.
 
-use crate::chains::clause_at;
 use crate::links::{Links, code};
+use crate::numbered::Numbered;
 use crate::trail::Trail;
 use clause_core::{Clauses, Lit};
 use std::alloc::{AllocError, Global};
@@ -41,10 +41,14 @@ fn ends(c: &[Lit]) -> usize {
     first.wrapping_mul(0xFFFF_FFFB).wrapping_add(last)
 }
 
-// A mark of the list: two lists seldom have the same. Where they do, time is lost and nothing else.
+// How many clauses a mark looks at, at most.
+const LOOKS: usize = 64;
+
+// A mark of the list: how many clauses it has, and the ends of some, evenly spread. Two lists seldom have the same.
+// Where they do, time is lost and nothing else.
 fn mark_of(clauses: &Clauses) -> u64 {
     let mut mark = mixed(0, clauses.len());
-    for k in 0..clauses.len() {
+    for k in (0..clauses.len()).step_by(clauses.len() / LOOKS + 1) {
         let c = clauses.get(k);
         mark = mixed(mark, ends(c).wrapping_add(c.len()));
     }
@@ -102,54 +106,39 @@ impl Finder {
         Ok(())
     }
 
+    // Has the next log watch its clauses anew: nothing was found where there may be something, so the watches may be
+    // those of other clauses with the same mark.
+    pub(crate) fn doubt(&mut self) {
+        self.known = None;
+    }
+
     // Watches one step more.
     pub(crate) fn add(&mut self, step: &[Lit]) -> Result<(), AllocError> {
         self.added.add(step)
     }
 
     // Sets what the clauses without two different literals ask for. The number of one that is false, plus one, or 0.
-    fn set_units(
-        &mut self,
-        clauses: &Clauses,
-        units: &[Lit],
-        steps: &Clauses,
-    ) -> Result<usize, AllocError> {
-        let conflict = self
-            .given
-            .set_units(&mut self.trail, clauses, units, steps, 0)?;
+    fn set_units(&mut self, lists: Numbered<'_>) -> Result<usize, AllocError> {
+        let conflict = self.given.set_units(&mut self.trail, lists, 0)?;
         if conflict != 0 {
             return Ok(conflict);
         }
         self.added
-            .set_units(&mut self.trail, clauses, units, steps, clauses.len())
+            .set_units(&mut self.trail, lists, lists.clauses.len())
     }
 
     // Visits all clauses that watch a literal which is false now. The number of one that is false, plus one, or 0.
-    fn visit_all(
-        &mut self,
-        clauses: &Clauses,
-        units: &[Lit],
-        steps: &Clauses,
-        l: Lit,
-    ) -> Result<usize, AllocError> {
-        let from = clauses.len();
-        let conflict = self
-            .added
-            .visit_all(&mut self.trail, clauses, units, steps, from, l)?;
+    fn visit_all(&mut self, lists: Numbered<'_>, l: Lit) -> Result<usize, AllocError> {
+        let from = lists.clauses.len();
+        let conflict = self.added.visit_all(&mut self.trail, lists, from, l)?;
         if conflict != 0 {
             return Ok(conflict);
         }
-        self.given
-            .visit_all(&mut self.trail, clauses, units, steps, 0, l)
+        self.given.visit_all(&mut self.trail, lists, 0, l)
     }
 
-    fn propagate(
-        &mut self,
-        clauses: &Clauses,
-        units: &[Lit],
-        steps: &Clauses,
-    ) -> Result<usize, AllocError> {
-        let conflict = self.set_units(clauses, units, steps)?;
+    fn propagate(&mut self, lists: Numbered<'_>) -> Result<usize, AllocError> {
+        let conflict = self.set_units(lists)?;
         if conflict != 0 {
             return Ok(conflict);
         }
@@ -157,7 +146,7 @@ impl Finder {
             let Some(l) = self.trail.lit(q) else {
                 return Ok(0);
             };
-            let conflict = self.visit_all(clauses, units, steps, l.negated())?;
+            let conflict = self.visit_all(lists, l.negated())?;
             if conflict != 0 {
                 return Ok(conflict);
             }
@@ -168,14 +157,12 @@ impl Finder {
     // Lists a clause that the conflict has need of, and notes what it has need of.
     fn list(
         &mut self,
-        clauses: &Clauses,
-        units: &[Lit],
-        steps: &Clauses,
+        lists: Numbered<'_>,
         number: usize,
         found: &mut Vec<usize>,
     ) -> Result<(), AllocError> {
         found.push(number)?;
-        if let Some(c) = clause_at(clauses, units, steps, steps.len(), number) {
+        if let Some(c) = lists.get(number) {
             note(&mut self.needed, c, 1);
         }
         Ok(())
@@ -194,26 +181,23 @@ impl Finder {
     // The clauses that the conflict has need of, the last one first. Notes what they have need of.
     fn collect(
         &mut self,
-        clauses: &Clauses,
-        units: &[Lit],
-        steps: &Clauses,
+        lists: Numbered<'_>,
         conflict: usize,
         found: &mut Vec<usize>,
     ) -> Result<(), AllocError> {
-        self.list(clauses, units, steps, conflict, found)?;
+        self.list(lists, conflict, found)?;
         for t in (0..self.trail.len()).rev() {
             if let Some(number) = self.needed_reason(t) {
-                self.list(clauses, units, steps, number, found)?;
+                self.list(lists, number, found)?;
             }
         }
         Ok(())
     }
 
     // Forgets what was noted.
-    fn forget(&mut self, clauses: &Clauses, units: &[Lit], steps: &Clauses, found: &[usize]) {
-        let count = steps.len();
+    fn forget(&mut self, lists: Numbered<'_>, found: &[usize]) {
         for number in found {
-            if let Some(c) = clause_at(clauses, units, steps, count, *number) {
+            if let Some(c) = lists.get(*number) {
                 note(&mut self.needed, c, 0);
             }
         }
@@ -222,14 +206,12 @@ impl Finder {
     // The clauses that the conflict has need of, in the order in which they set literals.
     fn trim(
         &mut self,
-        clauses: &Clauses,
-        units: &[Lit],
-        steps: &Clauses,
+        lists: Numbered<'_>,
         conflict: usize,
         found: &mut Vec<usize>,
     ) -> Result<(), AllocError> {
-        let collected = self.collect(clauses, units, steps, conflict, found);
-        self.forget(clauses, units, steps, found);
+        let collected = self.collect(lists, conflict, found);
+        self.forget(lists, found);
         found.reverse();
         collected
     }
@@ -237,9 +219,7 @@ impl Finder {
     // Looks for hints of the step, and leaves set what it has set.
     fn look(
         &mut self,
-        clauses: &Clauses,
-        units: &[Lit],
-        steps: &Clauses,
+        lists: Numbered<'_>,
         step: &[Lit],
         found: &mut Vec<usize>,
     ) -> Result<(), AllocError> {
@@ -248,9 +228,9 @@ impl Finder {
                 self.trail.set(l.negated(), 0)?;
             }
         }
-        let conflict = self.propagate(clauses, units, steps)?;
+        let conflict = self.propagate(lists)?;
         if conflict != 0 {
-            self.trim(clauses, units, steps, conflict - 1, found)?;
+            self.trim(lists, conflict - 1, found)?;
         }
         Ok(())
     }
@@ -258,14 +238,12 @@ impl Finder {
     // Looks for hints of the step: none if nothing is found.
     pub(crate) fn find(
         &mut self,
-        clauses: &Clauses,
-        units: &[Lit],
-        steps: &Clauses,
+        lists: Numbered<'_>,
         step: &[Lit],
         found: &mut Vec<usize>,
     ) -> Result<(), AllocError> {
         found.clear();
-        let looked = self.look(clauses, units, steps, step, found);
+        let looked = self.look(lists, step, found);
         self.trail.clear();
         if looked.is_err() {
             // Some watches may be lost.

@@ -7,6 +7,7 @@ pub mod checking;
 mod finder;
 mod following;
 mod links;
+mod numbered;
 mod passes;
 mod searching;
 mod steps;

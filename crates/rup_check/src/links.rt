@@ -1,6 +1,6 @@
 //! The watches of a list of clauses: two literals of each (Moskewicz and others 2001).
 
-use crate::chains::clause_at;
+use crate::numbered::Numbered;
 use crate::trail::Trail;
 use clause_core::{Clauses, Lit};
 use std::alloc::{AllocError, Global};
@@ -145,15 +145,12 @@ impl Links {
     pub(crate) fn set_units(
         &self,
         trail: &mut Trail,
-        clauses: &Clauses,
-        units: &[Lit],
-        steps: &Clauses,
+        lists: Numbered<'_>,
         from: usize,
     ) -> Result<usize, AllocError> {
-        let count = steps.len();
         for i in 0..self.units.len() {
             let number = from.saturating_add(read(&self.units, i));
-            if let Some(c) = clause_at(clauses, units, steps, count, number) {
+            if let Some(c) = lists.get(number) {
                 match c.first() {
                     None => return Ok(number.saturating_add(1)),
                     Some(l) => {
@@ -213,13 +210,10 @@ impl Links {
     pub(crate) fn visit_all(
         &mut self,
         trail: &mut Trail,
-        clauses: &Clauses,
-        units: &[Lit],
-        steps: &Clauses,
+        lists: Numbered<'_>,
         from: usize,
         l: Lit,
     ) -> Result<usize, AllocError> {
-        let count = steps.len();
         let c = code(l);
         let mut link = read(&self.heads, c);
         write(&mut self.heads, c, 0);
@@ -232,7 +226,7 @@ impl Links {
             let next = read(&self.nexts, at);
             let number = from.saturating_add(at / 2);
             if conflict == 0 {
-                if let Some(lits) = clause_at(clauses, units, steps, count, number) {
+                if let Some(lits) = lists.get(number) {
                     conflict = self.visit(trail, lits, number, link, l)?;
                 }
             } else {

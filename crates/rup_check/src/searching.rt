@@ -12,6 +12,7 @@ ghost use Rattle.rup_check.specs.Searches.{SearchSays, FoundSays, NextSays, AllH
 use crate::chains::{assume_open, clause_at, clear, follows_by};
 use crate::checking::Hints;
 use crate::finder::Finder;
+use crate::numbered::Numbered;
 use crate::passes::Pass;
 use clause_core::{Clauses, Lit, Log, Scan, is_within, scan_clause, set};
 use hinted_log::Hinted;
@@ -102,11 +103,17 @@ fn hints_of(
     requires free { IsOpen step.now }
     ensures { IfOk result (λ b. MatchBool b (FollowsBy (before clauses.now units.now steps.now (length steps.now)) step.now found.new.items) (Follows (before clauses.now units.now steps.now (length steps.now)) step.now → ⊥)) }
 {
-    finder.find(clauses, units, steps, step, found)?;
+    let lists = Numbered {
+        clauses,
+        units,
+        steps,
+    };
+    finder.find(lists, step, found)?;
     let count = steps.len();
     if follows_by(values, clauses, units, steps, count, step, found) {
         return Ok(true);
     }
+    finder.doubt();
     if !assume_open(values, step) {
         return Ok(false);
     }
