@@ -1,5 +1,5 @@
 -- Runs with more than k signals are those that reach a bad state of the counted system.
-use Rattle.std.proofs.Common.{inl, inr, ◌≡◌, ℕ, zero, suc, ◌+◌, ◌-◌, ◌<◌, ◌≤◌, Bool, not, ◌&&◌, ◌||◌, List, [], ◌∷◌, map, refl, sym, ap, ◌∙◌, subst, arith}
+use Rattle.std.proofs.Common.{inl, inr, ◌≡◌, ℕ, zero, suc, ◌+◌, ◌-◌, ◌<◌, ◌≤◌, Bool, false, not, ◌&&◌, ◌||◌, List, [], ◌∷◌, map, refl, sym, ap, ◌∙◌, subst, arith}
 use Rattle.std.specs.Prelude.{◌↔◌, nat_lt, if◌then◌else◌}
 use Rattle.std.proofs.lemmas.Bool.{cases_lt}
 use Rattle.ltl_meaning.specs.Ltl.{Ltl}
@@ -10,9 +10,10 @@ use Rattle.ltl_monitor.specs.Monitor.{Side, Set, rows, starts, truth, all_sets, 
 use Rattle.ltl_monitor.specs.Signal.{every, seen, signal, count}
 use Rattle.ltl_monitor.specs.FairLasso.{Sequence, beside}
 use Rattle.ltl_monitor.specs.States.{value, Extends, shown, numbers, justice_of, IsMonitor}
-use Rattle.ltl_monitor.specs.Counted.{IsCounted}
+use Rattle.ltl_monitor.specs.Counter.{at_least}
+use Rattle.ltl_monitor.specs.Counted.{sets_of, counts, signals, IsCounted}
 use Rattle.ltl_monitor.specs.Lassos.{with_bits}
-use Rattle.ltl_monitor.specs.Runs.{IsRun, word_along, SignalRun, SignalsWithin, BadWithin, IsCut}
+use Rattle.ltl_monitor.specs.Runs.{IsRun, word_along, SignalRun, SignalsWithin, BadWithin, IsCut, IsCutOnto}
 use Rattle.ltl_monitor.proofs.Placed.{yes, no_}
 use Rattle.ltl_monitor.proofs.Lassos.{side_eq}
 use Rattle.ltl_monitor.proofs.BitLassos.{first_like, step_like}
@@ -236,3 +237,52 @@ counter_grows m c d k old new gives = record {
       let w = (new.step x y g.0 (g.1, g.2)).0 h in
       (old.step x y g.0 (g.1, g.2)).1 (w.0, w.1, λ j lt. w.2 j (omega (arith, lt))));
 }
+
+-- and all first states and steps of the one before are there
+module _ (m c d : TransitionSystem) (k : ℕ) (old : IsCounted m k c) (new : IsCounted m (k + 1) d) (gives : Gives m.state_bits m.fair m.defs) where
+  own_bits : (x z : ℕ → Bool) → Agrees c.state_bits x z → Agrees m.state_bits x z
+  own_bits x z g v lt = g v (let b = old.bits in omega (arith, b, lt))
+
+  -- a state of the new counter, by one of the old and the last bit
+  last : (ℕ → Bool) → Bool → ℕ → Bool
+  last x b = with_bits c.state_bits x (λ j. b)
+
+  last_old : (x : ℕ → Bool) (b : Bool) → Agrees c.state_bits x (last x b)
+  unfolding last
+  last_old x b v lt = sym (yes v c.state_bits (x v) b lt)
+
+  last_new : (x : ℕ → Bool) (b : Bool) → counts m (last x b) k ≡ b
+  unfolding last
+  last_new x b = no_ (m.state_bits + (sets_of m + k)) c.state_bits (x (m.state_bits + (sets_of m + k))) b (let e = old.bits in omega (arith, e))
+
+  onto_first : (x : ℕ → Bool) → FirstBits c x → FirstBits d (last x false)
+  onto_first x h =
+      let w = (old.first x).0 h in
+      (new.first (last x false)).1 (
+        first_like m x (last x false) (own_bits x (last x false) (last_old x false)) w.0,
+        λ j lt. elim (cases_lt j (sets_of m + k)) [
+          | inl a ↦ sym (last_old x false (m.state_bits + j) (let b = old.bits in omega (arith, b, a))) ∙ w.1 j a
+          | inr a ↦ (let e : sets_of m + k ≡ j = omega (arith, a, lt) in subst (λ i. last x false (m.state_bits + i) ≡ false) e (last_new x false))
+        ],
+      )
+
+  onto_step : (x y z : ℕ → Bool) → Agrees c.state_bits x z → StepBits c x y → (w : ℕ → Bool) × Agrees c.state_bits y w × StepBits d z w
+  onto_step x y z g h =
+      let v = gives.extends z in
+      let more : Bool = counts m z k || (at_least (counts m z) k && signals m z v.0) in
+      let w = last y more in
+      let r = (old.step z w v.0 (v.1, v.2)).0 (step_like c x y z w g (last_old y more) h) in (
+        w,
+        last_old y more,
+        (new.step z w v.0 (v.1, v.2)).1 (
+          r.0,
+          r.1,
+          λ j lt. elim (cases_lt j k) [
+            | inl a ↦ r.2 j a
+            | inr a ↦ (let e : k ≡ j = omega (arith, a, lt) in subst (λ i. counts m w i ≡ (counts m z i || (at_least (counts m z) i && signals m z v.0))) e (last_new y more))
+          ],
+        ),
+      )
+
+  pub counter_onto : IsCutOnto c d
+  counter_onto = record { first = λ x h. (last x false, last_old x false, onto_first x h); step = onto_step }

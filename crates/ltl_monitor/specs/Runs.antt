@@ -2,6 +2,7 @@
 use Rattle.std.specs.Prelude.{ℕ, ◌+◌, ◌<◌, ◌≤◌, Bool, List}
 use Rattle.ltl_meaning.specs.Ltl.{Ltl}
 use Rattle.clause_core.specs.declared.literal.Lit.{Lit}
+use Rattle.clause_core.specs.Assignments.{Agrees}
 use Rattle.clause_core.specs.Systems.{TransitionSystem, FirstBits, StepBits, BadBits, ReachedWithin}
 use Rattle.ltl_monitor.specs.States.{Extends, shown, justice_of}
 use Rattle.ltl_monitor.specs.FairLasso.{Sequence, beside, Signals}
@@ -37,3 +38,10 @@ pub record IsCut (old new : TransitionSystem) : Type 0 where
   pub bits : old.state_bits ≤ new.state_bits
   pub first : (x : ℕ → Bool) → FirstBits new x → FirstBits old x
   pub step : (x y : ℕ → Bool) → StepBits new x y → StepBits old x y
+
+-- the other way round: each first state of the old system is that of the new one, cut; and where a state of the new one is
+-- cut to the state before a step of the old one, it has a step that is cut to this
+pub record IsCutOnto (old new : TransitionSystem) : Type 0 where
+  pub first : (x : ℕ → Bool) → FirstBits old x → (z : ℕ → Bool) × Agrees old.state_bits x z × FirstBits new z
+  pub step : (x y z : ℕ → Bool) → Agrees old.state_bits x z → StepBits old x y →
+      (w : ℕ → Bool) × Agrees old.state_bits y w × StepBits new z w

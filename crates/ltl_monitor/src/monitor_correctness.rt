@@ -8,7 +8,7 @@ ghost use Rattle.ltl_monitor.specs.FairLasso.{Sequence, Loops, Violates, HasMoni
 ghost use Rattle.ltl_monitor.specs.States.{Extends, justice_of, IsMonitor};
 ghost use Rattle.ltl_monitor.specs.Lassos.{IsLasso, IsFair, word_of, HasFairLasso};
 ghost use Rattle.ltl_monitor.specs.Counted.{IsCounted};
-ghost use Rattle.ltl_monitor.specs.Runs.{SignalsWithin, BadWithin, IsCut};
+ghost use Rattle.ltl_monitor.specs.Runs.{SignalsWithin, BadWithin, IsCut, IsCutOnto};
 
 /// A lasso violates a formula exactly where its stretch, by as many passes of the loop as past
 /// operators nest, has bits that make it a fair monitored lasso. Where no monitored run along it has
@@ -38,8 +38,10 @@ pub fn signal_runs()
 {}
 
 /// A counter up to one more has one bit more, the last; cut to the others, first states and steps are those
-/// of the counter before. It does nothing: its contract is the law.
+/// of the counter before, and all of those (`onto`): each first state of that counter is one of the new, and from
+/// whatever state the new one is in, it has each step that the one before has. It does nothing: its contract is the law.
 pub fn counters()
     ensures bits { (m c d : TransitionSystem) (k : ℕ) → IsCounted m k c → IsCounted m (k + 1) d → d.state_bits ≡ c.state_bits + 1 }
     ensures cut { (m c d : TransitionSystem) (k : ℕ) → IsCounted m k c → IsCounted m (k + 1) d → Gives m.state_bits m.fair m.defs → IsCut c d }
+    ensures onto { (m c d : TransitionSystem) (k : ℕ) → IsCounted m k c → IsCounted m (k + 1) d → Gives m.state_bits m.fair m.defs → IsCutOnto c d }
 {}
