@@ -7,6 +7,7 @@ pub mod Marking
 pub mod Origins
 pub mod Payments
 pub mod Reasons
+pub mod Refuting
 pub mod Results
 pub mod Seeing
 pub mod Shortening

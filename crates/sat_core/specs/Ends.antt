@@ -1,5 +1,5 @@
 -- What the steps of the search say.
-use Rattle.std.specs.Prelude.{◌≡◌, ℕ, ◌≤◌, Bool, true, false, List, length, take, Contains, All}
+use Rattle.std.specs.Prelude.{◌≡◌, ℕ, ◌≤◌, ◌⊎◌, ⊤, Bool, true, false, List, length, take, Contains, All}
 use Rattle.clause_core.specs.declared.literal.Lit.{Lit}
 use Rattle.clause_core.specs.Literals.{negate}
 use Rattle.sat_prop.specs.Trails.{among, AtRest}
@@ -26,3 +26,17 @@ abbrev pub OutcomeSays : ℕ → List Lit → ℕ → Bool → List (List Lit) �
 OutcomeSays vars assumptions budget over cs literals Sat = AtRest cs literals × All (λ a. among literals a ≡ true) assumptions × AllSet vars literals
 OutcomeSays vars assumptions budget over cs literals (Unsat core) = All (Contains assumptions) core.items × Refutes cs core.items
 OutcomeSays vars assumptions budget over cs literals (Spent d b) = (d ≡ budget) × (b ≡ budget) × (over ≡ true)
+
+-- the search ended with a core
+abbrev pub HasCore : Outcome → Type 0
+HasCore Sat = ⊥
+HasCore (Unsat core) = ⊤
+HasCore (Spent d b) = ⊥
+
+-- no assumption is the negation of another
+abbrev pub NoneOpposed : List Lit → Type 0
+NoneOpposed assumptions = (a : Lit) → Contains assumptions a → Contains assumptions (negate a) → ⊥
+
+-- the core has a literal that is false on the trail, or one and its negation
+abbrev pub RefutesOnTrail : List Lit → List Lit → Type 0
+RefutesOnTrail literals core = (a : Lit) × Contains core a × (among literals (negate a) ≡ true ⊎ Contains core (negate a))

@@ -1,9 +1,9 @@
 -- What a solver knows, and what a query answers and adds.
 use Rattle.std.specs.Prelude.{◌≡◌, ℕ, ◌+◌, ◌<◌, ◌⊎◌, ⊤, Bool, true, false, List, [], ◌∷◌, ◌++◌, length, take, map, slice_index_or, Contains, All}
 use Rattle.clause_core.specs.declared.literal.Lit.{Lit}
-use Rattle.clause_core.specs.Literals.{Within, at}
+use Rattle.clause_core.specs.Literals.{Within, negate, at}
 use Rattle.clause_core.specs.Assignments.{assignment_of, ClauseTrue}
-use Rattle.clause_core.specs.Propagation.{Reaches}
+use Rattle.clause_core.specs.Propagation.{Reaches, Conflicting}
 use Rattle.clause_core.specs.Derivations.{AllStepsBelow, Derives}
 use Rattle.clause_core.specs.Learning.{Learned}
 use Rattle.sat_core.specs.declared.answer.Answer.{Answer}
@@ -58,6 +58,13 @@ pub record Learns (assumptions : List Lit) (old new : State) : Type 0 where
   pub each : (k : ℕ) → k < length more →
       IsLearned old.vars assumptions ((old.given ++ old.learned) ++ take k more) (slice_index_or more k [])
 
+-- no decision is needed to refute the clauses with these assumptions: unit propagation meets a conflict, or sets the
+-- negation of an assumption (as where it is a unit clause); or one assumption is the negation of another
+abbrev pub IsRefutedAtOnce : List (List Lit) → List Lit → Type 0
+IsRefutedAtOnce cs assumptions =
+    Conflicting cs []
+    ⊎ ((a : Lit) × Contains assumptions a × (Reaches cs [] (negate a) ⊎ Contains assumptions (negate a)))
+
 -- the values make each clause and each assumption true
 abbrev pub IsModel : List (List Lit) → List Lit → List Bool → Type 0
 IsModel cs assumptions values =
@@ -92,3 +99,17 @@ Draws before after n = (drawn : List ℕ) × (after ≡ before ++ drawn) × (len
 -- where the query's own ticket was refused
 abbrev pub IsPaid : List ℕ → List ℕ → ℕ → Answer → Type 0
 IsPaid before after n a = Draws before after (n + 1) ⊎ (IsSpent a × (after ≡ before) × (n ≡ 0))
+
+-- the answer is that the clauses and the assumptions can't all be true
+abbrev pub IsUnsat : Answer → Type 0
+IsUnsat (Sat model) = ⊥
+IsUnsat (Unsat core) = ⊤
+IsUnsat (Spent d b) = ⊥
+
+-- nothing is learned, and no more than one ticket is drawn
+abbrev pub CostsOneTicket : State → State → List ℕ → List ℕ → Type 0
+CostsOneTicket old new before after = (new ≡ old) × (after ≡ before ⊎ Draws before after 1)
+
+-- the query is refuted for its own ticket alone, or that was refused
+abbrev pub IsRefutedForOne : List ℕ → List ℕ → Answer → Type 0
+IsRefutedForOne before after a = (IsUnsat a × Draws before after 1) ⊎ (IsSpent a × (after ≡ before))

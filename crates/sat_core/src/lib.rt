@@ -7,6 +7,7 @@ mod learn;
 mod marks;
 mod order;
 mod query;
+mod refute;
 mod search;
 mod shorten;
 mod solver;

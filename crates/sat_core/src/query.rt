@@ -4,10 +4,10 @@
 ghost use Rattle.std.specs.Prelude.{◌≡◌, ◌≤◌, ◌-◌, ◌+◌, List, [], ◌∷◌, ◌++◌, false, IfOk, OnOk, OnErr, length, map, eqb, slice_index_or};
 ghost use Rattle.clause_core.specs.declared.literal.Lit.{Lit};
 ghost use Rattle.clause_core.specs.Literals.{Within};
-ghost use Rattle.sat_core.specs.Queries.{state_of, given_of, learned_of, Learns, AnswerSays, IsPaid, Draws};
+ghost use Rattle.sat_core.specs.Queries.{state_of, given_of, learned_of, Learns, IsRefutedAtOnce, AnswerSays, IsPaid, Draws, IsUnsat, CostsOneTicket, IsRefutedForOne};
 ghost use Rattle.sat_core.specs.Paying.{PaysForLearned, PaysForOne};
 ghost use Rattle.sat_core.specs.Searching.{Keeps, SameMarks};
-ghost use Rattle.sat_core.specs.Ends.{OutcomeSays};
+ghost use Rattle.sat_core.specs.Ends.{OutcomeSays, HasCore};
 
 use crate::answer::Answer;
 use crate::order::Order;
@@ -109,6 +109,7 @@ fn run<P: Propagator, Q: Purse>(
     order: &mut Order,
     assumptions: &[Lit],
     purse: &mut Q,
+    numbers: &mut Vec<usize>,
 ) -> Result<Outcome, AllocError>
     requires within { Within (length (P.trail inner.old).values.items) assumptions.now }
     requires ready { Q.ready purse.old }
@@ -121,8 +122,9 @@ fn run<P: Propagator, Q: Purse>(
     ensures paid { IfOk result (λ _. Draws (Q.tickets purse.old) (Q.tickets purse.new) (length (learned_of marks.now (P.clauses inner.new)) - length (learned_of marks.now (P.clauses inner.old)))) }
     ensures log { PaysForLearned (state_of (length (P.trail inner.old).values.items) marks.now (P.clauses inner.old)) assumptions.now (state_of (length (P.trail inner.new).values.items) marks.now (P.clauses inner.new)) (Q.tickets purse.old) (Q.tickets purse.new) }
     ensures says { IfOk result (OutcomeSays (length (P.trail inner.new).values.items) assumptions.now (Q.budget purse.old) (Q.spent purse.new) (P.clauses inner.new) (P.trail inner.new).literals.items) }
+    ensures at_once { IsRefutedAtOnce (P.clauses inner.old) assumptions.now → (P.clauses inner.new ≡ P.clauses inner.old) × (Q.tickets purse.new ≡ Q.tickets purse.old) × IfOk result HasCore }
 {
-    search(alloc, inner, assumptions, purse, order)
+    search(alloc, inner, assumptions, purse, order, numbers)
 }
 
 // The search's answer, with its model or its core and log.
@@ -133,6 +135,7 @@ fn answer<P: Propagator, Q: Purse>(
     order: &mut Order,
     assumptions: &[Lit],
     purse: &mut Q,
+    numbers: &mut Vec<usize>,
 ) -> Result<Answer, AllocError>
     requires within { Within (length (P.trail inner.old).values.items) assumptions.now }
     requires ready { Q.ready purse.old }
@@ -145,8 +148,9 @@ fn answer<P: Propagator, Q: Purse>(
     ensures paid { IfOk result (λ _. Draws (Q.tickets purse.old) (Q.tickets purse.new) (length (learned_of marks.now (P.clauses inner.new)) - length (learned_of marks.now (P.clauses inner.old)))) }
     ensures log { PaysForLearned (state_of (length (P.trail inner.old).values.items) marks.now (P.clauses inner.old)) assumptions.now (state_of (length (P.trail inner.new).values.items) marks.now (P.clauses inner.new)) (Q.tickets purse.old) (Q.tickets purse.new) }
     ensures says { IfOk result (AnswerSays (state_of (length (P.trail inner.new).values.items) marks.now (P.clauses inner.new)).vars (state_of (length (P.trail inner.new).values.items) marks.now (P.clauses inner.new)).given (learned_of marks.now (P.clauses inner.new)) assumptions.now (Q.budget purse.old) (Q.spent purse.new)) }
+    ensures at_once { IsRefutedAtOnce (P.clauses inner.old) assumptions.now → (P.clauses inner.new ≡ P.clauses inner.old) × (Q.tickets purse.new ≡ Q.tickets purse.old) × IfOk result IsUnsat }
 {
-    match run(alloc, inner, marks, order, assumptions, purse)? {
+    match run(alloc, inner, marks, order, assumptions, purse, numbers)? {
         Outcome::Sat => {
             let model = model_of(alloc, inner.assignment())?;
             Ok(Answer::Sat(Bits::from_vec(model)))
@@ -164,6 +168,7 @@ pub fn ask<P: Propagator, Q: Purse>(
     order: &mut Order,
     assumptions: &[Lit],
     purse: &mut Q,
+    numbers: &mut Vec<usize>,
 ) -> Result<Answer, AllocError>
     requires within { Within (length (P.trail inner.old).values.items) assumptions.now }
     requires ready { Q.ready purse.old }
@@ -176,9 +181,10 @@ pub fn ask<P: Propagator, Q: Purse>(
     ensures paid { IfOk result (IsPaid (Q.tickets purse.old) (Q.tickets purse.new) (length (learned_of marks.now (P.clauses inner.new)) - length (learned_of marks.now (P.clauses inner.old)))) }
     ensures log { PaysForOne (state_of (length (P.trail inner.old).values.items) marks.now (P.clauses inner.old)) assumptions.now (state_of (length (P.trail inner.new).values.items) marks.now (P.clauses inner.new)) (Q.tickets purse.old) (Q.tickets purse.new) }
     ensures says { IfOk result (AnswerSays (state_of (length (P.trail inner.old).values.items) marks.now (P.clauses inner.old)).vars (state_of (length (P.trail inner.old).values.items) marks.now (P.clauses inner.old)).given (learned_of marks.now (P.clauses inner.new)) assumptions.now (Q.budget purse.old) (Q.spent purse.new)) }
+    ensures at_once { IsRefutedAtOnce ((state_of (length (P.trail inner.old).values.items) marks.now (P.clauses inner.old)).given ++ (state_of (length (P.trail inner.old).values.items) marks.now (P.clauses inner.old)).learned) assumptions.now → CostsOneTicket (state_of (length (P.trail inner.old).values.items) marks.now (P.clauses inner.old)) (state_of (length (P.trail inner.new).values.items) marks.now (P.clauses inner.new)) (Q.tickets purse.old) (Q.tickets purse.new) × IfOk result (IsRefutedForOne (Q.tickets purse.old) (Q.tickets purse.new)) }
 {
     if let Draw::Spent { drawn, budget } = purse.draw() {
         return Ok(Answer::Spent { drawn, budget });
     }
-    answer(alloc, inner, marks, order, assumptions, purse)
+    answer(alloc, inner, marks, order, assumptions, purse, numbers)
 }

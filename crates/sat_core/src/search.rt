@@ -7,12 +7,14 @@ ghost use Rattle.clause_core.specs.Literals.{Within, negate, at};
 ghost use Rattle.clause_core.specs.Values.{unset};
 ghost use Rattle.sat_core.specs.Positions.{Marked};
 ghost use Rattle.sat_prop.specs.Trails.{FalseOn, among, AtRest};
+ghost use Rattle.sat_core.specs.Queries.{IsRefutedAtOnce};
 ghost use Rattle.sat_core.specs.Searching.{MarksFalse, decided, PerLevel, Level, GrowsByLearning, PaidFor, PaysInTurn, Refutes, AllSet};
-ghost use Rattle.sat_core.specs.Ends.{NextSays, IsSeen, OutcomeSays};
+ghost use Rattle.sat_core.specs.Ends.{NextSays, IsSeen, OutcomeSays, HasCore};
 
 use crate::learn::{analyze, follow};
 use crate::marks::mark;
 use crate::order::Order;
+use crate::refute::refute_or_choose;
 use clause_core::{Lit, is_false, is_set};
 use effort_purse::{Draw, Purse};
 use sat_prop::{Propagator, Trail};
@@ -178,7 +180,7 @@ pub fn restart<P: Propagator>(inner: &mut P, order: &mut Order) -> Result<(), Al
 }
 
 // After propagation without a conflict: decides an assumption or a variable, or ends the search.
-fn choose<P: Propagator>(
+pub fn choose<P: Propagator>(
     alloc: Global,
     inner: &mut P,
     assumptions: &[Lit],
@@ -214,14 +216,15 @@ fn choose<P: Propagator>(
 }
 
 // Decides and propagates, learns from each conflict and jumps back. It ends when all variables are set, an assumption is
-// false, or a conflict comes without a decision. A clause is paid for once it is known from its conflict, and before it is
-// kept; if memory runs out, the last one may not be.
+// false, or a conflict comes without a decision; and before any decision, where the assumptions are refuted then. A clause
+// is paid for once it is known from its conflict, and before it is kept; if memory runs out, the last one may not be.
 pub fn search<P: Propagator, Q: Purse>(
     alloc: Global,
     inner: &mut P,
     assumptions: &[Lit],
     purse: &mut Q,
     order: &mut Order,
+    numbers: &mut Vec<usize>,
 ) -> Result<Outcome, AllocError>
     requires within { Within (length (P.trail inner.old).values.items) assumptions.now }
     requires ready { Q.ready purse.old }
@@ -233,6 +236,7 @@ pub fn search<P: Propagator, Q: Purse>(
     ensures paid { IfOk result (λ _. PaidFor (Q.tickets purse.old) (Q.tickets purse.new) (P.clauses inner.old) (P.clauses inner.new)) }
     ensures log { PaysInTurn (length (P.trail inner.old).values.items) assumptions.now (P.clauses inner.old) (P.clauses inner.new) (Q.tickets purse.old) (Q.tickets purse.new) }
     ensures says { IfOk result (OutcomeSays (length (P.trail inner.old).values.items) assumptions.now (Q.budget purse.old) (Q.spent purse.new) (P.clauses inner.new) (P.trail inner.new).literals.items) }
+    ensures at_once { IsRefutedAtOnce (P.clauses inner.old) assumptions.now → (P.clauses inner.new ≡ P.clauses inner.old) × (Q.tickets purse.new ≡ Q.tickets purse.old) × IfOk result HasCore }
 {
     restart(inner, order)?;
     let mut seen = Seen { count: 0, until: 0 };
@@ -251,7 +255,14 @@ pub fn search<P: Propagator, Q: Purse>(
                 seen = still_seen(inner.assignment(), seen);
             }
             None => {
-                if let Some(e) = choose(alloc, inner, assumptions, &mut seen, order)? {
+                if let Some(e) = refute_or_choose(
+                    alloc,
+                    inner,
+                    assumptions,
+                    &mut seen,
+                    order,
+                    numbers,
+                )? {
                     return Ok(e);
                 }
             }

@@ -3,7 +3,7 @@
 
 ghost use Rattle.std.specs.Prelude.{◌≡◌, ◌-◌, ◌++◌, [], ◌∷◌, IfOk, OnOk, OnErr, All, length};
 ghost use Rattle.clause_core.specs.Literals.{Within};
-ghost use Rattle.sat_core.specs.Queries.{State, given_of, Learns, IsSound, AnswerSays, IsPaid, log_of};
+ghost use Rattle.sat_core.specs.Queries.{State, given_of, Learns, IsSound, IsRefutedAtOnce, AnswerSays, IsPaid, CostsOneTicket, IsRefutedForOne, log_of};
 ghost use Rattle.sat_core.specs.Paying.{PaysForOne};
 
 use crate::answer::Answer;
@@ -29,6 +29,8 @@ pub struct Solver<P: Propagator + Drop> {
     // How many were given.
     given: usize,
     order: Order,
+    // For each variable, as far as it is long, the number of an assumption that a query had with it.
+    numbers: Vec<usize>,
 }
 
 impl<P: Propagator + Drop> Model for Solver<P> {
@@ -74,6 +76,7 @@ impl<P: Propagator + Drop> Solver<P> {
             marks: Vec::new(alloc),
             given: 0,
             order,
+            numbers: Vec::new(alloc),
         })
     }
 
@@ -142,6 +145,7 @@ impl<P: Propagator + Drop> Solver<P> {
     {
         let mut solver = with_given_clauses(alloc, &self.inner, &self.marks)?;
         swap(&mut solver.order, &mut self.order);
+        swap(&mut solver.numbers, &mut self.numbers);
         *self = solver;
         Ok(())
     }
@@ -176,6 +180,9 @@ impl<P: Propagator + Drop> Solver<P> {
     /// purse refused one. After each answer, and if memory runs out too, the given clauses are as before
     /// and the learned ones follow from them; and the tickets that were drawn are those of at most one query. A clause is
     /// paid for when it is known from its conflict: if memory runs out, the last one may not be kept.
+    ///
+    /// A query that unit propagation alone refutes, or two assumptions that are opposite, is answered before any decision. It
+    /// learns nothing and draws its own ticket at most (`at_once`).
     pub fn solve<Q: Purse>(
         &mut self,
         alloc: Global,
@@ -189,6 +196,7 @@ impl<P: Propagator + Drop> Solver<P> {
         ensures sound { IsSound self.new }
         ensures tickets { IfOk result (IsPaid (Q.tickets purse.old) (Q.tickets purse.new) (length self.new.learned - length self.old.learned)) }
         ensures log { PaysForOne self.old assumptions.now self.new (Q.tickets purse.old) (Q.tickets purse.new) }
+        ensures at_once { IsRefutedAtOnce (self.old.given ++ self.old.learned) assumptions.now → CostsOneTicket self.old self.new (Q.tickets purse.old) (Q.tickets purse.new) × IfOk result (IsRefutedForOne (Q.tickets purse.old) (Q.tickets purse.new)) }
         ensures kept { Q.kept purse.old purse.new }
         ensures ready { Q.ready purse.new }
         ensures budget { Q.budget purse.new ≡ Q.budget purse.old }
@@ -200,6 +208,7 @@ impl<P: Propagator + Drop> Solver<P> {
             &mut self.order,
             assumptions,
             purse,
+            &mut self.numbers,
         )
     }
 

@@ -26,3 +26,6 @@ returns-in-Unsat-clause-says g c =
     let core = c.in-Unsat.core.items in
     let said = rw c.in-Unsat.is at c.in_ok-run.ensures.says in
     refutation vars (given_of ms cs) (learned_of ms cs) cs assumptions core c.in_ok-run.ensures.keeps.sound (covered ms cs) said.0 said.1
+
+pub returns-in-Unsat-clause-at_once : goal.returns-in-Unsat-clause-at_once
+returns-in-Unsat-clause-at_once g c p = let h = c.in_ok-run.ensures.at_once p in (h.0, h.1, tt)

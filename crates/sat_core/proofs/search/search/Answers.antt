@@ -1,12 +1,13 @@
 use Rattle.std.proofs.Common.{◌≡◌, ◌≤◌, ◌+◌, ◌-◌, length, List, get_or, arith, refl, subst, sym, ap, ℕ, ◌∙◌}
 use Rattle.std.specs.List.{All, Contains}
 use Rattle.std.proofs.lemmas.List.Elements.{All-nil}
+use Rattle.std.proofs.lemmas.Result.{err_from_is_err_and}
 use Rattle.clause_core.specs.declared.literal.Lit.{Lit}
 use Rattle.clause_core.specs.Values.{unset}
 use Rattle.sat_prop.specs.declared.trail.Trail.{Trail}
 use Rattle.sat_prop.specs.Moves.{FalseClause}
 use Rattle.clause_core.specs.Literals.{Within}
-use Rattle.sat_core.specs.Queries.{IsLearned}
+use Rattle.sat_core.specs.Queries.{IsLearned, IsRefutedAtOnce}
 use Rattle.sat_core.specs.Searching.{GrowsByLearning, LearnSays, PaidFor, decided}
 use Rattle.sat_core.specs.Ends.{IsSeen, OutcomeSays}
 use Rattle.effort_purse.specs.Drawing.{past}
@@ -78,12 +79,15 @@ search-preserved-in-Some g c =
       kept = g.met.Q.Purse.kept_trans c.args.purse.now c.search.purse c.draw.new.self c.search.invariant.kept c.in_default.ensures.kept;
       ready = c.in_default.ensures.ready;
       budget = c.in_default.ensures.budget ∙ c.search.invariant.budget;
+      once = λ p.
+          let zero : length t.level_starts.items ≡ 0 = ap length c.in_ok-k.ensures.extends.level_starts ∙ (c.search.invariant.once p).2 in
+          absurd (omega (arith, c.if-len-eq0.false, c.len.ensures, c.assignment.result.now.level_starts.ok.0, ap (λ (x : Trail). length x.level_starts.items) c.assignment.ensures, zero));
       paid = paid_more (g.Q.Purse.tickets c.args.purse.now) (g.Q.Purse.tickets c.search.purse) (g.Q.Purse.tickets c.draw.new.self) c.in_default.field-0
           (g.P.Propagator.clauses first) cs cs' said.0 (subst K (sym c.in_ok-k.ensures.clauses_kept) c.search.invariant.paid) c.in_default.ensures.drawn.2 said.1;
     }
 
-pub choose-requires-clause-levels : goal.choose-requires-clause-levels
-choose-requires-clause-levels g c =
+pub refute_or_choose-requires-clause-levels : goal.refute_or_choose-requires-clause-levels
+refute_or_choose-requires-clause-levels g c =
     let old = c.search.inner in
     let new = c.propagate.new.self in
     levels_went (g.P.Propagator.trail old) (g.P.Propagator.trail new) (g.P.Propagator.clauses old) (g.P.Propagator.clauses new) c.args.assumptions.now
@@ -92,7 +96,7 @@ choose-requires-clause-levels g c =
 pub returns-in-Some-2-clause-says : goal.returns-in-Some-2-clause-says
 returns-in-Some-2-clause-says g c =
     let assumptions = c.args.assumptions.now in
-    let new = c.choose.new.inner in
+    let new = c.refute_or_choose.new.inner in
     let budget = g.Q.Purse.budget c.args.purse.now in
     let over = g.Q.Purse.spent c.search.purse in
     let cs = g.P.Propagator.clauses new in
@@ -140,15 +144,15 @@ pub returns-in_err-e-in-None-clause-log : goal.returns-in_err-e-in-None-clause-l
 returns-in_err-e-in-None-clause-log g c =
     let first = c.args.inner.now in
     let inv = c.search.invariant in
-    turn_paid (length (g.P.Propagator.trail first).values.items) c.args.assumptions.now (g.P.Propagator.clauses first) (g.P.Propagator.clauses c.search.inner) (g.P.Propagator.clauses c.choose.new.inner)
-    (g.Q.Purse.tickets c.args.purse.now) (g.Q.Purse.tickets c.search.purse) (g.Q.Purse.tickets c.search.purse) inv.learned inv.paid (c.choose.ensures.clauses ∙ c.in_ok-k.ensures.clauses_kept) refl
+    turn_paid (length (g.P.Propagator.trail first).values.items) c.args.assumptions.now (g.P.Propagator.clauses first) (g.P.Propagator.clauses c.search.inner) (g.P.Propagator.clauses c.refute_or_choose.new.inner)
+    (g.Q.Purse.tickets c.args.purse.now) (g.Q.Purse.tickets c.search.purse) (g.Q.Purse.tickets c.search.purse) inv.learned inv.paid (c.refute_or_choose.ensures.clauses ∙ c.in_ok-k.ensures.clauses_kept) refl
 
 pub returns-in-Some-2-clause-log : goal.returns-in-Some-2-clause-log
 returns-in-Some-2-clause-log g c =
     let first = c.args.inner.now in
     let inv = c.search.invariant in
-    turn_paid (length (g.P.Propagator.trail first).values.items) c.args.assumptions.now (g.P.Propagator.clauses first) (g.P.Propagator.clauses c.search.inner) (g.P.Propagator.clauses c.choose.new.inner)
-    (g.Q.Purse.tickets c.args.purse.now) (g.Q.Purse.tickets c.search.purse) (g.Q.Purse.tickets c.search.purse) inv.learned inv.paid (c.choose.ensures.clauses ∙ c.in_ok-k.ensures.clauses_kept) refl
+    turn_paid (length (g.P.Propagator.trail first).values.items) c.args.assumptions.now (g.P.Propagator.clauses first) (g.P.Propagator.clauses c.search.inner) (g.P.Propagator.clauses c.refute_or_choose.new.inner)
+    (g.Q.Purse.tickets c.args.purse.now) (g.Q.Purse.tickets c.search.purse) (g.Q.Purse.tickets c.search.purse) inv.learned inv.paid (c.refute_or_choose.ensures.clauses ∙ c.in_ok-k.ensures.clauses_kept) refl
 
 pub returns-in_err-follow-in-Some-clause-log : goal.returns-in_err-follow-in-Some-clause-log
 returns-in_err-follow-in-Some-clause-log g c =
@@ -172,8 +176,8 @@ returns-in_err-follow-in-Some-clause-log g c =
     (g.Q.Purse.tickets c.args.purse.now) (g.Q.Purse.tickets c.search.purse) (g.Q.Purse.tickets c.draw.new.self) c.in_default.field-0 x inv.learned inv.paid
     (subst L c.in_ok-k.ensures.clauses_kept step) (c.in_err-follow-in-Some.ensures.failed ∙ c.in_ok-k.ensures.clauses_kept) c.in_default.ensures.drawn.2
 
-pub choose-requires-clause-seen : goal.choose-requires-clause-seen
-choose-requires-clause-seen g c =
+pub refute_or_choose-requires-clause-seen : goal.refute_or_choose-requires-clause-seen
+refute_or_choose-requires-clause-seen g c =
     seen_went (g.P.Propagator.trail c.search.inner).literals.items (g.P.Propagator.trail c.propagate.new.self).literals.items c.args.assumptions.now c.search.seen
     c.in_ok-k.ensures.extends.prefix c.search.invariant.seen
 
@@ -238,31 +242,31 @@ pub returns-in_err-e-in-None-clause-learned : goal.returns-in_err-e-in-None-clau
 returns-in_err-e-in-None-clause-learned g c =
     let first = c.args.inner.now in
     let P : List (List Lit) → Type 0 = GrowsByLearning (length (g.P.Propagator.trail first).values.items) c.args.assumptions.now (g.P.Propagator.clauses first) in
-    subst P (sym (c.choose.ensures.clauses ∙ c.in_ok-k.ensures.clauses_kept)) c.search.invariant.learned
+    subst P (sym (c.refute_or_choose.ensures.clauses ∙ c.in_ok-k.ensures.clauses_kept)) c.search.invariant.learned
 
 pub returns-in_err-e-in-None-clause-vars : goal.returns-in_err-e-in-None-clause-vars
-returns-in_err-e-in-None-clause-vars g c = c.choose.ensures.vars ∙ c.in_ok-k.ensures.extends.vars ∙ c.search.invariant.vars
+returns-in_err-e-in-None-clause-vars g c = c.refute_or_choose.ensures.vars ∙ c.in_ok-k.ensures.extends.vars ∙ c.search.invariant.vars
 
 pub returns-in-Some-2-clause-learned : goal.returns-in-Some-2-clause-learned
 returns-in-Some-2-clause-learned g c =
     let first = c.args.inner.now in
     let P : List (List Lit) → Type 0 = GrowsByLearning (length (g.P.Propagator.trail first).values.items) c.args.assumptions.now (g.P.Propagator.clauses first) in
-    subst P (sym (c.choose.ensures.clauses ∙ c.in_ok-k.ensures.clauses_kept)) c.search.invariant.learned
+    subst P (sym (c.refute_or_choose.ensures.clauses ∙ c.in_ok-k.ensures.clauses_kept)) c.search.invariant.learned
 
 pub returns-in-Some-2-clause-vars : goal.returns-in-Some-2-clause-vars
-returns-in-Some-2-clause-vars g c = c.choose.ensures.vars ∙ c.in_ok-k.ensures.extends.vars ∙ c.search.invariant.vars
+returns-in-Some-2-clause-vars g c = c.refute_or_choose.ensures.vars ∙ c.in_ok-k.ensures.extends.vars ∙ c.search.invariant.vars
 
 pub returns-in-Some-2-clause-paid : goal.returns-in-Some-2-clause-paid
 returns-in-Some-2-clause-paid g c =
     let P : List (List Lit) → Type 0 = PaidFor (g.Q.Purse.tickets c.args.purse.now) (g.Q.Purse.tickets c.search.purse) (g.P.Propagator.clauses c.args.inner.now) in
-    subst P (sym (c.choose.ensures.clauses ∙ c.in_ok-k.ensures.clauses_kept)) c.search.invariant.paid
+    subst P (sym (c.refute_or_choose.ensures.clauses ∙ c.in_ok-k.ensures.clauses_kept)) c.search.invariant.paid
 
 pub search-preserved : goal.search-preserved
 search-preserved g c =
     let first = c.args.inner.now in
     let inv = c.search.invariant in
     let said = c.in_ok-e-in-None.ensures in
-    let same : g.P.Propagator.clauses c.choose.new.inner ≡ g.P.Propagator.clauses c.search.inner = said.clauses ∙ c.in_ok-k.ensures.clauses_kept in
+    let same : g.P.Propagator.clauses c.refute_or_choose.new.inner ≡ g.P.Propagator.clauses c.search.inner = said.clauses ∙ c.in_ok-k.ensures.clauses_kept in
     let L : List (List Lit) → Type 0 = GrowsByLearning (length (g.P.Propagator.trail first).values.items) c.args.assumptions.now (g.P.Propagator.clauses first) in
     let K : List (List Lit) → Type 0 = PaidFor (g.Q.Purse.tickets c.args.purse.now) (g.Q.Purse.tickets c.search.purse) (g.P.Propagator.clauses first) in
     record {
@@ -274,4 +278,42 @@ search-preserved g c =
       ready = inv.ready;
       budget = inv.budget;
       paid = subst K (sym same) inv.paid;
+      once = λ p.
+          let h = inv.once p in
+          let zero : length (g.P.Propagator.trail c.propagate.new.self).level_starts.items ≡ 0 = ap length c.in_ok-k.ensures.extends.level_starts ∙ h.2 in
+          let R : List (List Lit) → Type 0 = λ cs. IsRefutedAtOnce cs c.args.assumptions.now in
+          let ends = rw c.in_default-2.is at said.at_once in
+          absurd (ends zero (subst R (sym (c.in_ok-k.ensures.clauses_kept ∙ h.0)) p));
     }
+
+pub returns-in_err-k-clause-at_once : goal.returns-in_err-k-clause-at_once
+returns-in_err-k-clause-at_once g c p = let h = c.search.invariant.once p in (c.in_err-k.ensures.clauses_kept ∙ h.0, h.1, (let e = err_from_is_err_and c.from_residual-in_err-k.result c.from_residual-in_err-k.ensures.1 in rw e.1 tt))
+
+pub returns-then-len-eq0-clause-at_once : goal.returns-then-len-eq0-clause-at_once
+returns-then-len-eq0-clause-at_once g c p = let h = c.search.invariant.once p in (c.in_ok-k.ensures.clauses_kept ∙ h.0, h.1, tt)
+
+pub returns-in_err-learned-in-Some-clause-at_once : goal.returns-in_err-learned-in-Some-clause-at_once
+returns-in_err-learned-in-Some-clause-at_once g c p = let h = c.search.invariant.once p in (c.in_ok-k.ensures.clauses_kept ∙ h.0, h.1, (let e = err_from_is_err_and c.from_residual-in_err-learned-in-Some.result c.from_residual-in_err-learned-in-Some.ensures.1 in rw e.1 tt))
+
+pub returns-in-Spent-clause-at_once : goal.returns-in-Spent-clause-at_once
+returns-in-Spent-clause-at_once g c p =
+    let zero : length (g.P.Propagator.trail c.propagate.new.self).level_starts.items ≡ 0 = ap length c.in_ok-k.ensures.extends.level_starts ∙ (c.search.invariant.once p).2 in
+    absurd (omega (arith, c.if-len-eq0.false, c.len.ensures, c.assignment.result.now.level_starts.ok.0, ap (λ (x : Trail). length x.level_starts.items) c.assignment.ensures, zero))
+
+pub returns-in_err-follow-in-Some-clause-at_once : goal.returns-in_err-follow-in-Some-clause-at_once
+returns-in_err-follow-in-Some-clause-at_once g c p =
+    let zero : length (g.P.Propagator.trail c.propagate.new.self).level_starts.items ≡ 0 = ap length c.in_ok-k.ensures.extends.level_starts ∙ (c.search.invariant.once p).2 in
+    absurd (omega (arith, c.if-len-eq0.false, c.len.ensures, c.assignment.result.now.level_starts.ok.0, ap (λ (x : Trail). length x.level_starts.items) c.assignment.ensures, zero))
+
+pub returns-in_err-e-in-None-clause-at_once : goal.returns-in_err-e-in-None-clause-at_once
+returns-in_err-e-in-None-clause-at_once g c p =
+    let h = c.search.invariant.once p in (c.refute_or_choose.ensures.clauses ∙ c.in_ok-k.ensures.clauses_kept ∙ h.0, h.1, (let e = err_from_is_err_and c.from_residual-in_err-e-in-None.result c.from_residual-in_err-e-in-None.ensures.1 in rw e.1 tt))
+
+pub returns-in-Some-2-clause-at_once : goal.returns-in-Some-2-clause-at_once
+returns-in-Some-2-clause-at_once g c p =
+    let h = c.search.invariant.once p in
+    let zero : length (g.P.Propagator.trail c.propagate.new.self).level_starts.items ≡ 0 = ap length c.in_ok-k.ensures.extends.level_starts ∙ h.2 in
+    let same = c.in_ok-k.ensures.clauses_kept ∙ h.0 in
+    let R : List (List Lit) → Type 0 = λ cs. IsRefutedAtOnce cs c.args.assumptions.now in
+    let ends = rw c.in-Some-2.is at c.in_ok-e-in-None.ensures.at_once in
+    (c.refute_or_choose.ensures.clauses ∙ same, h.1, ends zero (subst R (sym same) p))

@@ -1,5 +1,6 @@
 use Rattle.std.proofs.Common.{◌≡◌, ◌-◌, ◌+◌, ◌*◌, length}
 use Rattle.clause_core.specs.Values.{unset}
+use Rattle.sat_core.specs.Queries.{IsRefutedAtOnce}
 use Rattle.sat_core.specs.Searching.{PerLevel, Level, GrowsByLearning, PaidFor}
 use Rattle.sat_core.specs.Ends.{IsSeen}
 use Rattle.effort_purse.specs.Drawing.{past}
@@ -16,6 +17,11 @@ invariant-search g l =
       ready : g.Q.Purse.ready l.purse;
       budget : g.Q.Purse.budget l.purse ≡ g.Q.Purse.budget l.fn.purse;
       paid : PaidFor (g.Q.Purse.tickets l.fn.purse) (g.Q.Purse.tickets l.purse) (g.P.Propagator.clauses l.fn.inner) (g.P.Propagator.clauses l.inner);
+      once :
+          IsRefutedAtOnce (g.P.Propagator.clauses l.fn.inner) l.assumptions →
+          (g.P.Propagator.clauses l.inner ≡ g.P.Propagator.clauses l.fn.inner)
+          × (g.Q.Purse.tickets l.purse ≡ g.Q.Purse.tickets l.fn.purse)
+          × (length (g.P.Propagator.trail l.inner).level_starts.items ≡ 0);
     }
 
 abbrev pub decreases-search : goal.decreases-search
