@@ -24,6 +24,8 @@ pub struct Order {
     // Which restart comes next, and after how many conflicts.
     round: u64,
     left: u64,
+    // For each variable, as far as it is long, the number of an assumption that a query had with it.
+    pub numbers: Vec<usize>,
 }
 
 // The entry, 0 past the end.
@@ -154,6 +156,7 @@ impl Order {
             step: 1,
             round: 1,
             left: 64,
+            numbers: Vec::new(alloc),
         })
     }
 

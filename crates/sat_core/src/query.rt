@@ -109,7 +109,6 @@ fn run<P: Propagator, Q: Purse>(
     order: &mut Order,
     assumptions: &[Lit],
     purse: &mut Q,
-    numbers: &mut Vec<usize>,
 ) -> Result<Outcome, AllocError>
     requires within { Within (length (P.trail inner.old).values.items) assumptions.now }
     requires ready { Q.ready purse.old }
@@ -124,7 +123,7 @@ fn run<P: Propagator, Q: Purse>(
     ensures says { IfOk result (OutcomeSays (length (P.trail inner.new).values.items) assumptions.now (Q.budget purse.old) (Q.spent purse.new) (P.clauses inner.new) (P.trail inner.new).literals.items) }
     ensures at_once { IsRefutedAtOnce (P.clauses inner.old) assumptions.now → (P.clauses inner.new ≡ P.clauses inner.old) × (Q.tickets purse.new ≡ Q.tickets purse.old) × IfOk result HasCore }
 {
-    search(alloc, inner, assumptions, purse, order, numbers)
+    search(alloc, inner, assumptions, purse, order)
 }
 
 // The search's answer, with its model or its core and log.
@@ -135,7 +134,6 @@ fn answer<P: Propagator, Q: Purse>(
     order: &mut Order,
     assumptions: &[Lit],
     purse: &mut Q,
-    numbers: &mut Vec<usize>,
 ) -> Result<Answer, AllocError>
     requires within { Within (length (P.trail inner.old).values.items) assumptions.now }
     requires ready { Q.ready purse.old }
@@ -150,7 +148,7 @@ fn answer<P: Propagator, Q: Purse>(
     ensures says { IfOk result (AnswerSays (state_of (length (P.trail inner.new).values.items) marks.now (P.clauses inner.new)).vars (state_of (length (P.trail inner.new).values.items) marks.now (P.clauses inner.new)).given (learned_of marks.now (P.clauses inner.new)) assumptions.now (Q.budget purse.old) (Q.spent purse.new)) }
     ensures at_once { IsRefutedAtOnce (P.clauses inner.old) assumptions.now → (P.clauses inner.new ≡ P.clauses inner.old) × (Q.tickets purse.new ≡ Q.tickets purse.old) × IfOk result IsUnsat }
 {
-    match run(alloc, inner, marks, order, assumptions, purse, numbers)? {
+    match run(alloc, inner, marks, order, assumptions, purse)? {
         Outcome::Sat => {
             let model = model_of(alloc, inner.assignment())?;
             Ok(Answer::Sat(Bits::from_vec(model)))
@@ -168,7 +166,6 @@ pub fn ask<P: Propagator, Q: Purse>(
     order: &mut Order,
     assumptions: &[Lit],
     purse: &mut Q,
-    numbers: &mut Vec<usize>,
 ) -> Result<Answer, AllocError>
     requires within { Within (length (P.trail inner.old).values.items) assumptions.now }
     requires ready { Q.ready purse.old }
@@ -186,5 +183,5 @@ pub fn ask<P: Propagator, Q: Purse>(
     if let Draw::Spent { drawn, budget } = purse.draw() {
         return Ok(Answer::Spent { drawn, budget });
     }
-    answer(alloc, inner, marks, order, assumptions, purse, numbers)
+    answer(alloc, inner, marks, order, assumptions, purse)
 }

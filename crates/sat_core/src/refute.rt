@@ -68,6 +68,9 @@ fn core_at_once(
     requires within { Within (length trail.now.values.items) assumptions.now }
     ensures { IfOk result (λ o. MatchOption o (All (λ a. among trail.now.literals.items (negate a) ≡ false) assumptions.now × NoneOpposed assumptions.now) (λ core. All (Contains assumptions.now) core.items × RefutesOnTrail trail.now.literals.items core.items)) }
 {
+    if assumptions.len() == 0 {
+        return Ok(None);
+    }
     if let Some(a) = false_assumption(trail, assumptions) {
         let core = vec![in alloc; a]?;
         return Ok(Some(core));
@@ -109,7 +112,6 @@ pub fn refute_or_choose<P: Propagator>(
     assumptions: &[Lit],
     seen: &mut Seen,
     order: &mut Order,
-    numbers: &mut Vec<usize>,
 ) -> Result<Option<Outcome>, AllocError>
     requires within { Within (length (P.trail inner.old).values.items) assumptions.now }
     requires seen { IsSeen (P.trail inner.old).literals.items assumptions.now seen.old }
@@ -123,7 +125,7 @@ pub fn refute_or_choose<P: Propagator>(
     ensures says { IfOk result (λ o. MatchOption o (unset (P.trail inner.new).values.items < unset (P.trail inner.old).values.items) (λ e. (budget : ℕ) (over : Bool) → OutcomeSays (length (P.trail inner.old).values.items) assumptions.now budget over (P.clauses inner.new) (P.trail inner.new).literals.items e)) }
     ensures at_once { IfOk result (λ o. length (P.trail inner.old).level_starts.items ≡ 0 → IsRefutedAtOnce (P.clauses inner.old) assumptions.now → MatchOption o ⊥ HasCore) }
 {
-    match core_before_decisions(alloc, inner, assumptions, numbers)? {
+    match core_before_decisions(alloc, inner, assumptions, &mut order.numbers)? {
         Some(core) => Ok(Some(Outcome::Unsat(core))),
         None => choose(alloc, inner, assumptions, seen, order),
     }

@@ -224,7 +224,6 @@ pub fn search<P: Propagator, Q: Purse>(
     assumptions: &[Lit],
     purse: &mut Q,
     order: &mut Order,
-    numbers: &mut Vec<usize>,
 ) -> Result<Outcome, AllocError>
     requires within { Within (length (P.trail inner.old).values.items) assumptions.now }
     requires ready { Q.ready purse.old }
@@ -255,14 +254,7 @@ pub fn search<P: Propagator, Q: Purse>(
                 seen = still_seen(inner.assignment(), seen);
             }
             None => {
-                if let Some(e) = refute_or_choose(
-                    alloc,
-                    inner,
-                    assumptions,
-                    &mut seen,
-                    order,
-                    numbers,
-                )? {
+                if let Some(e) = refute_or_choose(alloc, inner, assumptions, &mut seen, order)? {
                     return Ok(e);
                 }
             }

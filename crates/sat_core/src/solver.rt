@@ -29,8 +29,6 @@ pub struct Solver<P: Propagator + Drop> {
     // How many were given.
     given: usize,
     order: Order,
-    // For each variable, as far as it is long, the number of an assumption that a query had with it.
-    numbers: Vec<usize>,
 }
 
 impl<P: Propagator + Drop> Model for Solver<P> {
@@ -76,7 +74,6 @@ impl<P: Propagator + Drop> Solver<P> {
             marks: Vec::new(alloc),
             given: 0,
             order,
-            numbers: Vec::new(alloc),
         })
     }
 
@@ -145,7 +142,6 @@ impl<P: Propagator + Drop> Solver<P> {
     {
         let mut solver = with_given_clauses(alloc, &self.inner, &self.marks)?;
         swap(&mut solver.order, &mut self.order);
-        swap(&mut solver.numbers, &mut self.numbers);
         *self = solver;
         Ok(())
     }
@@ -208,7 +204,6 @@ impl<P: Propagator + Drop> Solver<P> {
             &mut self.order,
             assumptions,
             purse,
-            &mut self.numbers,
         )
     }
 
