@@ -3,6 +3,7 @@ pub mod Derivations
 pub mod Learning
 pub mod Literals
 pub mod Propagation
+pub mod Satisfied
 pub mod Scans
 pub mod Spans
 pub mod Systems

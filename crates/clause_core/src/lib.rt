@@ -6,6 +6,7 @@ pub mod assignment;
 pub mod bits;
 pub mod clause;
 pub mod literal;
+pub mod satisfied_clauses;
 pub mod scanning;
 pub mod soundness_of_derivations;
 pub mod system;
