@@ -256,7 +256,8 @@ fn with_part(
 }
 
 // An obligation of system `j`, which is not decided, that may be blocked: one of the least level, of these
-// the newest. It looks at those parts of the obligations alone in which one may be better than those before.
+// the newest. It looks at those parts of the obligations alone in which one may be better than those before,
+// and at none where the top is past the limit.
 fn block_of(
     levels: &Levels,
     register: &Register,
@@ -269,6 +270,9 @@ fn block_of(
     requires undecided { IsDecided (state_of levels.now register.now marks.now) j → ⊥ }
     ensures { MatchOption result ((o : ℕ) → o < length levels.now.obligations → (obligation_at levels.now.obligations o).system ≡ j → IsNotOffered limits (state_of levels.now register.now marks.now) (asked.Block o)) (λ t. IsOffered limits (state_of levels.now register.now marks.now) t.subject t.level) }
 {
+    if levels.frames().top(j) > limits.frames {
+        return None;
+    }
     let mut best = None;
     let mut c = levels.parts();
     while c > 0 {
