@@ -62,23 +62,23 @@ def crates_listed():
     return {line[0].split()[0]: line[1].split() for line in lines if len(line) == 2}
 
 
-def write_repository(folder):
+def write_repository(folder, name=NAME, used=USED, program=PROGRAM):
     """Writes the program to a repository of its own, beside the sources of the crates that it stands on."""
     listed = crates_listed()
-    below = list(USED)
+    below = list(used)
     for crate in below:
-        below += [name for name in listed.get(crate, []) if name not in below]
+        below += [other for other in listed.get(crate, []) if other not in below]
     with open(os.path.join(folder, "crates.txt"), "w") as file:
         for crate in below:
             if crate in listed:
                 file.write(f"{crate}: {' '.join(listed[crate])}\n")
                 sources = os.path.join("crates", crate, "src")
                 shutil.copytree(os.path.join(TOP, sources), os.path.join(folder, sources))
-        file.write(f"{NAME}: {' '.join(below)}\n")
-    program = os.path.join(folder, "crates", NAME, "src")
-    os.makedirs(program)
-    with open(os.path.join(program, "main.rt"), "w") as file:
-        file.write(PROGRAM)
+        file.write(f"{name}: {' '.join(below)}\n")
+    sources = os.path.join(folder, "crates", name, "src")
+    os.makedirs(sources)
+    with open(os.path.join(sources, "main.rt"), "w") as file:
+        file.write(program)
     subprocess.run(["git", "init", "-q", folder], check=True)
 
 
