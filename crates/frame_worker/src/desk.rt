@@ -9,6 +9,7 @@ ghost use Rattle.frame_book.specs.Outcomes.{IsOutcomeOf};
 ghost use Rattle.frame_worker.specs.Meeting.{HasOneMore};
 ghost use Rattle.frame_worker.specs.Working.{Follows, HasAll, IsClaimed, known_of};
 
+use crate::account::Account;
 use crate::begun::Begun;
 use frame_book::{Book, Claim, Claiming, Outcome, Returning, Settling, Unsettled};
 use frame_core::Frames;
@@ -16,7 +17,7 @@ use frame_history::Entry;
 use frame_query::FrameSolver;
 use shared_history::{Front, Line, Naming};
 use std::alloc::AllocError;
-use std::sync::ledger::{Ledger, Share};
+use std::sync::ledger::Ledger;
 use work_crew::Taking;
 
 // How many times the next claim is left to the worker who had the last one.
@@ -88,20 +89,22 @@ impl<'a, L: Ledger, J: Naming + Begun> Desk<'a, L, J> {
         true
     }
 
-    /// Ends a claim with what came of it; false: there was no memory for that, and it was given back.
+    /// Ends a claim with what came of it, which the account counts; false: there was no memory for that, and it was given
+    /// back.
     pub(crate) fn settle(
         &mut self,
         line: &Line<Entry, J>,
         claim: Claim,
         outcome: Outcome<'a>,
-        share: &mut Share<L>,
+        account: &mut Account<L>,
     ) -> bool
-        requires part { 0 < share.old.parts }
+        requires part { 0 < account.old.share.parts }
         requires outcome { IsOutcomeOf J.systems claim claim.subject outcome }
-        ensures parts { share.new.parts ≡ share.old.parts }
+        ensures parts { account.new.share.parts ≡ account.old.share.parts }
     {
-        match self.book.settle(claim, outcome, share) {
+        match self.book.settle(claim, outcome, &mut account.share) {
             Ok(Settling::Settled) => {
+                account.settled = account.settled.saturating_add(1);
                 self.broken = is_lost(&self.book, &mut self.front, line, self.broken);
                 self.out = self.out.saturating_sub(1);
                 true

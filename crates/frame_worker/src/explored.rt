@@ -20,4 +20,6 @@ pub struct Met<'a> {
     pub explored: Option<Explored<'a>>,
     /// The seat, with all its shares again.
     pub seat: Seat,
+    /// How many claims were settled: the sum of what each worker and the caller counted.
+    pub settled: u64,
 }

@@ -51,13 +51,13 @@ impl<'a, 'p, L: Ledger, J: Naming + Begun + Send> Craft for Explorer<'a, 'p, L, 
 
     ghost first = { λ h. h.first };
 
-    ghost fresh = { λ x h. IsFresh x.purse.now (hand h.seat h.share.parts h.front h.solver h.first h.parts) };
+    ghost fresh = { λ x h. IsFresh x.purse.now (hand h.seat h.account.share.parts h.front h.solver h.first h.parts) };
 
-    ghost holds = { λ x h. IsHeld J.systems (start J.limits J.systems J.carried) x.purse.now (hand h.seat h.share.parts h.front h.solver h.first h.parts) };
+    ghost holds = { λ x h. IsHeld J.systems (start J.limits J.systems J.carried) x.purse.now (hand h.seat h.account.share.parts h.front h.solver h.first h.parts) };
 
-    ghost took = { λ x h c. IsTaken J.systems J.limits (start J.limits J.systems J.carried) x.purse.now (hand h.seat h.share.parts h.front h.solver h.first h.parts) c };
+    ghost took = { λ x h c. IsTaken J.systems J.limits (start J.limits J.systems J.carried) x.purse.now (hand h.seat h.account.share.parts h.front h.solver h.first h.parts) c };
 
-    ghost did = { λ x h d. IsAnswered J.systems (start J.limits J.systems J.carried) x.purse.now (hand h.seat h.share.parts h.front h.solver h.first h.parts) d.claim d.outcome };
+    ghost did = { λ x h d. IsAnswered J.systems (start J.limits J.systems J.carried) x.purse.now (hand h.seat h.account.share.parts h.front h.solver h.first h.parts) d.claim d.outcome };
 
     fn workers(&self, hand: &Hand<'a, L, J>) -> u32 {
         hand.parts
@@ -94,7 +94,7 @@ impl<'a, 'p, L: Ledger, J: Naming + Begun + Send> Craft for Explorer<'a, 'p, L, 
     fn perform(&self, hand: Hand<'a, L, J>, task: Claim) -> (Hand<'a, L, J>, Done<'a>) {
         let Hand {
             seat,
-            share,
+            account,
             front,
             solver,
             first,
@@ -103,7 +103,7 @@ impl<'a, 'p, L: Ledger, J: Naming + Begun + Send> Craft for Explorer<'a, 'p, L, 
         let Some(mut solver) = solver else {
             let hand = Hand {
                 seat,
-                share,
+                account,
                 front,
                 solver: None,
                 first,
@@ -125,7 +125,7 @@ impl<'a, 'p, L: Ledger, J: Naming + Begun + Send> Craft for Explorer<'a, 'p, L, 
         let Lent { purse: _, seat } = lent;
         let hand = Hand {
             seat,
-            share,
+            account,
             front,
             solver: Some(solver),
             first,
@@ -143,7 +143,7 @@ impl<'a, 'p, L: Ledger, J: Naming + Begun + Send> Craft for Explorer<'a, 'p, L, 
     fn put(&self, desk: &mut Desk<'a, L, J>, hand: &mut Hand<'a, L, J>, done: Done<'a>) -> bool {
         let Done { claim, outcome } = done;
         match outcome {
-            Some(outcome) => desk.settle(&self.line, claim, outcome, &mut hand.share),
+            Some(outcome) => desk.settle(&self.line, claim, outcome, &mut hand.account),
             None => {
                 desk.give_back(&self.line, claim);
                 false
@@ -153,11 +153,11 @@ impl<'a, 'p, L: Ledger, J: Naming + Begun + Send> Craft for Explorer<'a, 'p, L, 
 
     fn split(&self, hand: &mut Hand<'a, L, J>, count: u32) -> Hand<'a, L, J> {
         let seat = self.purse.split(&mut hand.seat, u64::from(count));
-        let share = hand.share.split_off(u64::from(count), 0);
+        let account = hand.account.split_off(count);
         hand.parts -= count;
         Hand {
             seat,
-            share,
+            account,
             front: hand.front.again(),
             solver: None,
             first: hand.first + hand.parts,
@@ -168,14 +168,14 @@ impl<'a, 'p, L: Ledger, J: Naming + Begun + Send> Craft for Explorer<'a, 'p, L, 
     fn join(&self, hand: &mut Hand<'a, L, J>, other: Hand<'a, L, J>) {
         let Hand {
             seat,
-            share,
+            account,
             front,
             solver: _,
             first: _,
             parts,
         } = other;
         self.purse.join(&mut hand.seat, seat);
-        hand.share.merge(share);
+        hand.account.merge(account);
         hand.front.unite(&front);
         hand.solver = None;
         hand.parts += parts;

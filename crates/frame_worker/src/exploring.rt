@@ -1,7 +1,8 @@
 //! Frames are explored by several workers, and what they leave by their caller.
 
-ghost use Rattle.std.specs.Prelude.{◌≡◌, ◌+◌, ◌^◌, ◌<◌, [], length, replicate, IfOk, IfSome};
+ghost use Rattle.std.specs.Prelude.{◌≡◌, ◌+◌, ◌-◌, ◌^◌, ◌<◌, [], length, min, replicate, IfOk, IfSome};
 ghost use Rattle.effort_purse.specs.Seats.{IsSeatOf, is_spent, shares_of, tickets_of};
+ghost use Rattle.frame_book.specs.Book.{settlements};
 ghost use Rattle.frame_worker.specs.Exploring.{IsExplored};
 
 use crate::begun::Begun;
@@ -30,9 +31,13 @@ use work_crew::Crew;
 /// the last one. Then the caller, number 0, finishes alone what is left. What was drawn was paid for queries of the
 /// history's claims, and no two of these are equal.
 ///
-/// The book is dropped where it is not closed, or a claim that came to nothing may have been made twice. So it is where it
-/// notes that the purse was spent, and the seat knows nothing of that. A worker that is refused memory ends alone; that
-/// the caller is refused memory is the only error.
+/// The book is dropped in four cases: the history that workers saw is not a beginning of the book's, or an entry of the
+/// book could not be added to it; a claim that came to nothing may have been made twice; the book notes that the purse was
+/// spent, and the seat knows nothing of that; a claim is still out.
+///
+/// Each worker counts the settlements that it makes, by a share of one ledger. Their sum, with the caller's, is how many the
+/// history has: none was dropped, doubled or invented. (A sum past 18446744073709551615 stays there.) A worker that is refused memory ends alone; that the caller is refused
+/// memory, while it finishes too, is the only error.
 pub fn explore_together<'a, R: Threads + Wait + Sync, G: Gate + Sync>(
     rt: &R,
     alloc: Global,
@@ -52,6 +57,7 @@ pub fn explore_together<'a, R: Threads + Wait + Sync, G: Gate + Sync>(
     ensures own { IfOk result (λ m. IsSeatOf purse.now m.seat) }
     ensures shares { IfOk result (λ m. shares_of m.seat ≡ shares_of seat) }
     ensures explored { IfOk result (λ m. IfSome m.explored (λ e. IsExplored frames.entry.systems limits frames.entry.lemmas e.history.items e.frames (length (tickets_of seat)) (length (tickets_of m.seat)) (is_spent m.seat))) }
+    ensures settled { IfOk result (λ m. IfSome m.explored (λ e. m.settled ≡ min (settlements e.history.items) (2 ^ 64 - 1))) }
 {
     let workers = workers.min(u32::MAX - 1);
     explore_by::<Brand, Brand, R, G>(
@@ -104,6 +110,7 @@ fn explore_by<
     ensures own { IfOk result (λ m. IsSeatOf purse.now m.seat) }
     ensures shares { IfOk result (λ m. shares_of m.seat ≡ shares_of seat) }
     ensures explored { IfOk result (λ m. IfSome m.explored (λ e. IsExplored J.systems J.limits J.carried e.history.items e.frames (length (tickets_of seat)) (length (tickets_of m.seat)) (is_spent m.seat))) }
+    ensures settled { IfOk result (λ m. IfSome m.explored (λ e. m.settled ≡ min (settlements e.history.items) (2 ^ 64 - 1))) }
 {
     let (ledger, share) = blank.open::<L>();
     let (line, front) = opened.named::<J>();
@@ -127,12 +134,20 @@ fn explore_by<
         }),
         moved: Condvar::new(),
     };
-    let Played { seat, front } = play(rt, &crew, seat, share, front, workers, gate);
+    let Played {
+        seat,
+        front,
+        mut account,
+    } = play(rt, &crew, seat, share, front, workers, gate);
     let Crew {
         craft: _,
         desk,
         moved: _,
     } = crew;
-    let explored = explored_of(alloc, desk.into_inner(), front, &seat)?;
-    Ok(Met { explored, seat })
+    let explored = explored_of(alloc, desk.into_inner(), front, &seat, &mut account)?;
+    Ok(Met {
+        explored,
+        seat,
+        settled: account.settled,
+    })
 }

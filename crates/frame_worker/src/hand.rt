@@ -1,17 +1,18 @@
 //! What workers own.
 
+use crate::account::Account;
 use effort_purse::Seat;
 use frame_book::{Claim, Outcome};
 use frame_history::Entry;
 use frame_query::FrameSolver;
 use shared_history::{Front, Naming};
-use std::sync::ledger::{Ledger, Share};
+use std::sync::ledger::Ledger;
 
 /// What a worker owns, or what some own together before they part and after they meet.
 #[derive(Drop)]
 pub(crate) struct Hand<'a, L: Ledger, J: Naming> {
     pub(crate) seat: Seat,
-    pub(crate) share: Share<L>,
+    pub(crate) account: Account<L>,
     pub(crate) front: Front<Entry, J>,
     pub(crate) solver: Option<FrameSolver<'a>>,
     pub(crate) first: u32,

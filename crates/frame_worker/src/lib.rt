@@ -2,6 +2,7 @@
 //! of its own.
 #![tactic(auto)]
 
+mod account;
 mod begun;
 mod desk;
 mod explored;

@@ -1,12 +1,13 @@
 //! Whether the book can be used when all have met, and what it says then.
 
-ghost use Rattle.std.specs.Prelude.{◌≡◌, ℕ, true, length, IfOk, IfSome};
+ghost use Rattle.std.specs.Prelude.{◌≡◌, ◌-◌, ◌^◌, ℕ, true, length, min, IfOk, IfSome};
 ghost use Rattle.effort_purse.specs.Seats.{is_spent, tickets_of};
 ghost use Rattle.frame_history.specs.History.{start, IsClosed};
-ghost use Rattle.frame_book.specs.Book.{IsBook};
+ghost use Rattle.frame_book.specs.Book.{IsBook, settlements};
 ghost use Rattle.frame_worker.specs.Exploring.{IsExplored};
 ghost use Rattle.frame_worker.specs.Meeting.{ArePlayed, IsUsable};
 
+use crate::account::Account;
 use crate::begun::Begun;
 use crate::desk::Desk;
 use crate::explored::Explored;
@@ -25,8 +26,11 @@ pub(crate) fn explored_of<'a, L: Ledger, J: Naming + Begun>(
     desk: Desk<'a, L, J>,
     mut seen: Front<Entry, J>,
     seat: &Seat,
+    account: &mut Account<L>,
 ) -> Result<Option<Explored<'a>>, AllocError>
-    ensures { IfOk result (λ o. IfSome o (λ e. (old : ℕ) → ArePlayed (start J.limits J.systems J.carried) seen old (length (tickets_of seat.now)) → IsExplored J.systems J.limits J.carried e.history.items e.frames old (length (tickets_of seat.now)) (is_spent seat.now))) }
+    requires parts { account.old.share.parts ≡ L.parts }
+    ensures settled { IfOk result (λ o. IfSome o (λ e. account.new.settled ≡ min (settlements e.history.items) (2 ^ 64 - 1))) }
+    ensures explored { IfOk result (λ o. IfSome o (λ e. (old : ℕ) → ArePlayed (start J.limits J.systems J.carried) seen old (length (tickets_of seat.now)) → IsExplored J.systems J.limits J.carried e.history.items e.frames old (length (tickets_of seat.now)) (is_spent seat.now))) }
 {
     let Desk {
         mut book,
@@ -42,7 +46,7 @@ pub(crate) fn explored_of<'a, L: Ledger, J: Naming + Begun>(
     if !is_usable(alloc, &mut book, seat)? {
         return Ok(None);
     }
-    Ok(Some(close(book)))
+    Ok(Some(close(book, account)))
 }
 
 // Whether the book is closed, has no two equal claims, and notes that the purse was spent only where the seat knows of it.
@@ -63,7 +67,8 @@ fn is_usable<'a, L: Ledger>(
     is_closed(book)
 }
 
-// Whether the book is closed.
+// Whether the book is closed. Where it is not, a claim is still out; or the caller was refused memory as it finished, which is
+// an error.
 fn is_closed<'a, L: Ledger>(book: &mut Book<'a, L>) -> Result<bool, AllocError>
     ensures { IfOk result (λ yes. yes ≡ true → IsClosed book.new.state × (book.new ≡ book.old)) }
 {
@@ -72,13 +77,15 @@ fn is_closed<'a, L: Ledger>(book: &mut Book<'a, L>) -> Result<bool, AllocError>
         Claiming::Idle => Ok(false),
         Claiming::Task(claim) => {
             book.give_back(claim);
-            Ok(false)
+            Err(AllocError)
         }
     }
 }
 
-// What the book says.
-fn close<'a, L: Ledger>(book: Book<'a, L>) -> Explored<'a>
+// What the book says. The account has each part of the ledger, so it counts all settlements.
+fn close<'a, L: Ledger>(book: Book<'a, L>, account: &mut Account<L>) -> Explored<'a>
+    requires parts { account.old.share.parts ≡ L.parts }
+    ensures settled { account.new.settled ≡ min (settlements book.entry.history) (2 ^ 64 - 1) }
     ensures history { result.history.items ≡ book.entry.history }
     ensures frames { result.frames ≡ book.entry.state.frames }
     ensures kept { IsBook book.entry }
@@ -86,7 +93,8 @@ fn close<'a, L: Ledger>(book: Book<'a, L>) -> Explored<'a>
     let Parts {
         frames,
         history,
-        ledger: _,
+        mut ledger,
     } = book.into_parts();
+    ledger.audit(&mut account.share);
     Explored { frames, history }
 }

@@ -5,6 +5,7 @@ ghost use Rattle.effort_purse.specs.Seats.{IsSeatOf, shares_of, tickets_of};
 ghost use Rattle.frame_history.specs.History.{start};
 ghost use Rattle.frame_worker.specs.Meeting.{ArePlayed};
 
+use crate::account::Account;
 use crate::begun::Begun;
 use crate::explorer::Explorer;
 use crate::hand::Hand;
@@ -17,11 +18,12 @@ use std::sync::ledger::{Ledger, Share};
 use std::thread::Threads;
 use work_crew::{Crew, fan_out, finish};
 
-/// What is left of those that played: their seat, and the history as far as they saw it.
+/// What is left of those that played: their seat, the history as far as they saw it, and what they counted.
 #[derive(Drop)]
-pub(crate) struct Played<J: Naming> {
+pub(crate) struct Played<L: Ledger, J: Naming> {
     pub(crate) seat: Seat,
     pub(crate) front: Front<Entry, J>,
+    pub(crate) account: Account<L>,
 }
 
 /// So many workers play the book, numbered from 1 on; then the caller, number 0, plays alone what is left.
@@ -36,11 +38,11 @@ pub(crate) fn play<
     rt: &R,
     crew: &Crew<Explorer<'a, 'p, L, J>>,
     mut seat: Seat,
-    mut share: Share<L>,
+    share: Share<L>,
     front: Front<Entry, J>,
     workers: u32,
     gate: &G,
-) -> Played<J>
+) -> Played<L, J>
     requires own { IsSeatOf crew.now.craft.purse.now seat }
     requires some { 0 < workers }
     requires few { workers + 1 < 2 ^ 32 }
@@ -49,12 +51,14 @@ pub(crate) fn play<
     requires amount { share.amount ≡ 0 }
     ensures own { IsSeatOf crew.now.craft.purse.now result.seat }
     ensures shares { shares_of result.seat ≡ shares_of seat }
+    ensures parts { result.account.share.parts ≡ share.parts }
     ensures played { ArePlayed (start J.limits J.systems J.carried) result.front (length (tickets_of seat)) (length (tickets_of result.seat)) }
 {
     let purse = crew.craft.purse;
+    let mut account = Account::new(share);
     let theirs = Hand {
         seat: purse.split(&mut seat, u64::from(workers)),
-        share: share.split_off(u64::from(workers), 0),
+        account: account.split_off(workers),
         front: front.again(),
         solver: None,
         first: 1,
@@ -64,7 +68,7 @@ pub(crate) fn play<
     purse.join(&mut seat, theirs.seat);
     let own = Hand {
         seat: purse.split(&mut seat, 1),
-        share,
+        account,
         front,
         solver: None,
         first: 0,
@@ -74,21 +78,32 @@ pub(crate) fn play<
     purse.join(&mut seat, own.seat);
     let mut front = own.front;
     front.unite(&theirs.front);
-    Played { seat, front }
+    let mut account = own.account;
+    account.merge(theirs.account);
+    Played {
+        seat,
+        front,
+        account,
+    }
 }
 
 // What is left of a hand.
-fn left_of<'a, L: Ledger, J: Naming>(hand: Hand<'a, L, J>) -> Played<J>
+fn left_of<'a, L: Ledger, J: Naming>(hand: Hand<'a, L, J>) -> Played<L, J>
     ensures seat { result.seat ≡ hand.entry.seat }
+    ensures parts { result.account.share.parts ≡ hand.entry.account.share.parts }
     ensures front { result.front ≡ hand.entry.front }
 {
     let Hand {
         seat,
-        share: _,
+        account,
         front,
         solver: _,
         first: _,
         parts: _,
     } = hand;
-    Played { seat, front }
+    Played {
+        seat,
+        front,
+        account,
+    }
 }

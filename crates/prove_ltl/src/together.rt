@@ -64,7 +64,11 @@ fn count_together<'a, R: Threads + Wait + Sync, G: Gate + Sync>(
     let limits = Limits {
         frames: effort.frames,
     };
-    let Met { explored, seat } = explore_together(
+    let Met {
+        explored,
+        seat,
+        settled: _,
+    } = explore_together(
         rt, alloc, frames, limits, purse, seat, workers, gate,
     )?;
     match explored {

@@ -45,7 +45,11 @@ pub(crate) fn prove_together<R: Threads + Wait + Sync, G: Gate + Sync>(
     let limits = Limits {
         frames: effort.frames,
     };
-    let Met { explored, seat } = explore_together(
+    let Met {
+        explored,
+        seat,
+        settled: _,
+    } = explore_together(
         rt, alloc, frames, limits, &purse, seat, workers, gate,
     )?;
     let Some(explored) = explored else {

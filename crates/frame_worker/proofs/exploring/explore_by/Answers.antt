@@ -9,7 +9,7 @@ pub returns-clause-explored : goal.returns-clause-explored
 returns-clause-explored g c =
     let left = c.play-seat.result in
     told g.J.Begun.systems g.J.Begun.limits g.J.Begun.carried c.in_ok-explored.explored left.front (length (tickets_of c.args.seat))
-    (length (tickets_of left.seat)) (is_spent left.seat) c.in_ok-explored.ensures c.play-seat.ensures.played
+    (length (tickets_of left.seat)) (is_spent left.seat) c.in_ok-explored.ensures.explored c.play-seat.ensures.played
 
 pub invariant_of-crew : goal.invariant_of-crew
 invariant_of-crew g c =

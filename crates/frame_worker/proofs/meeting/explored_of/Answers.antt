@@ -6,8 +6,8 @@ use Rattle.frame_worker.proofs.Books.{BeganWith}
 use Rattle.frame_worker.proofs.Meetings.{explored}
 use Rattle.frame_worker.proofs.meeting.explored_of.Goals as goal
 
-pub returns : goal.returns
-returns g c = λ old p.
+pub returns-clause-explored : goal.returns-clause-explored
+returns-clause-explored g c = λ old p.
     let d = c.args.desk in
     let b : BookView = c.is_usable.new.book in
     let usable = c.in_ok-is_usable.ensures c.if-not-branch.false in

@@ -8,4 +8,4 @@ returns-clause-holds g c =
     let x = c.args.self.now in
     let h = c.args.hand.now in
     held_begun g.J.Begun.systems x.systems.now (start g.J.Begun.limits g.J.Begun.systems g.J.Begun.carried) x.purse.now
-    (hand h.seat h.share.parts h.front h.solver h.first h.parts) c.solver_of.result c.requires.fresh x.begun c.solver_of.ensures
+    (hand h.seat h.account.share.parts h.front h.solver h.first h.parts) c.solver_of.result c.requires.fresh x.begun c.solver_of.ensures

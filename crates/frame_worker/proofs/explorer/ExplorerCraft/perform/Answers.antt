@@ -14,13 +14,13 @@ ask-outcome-requires-clause-asked g c =
     let x = c.args.self.now in
     let h = c.args.hand in
     task_asked g.J.Begun.systems g.J.Begun.limits (start g.J.Begun.limits g.J.Begun.systems g.J.Begun.carried) x.purse.now
-    (hand h.seat h.share.parts h.front h.solver h.first h.parts) c.args.task c.requires.took c.in-Some.solver c.in-Some.is
+    (hand h.seat h.account.share.parts h.front h.solver h.first h.parts) c.args.task c.requires.took c.in-Some.solver c.in-Some.is
 
 pub returns-clause-did : goal.returns-clause-did
 returns-clause-did g c =
     let x = c.args.self.now in
     let h = c.args.hand in
-    let mine = hand h.seat h.share.parts h.front h.solver h.first h.parts in
+    let mine = hand h.seat h.account.share.parts h.front h.solver h.first h.parts in
     let first = start g.J.Begun.limits g.J.Begun.systems g.J.Begun.carried in
     let lent = c.ask-outcome.new.purse in
     let e = c.ask-outcome.ensures in

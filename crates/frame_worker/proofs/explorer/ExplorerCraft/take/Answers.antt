@@ -9,7 +9,7 @@ returns-clause-took g c =
     let x = c.args.self.now in
     let h = c.args.hand.now in
     let first = start g.J.Begun.limits g.J.Begun.systems g.J.Begun.carried in
-    let mine = hand h.seat h.share.parts h.front h.solver h.first h.parts in
+    let mine = hand h.seat h.account.share.parts h.front h.solver h.first h.parts in
     let front = c.show.new.front in
     let held = held_seen g.J.Begun.systems first x.purse.now mine front c.show.new.solver c.requires.holds c.show.ensures.seen c.show.ensures.follows c.show.ensures.known in
     took_so g.J.Begun.systems g.J.Begun.limits first x.purse.now mine front c.claim.new.front c.show.new.solver c.claim.result held
@@ -20,7 +20,7 @@ returns-clause-holds g c =
     let x = c.args.self.now in
     let h = c.args.hand.now in
     let first = start g.J.Begun.limits g.J.Begun.systems g.J.Begun.carried in
-    let mine = hand h.seat h.share.parts h.front h.solver h.first h.parts in
+    let mine = hand h.seat h.account.share.parts h.front h.solver h.first h.parts in
     let front = c.show.new.front in
     let held = held_seen g.J.Begun.systems first x.purse.now mine front c.show.new.solver c.requires.holds c.show.ensures.seen c.show.ensures.follows c.show.ensures.known in
     still_so g.J.Begun.systems first x.purse.now mine front c.claim.new.front c.show.new.solver c.claim.result held c.claim.ensures.none
@@ -30,5 +30,5 @@ returns-then-not-show-clause-holds g c =
     let x = c.args.self.now in
     let h = c.args.hand.now in
     let first = start g.J.Begun.limits g.J.Begun.systems g.J.Begun.carried in
-    held_seen g.J.Begun.systems first x.purse.now (hand h.seat h.share.parts h.front h.solver h.first h.parts) c.show.new.front c.show.new.solver
+    held_seen g.J.Begun.systems first x.purse.now (hand h.seat h.account.share.parts h.front h.solver h.first h.parts) c.show.new.front c.show.new.solver
     c.requires.holds c.show.ensures.seen c.show.ensures.follows c.show.ensures.known
