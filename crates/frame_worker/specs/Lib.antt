@@ -1,3 +1,5 @@
 pub mod Exploring
 pub mod Meeting
+pub mod Stopping
+pub mod StoppingLaws
 pub mod Working

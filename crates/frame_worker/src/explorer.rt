@@ -1,13 +1,15 @@
 //! What each worker does: it takes a claim, asks for it by its own solver, and puts back what came of it.
 
 ghost use Rattle.std.specs.Prelude.{◌≡◌, ◌<◌, [], length, IfSome};
+ghost use Rattle.effort_purse.specs.Seats.{budget_of};
 ghost use Rattle.frame_core.specs.FrameLaw.{AreAlike};
 
 use crate::begun::Begun;
 use crate::desk::Desk;
 use crate::hand::{Done, Hand};
+use crate::stoppable::Stoppable;
 use clause_core::System;
-use effort_purse::{Lent, SharedPurse};
+use effort_purse::SharedPurse;
 use frame_book::Claim;
 use frame_claims::ask;
 use frame_history::Entry;
@@ -29,7 +31,9 @@ pub(crate) struct Explorer<'a, 'p, L: Ledger, J: Naming + Begun> {
     pub(crate) systems: &'a [System],
     pub(crate) line: Line<Entry, J>,
     pub(crate) purse: &'p SharedPurse,
+    pub(crate) budget: u64,
     pub(crate) of: PhantomData<L>,
+    pub(crate) ghost budget_is: { budget_of purse.now ≡ budget },
     pub(crate) ghost begun: { systems.now ≡ J.systems },
     pub(crate) ghost some: { 0 < length systems.now },
     pub(crate) ghost alike: { AreAlike systems.now },
@@ -117,12 +121,19 @@ impl<'a, 'p, L: Ledger, J: Naming + Begun + Send> Craft for Explorer<'a, 'p, L, 
                 },
             );
         };
-        let mut lent = Lent {
+        let mut lent = Stoppable {
             purse: self.purse,
             seat,
+            budget: self.budget,
+            refused: false,
         };
         let outcome = ask(self.alloc, self.systems, &mut solver, &task, &mut lent);
-        let Lent { purse: _, seat } = lent;
+        let Stoppable {
+            purse: _,
+            seat,
+            budget: _,
+            refused: _,
+        } = lent;
         let hand = Hand {
             seat,
             account,

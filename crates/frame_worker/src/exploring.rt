@@ -1,7 +1,7 @@
 //! Frames are explored by several workers, and what they leave by their caller.
 
 ghost use Rattle.std.specs.Prelude.{◌≡◌, ◌+◌, ◌-◌, ◌^◌, ◌<◌, [], length, min, replicate, IfOk, IfSome};
-ghost use Rattle.effort_purse.specs.Seats.{IsSeatOf, is_spent, shares_of, tickets_of};
+ghost use Rattle.effort_purse.specs.Seats.{IsSeatOf, budget_of, is_spent, shares_of, tickets_of};
 ghost use Rattle.frame_book.specs.Book.{settlements};
 ghost use Rattle.frame_worker.specs.Exploring.{IsExplored};
 
@@ -26,7 +26,7 @@ use work_crew::Crew;
 
 /// Explores these frames, which have no obligation and tops 0, by so many workers, but by 4294967294 at most.
 ///
-/// The workers have the numbers from 1 on. They share a book under a lock, and ask for their claims without it, each by a
+/// The budget is that of the purse. The workers have the numbers from 1 on. They share a book under a lock, and ask for their claims without it, each by a
 /// solver of its own. They take turns: one claim is out at a time, and the next is left for a while to the worker who had
 /// the last one. Then the caller, number 0, finishes alone what is left. What was drawn was paid for queries of the
 /// history's claims, and no two of these are equal.
@@ -44,6 +44,7 @@ pub fn explore_together<'a, R: Threads + Wait + Sync, G: Gate + Sync>(
     frames: Frames<'a>,
     limits: Limits,
     purse: &SharedPurse,
+    budget: u64,
     seat: Seat,
     workers: u32,
     gate: &G,
@@ -52,6 +53,7 @@ pub fn explore_together<'a, R: Threads + Wait + Sync, G: Gate + Sync>(
     requires tops { frames.tops ≡ replicate (length frames.systems) 0 }
     requires limits { limits.frames + 1 < 2 ^ 32 }
     requires own { IsSeatOf purse.now seat }
+    requires budget { budget_of purse.now ≡ budget }
     requires some { 0 < workers }
     requires shares { workers < shares_of seat }
     ensures own { IfOk result (λ m. IsSeatOf purse.now m.seat) }
@@ -68,6 +70,7 @@ pub fn explore_together<'a, R: Threads + Wait + Sync, G: Gate + Sync>(
         frames,
         limits,
         purse,
+        budget,
         seat,
         workers,
         gate,
@@ -89,6 +92,7 @@ fn explore_by<
     frames: Frames<'a>,
     limits: Limits,
     purse: &SharedPurse,
+    budget: u64,
     seat: Seat,
     workers: u32,
     gate: &G,
@@ -104,6 +108,7 @@ fn explore_by<
     requires tops { frames.tops ≡ replicate (length frames.systems) 0 }
     requires limits { limits.frames + 1 < 2 ^ 32 }
     requires own { IsSeatOf purse.now seat }
+    requires budget { budget_of purse.now ≡ budget }
     requires some { 0 < workers }
     requires few { workers + 1 < 2 ^ 32 }
     requires shares { workers < shares_of seat }
@@ -122,6 +127,7 @@ fn explore_by<
             systems,
             line,
             purse,
+            budget,
             of: PhantomData,
         },
         desk: Mutex::new(Desk {

@@ -11,6 +11,8 @@ mod exploring;
 mod hand;
 mod meeting;
 mod playing;
+mod stoppable;
 
 pub use explored::{Explored, Met};
 pub use exploring::explore_together;
+pub use stoppable::Stoppable;

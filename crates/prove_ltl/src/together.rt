@@ -69,7 +69,15 @@ fn count_together<'a, R: Threads + Wait + Sync, G: Gate + Sync>(
         seat,
         settled: _,
     } = explore_together(
-        rt, alloc, frames, limits, purse, seat, workers, gate,
+        rt,
+        alloc,
+        frames,
+        limits,
+        purse,
+        effort.conflicts,
+        seat,
+        workers,
+        gate,
     )?;
     match explored {
         Some(explored) => {

@@ -50,7 +50,15 @@ pub(crate) fn prove_together<R: Threads + Wait + Sync, G: Gate + Sync>(
         seat,
         settled: _,
     } = explore_together(
-        rt, alloc, frames, limits, &purse, seat, workers, gate,
+        rt,
+        alloc,
+        frames,
+        limits,
+        &purse,
+        effort.conflicts,
+        seat,
+        workers,
+        gate,
     )?;
     let Some(explored) = explored else {
         return Ok(None);

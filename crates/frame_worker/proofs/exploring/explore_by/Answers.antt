@@ -16,6 +16,7 @@ invariant_of-crew g c =
     let same = c.systems-systems.ensures.value in
     let law = c.systems-systems.ensures.law in
     record {
+      budget_is = c.requires.budget;
       begun = same ∙ sym c.requires.systems;
       some = subst (λ (systems : List TransitionSystem). 0 < length systems) (sym same) law.some;
       alike = subst AreAlike (sym same) law.alike;
