@@ -1,11 +1,14 @@
 -- Lists of nodes that grow.
-use Rattle.std.proofs.Common.{◌≡◌, ℕ, ◌+◌, ◌-◌, ◌<◌, ◌≤◌, List, [], ◌∷◌, ◌++◌, length, get_or, map, take, refl, sym, ap, ◌∙◌, arith, append_assoc, length-append}
+use Rattle.std.proofs.Common.{◌≡◌, ℕ, ◌+◌, ◌-◌, ◌<◌, ◌≤◌, List, [], ◌∷◌, ◌++◌, length, get_or, map, take, Err, refl, sym, ap, ◌∙◌, arith, append_assoc, length-append}
 use Rattle.std.specs.List.{All}
 use Rattle.std.proofs.lemmas.List.{get_or_append_left, length-map, map-append, take_more, take_all, drop_at}
 use Rattle.std.proofs.Math.Seq.{get_or-append_seam}
 use Rattle.smv_resolve.specs.declared.node.Node.{Node}
 use Rattle.smv_resolve.specs.Resolved.{Resolved, resolved_by, part_at, parts_of, part_of, last_of}
-use Rattle.smv_resolve.specs.Finding.{Grows}
+use Rattle.smv_resolve.specs.declared.memo.Found.{Found}
+use Rattle.smv_resolve.specs.declared.memo.ResolveError.{ResolveError}
+use Rattle.smv_resolve.specs.declared.memo.ResolveError.TheVariants as error
+use Rattle.smv_resolve.specs.Finding.{Grows, UnlessMemory}
 use Rattle.smv_resolve.proofs.Parts.{length-parts, parts_of-push}
 
 -- the parts before it stay
@@ -59,3 +62,8 @@ last_are old mid ks i past is =
     let long : length (parts_of old) ≡ length (parts_of old ++ map (part_of old) ks) - length ks =
     omega (arith, length-append (parts_of old) (map (part_of old) ks), length-map ks (part_of old)) in
     ap (last_of (length ks)) whole ∙ drop_at (parts_of old) (map (part_of old) ks) (length (parts_of old ++ map (part_of old) ks) - length ks) long
+
+-- new nodes, and then more of them unless memory runs out
+pub grows_on : {old mid : List Node} (new : List Node) (h : ResolveError) → Grows old mid → UnlessMemory {A = Found} (Err h) (Grows mid new) → UnlessMemory {A = Found} (Err h) (Grows old new)
+grows_on new (error.Stuck place) g h = Grows-two g h
+grows_on new error.NoMemory g h = tt

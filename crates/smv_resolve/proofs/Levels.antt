@@ -27,7 +27,7 @@ found_along g e i = record { stands = i.stands; within = i.within; settles = set
 
 pub finds_along : (nodes : List Node) (most : ℕ) (f g : ℕ → Levelled) (r : Result Found ResolveError) → ((n d : ℕ) → g n d ≡ f n d) → Finds nodes most f r → Finds nodes most g r
 finds_along nodes most f g (Ok x) e found = found_along g e found
-finds_along nodes most f g (Err error.Stuck) e stuck = λ n w. ap is_stuck (e n most) ∙ stuck n w
+finds_along nodes most f g (Err (error.Stuck place)) e stuck = λ n w. ap is_stuck (e n most) ∙ stuck n w
 finds_along nodes most f g (Err error.NoMemory) e stuck = tt
 
 either_below : (h k d : ℕ) → (nat_lt d h || nat_lt d k) ≡ nat_lt d (max h k)
@@ -81,13 +81,13 @@ module _ (f g : ℕ → Levelled) (none : (n : ℕ) → is_stuck (g n 0) ≡ tru
   halts_down : (one two : List Node) (d : ℕ) (h : ResolveError) → 0 < d → Finds one (d - 1) f (Err h) → Finds two d g (Err h)
   halts_down one two zero h some stuck = absurd (omega (arith, some))
   halts_down one two (suc d) error.NoMemory some stuck = tt
-  halts_down one two (suc d) error.Stuck some stuck = λ n w.
+  halts_down one two (suc d) (error.Stuck place) some stuck = λ n w.
       let one_less : suc d - 1 ≡ d = omega arith in
       ap is_stuck (down n d w) ∙ (rw one_less at stuck) (m n) (within n d w)
 
 -- where no level may be opened
-pub none_opened : (nodes : List Node) (f : ℕ → Levelled) (d : ℕ) → d ≡ 0 → Finds nodes d (λ n. opened (f n)) (Err error.Stuck)
-none_opened nodes f d is = rw is (λ n w. refl)
+pub none_opened : (nodes : List Node) (f : ℕ → Levelled) (d : ℕ) (place : Place) → d ≡ 0 → Finds nodes d (λ n. opened (f n)) (Err (error.Stuck place))
+none_opened nodes f d place is = rw is (λ n w. refl)
 
 -- an expression a level down
 pub found_opened : (nodes : List Node) (d : ℕ) (f : ℕ → Levelled) (x : Found) → 0 < d → IsFound nodes (d - 1) f x → IsFound nodes d (λ n. opened (f n)) (record { node = x.node; height = x.height + 1 })
@@ -109,11 +109,11 @@ module _ (f : ℕ → Levelled) where
   lowered-at (suc h) (suc d) n l = let less : d - h ≡ suc d - suc h = omega arith in lowered-at h d n (omega (arith, l)) ∙ ap (f n) less
 
   -- where fewer may be opened
-  pub none_lowered : (nodes : List Node) (h d : ℕ) → d < h → Finds nodes d (λ n. lowered h (f n)) (Err error.Stuck)
-  none_lowered nodes h d l = λ n w. stuck_above h d n l
+  pub none_lowered : (nodes : List Node) (h d : ℕ) (place : Place) → d < h → Finds nodes d (λ n. lowered h (f n)) (Err (error.Stuck place))
+  none_lowered nodes h d place l = λ n w. stuck_above h d n l
 
   halts_at : (one two : List Node) (h d : ℕ) (e : ResolveError) → h ≤ d → Finds one (d - h) f (Err e) → Finds two d (λ n. lowered h (f n)) (Err e)
-  halts_at one two h d error.Stuck l stuck = λ n w. ap is_stuck (lowered-at h d n l) ∙ stuck n (omega (arith, w))
+  halts_at one two h d (error.Stuck place) l stuck = λ n w. ap is_stuck (lowered-at h d n l) ∙ stuck n (omega (arith, w))
   halts_at one two h d error.NoMemory l stuck = tt
 
   pub halts_lowered : (one two : List Node) (h k d : ℕ) (e : ResolveError) → h ≡ k → h ≤ d → Finds one (d - h) f (Err e) → Finds two d (λ n. lowered k (f n)) (Err e)
@@ -286,14 +286,14 @@ module _ (operand : ℕ → Expr → Levelled) (beside below : List Expr) where
     pub halts_beside : (one two : List Node) (most i : ℕ) (e : Expr) (h : ResolveError) → i < length beside → e ≡ get_or beside i e →
         Finds one most (λ n. operand n e) (Err h) → Finds two most applied_to (Err h)
     halts_beside one two most i e error.NoMemory l here stuck = tt
-    halts_beside one two most i e error.Stuck l here stuck = λ n w.
+    halts_beside one two most i e (error.Stuck told) l here stuck = λ n w.
         some_left (map (λ x. operand n x most) beside) (map (λ x. opened (operand n x) most) below)
         (some_at (λ x. operand n x most) beside i e l (ap (λ x. is_stuck (operand n x most)) (sym here) ∙ stuck n w))
 
     pub halts_lower : (one two : List Node) (most i : ℕ) (e : Expr) (h : ResolveError) → i < length below → e ≡ get_or below i e →
         Finds one most (λ n. opened (operand n e)) (Err h) → Finds two most applied_to (Err h)
     halts_lower one two most i e error.NoMemory l here stuck = tt
-    halts_lower one two most i e error.Stuck l here stuck = λ n w.
+    halts_lower one two most i e (error.Stuck told) l here stuck = λ n w.
         some_right (map (λ x. operand n x most) beside) (map (λ x. opened (operand n x) most) below)
         (some_at (λ x. opened (operand n x) most) below i e l (ap (λ x. is_stuck (opened (operand n x) most)) (sym here) ∙ stuck n w))
 
@@ -338,12 +338,12 @@ module _ (operand : ℕ → ℕ → Expr → Resolved) (first : ℕ → Levelled
   found_links i past found = found_along (chain_to links) (λ n d. ap (resolved_links (operand n d) (first n d)) (sym (take_all i links past))) found
 
   pub halts_first : (one two : List Node) (most : ℕ) (h : ResolveError) → Finds one most first (Err h) → Finds two most (chain_to links) (Err h)
-  halts_first one two most error.Stuck stuck = λ n w. stuck_left (operand n most) (first n most) links (stuck n w)
+  halts_first one two most (error.Stuck told) stuck = λ n w. stuck_left (operand n most) (first n most) links (stuck n w)
   halts_first one two most error.NoMemory stuck = tt
 
   pub halts_link : (one two : List Node) (most i : ℕ) (link : Place × Operator × Expr) (h : ResolveError) → i < length links → link ≡ get_or links i link →
       Finds one most (λ n d. operand n d link.2) (Err h) → Finds two most (chain_to links) (Err h)
-  halts_link one two most i link error.Stuck within here stuck = λ n w.
+  halts_link one two most i link (error.Stuck told) within here stuck = λ n w.
       stuck_link (operand n most) (first n most) links i link within (ap (λ (l : Place × Operator × Expr). is_stuck (operand n most l.2)) (sym here) ∙ stuck n w)
   halts_link one two most i link error.NoMemory within here stuck = tt
 
@@ -358,8 +358,8 @@ module _ (p : Program) (at : ℕ) (e : Expr) (shared : Shared) (leads : (below :
   found_known nodes most x low k =
       found_along (λ n. opened (followed p n at e)) (λ n d. sym (leads (below_names p n d))) (record { stands = k.0; within = low; settles = k.1 })
 
-  pub stuck_known : (nodes : List Node) (most : ℕ) (x : Found) → most < x.height → Known p nodes shared x → Finds nodes most (λ n. opened (followed p n at e)) (Err error.Stuck)
-  stuck_known nodes most x high k = λ n w. ap is_stuck (sym (leads (below_names p n most))) ∙ k.1.stuck n most w ∙ lt-ltb most x.height high
+  pub stuck_known : (nodes : List Node) (most : ℕ) (place : Place) (x : Found) → most < x.height → Known p nodes shared x → Finds nodes most (λ n. opened (followed p n at e)) (Err (error.Stuck place))
+  stuck_known nodes most place x high k = λ n w. ap is_stuck (sym (leads (below_names p n most))) ∙ k.1.stuck n most w ∙ lt-ltb most x.height high
 
   pub known_found : (nodes : List Node) (most : ℕ) (x : Found) → IsFound nodes most (λ n. opened (followed p n at e)) x → Known p nodes shared x
   known_found nodes most x i = (i.stands, (found_along (λ n d. below_target (below_names p n d) (shared_target p shared)) (λ n d. leads (below_names p n d)) i).settles)

@@ -4,6 +4,7 @@ pub mod Adding
 pub mod Growing
 pub mod Knowing
 pub mod Levels
+pub mod StuckParts
 pub mod NodesOf
 pub mod FirstPlaces
 pub mod Sharing

@@ -1,6 +1,7 @@
 -- What is kept while expressions become nodes, and what is promised of each.
 use Rattle.std.specs.Prelude.{◌≡◌, ℕ, ◌<◌, ◌≤◌, true, if◌then◌else◌, nat_lt, List, length, Option, None, Some, slice_get, Result, Ok, Err, IsSome}
 use Rattle.std.specs.HashMap.{get}
+use Rattle.smv_tree.specs.declared.place.Place.{Place}
 use Rattle.smv_tree.specs.declared.tree.Program.{Program}
 use Rattle.smv_tree.specs.declared.tree.Expr.{Expr}
 use Rattle.smv_resolve.specs.declared.node.Node.{Node}
@@ -30,8 +31,19 @@ pub record IsFound (nodes : List Node) (most : ℕ) (f : ℕ → Levelled) (x : 
 -- the node that stands for what f says; or that f is stuck where so many levels may be opened
 abbrev pub Finds : List Node → ℕ → (ℕ → Levelled) → Result Found ResolveError → Type 0
 Finds nodes most f (Ok x) = IsFound nodes most f x
-Finds nodes most f (Err error.Stuck) = (n : ℕ) → most ≤ n → is_stuck (f n most) ≡ true
+Finds nodes most f (Err (error.Stuck place)) = (n : ℕ) → most ≤ n → is_stuck (f n most) ≡ true
 Finds nodes most f (Err error.NoMemory) = Unit {0}
+
+-- the same error, told at this place
+abbrev pub error_at : ResolveError → Place → ResolveError
+error_at (error.Stuck told) place = error.Stuck place
+error_at error.NoMemory place = error.NoMemory
+
+-- what holds unless memory ran out
+abbrev pub UnlessMemory : {A : Type 0} → Result A ResolveError → Type 0 → Type 0
+UnlessMemory (Ok x) holds = holds
+UnlessMemory (Err (error.Stuck place)) holds = holds
+UnlessMemory (Err error.NoMemory) holds = Unit {0}
 
 -- new nodes behind the old ones
 pub record Grows (old new : List Node) : Type 0 where

@@ -5,4 +5,5 @@ pub mod Finding
 pub mod Pending
 pub mod Items
 pub mod Listing
+pub mod StuckParts
 pub mod Answers

@@ -14,6 +14,11 @@ pub record IsRoot (nodes : List Node) (r : Resolved) (n : ℕ) : Type 0 where
   pub is : part_of nodes n ≡ r
   pub clear : is_stuck r ≡ false
 
+-- what stopped, told at this place
+abbrev pub told_at : ResolveStop → Place → ResolveStop
+told_at (stop.Stuck told) place = stop.Stuck place
+told_at stop.NoMemory place = stop.NoMemory
+
 -- the node of an expression; or that it is stuck, told at this place
 abbrev pub FindsRoot : List Node → Resolved → Place → Result ℕ ResolveStop → Type 0
 FindsRoot nodes r place (Ok n) = IsRoot nodes r n

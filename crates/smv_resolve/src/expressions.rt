@@ -5,7 +5,8 @@ ghost use Rattle.smv_tree.specs.declared.tree.Expr.{Expr};
 ghost use Rattle.smv_value.specs.declared.value.Value.TheVariants.{Sym};
 ghost use Rattle.smv_resolve.specs.Resolved.{Resolved, operands_of, opened, lowered, levelled, followed, resolved_name, resolved_links, resolved_operands, place_of_start};
 ghost use Rattle.smv_resolve.specs.Levels.{levels_before};
-ghost use Rattle.smv_resolve.specs.Finding.{Grows, AllKnown, Finds, IsKept, IsShared};
+ghost use Rattle.smv_resolve.specs.Finding.{Grows, AllKnown, Finds, IsKept, IsShared, UnlessMemory, error_at};
+ghost use Rattle.smv_resolve.specs.StuckParts.{TellsPart, stuck_below, stuck_links, stuck_name, stuck_operands, stuck_part};
 
 use crate::dots::levels_before;
 use crate::memo::{Found, Memo, ResolveError, get, insert, push, push_apply};
@@ -26,9 +27,10 @@ pub fn find(
     e: &Expr,
 ) -> Result<Found, ResolveError>
     requires { AllKnown scope.now.program memo.old }
-    ensures known { OnOk result (AllKnown scope.now.program memo.new) }
-    ensures grows { OnOk result (Grows memo.old.nodes memo.new.nodes) }
+    ensures known { UnlessMemory result (AllKnown scope.now.program memo.new) }
+    ensures grows { UnlessMemory result (Grows memo.old.nodes memo.new.nodes) }
     ensures finds { Finds memo.new.nodes depth (λ n. levelled scope.now.program n at e.now) result }
+    ensures part { TellsPart depth (λ n. stuck_part scope.now.program n at e.now) result }
 {
     if room == 0 {
         return Err(ResolveError::NoMemory);
@@ -37,7 +39,7 @@ pub fn find(
     match e {
         Expr::Constant(place, value) => find_constant(scope, memo, depth, *place, *value),
         Expr::Name(name) => find_name(scope, memo, room, depth, at, name),
-        Expr::Group(_, inner) => find_below(scope, memo, room, depth, at, inner.get()),
+        Expr::Group(place, inner) => find_below(scope, memo, room, depth, at, *place, inner.get()),
         Expr::Next(place, a) => find_next(scope, memo, room, depth, at, *place, a.get()),
         Expr::Apply(place, operator, beside, below) => find_apply(
             scope,
@@ -56,7 +58,7 @@ pub fn find(
     }
 }
 
-// One level down: an expression there is found in itself, and as what a name stands for.
+// One level down, which what stands at this place opens: an expression there is found in itself, and as what a name stands for.
 #[cycle(expressions)]
 fn find_below(
     scope: &Scope,
@@ -64,16 +66,18 @@ fn find_below(
     room: usize,
     depth: usize,
     at: usize,
+    place: Place,
     e: &Expr,
 ) -> Result<Found, ResolveError>
     requires { AllKnown scope.now.program memo.old }
-    ensures known { OnOk result (AllKnown scope.now.program memo.new) }
-    ensures grows { OnOk result (Grows memo.old.nodes memo.new.nodes) }
+    ensures known { UnlessMemory result (AllKnown scope.now.program memo.new) }
+    ensures grows { UnlessMemory result (Grows memo.old.nodes memo.new.nodes) }
     ensures finds { Finds memo.new.nodes depth (λ n. opened (levelled scope.now.program n at e.now)) result }
     ensures follows { Finds memo.new.nodes depth (λ n. opened (followed scope.now.program n at e.now)) result }
+    ensures part { TellsPart depth (λ n. stuck_below place (stuck_part scope.now.program n at e.now)) result }
 {
     if depth == 0 {
-        return Err(ResolveError::Stuck);
+        return Err(ResolveError::Stuck(place));
     }
     let below = find(scope, memo, room, depth - 1, at, e)?;
     Ok(Found {
@@ -90,8 +94,8 @@ fn find_constant(
     value: Value,
 ) -> Result<Found, ResolveError>
     requires { AllKnown _scope.now.program memo.old }
-    ensures known { OnOk result (AllKnown _scope.now.program memo.new) }
-    ensures grows { OnOk result (Grows memo.old.nodes memo.new.nodes) }
+    ensures known { UnlessMemory result (AllKnown _scope.now.program memo.new) }
+    ensures grows { UnlessMemory result (Grows memo.old.nodes memo.new.nodes) }
     ensures finds { Finds memo.new.nodes _depth (λ n d. Resolved.Constant place value) result }
 {
     let node = push(memo, Node::Constant(place, value))?;
@@ -106,8 +110,8 @@ fn find_variable(
     n: usize,
 ) -> Result<Found, ResolveError>
     requires { AllKnown _scope.now.program memo.old }
-    ensures known { OnOk result (AllKnown _scope.now.program memo.new) }
-    ensures grows { OnOk result (Grows memo.old.nodes memo.new.nodes) }
+    ensures known { UnlessMemory result (AllKnown _scope.now.program memo.new) }
+    ensures grows { UnlessMemory result (Grows memo.old.nodes memo.new.nodes) }
     ensures finds { Finds memo.new.nodes _depth (λ names d. Resolved.Slot place n) result }
 {
     let node = push(memo, Node::Slot(place, n))?;
@@ -123,8 +127,8 @@ fn find_symbol(
     n: usize,
 ) -> Result<Found, ResolveError>
     requires { AllKnown scope.now.program memo.old }
-    ensures known { OnOk result (AllKnown scope.now.program memo.new) }
-    ensures grows { OnOk result (Grows memo.old.nodes memo.new.nodes) }
+    ensures known { UnlessMemory result (AllKnown scope.now.program memo.new) }
+    ensures grows { UnlessMemory result (Grows memo.old.nodes memo.new.nodes) }
     ensures finds { Finds memo.new.nodes depth (λ names d. Resolved.Constant place (Sym n)) result }
 {
     if n > u32::MAX as usize {
@@ -141,8 +145,8 @@ fn find_whole(
     i: usize,
 ) -> Result<Found, ResolveError>
     requires { AllKnown _scope.now.program memo.old }
-    ensures known { OnOk result (AllKnown _scope.now.program memo.new) }
-    ensures grows { OnOk result (Grows memo.old.nodes memo.new.nodes) }
+    ensures known { UnlessMemory result (AllKnown _scope.now.program memo.new) }
+    ensures grows { UnlessMemory result (Grows memo.old.nodes memo.new.nodes) }
     ensures finds { Finds memo.new.nodes _depth (λ n d. Resolved.Whole place i) result }
 {
     let node = push(memo, Node::Whole(place, i))?;
@@ -160,11 +164,12 @@ fn find_next(
     a: &Expr,
 ) -> Result<Found, ResolveError>
     requires { AllKnown scope.now.program memo.old }
-    ensures known { OnOk result (AllKnown scope.now.program memo.new) }
-    ensures grows { OnOk result (Grows memo.old.nodes memo.new.nodes) }
+    ensures known { UnlessMemory result (AllKnown scope.now.program memo.new) }
+    ensures grows { UnlessMemory result (Grows memo.old.nodes memo.new.nodes) }
     ensures finds { Finds memo.new.nodes depth (λ n d. Resolved.Next place (opened (levelled scope.now.program n at a.now) d)) result }
+    ensures part { TellsPart depth (λ n. stuck_below place (stuck_part scope.now.program n at a.now)) result }
 {
-    let operand = find_below(scope, memo, room, depth, at, a)?;
+    let operand = find_below(scope, memo, room, depth, at, place, a)?;
     let node = push(memo, Node::Next(place, operand.node))?;
     Ok(Found {
         node,
@@ -186,9 +191,10 @@ fn find_apply(
     below: &[Expr],
 ) -> Result<Found, ResolveError>
     requires { AllKnown scope.now.program memo.old }
-    ensures known { OnOk result (AllKnown scope.now.program memo.new) }
-    ensures grows { OnOk result (Grows memo.old.nodes memo.new.nodes) }
+    ensures known { UnlessMemory result (AllKnown scope.now.program memo.new) }
+    ensures grows { UnlessMemory result (Grows memo.old.nodes memo.new.nodes) }
     ensures finds { Finds memo.new.nodes depth (λ n d. Resolved.Apply place operator (operands_of (resolved_operands (levelled scope.now.program n at) beside.now below.now d))) result }
+    ensures part { TellsPart depth (λ n. stuck_operands place (stuck_part scope.now.program n at) beside.now below.now) result }
 {
     let mut operands = Vec::new(memo.alloc);
     let mut height = 0;
@@ -198,7 +204,7 @@ fn find_apply(
         height = same.height.max(height);
     }
     for lower in below {
-        let next = find_below(scope, memo, room, depth, at, lower)?;
+        let next = find_below(scope, memo, room, depth, at, place, lower)?;
         operands.push(next.node)?;
         height = next.height.max(height);
     }
@@ -218,9 +224,10 @@ fn find_chain(
     links: &[(Place, Operator, Expr)],
 ) -> Result<Found, ResolveError>
     requires { AllKnown scope.now.program memo.old }
-    ensures known { OnOk result (AllKnown scope.now.program memo.new) }
-    ensures grows { OnOk result (Grows memo.old.nodes memo.new.nodes) }
+    ensures known { UnlessMemory result (AllKnown scope.now.program memo.new) }
+    ensures grows { UnlessMemory result (Grows memo.old.nodes memo.new.nodes) }
     ensures finds { Finds memo.new.nodes depth (λ n d. resolved_links (λ (e : Expr). levelled scope.now.program n at e d) (levelled scope.now.program n at first.now d) links.now) result }
+    ensures part { TellsPart depth (λ n. stuck_links (stuck_part scope.now.program n at) first.now links.now) result }
 {
     let start = find(scope, memo, room, depth, at, first)?;
     let mut left = start;
@@ -233,7 +240,7 @@ fn find_chain(
     Ok(left)
 }
 
-// A name opens the levels that are followed before its dots.
+// A name opens the levels that are followed before its dots. It is stuck at its own place.
 #[cycle(expressions)]
 fn find_name(
     scope: &Scope,
@@ -244,19 +251,33 @@ fn find_name(
     name: &Name,
 ) -> Result<Found, ResolveError>
     requires { AllKnown scope.now.program memo.old }
-    ensures known { OnOk result (AllKnown scope.now.program memo.new) }
-    ensures grows { OnOk result (Grows memo.old.nodes memo.new.nodes) }
+    ensures known { UnlessMemory result (AllKnown scope.now.program memo.new) }
+    ensures grows { UnlessMemory result (Grows memo.old.nodes memo.new.nodes) }
     ensures finds { Finds memo.new.nodes depth (λ n. lowered (levels_before scope.now.program at name.now) (resolved_name scope.now.program (followed scope.now.program n) at name.now)) result }
+    ensures part { TellsPart depth (λ n. stuck_name scope.now.program (followed scope.now.program n) at name.now) result }
 {
+    let place = place_of_start(&name.start);
     let levels = levels_before(scope, at, name);
     if depth < levels {
-        return Err(ResolveError::Stuck);
+        return Err(ResolveError::Stuck(place));
     }
-    let found = find_target(scope, memo, room, depth - levels, at, name)?;
-    Ok(Found {
-        node: found.node,
-        height: found.height + levels,
-    })
+    match find_target(scope, memo, room, depth - levels, at, name) {
+        Ok(found) => Ok(Found {
+            node: found.node,
+            height: found.height + levels,
+        }),
+        Err(error) => Err(error_at(error, place)),
+    }
+}
+
+// The same error, told at this place.
+fn error_at(error: ResolveError, place: Place) -> ResolveError
+    ensures { result ≡ error_at error place }
+{
+    match error {
+        ResolveError::Stuck(_) => ResolveError::Stuck(place),
+        ResolveError::NoMemory => ResolveError::NoMemory,
+    }
 }
 
 // What the name leads to.
@@ -270,8 +291,8 @@ fn find_target(
     name: &Name,
 ) -> Result<Found, ResolveError>
     requires { AllKnown scope.now.program memo.old }
-    ensures known { OnOk result (AllKnown scope.now.program memo.new) }
-    ensures grows { OnOk result (Grows memo.old.nodes memo.new.nodes) }
+    ensures known { UnlessMemory result (AllKnown scope.now.program memo.new) }
+    ensures grows { UnlessMemory result (Grows memo.old.nodes memo.new.nodes) }
     ensures finds { Finds memo.new.nodes depth (λ n. resolved_name scope.now.program (followed scope.now.program n) at name.now) result }
 {
     let place = place_of_start(&name.start);
@@ -308,7 +329,7 @@ fn find_target(
             find_named(scope, memo, room, depth, place, naming, shared, of, body)
         }
         NameTarget::Symbol(n) => find_symbol(scope, memo, depth, place, n),
-        NameTarget::Unknown | NameTarget::TooFar => Err(ResolveError::Stuck),
+        NameTarget::Unknown | NameTarget::TooFar => Err(ResolveError::Stuck(place)),
     }
 }
 
@@ -336,11 +357,11 @@ fn find_named(
 ) -> Result<Found, ResolveError>
     requires known { AllKnown scope.now.program memo.old }
     requires leads { IsShared scope.now.program shared at e.now }
-    ensures known { OnOk result (AllKnown scope.now.program memo.new) }
-    ensures grows { OnOk result (Grows memo.old.nodes memo.new.nodes) }
+    ensures known { UnlessMemory result (AllKnown scope.now.program memo.new) }
+    ensures grows { UnlessMemory result (Grows memo.old.nodes memo.new.nodes) }
     ensures finds { Finds memo.new.nodes depth (λ n d. Resolved.Named place naming (opened (followed scope.now.program n at e.now) d)) result }
 {
-    let named = find_shared(scope, memo, room, depth, shared, at, e)?;
+    let named = find_shared(scope, memo, room, depth, place, shared, at, e)?;
     let node = push(memo, Node::Named(place, naming, named.node))?;
     Ok(Found {
         node,
@@ -348,21 +369,22 @@ fn find_named(
     })
 }
 
-/// What names share is found once.
+/// What names share is found once. The place is that of a name of these; where it is stuck, that of some part is told.
 #[cycle(expressions)]
 pub fn find_shared(
     scope: &Scope,
     memo: &mut Memo,
     room: usize,
     depth: usize,
+    place: Place,
     shared: Shared,
     at: usize,
     e: &Expr,
 ) -> Result<Found, ResolveError>
     requires known { AllKnown scope.now.program memo.old }
     requires leads { IsShared scope.now.program shared at e.now }
-    ensures known { OnOk result (AllKnown scope.now.program memo.new) }
-    ensures grows { OnOk result (Grows memo.old.nodes memo.new.nodes) }
+    ensures known { UnlessMemory result (AllKnown scope.now.program memo.new) }
+    ensures grows { UnlessMemory result (Grows memo.old.nodes memo.new.nodes) }
     ensures finds { Finds memo.new.nodes depth (λ n. opened (followed scope.now.program n at e.now)) result }
     ensures kept { OnOk result (IsKept memo.new shared) }
 {
@@ -370,9 +392,9 @@ pub fn find_shared(
         if found.height <= depth {
             return Ok(found);
         }
-        return Err(ResolveError::Stuck);
+        return Err(ResolveError::Stuck(place));
     }
-    let found = find_below(scope, memo, room, depth, at, e)?;
+    let found = find_below(scope, memo, room, depth, at, place, e)?;
     insert(memo, shared, found)?;
     Ok(found)
 }

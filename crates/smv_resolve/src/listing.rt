@@ -7,7 +7,8 @@ ghost use Rattle.smv_scope.specs.Lookup.{depth_limit};
 ghost use Rattle.smv_scope.specs.Modules.{sections_of};
 ghost use Rattle.smv_resolve.specs.Resolved.{resolved, levelled, wholly_resolved};
 ghost use Rattle.smv_resolve.specs.Items.{left_levels, resolved_left, resolved_assignment, resolved_constraint, resolved_specification, items_in, items_below};
-ghost use Rattle.smv_resolve.specs.Listing.{FindsRoot, AllStand, Adds};
+ghost use Rattle.smv_resolve.specs.Listing.{FindsRoot, AllStand, Adds, told_at};
+ghost use Rattle.smv_resolve.specs.StuckParts.{FindsOrTells, first_stuck_part, first_part_wholly_stuck, stuck_part};
 
 use crate::expressions::find;
 use crate::first_places::first_place;
@@ -25,8 +26,38 @@ const LEVELS: usize = 2000;
 // each level, so that what leads to itself is told as too deep, unless its expressions are larger.
 const ROOM: usize = 4 * (LEVELS + 1);
 
-/// The node of an expression. One that is stuck is told at this place.
-pub fn find_root(
+/// The node of an expression. Where it is stuck, its first stuck part is told.
+pub fn find_expression(
+    scope: &Scope,
+    memo: &mut Memo,
+    at: usize,
+    e: &Expr,
+) -> Result<usize, ResolveStop>
+    requires { AllKnown scope.now.program memo.old }
+    ensures known { OnOk result (AllKnown scope.now.program memo.new) }
+    ensures grows { OnOk result (Grows memo.old.nodes memo.new.nodes) }
+    ensures finds { FindsOrTells memo.new.nodes (resolved scope.now.program at e.now) (first_stuck_part scope.now.program at e.now) result }
+{
+    find_within(scope, memo, LEVELS, at, e)
+}
+
+/// The same where names are followed as far as they lead.
+pub fn find_wholly(
+    scope: &Scope,
+    memo: &mut Memo,
+    at: usize,
+    e: &Expr,
+) -> Result<usize, ResolveStop>
+    requires { AllKnown scope.now.program memo.old }
+    ensures known { OnOk result (AllKnown scope.now.program memo.new) }
+    ensures grows { OnOk result (Grows memo.old.nodes memo.new.nodes) }
+    ensures finds { FindsOrTells memo.new.nodes (wholly_resolved scope.now.program at e.now) (first_part_wholly_stuck scope.now.program at e.now) result }
+{
+    find_within(scope, memo, usize::MAX, at, e)
+}
+
+// The node of an expression of an item. One that is stuck is told at the place of the item.
+fn find_root(
     scope: &Scope,
     memo: &mut Memo,
     at: usize,
@@ -38,23 +69,20 @@ pub fn find_root(
     ensures grows { OnOk result (Grows memo.old.nodes memo.new.nodes) }
     ensures finds { FindsRoot memo.new.nodes (resolved scope.now.program at e.now) place result }
 {
-    find_within(scope, memo, LEVELS, at, e, place)
+    match find_expression(scope, memo, at, e) {
+        Ok(node) => Ok(node),
+        Err(stop) => Err(told_at(stop, place)),
+    }
 }
 
-/// The same where names are followed as far as they lead.
-pub fn find_wholly(
-    scope: &Scope,
-    memo: &mut Memo,
-    at: usize,
-    e: &Expr,
-    place: Place,
-) -> Result<usize, ResolveStop>
-    requires { AllKnown scope.now.program memo.old }
-    ensures known { OnOk result (AllKnown scope.now.program memo.new) }
-    ensures grows { OnOk result (Grows memo.old.nodes memo.new.nodes) }
-    ensures finds { FindsRoot memo.new.nodes (wholly_resolved scope.now.program at e.now) place result }
+// What stopped, told at this place.
+fn told_at(stop: ResolveStop, place: Place) -> ResolveStop
+    ensures { result ≡ told_at stop place }
 {
-    find_within(scope, memo, usize::MAX, at, e, place)
+    match stop {
+        ResolveStop::Stuck(_) => ResolveStop::Stuck(place),
+        ResolveStop::NoMemory => ResolveStop::NoMemory,
+    }
 }
 
 // What is assigned: `init(` and `next(` open a level before it.
@@ -71,7 +99,10 @@ fn find_left(
     ensures grows { OnOk result (Grows memo.old.nodes memo.new.nodes) }
     ensures finds { FindsRoot memo.new.nodes (resolved_left scope.now.program at kind e.now) place result }
 {
-    find_within(scope, memo, left_levels(kind), at, e, place)
+    match find_within(scope, memo, left_levels(kind), at, e) {
+        Ok(node) => Ok(node),
+        Err(stop) => Err(told_at(stop, place)),
+    }
 }
 
 // How many levels may be opened in what is assigned.
@@ -93,17 +124,16 @@ fn find_within(
     levels: usize,
     at: usize,
     e: &Expr,
-    place: Place,
 ) -> Result<usize, ResolveStop>
     requires { AllKnown scope.now.program memo.old }
     ensures known { OnOk result (AllKnown scope.now.program memo.new) }
     ensures grows { OnOk result (Grows memo.old.nodes memo.new.nodes) }
-    ensures finds { (names : ℕ) → levels ≤ names → FindsRoot memo.new.nodes (levelled scope.now.program names at e.now levels) place result }
+    ensures finds { (names : ℕ) → levels ≤ names → FindsOrTells memo.new.nodes (levelled scope.now.program names at e.now levels) (stuck_part scope.now.program names at e.now levels) result }
 {
     find_named(scope, memo, at, e)?;
     match find(scope, memo, ROOM, levels, at, e) {
         Ok(found) => Ok(found.node),
-        Err(ResolveError::Stuck) => Err(ResolveStop::Stuck(place)),
+        Err(ResolveError::Stuck(place)) => Err(ResolveStop::Stuck(place)),
         Err(ResolveError::NoMemory) => Err(ResolveStop::NoMemory),
     }
 }

@@ -38,8 +38,8 @@ pub struct Memo {
 /// Why there is no node.
 #[derive(Debug, Drop)]
 pub enum ResolveError {
-    /// A name leads nowhere, or lies too deep.
-    Stuck,
+    /// At this place something leads nowhere, or lies too deep.
+    Stuck(Place),
     /// Memory was refused, which may come at any time.
     NoMemory,
 }

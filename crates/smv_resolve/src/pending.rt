@@ -1,13 +1,14 @@
 //! What names share is found before the expressions that name it, by a list of what is pending, so that no way from name to name
 //! lies on the stack.
 
-ghost use Rattle.std.specs.Prelude.{OnOk};
+ghost use Rattle.std.specs.Prelude.{◌≡◌, true, IfOk, OnOk};
 ghost use Rattle.smv_tree.specs.declared.tree.Program.{Program};
 ghost use Rattle.smv_resolve.specs.Finding.{Grows, AllKnown, IsKept, IsShared};
 ghost use Rattle.smv_resolve.specs.Pending.{AllLead, Leads};
 
 use crate::expressions::find_shared;
-use crate::memo::{Memo, begin};
+use crate::first_places::first_place;
+use crate::memo::{Memo, ResolveError, begin};
 use smv_scope::{NameTarget, Scope, Shared, name_target};
 use smv_tree::{Expr, Name, names_in};
 use sqlite_items::Items;
@@ -96,17 +97,28 @@ fn take_up<'a>(
     Ok(goes_on)
 }
 
-// All that it names is known, and then it is.
+// All that it names is known, and then it is. The answer is whether there is more to do, as there is unless it is stuck.
 fn find_next(scope: &Scope, memo: &mut Memo, next: Pending) -> Result<bool, AllocError>
     requires known { AllKnown scope.now.program memo.old }
     requires leads { Leads scope.now.program next }
     ensures known { OnOk result (AllKnown scope.now.program memo.new) }
     ensures grows { OnOk result (Grows memo.old.nodes memo.new.nodes) }
-    ensures kept { OnOk result (IsKept memo.new next.entry.shared) }
+    ensures kept { IfOk result (λ goes_on. goes_on ≡ true → IsKept memo.new next.entry.shared) }
 {
-    match find_shared(scope, memo, ROOM, ANY_DEPTH, next.shared, next.at, next.e) {
+    let place = first_place(next.e);
+    match find_shared(
+        scope,
+        memo,
+        ROOM,
+        ANY_DEPTH,
+        place,
+        next.shared,
+        next.at,
+        next.e,
+    ) {
         Ok(_) => Ok(true),
-        Err(_) => Err(AllocError),
+        Err(ResolveError::Stuck(_)) => Ok(false),
+        Err(ResolveError::NoMemory) => Err(AllocError),
     }
 }
 

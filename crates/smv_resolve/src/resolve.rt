@@ -4,8 +4,7 @@ ghost use Rattle.std.specs.Prelude.{◌≡◌};
 ghost use Rattle.smv_resolve.specs.Answers.{ResolvesItems, ResolvesOne, ResolvesWholly};
 ghost use Rattle.smv_resolve.specs.declared.resolve.ResolveStop.TheVariants.{NoMemory};
 
-use crate::first_places::first_place;
-use crate::listing::{add_instances, find_root, find_wholly};
+use crate::listing::{add_instances, find_expression, find_wholly};
 use crate::memo::empty_memo;
 use crate::{Item, Node};
 use smv_scope::Scope;
@@ -59,7 +58,8 @@ pub fn resolve_items(alloc: Global, scope: &Scope) -> Result<Resolution, Resolve
     })
 }
 
-/// An expression that stands in the instance of this number. Stuck names the place of its first token.
+/// An expression that stands in the instance of this number. Stuck names the place of its first part, in the order of the text, that
+/// leads nowhere or nests too deep: a name, or what opens one level too many.
 pub fn resolve_expression(
     alloc: Global,
     scope: &Scope,
@@ -69,7 +69,7 @@ pub fn resolve_expression(
     ensures { ResolvesOne scope.now.program at e.now result }
 {
     let mut memo = empty_memo(alloc);
-    let root = find_root(scope, &mut memo, at, e, first_place(e))?;
+    let root = find_expression(scope, &mut memo, at, e)?;
     Ok(Single {
         nodes: memo.nodes,
         root,
@@ -86,7 +86,7 @@ pub fn resolve_wholly(
     ensures { ResolvesWholly scope.now.program at e.now result }
 {
     let mut memo = empty_memo(alloc);
-    let root = find_wholly(scope, &mut memo, at, e, first_place(e))?;
+    let root = find_wholly(scope, &mut memo, at, e)?;
     Ok(Single {
         nodes: memo.nodes,
         root,
