@@ -4,3 +4,4 @@ pub mod Choosing
 pub mod Operating
 pub mod Turns
 pub mod FaultTables
+pub mod Given

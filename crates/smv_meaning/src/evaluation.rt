@@ -7,7 +7,7 @@ ghost use Rattle.smv_resolve.specs.Resolved.{part_of};
 ghost use Rattle.smv_slots.specs.Slots.{item_of, slots_of};
 ghost use Rattle.smv_layout.specs.Layout.{laid_expression};
 ghost use Rattle.smv_scope.specs.Targets.{seen as seen_target};
-ghost use Rattle.smv_meaning.specs.Answers.{Evaluates};
+ghost use Rattle.smv_meaning.specs.Answers.{Evaluates, GivesWhereTyped};
 ghost use Rattle.smv_meaning.specs.Outcomes.{applied};
 ghost use Rattle.smv_meaning.specs.Paths.{instance_at, whole_of};
 ghost use Rattle.smv_meaning.specs.Tables.{outcome_at, outcome_by, outcomes_of, seen};
@@ -25,8 +25,10 @@ use sqlite_items::at;
 use std::alloc::{AllocError, Global};
 
 /// The outcome of an expression that stands in the instance of this path, in a state with inputs and the next state; each of
-/// these is empty where there is none. The error is that a part of the expression is stuck, at the place of the expression, or
-/// that memory ran out.
+/// these is empty where there is none. Where it is what an item of the program assigns, asks for or claims of states or steps, it is
+/// values or a fault in those of the declared types.
+///
+/// The error is that a part of the expression is stuck, at the place of the first such part, or that memory ran out.
 pub fn eval(
     alloc: Global,
     typed: &Typed,
@@ -37,7 +39,8 @@ pub fn eval(
     next: &State,
 ) -> Result<Outcome, ResolveStop>
     requires { IsSome (instance_at typed.now.scope.program path.now) }
-    ensures { (at : ℕ) → instance_at typed.now.scope.program path.now ≡ Some at → Evaluates typed.now.scope.program at e.now s.now u.now next.now result }
+    ensures evaluates { (at : ℕ) → instance_at typed.now.scope.program path.now ≡ Some at → Evaluates typed.now.scope.program at e.now s.now u.now next.now result }
+    ensures given { (at : ℕ) → instance_at typed.now.scope.program path.now ≡ Some at → IfOk result (GivesWhereTyped typed.now.scope.program at e.now s.now u.now next.now) }
 {
     match instance_at(typed, path) {
         Some(at) => eval_at(alloc, typed, at, e, s, u, next),
@@ -84,7 +87,8 @@ fn eval_at(
     u: &Inputs,
     next: &State,
 ) -> Result<Outcome, ResolveStop>
-    ensures { Evaluates typed.now.scope.program at e.now s.now u.now next.now result }
+    ensures evaluates { Evaluates typed.now.scope.program at e.now s.now u.now next.now result }
+    ensures given { IfOk result (GivesWhereTyped typed.now.scope.program at e.now s.now u.now next.now) }
 {
     let resolved = resolve_expression(alloc, &typed.scope, at, e)?;
     let outcome = outcome_of_resolved(alloc, typed, &resolved, s, u, next);
