@@ -1,5 +1,5 @@
 -- What conditions and edges tell of items, one by one and in all.
-use Rattle.std.proofs.Common.{◌≡◌, ◌∙◌, ℕ, zero, suc, ◌+◌, ◌<◌, Bool, true, false, cond, ◌&&◌, List, [], ◌∷◌, ◌++◌, Option, length, get_or, map, take, refl, sym, ap, arith}
+use Rattle.std.proofs.Common.{◌≡◌, ◌∙◌, ℕ, zero, suc, ◌+◌, ◌<◌, ◌≤◌, Bool, true, false, cond, ◌&&◌, List, [], ◌∷◌, ◌++◌, Option, None, Some, length, get_or, map, take, refl, sym, ap, arith}
 use Rattle.std.specs.List.{Contains, filter, list_all}
 use Rattle.std.proofs.lemmas.Bool.{and_parts}
 use Rattle.std.proofs.lemmas.List.Elements.{All-contains}
@@ -19,7 +19,8 @@ use Rattle.smv_slots.specs.declared.slot.Slot.{Slot}
 use Rattle.smv_slots.specs.Slots.{slots_of}
 use Rattle.smv_meaning.specs.declared.typed.Typed.{Typed}
 use Rattle.smv_meaning.specs.declared.outcome.Outcome.{Outcome}
-use Rattle.smv_meaning.specs.Runs.{are_inputs, is_claim, is_given, is_known_by, is_known_item, is_state, is_true, specifications_of}
+use Rattle.smv_meaning.specs.declared.outcome.Outcome.TheVariants.{Nothing}
+use Rattle.smv_meaning.specs.Runs.{are_inputs, is_among, is_claim, is_given, is_known_by, is_known_item, is_state, is_true, specifications_of}
 use Rattle.smv_meaning.specs.Tables.{outcome_at, outcomes_of}
 use Rattle.smv_meaning.specs.Values.{outcome_in}
 use Rattle.smv_meaning.proofs.Tables.{outcome_at-map}
@@ -154,3 +155,14 @@ spec_given typed s u spec among invariant a b =
 pub spec_value : (typed : Typed) (s : List Value) (spec : Item) →
     is_false (outcome_at (outcomes_of (slots_of typed.scope.program) s [] [] typed.nodes) spec.value) ≡ is_false (outcome_in (slots_of typed.scope.program) s (item_by typed.nodes spec).value)
 spec_value typed s spec = ap is_false (outcome_at-map (slots_of typed.scope.program) s [] [] (parts_of typed.nodes) spec.value)
+
+-- a node that is not there gives nothing
+pub nothing_past : (os : List Outcome) (k : ℕ) → length os ≤ k → outcome_at os k ≡ Nothing
+nothing_past [] k past = refl
+nothing_past (o ∷ os) zero past = absurd (let no : ⊥ = omega (arith, past) in no)
+nothing_past (o ∷ os) (suc k) past = nothing_past os k (omega (arith, past))
+
+-- and no value is among those of nothing
+pub none_among : (o : Option Value) → is_among o Nothing ≡ false
+none_among None = refl
+none_among (Some w) = refl

@@ -18,8 +18,8 @@ use bit_outcomes::{Told, false_edge, takes_edge, true_edge};
 use smv_resolve::Item;
 use std::alloc::{AllocError, Global};
 
-/// The edge that is true where the node of this number is TRUE. Out of memory is answered too where there is no such node, or it is
-/// told as something else than TRUE, FALSE or a fault.
+/// The edge that is true where the node of this number is TRUE, which it is not if there is no such node. Out of memory is answered too
+/// where it is told as something else than TRUE, FALSE or a fault.
 pub fn true_at(graph: &mut Graph, told: &[Told], k: usize) -> Result<Edge, AllocError>
     requires { AllTold graph.old told.now }
     ensures extends { Extends graph.old graph.new }
@@ -31,7 +31,7 @@ pub fn true_at(graph: &mut Graph, told: &[Told], k: usize) -> Result<Edge, Alloc
         let edge = true_edge(graph, &told[k])?;
         Ok(edge)
     } else {
-        Err(AllocError)
+        Ok(graph.constant(false))
     }
 }
 
@@ -47,11 +47,11 @@ pub fn false_at(graph: &mut Graph, told: &[Told], k: usize) -> Result<Edge, Allo
         let edge = false_edge(graph, &told[k])?;
         Ok(edge)
     } else {
-        Err(AllocError)
+        Ok(graph.constant(false))
     }
 }
 
-// The edge that is true where the node that is assigned has a value of the other.
+// The edge that is true where the node that is assigned has a value of the other. A node that is not there has none.
 fn takes_at(
     alloc: Global,
     graph: &mut Graph,
@@ -67,15 +67,17 @@ fn takes_at(
     ensures value { IfOk result (λ e. (v : ℕ → Bool) (ps os : List Outcome) → Consistent v graph.new → TellsAll v there.now ps → TellsAll v here.now os →
         is_given (outcome_at ps target) ≡ true → is_given (outcome_at os value) ≡ true → edge_value v e ≡ takes (outcome_at ps target) (outcome_at os value)) }
 {
-    if target < there.len() && value < here.len() {
-        let edge = takes_edge(alloc, graph, &there[target], &here[value])?;
-        Ok(edge)
-    } else {
-        Err(AllocError)
+    if target >= there.len() {
+        return Ok(graph.constant(false));
     }
+    if value >= here.len() {
+        return Ok(graph.constant(false));
+    }
+    let edge = takes_edge(alloc, graph, &there[target], &here[value])?;
+    Ok(edge)
 }
 
-// The edge that is true where the item's demand is met.
+// The edge that is true where the item's demand is met. What assigns nothing takes no value.
 fn demand_edge(
     alloc: Global,
     graph: &mut Graph,
@@ -94,7 +96,7 @@ fn demand_edge(
     match demand {
         Demand::Nothing => Ok(graph.constant(true)),
         Demand::Takes => match item.target {
-            None => Err(AllocError),
+            None => Ok(graph.constant(false)),
             Some(target) => takes_at(alloc, graph, there, here, target, item.value),
         },
         Demand::IsTrue => true_at(graph, here, item.value),

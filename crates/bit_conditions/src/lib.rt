@@ -13,6 +13,7 @@ mod justice;
 mod keeping;
 mod told;
 
+pub use asking::true_at;
 pub use claims::claim_edge;
 pub use conditions::{first_conditions, step_conditions};
 pub use justice::just_edges;
