@@ -1,14 +1,14 @@
 -- What items ask of outcomes, by what is told of these.
-use Rattle.std.proofs.Common.{◌≡◌, ◌∙◌, ℕ, ◌+◌, ◌<◌, Bool, true, false, not, ◌&&◌, ◌||◌, List, [], ◌∷◌, length, get_or, take, refl, sym, ap, subst, eqb, ℤ}
-use Rattle.std.specs.Prelude.{Option, None, Some, All, unwrap_or, int_le}
+use Rattle.std.proofs.Common.{◌≡◌, ◌∙◌, ℕ, ◌+◌, ◌<◌, Bool, true, false, cond, not, ◌&&◌, ◌||◌, List, [], ◌∷◌, length, get_or, take, refl, sym, ap, subst, eqb, ℤ}
+use Rattle.std.specs.Prelude.{Option, None, Some, All, unwrap_or, int_le, slice_get}
 use Rattle.std.specs.Bool.{beq}
 use Rattle.std.specs.List.{list_all, list_any}
-use Rattle.std.specs.Option.{is_some}
+use Rattle.std.specs.Option.{is_some, option_map}
 use Rattle.std.proofs.lemmas.Bool.{eqb-true, eq-eqb}
 use Rattle.std.proofs.lemmas.List.Folds.{list_any_more}
 use Rattle.bit_graph.specs.declared.edge.Edge.{Edge}
 use Rattle.bit_graph.specs.Meaning.{edge_value}
-use Rattle.bit_arith.specs.Number.{flip}
+use Rattle.bit_arith.specs.Number.{flip, number_of}
 use Rattle.bit_operators.proofs.Bitwise.{flip_is}
 use Rattle.smv_value.specs.declared.value.Value.{Value}
 use Rattle.smv_value.specs.declared.value.Value.TheVariants as value
@@ -21,10 +21,12 @@ use Rattle.smv_meaning.specs.declared.outcome.Outcome.{Outcome}
 use Rattle.smv_meaning.specs.declared.outcome.Outcome.TheVariants.{Fault, Nothing, Values}
 use Rattle.smv_meaning.specs.Faults.{is_outside}
 use Rattle.smv_meaning.specs.Formulas.{fault_in}
+use Rattle.smv_meaning.specs.Outcomes.{truth, truth_of}
 use Rattle.smv_meaning.specs.Runs.{is_among, is_given, is_true, takes}
+use Rattle.bit_operators.specs.declared.symbolic.Discrete.{Discrete}
 use Rattle.bit_operators.specs.declared.symbolic.Symbolic.{Symbolic}
 use Rattle.bit_operators.specs.declared.symbolic.Symbolic.TheVariants as symbolic
-use Rattle.bit_operators.specs.Denoting.{denoted}
+use Rattle.bit_operators.specs.Denoting.{denoted, integer_of}
 use Rattle.bit_outcomes.specs.declared.told.Member.{Member}
 use Rattle.bit_outcomes.specs.declared.told.Which.{Which}
 use Rattle.bit_outcomes.specs.declared.told.Which.TheVariants as which
@@ -271,3 +273,24 @@ module _ (v : ℕ → Bool) where
   outside_told t g n any r ms Nothing is h k a i = absurd cc
   outside_told t g n any r ms (Fault rule place) is h k a i = failed_not g any r (and_said g n any r is h) a
   outside_told t g n any r ms (Values vs) is h k a i = given_not g any r (and_said g n any r is h) a.0 ∙ k a.1.there ∙ out_is t v vs ms a.1.same
+
+  -- what is neither TRUE nor FALSE
+
+  pub word_plain : (signed : Bool) (bits : List Edge) (s : Symbolic) → s ≡ symbolic.Word signed bits → (w : Value) → denoted v s ≡ Some w → truth_of w ≡ None
+  word_plain signed bits s is w d =
+      let here : denoted v (symbolic.Word signed bits) ≡ Some w = ap (denoted v) (sym is) ∙ d in
+      let same : w ≡ value.Word signed (length bits) (number_of v bits) = cc in
+      ap truth_of same
+
+  plain_by : (b : Bool) (o : Option ℕ) (z : ℤ) (w : Value) → cond b (option_map value.Sym o) (Some (value.Int z)) ≡ Some w → truth_of w ≡ None
+  plain_by true None z w h = absurd cc
+  plain_by true (Some n) z w h = let same : w ≡ value.Sym n = cc in ap truth_of same
+  plain_by false o z w h = let same : w ≡ value.Int z = cc in ap truth_of same
+
+  pub discrete_plain : (d : Discrete) (s : Symbolic) → s ≡ symbolic.Discrete d → (w : Value) → denoted v s ≡ Some w → truth_of w ≡ None
+  discrete_plain d s is w e = plain_by (edge_value v d.is_symbol) (slice_get d.symbols (number_of v d.code)) (integer_of v d.number) w (ap (denoted v) (sym is) ∙ e)
+
+  pub plain_told : (f : Edge) (s : Symbolic) (o : Outcome) → ((w : Value) → denoted v s ≡ Some w → truth_of w ≡ None) → TellsOne v f s o → truth o ≡ None
+  plain_told f s Nothing k a = refl
+  plain_told f s (Fault rule place) k a = refl
+  plain_told f s (Values vs) k a = ap (λ (ws : List Value). truth (Values ws)) a.1.only ∙ k a.1.value a.1.denotes

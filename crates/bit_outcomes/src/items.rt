@@ -71,8 +71,8 @@ fn takes_value(
     }
 }
 
-/// The edge that is true where the outcome is TRUE. Out of memory is answered too where it is told as something else than TRUE, FALSE
-/// or a fault.
+/// The edge that is true where the outcome is TRUE, as no word, integer or symbol is. Out of memory is answered too where it is told as a
+/// set, or nothing is told.
 pub fn true_edge(graph: &mut Graph, e: &Told) -> Result<Edge, AllocError>
     requires { ToldStands graph.old e.now }
     ensures extends { Extends graph.old graph.new }
@@ -85,16 +85,15 @@ pub fn true_edge(graph: &mut Graph, e: &Told) -> Result<Edge, AllocError>
                 let edge = graph.and(f.negation(), *b)?;
                 Ok(edge)
             }
-            Symbolic::Word { .. } => Err(AllocError),
-            Symbolic::Discrete(_) => Err(AllocError),
+            Symbolic::Word { .. } => Ok(graph.constant(false)),
+            Symbolic::Discrete(_) => Ok(graph.constant(false)),
         },
         Told::Untold => Err(AllocError),
         Told::Set(..) => Err(AllocError),
     }
 }
 
-/// The edge that is true where the outcome is FALSE. Out of memory is answered too where it is told as something else than TRUE,
-/// FALSE or a fault.
+/// The edge that is true where the outcome is FALSE; the answers are as of `true_edge`.
 pub fn false_edge(graph: &mut Graph, e: &Told) -> Result<Edge, AllocError>
     requires { ToldStands graph.old e.now }
     ensures extends { Extends graph.old graph.new }
@@ -109,8 +108,8 @@ pub fn false_edge(graph: &mut Graph, e: &Told) -> Result<Edge, AllocError>
                 let edge = graph.and(given, other)?;
                 Ok(edge)
             }
-            Symbolic::Word { .. } => Err(AllocError),
-            Symbolic::Discrete(_) => Err(AllocError),
+            Symbolic::Word { .. } => Ok(graph.constant(false)),
+            Symbolic::Discrete(_) => Ok(graph.constant(false)),
         },
         Told::Untold => Err(AllocError),
         Told::Set(..) => Err(AllocError),

@@ -1,12 +1,23 @@
 -- The value's edge, turned.
-use Rattle.std.proofs.Common.{ap, subst, ◌∙◌}
+use Rattle.std.proofs.Common.{ap, subst, sym, ◌∙◌}
 use Rattle.bit_outcomes.specs.declared.told.Told.{Told}
+use Rattle.bit_outcomes.specs.Asked.{is_untrue}
 use Rattle.bit_outcomes.specs.declared.told.Told.TheVariants as told
 use Rattle.bit_outcomes.specs.Telling.{Tells}
-use Rattle.bit_outcomes.proofs.OfAsked.{false_told}
+use Rattle.bit_outcomes.proofs.OfAsked.{false_told, plain_told, word_plain, discrete_plain}
 use Rattle.bit_outcomes.proofs.items.false_edge.Goals as goal
 
 pub returns-in_ok-edge-in-Boolean-clause-value : goal.returns-in_ok-edge-in-Boolean-clause-value
 returns-in_ok-edge-in-Boolean-clause-value c = λ v o h a i.
     false_told v c.in-One.f c.negation-given.result c.in-Boolean.b c.negation-other.result c.in_ok-edge-in-Boolean.edge o c.negation-given.ensures c.negation-other.ensures
     (c.in_ok-edge-in-Boolean.ensures.value v h) (subst (λ (t : Told). Tells v t o) (c.in-One.is ∙ ap (told.One c.in-One.f) c.in-Boolean.is) a) i
+
+pub returns-in-Word-clause-value : goal.returns-in-Word-clause-value
+returns-in-Word-clause-value c = λ v o h a i.
+    c.constant.ensures.value v h
+    ∙ sym (ap (is_untrue) (plain_told v c.in-One.f c.in-One.value o (word_plain v _ _ c.in-One.value c.in-Word.is) (subst (λ (t : Told). Tells v t o) c.in-One.is a)))
+
+pub returns-in-Discrete-clause-value : goal.returns-in-Discrete-clause-value
+returns-in-Discrete-clause-value c = λ v o h a i.
+    c.constant-in-Discrete.ensures.value v h
+    ∙ sym (ap (is_untrue) (plain_told v c.in-One.f c.in-One.value o (discrete_plain v _ c.in-One.value c.in-Discrete.is) (subst (λ (t : Told). Tells v t o) c.in-One.is a)))
