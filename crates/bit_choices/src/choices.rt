@@ -1,11 +1,12 @@
 //! One of two values.
 
-ghost use Rattle.std.specs.Prelude.{◌≡◌, ℕ, Bool, IfOk, IfSome, Some, if◌then◌else◌, slice_get};
+ghost use Rattle.std.specs.Prelude.{◌≡◌, ℕ, Bool, IfOk, IfSome, Some, if◌then◌else◌, is_some, slice_get};
 ghost use Rattle.bit_graph.specs.Meaning.{Consistent, Stands, edge_value};
 ghost use Rattle.bit_graph.specs.Growth.{Extends};
 ghost use Rattle.bit_arith.specs.Number.{AllStand, number_of};
 ghost use Rattle.smv_value.specs.declared.value.Value.{Value};
 ghost use Rattle.bit_operators.specs.Denoting.{DiscreteStands, StandsIn, denoted, discrete_value};
+ghost use Rattle.bit_operators.specs.Kinds.{are_alike};
 ghost use Rattle.bit_choices.specs.Symbols.{AreIn};
 
 use crate::symbols::{recoded, united};
@@ -35,6 +36,7 @@ pub fn choose(
     ensures stands { IfOk result (λ r. IfSome r (λ s. StandsIn graph.new s)) }
     ensures value { IfOk result (λ r. IfSome r (λ s. (v : ℕ → Bool) (x : Value) → Consistent v graph.new →
         (if edge_value v condition then denoted v a.now else denoted v b.now) ≡ Some x → denoted v s ≡ Some x)) }
+    ensures kinds { IfOk result (λ r. is_some r ≡ are_alike a.now b.now) }
 {
     match (a, b) {
         (Symbolic::Boolean(x), Symbolic::Boolean(y)) => {

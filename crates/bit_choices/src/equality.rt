@@ -1,11 +1,12 @@
 //! `= !=`
 
-ghost use Rattle.std.specs.Prelude.{◌≡◌, ℕ, Bool, IfOk, IfSome, Some};
+ghost use Rattle.std.specs.Prelude.{◌≡◌, ℕ, Bool, IfOk, IfSome, Some, is_some};
 ghost use Rattle.bit_graph.specs.Meaning.{Consistent, Stands, edge_value};
 ghost use Rattle.bit_graph.specs.Growth.{Extends};
 ghost use Rattle.smv_value.specs.declared.value.Value.{Value};
 ghost use Rattle.smv_value.specs.Results.{same};
 ghost use Rattle.bit_operators.specs.Denoting.{DiscreteStands, StandsIn, denoted, discrete_value};
+ghost use Rattle.bit_operators.specs.Kinds.{are_alike};
 
 use crate::symbols::same_symbols;
 use bit_graph::{Edge, Graph};
@@ -29,6 +30,7 @@ pub fn equal(
     ensures stands { IfOk result (λ r. IfSome r (λ e. Stands graph.new e)) }
     ensures value { IfOk result (λ r. IfSome r (λ e. (v : ℕ → Bool) (x y : Value) → Consistent v graph.new → denoted v a.now ≡ Some x → denoted v b.now ≡ Some y →
         edge_value v e ≡ same x y)) }
+    ensures kinds { IfOk result (λ r. is_some r ≡ are_alike a.now b.now) }
 {
     match (a, b) {
         (Symbolic::Boolean(x), Symbolic::Boolean(y)) => {

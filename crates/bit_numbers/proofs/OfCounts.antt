@@ -1,6 +1,7 @@
 -- How many edges are true.
 use Rattle.std.proofs.Common.{◌≡◌, ℕ, zero, suc, ◌+◌, ◌*◌, ◌%◌, ◌^◌, ◌<◌, ◌≤◌, Bool, true, false, cond, List, [], ◌∷◌, ◌++◌, length, take, get_or, map, min, refl, sym, ap, subst, ◌∙◌, arith, inl, inr, pos}
 use Rattle.std.specs.Prelude.{Some, count_by}
+use Rattle.std.specs.List.{list_all}
 use Rattle.std.proofs.Math.Nat.{mod-eq_of_lt, pow-le-pow_right, pow-suc}
 use Rattle.std.proofs.lemmas.Bool.{cases_Bool}
 use Rattle.std.proofs.Math.ListN.{get_or-map}
@@ -22,6 +23,7 @@ use Rattle.bit_values.proofs.Widths.{least_width}
 use Rattle.bit_operators.specs.declared.symbolic.Symbolic.{Symbolic}
 use Rattle.bit_operators.specs.declared.symbolic.Symbolic.TheVariants as symbolic
 use Rattle.bit_operators.specs.Denoting.{StandsIn, denoted, integer_of}
+use Rattle.bit_operators.specs.Kinds.{is_boolean}
 use Rattle.bit_numbers.specs.Counts.{AllStandIn, AreDenoted, count_true}
 use Rattle.bit_numbers.proofs.OfIntegers.{integer_small}
 
@@ -103,3 +105,11 @@ pub counted_more : (v : ℕ → Bool) (es sum one more : List Edge) (i w : ℕ) 
 counted_more v es sum one more i w d l e hs ho hm =
     let is : number_of v sum + number_of v one ≡ count_true v (take (i + 1) es) = (λ t. hs t + ho t) ∙ sym (count_more v es i d l) in
     hm ∙ ap (λ n. n % 2 ^ w) is ∙ mod-eq_of_lt (count_less v es (i + 1) (length es) w (omega arith) e)
+
+made_of_edges : (es : List Edge) → list_all is_boolean (map symbolic.Boolean es) ≡ true
+made_of_edges [] = refl
+made_of_edges (e ∷ es) = made_of_edges es
+
+-- all operands are booleans where all of them are edges
+pub all_booleans : (ss : List Symbolic) (es : List Edge) (i : ℕ) → take i ss ≡ map symbolic.Boolean es → length ss ≤ i → list_all is_boolean ss ≡ true
+all_booleans ss es i h l = ap (list_all is_boolean) (sym (take_all i ss l) ∙ h) ∙ made_of_edges es

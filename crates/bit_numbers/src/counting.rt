@@ -1,6 +1,7 @@
 //! `count`
 
-ghost use Rattle.std.specs.Prelude.{◌≡◌, ◌<◌, ℕ, Bool, IfOk, IfSome, List, Some, count_by, length, pos};
+ghost use Rattle.std.specs.Prelude.{◌≡◌, ◌<◌, ℕ, Bool, IfOk, IfSome, List, Some, count_by, is_some, length, pos};
+ghost use Rattle.std.specs.List.{list_all};
 ghost use Rattle.bit_graph.specs.Meaning.{Consistent, Stands, edge_value};
 ghost use Rattle.bit_graph.specs.declared.edge.Node.{Node};
 ghost use Rattle.bit_graph.specs.Growth.{Extends};
@@ -9,6 +10,7 @@ ghost use Rattle.smv_value.specs.declared.value.Value.{Value};
 ghost use Rattle.smv_value.specs.declared.value.Value.TheVariants.{Int};
 ghost use Rattle.smv_value.specs.Results.{is_true};
 ghost use Rattle.bit_operators.specs.Denoting.{StandsIn, denoted, integer_of};
+ghost use Rattle.bit_operators.specs.Kinds.{is_boolean};
 ghost use Rattle.bit_numbers.specs.Counts.{AllStandIn, AreDenoted, count_true};
 
 use bit_arith::add;
@@ -28,6 +30,7 @@ pub fn number_of_true(
     ensures stands { IfOk result (λ r. IfSome r (λ s. StandsIn graph.new s)) }
     ensures value { IfOk result (λ r. IfSome r (λ s. (v : ℕ → Bool) (xs : List Value) → Consistent v graph.new → AreDenoted v operands.now xs →
         denoted v s ≡ Some (Int (pos (count_by is_true xs))))) }
+    ensures kinds { IfOk result (λ r. is_some r ≡ list_all is_boolean operands.now) }
 {
     match booleans(alloc, operands)? {
         None => Ok(None),
@@ -41,6 +44,7 @@ pub fn number_of_true(
 fn booleans(alloc: Global, operands: &[Symbolic]) -> Result<Option<Vec<Edge>>, AllocError>
     ensures stands { IfOk result (λ r. IfSome r (λ es. (g : List Node) → AllStandIn g operands.now → AllStand g es.items)) }
     ensures value { IfOk result (λ r. IfSome r (λ es. (v : ℕ → Bool) (xs : List Value) → AreDenoted v operands.now xs → count_by is_true xs ≡ count_true v es.items)) }
+    ensures kinds { IfOk result (λ r. is_some r ≡ list_all is_boolean operands.now) }
 {
     let mut edges = Vec::new(alloc);
     'operands: for i in 0..operands.len() {

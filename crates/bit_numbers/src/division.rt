@@ -1,6 +1,6 @@
 //! `/ mod`
 
-ghost use Rattle.std.specs.Prelude.{◌≡◌, ◌≢◌, ◌==◌, ℕ, Bool, IfOk, IfSome, Some, false, length, pos, true};
+ghost use Rattle.std.specs.Prelude.{◌≡◌, ◌≢◌, ◌==◌, ℕ, Bool, IfOk, IfSome, Some, false, is_some, length, pos, true};
 ghost use Rattle.bit_graph.specs.Meaning.{Consistent, Stands, edge_value};
 ghost use Rattle.bit_graph.specs.Growth.{Extends};
 ghost use Rattle.bit_arith.specs.Number.{AllStand, number_of};
@@ -9,6 +9,7 @@ ghost use Rattle.smv_value.specs.Results.{counted, divided, is_int, is_zero, low
 ghost use Rattle.bit_operators.specs.Integers.{bounded};
 ghost use Rattle.bit_numbers.specs.Divisions.{division_rule};
 ghost use Rattle.bit_operators.specs.Denoting.{ComputesUnless, DiscreteStands, StandsIn, discrete_value, integer_of};
+ghost use Rattle.bit_operators.specs.Kinds.{are_numeric};
 
 use crate::comparing::is_number;
 use bit_arith::{divide, remainder};
@@ -34,6 +35,7 @@ pub fn divided(
     ensures stands { IfOk result (λ r. IfSome r (λ s. StandsIn graph.new s.0 × Stands graph.new s.1)) }
     ensures value { IfOk result (λ r. IfSome r (λ s. (v : ℕ → Bool) → Consistent v graph.new →
         ComputesUnless v (λ x y. is_zero y) (of_numbers (divided o)) a.now b.now s.0 s.1)) }
+    ensures kinds { IfOk result (λ r. is_some r ≡ are_numeric a.now b.now) }
 {
     match (a, b) {
         (

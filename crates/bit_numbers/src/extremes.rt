@@ -1,11 +1,12 @@
 //! A choice of integers, the unary `-`, `abs max min`.
 
-ghost use Rattle.std.specs.Prelude.{◌≡◌, ℕ, Bool, IfOk, IfSome, if◌then◌else◌, length, neg_ℤ, pos, true, unsigned_abs};
+ghost use Rattle.std.specs.Prelude.{◌≡◌, ℕ, Bool, IfOk, IfSome, if◌then◌else◌, is_some, length, neg_ℤ, pos, true, unsigned_abs};
 ghost use Rattle.bit_graph.specs.Meaning.{Consistent, Stands, edge_value};
 ghost use Rattle.bit_graph.specs.Growth.{Extends};
 ghost use Rattle.bit_arith.specs.Number.{AllStand, number_of};
 ghost use Rattle.smv_value.specs.Results.{is_int, of_integer, of_integers, of_number};
 ghost use Rattle.bit_operators.specs.Denoting.{ComputesOne, ComputesTwo, StandsIn, integer_of};
+ghost use Rattle.bit_operators.specs.Kinds.{are_discrete, is_discrete, is_numeric};
 ghost use Rattle.bit_numbers.specs.Extremes.{extreme};
 
 use bit_arith::{negate, select};
@@ -48,6 +49,7 @@ pub fn negated(
     ensures extends { Extends graph.old graph.new }
     ensures stands { IfOk result (λ r. IfSome r (λ s. StandsIn graph.new s)) }
     ensures value { IfOk result (λ r. IfSome r (λ s. (v : ℕ → Bool) → Consistent v graph.new → ComputesOne v (of_number neg_ℤ) a.now s)) }
+    ensures kinds { IfOk result (λ r. is_some r ≡ is_numeric a.now) }
 {
     match a {
         Symbolic::Word { signed, bits } => {
@@ -86,6 +88,7 @@ pub fn absolute(
     ensures extends { Extends graph.old graph.new }
     ensures stands { IfOk result (λ r. IfSome r (λ s. StandsIn graph.new s)) }
     ensures value { IfOk result (λ r. IfSome r (λ s. (v : ℕ → Bool) → Consistent v graph.new → ComputesOne v (of_integer (λ x. pos (unsigned_abs x))) a.now s)) }
+    ensures kinds { IfOk result (λ r. is_some r ≡ is_discrete a.now) }
 {
     match a {
         Symbolic::Discrete(d) => {
@@ -126,6 +129,7 @@ pub fn extreme(
     ensures extends { Extends graph.old graph.new }
     ensures stands { IfOk result (λ r. IfSome r (λ s. StandsIn graph.new s)) }
     ensures value { IfOk result (λ r. IfSome r (λ s. (v : ℕ → Bool) → Consistent v graph.new → ComputesTwo v (of_integers (extreme greatest)) a.now b.now s)) }
+    ensures kinds { IfOk result (λ r. is_some r ≡ are_discrete a.now b.now) }
 {
     match (a, b) {
         (Symbolic::Discrete(x), Symbolic::Discrete(y)) => {

@@ -1,6 +1,6 @@
 //! `[ : ] extend bool sizeof uwconst swconst`
 
-ghost use Rattle.std.specs.Prelude.{◌≡◌, ◌+◌, ◌-◌, ◌<◌, ◌≤◌, ℕ, Bool, IfOk, IfSome, List, Some, drop, length, pos, take};
+ghost use Rattle.std.specs.Prelude.{◌≡◌, ◌+◌, ◌-◌, ◌<◌, ◌≤◌, ◌&&◌, ℕ, Bool, IfOk, IfSome, List, Some, drop, int_le, is_some, length, pos, take};
 ghost use Rattle.bit_graph.specs.declared.edge.Node.{Node};
 ghost use Rattle.bit_graph.specs.Meaning.{Consistent};
 ghost use Rattle.bit_graph.specs.Growth.{Extends};
@@ -9,6 +9,7 @@ ghost use Rattle.smv_value.specs.declared.value.Value.TheVariants.{Int};
 ghost use Rattle.bit_arith.specs.Number.{AllStand, number_of};
 ghost use Rattle.smv_value.specs.Results.{constant_word, counted, extended, low_bits, selected, size, to_boolean};
 ghost use Rattle.bit_operators.specs.Denoting.{ComputesOne, StandsIn, denoted};
+ghost use Rattle.bit_operators.specs.Kinds.{has_bits, has_bits_from};
 
 use crate::comparing::is_number;
 use crate::constants::integer_edges;
@@ -26,6 +27,7 @@ pub fn selected(
 ) -> Result<Option<Symbolic>, AllocError>
     ensures stands { IfOk result (λ r. IfSome r (λ s. (g : List Node) → StandsIn g a.now → StandsIn g s)) }
     ensures value { IfOk result (λ r. IfSome r (λ s. (v : ℕ → Bool) → ComputesOne v (λ x. selected x (Int high) (Int low)) a.now s)) }
+    ensures kinds { IfOk result (λ r. is_some r ≡ has_bits_from high low a.now) }
 {
     match a {
         Symbolic::Word { bits, .. } => if 0 <= low && low <= high && high < width(bits.as_slice()) {
@@ -56,7 +58,7 @@ fn part(alloc: Global, bits: &[Edge], high: usize, low: usize) -> Result<Vec<Edg
     Ok(part)
 }
 
-/// `extend(a, by)`; `None` where `a` is no word, or the result has more than 128 bits.
+/// `extend(a, by)`; `None` where `a` is no word, or `by` is none of 0 to 128.
 pub fn extended(
     alloc: Global,
     graph: &Graph,
@@ -66,6 +68,7 @@ pub fn extended(
     requires { StandsIn graph.now a.now }
     ensures stands { IfOk result (λ r. IfSome r (λ s. StandsIn graph.now s)) }
     ensures value { IfOk result (λ r. IfSome r (λ s. (v : ℕ → Bool) → Consistent v graph.now → ComputesOne v (λ x. extended x (Int by)) a.now s)) }
+    ensures kinds { IfOk result (λ r. is_some r ≡ (has_bits a.now && (int_le (pos 0) by && int_le by (pos 128)))) }
 {
     match a {
         Symbolic::Word { signed, bits } => if 0 <= by && by <= 128 {
@@ -109,6 +112,7 @@ pub fn to_boolean(
     ensures extends { Extends graph.old graph.new }
     ensures stands { IfOk result (λ r. IfSome r (λ s. StandsIn graph.new s)) }
     ensures value { IfOk result (λ r. IfSome r (λ s. (v : ℕ → Bool) → Consistent v graph.new → ComputesOne v to_boolean a.now s)) }
+    ensures kinds { IfOk result (λ r. is_some r ≡ has_bits a.now) }
 {
     match a {
         Symbolic::Word { bits, .. } => {
@@ -123,6 +127,7 @@ pub fn to_boolean(
 pub fn size(alloc: Global, graph: &Graph, a: &Symbolic) -> Result<Option<Symbolic>, AllocError>
     ensures stands { IfOk result (λ r. IfSome r (λ s. StandsIn graph.now s)) }
     ensures value { IfOk result (λ r. IfSome r (λ s. (v : ℕ → Bool) → Consistent v graph.now → ComputesOne v size a.now s)) }
+    ensures kinds { IfOk result (λ r. is_some r ≡ has_bits a.now) }
 {
     match a {
         Symbolic::Word { bits, .. } => {
@@ -143,6 +148,7 @@ pub fn constant_word(
 ) -> Result<Option<Symbolic>, AllocError>
     ensures stands { IfOk result (λ r. IfSome r (λ s. StandsIn graph.now s)) }
     ensures value { IfOk result (λ r. IfSome r (λ s. (v : ℕ → Bool) (x : Value) → Consistent v graph.now → constant_word signed (Int z) (Int width) ≡ Some x → denoted v s ≡ Some x)) }
+    ensures width { IfOk result (λ r. is_some r ≡ (int_le (pos 1) width && int_le width (pos 128))) }
 {
     if 1 <= width && width <= 128 {
         let edges = integer_edges(alloc, graph, z)?;

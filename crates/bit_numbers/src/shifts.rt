@@ -1,11 +1,12 @@
 //! `<< >>`
 
-ghost use Rattle.std.specs.Prelude.{◌≡◌, ℕ, Bool, IfOk, IfSome, false, length, pos, true};
+ghost use Rattle.std.specs.Prelude.{◌≡◌, ℕ, Bool, IfOk, IfSome, false, is_some, length, pos, true};
 ghost use Rattle.bit_graph.specs.Meaning.{Consistent, Denotes, Stands};
 ghost use Rattle.bit_graph.specs.Growth.{Extends};
 ghost use Rattle.bit_arith.specs.Number.{AllStand, number_of};
 ghost use Rattle.smv_value.specs.Results.{counted, is_too_far, is_width, low_bits, moved, natural, shifted};
 ghost use Rattle.bit_operators.specs.Denoting.{ComputesUnless, StandsIn, integer_of};
+ghost use Rattle.bit_operators.specs.Kinds.{can_shift};
 ghost use Rattle.bit_numbers.specs.Shifts.{is_outside};
 
 use crate::comparing::between;
@@ -32,6 +33,7 @@ pub fn shifted(
     ensures extends { Extends graph.old graph.new }
     ensures stands { IfOk result (λ r. IfSome r (λ s. StandsIn graph.new s.0 × Stands graph.new s.1)) }
     ensures value { IfOk result (λ r. IfSome r (λ s. (v : ℕ → Bool) → Consistent v graph.new → ComputesUnless v is_too_far (shifted o) a.now b.now s.0 s.1)) }
+    ensures kinds { IfOk result (λ r. is_some r ≡ can_shift a.now b.now) }
 {
     match (a, b) {
         (

@@ -1,6 +1,6 @@
 //! `! & | xor xnor -> <->`
 
-ghost use Rattle.std.specs.Prelude.{◌≡◌, ◌||◌, ℕ, Bool, IfOk, IfSome, List, length, map, not};
+ghost use Rattle.std.specs.Prelude.{◌≡◌, ◌||◌, ℕ, Bool, IfOk, IfSome, List, is_some, length, map, not};
 ghost use Rattle.std.specs.Bool.{beq};
 ghost use Rattle.bit_graph.specs.Meaning.{Consistent, Denotes, Stands, edge_value};
 ghost use Rattle.bit_graph.specs.declared.edge.Node.{Node};
@@ -8,6 +8,7 @@ ghost use Rattle.bit_graph.specs.Growth.{Extends};
 ghost use Rattle.bit_arith.specs.Number.{AllStand, flip, values_of};
 ghost use Rattle.smv_value.specs.Results.{inverted, logic_truth, logical};
 ghost use Rattle.bit_operators.specs.Denoting.{ComputesOne, ComputesTwo, StandsIn};
+ghost use Rattle.bit_operators.specs.Kinds.{are_logical, is_logical};
 ghost use Rattle.bit_operators.specs.Lists.{bit_by_bit};
 
 use crate::Symbolic;
@@ -20,6 +21,7 @@ use std::alloc::{AllocError, Global};
 pub fn inverted(alloc: Global, a: &Symbolic) -> Result<Option<Symbolic>, AllocError>
     ensures stands { IfOk result (λ r. IfSome r (λ s. (g : List Node) → StandsIn g a.now → StandsIn g s)) }
     ensures value { IfOk result (λ r. IfSome r (λ s. (v : ℕ → Bool) → ComputesOne v inverted a.now s)) }
+    ensures kinds { IfOk result (λ r. is_some r ≡ is_logical a.now) }
 {
     match a {
         Symbolic::Boolean(x) => Ok(Some(Symbolic::Boolean(x.negation()))),
@@ -53,6 +55,7 @@ pub fn logical(
     ensures extends { Extends graph.old graph.new }
     ensures stands { IfOk result (λ r. IfSome r (λ s. StandsIn graph.new s)) }
     ensures value { IfOk result (λ r. IfSome r (λ s. (v : ℕ → Bool) → Consistent v graph.new → ComputesTwo v (logical o) a.now b.now s)) }
+    ensures kinds { IfOk result (λ r. is_some r ≡ are_logical a.now b.now) }
 {
     match (a, b) {
         (Symbolic::Boolean(x), Symbolic::Boolean(y)) => {

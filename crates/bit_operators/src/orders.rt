@@ -1,6 +1,6 @@
 //! `< <= > >=`
 
-ghost use Rattle.std.specs.Prelude.{◌≡◌, ℕ, Bool, IfOk, IfSome, int_lt, length};
+ghost use Rattle.std.specs.Prelude.{◌≡◌, ℕ, Bool, IfOk, IfSome, int_lt, is_some, length};
 ghost use Rattle.bit_graph.specs.Meaning.{Consistent, Denotes, Stands};
 ghost use Rattle.bit_graph.specs.Growth.{Extends};
 ghost use Rattle.bit_arith.specs.Number.{AllStand, number_of};
@@ -8,6 +8,7 @@ ghost use Rattle.smv_value.specs.declared.operator.Order.TheVariants.{AtLeast, A
 ghost use Rattle.smv_value.specs.Results.{counted, ordered};
 ghost use Rattle.bit_operators.specs.declared.symbolic.Symbolic.TheVariants.{Boolean};
 ghost use Rattle.bit_operators.specs.Denoting.{ComputesTwo, StandsIn, integer_of};
+ghost use Rattle.bit_operators.specs.Kinds.{are_numeric};
 
 use crate::Symbolic;
 use crate::resizing::resized;
@@ -31,6 +32,7 @@ pub fn ordered(
     ensures extends { Extends graph.old graph.new }
     ensures stands { IfOk result (λ r. IfSome r (λ e. Stands graph.new e)) }
     ensures value { IfOk result (λ r. IfSome r (λ e. (v : ℕ → Bool) → Consistent v graph.new → ComputesTwo v (ordered o) a.now b.now (Boolean e))) }
+    ensures kinds { IfOk result (λ r. is_some r ≡ are_numeric a.now b.now) }
 {
     match o {
         Order::Less => below(alloc, graph, a, b),
@@ -52,6 +54,8 @@ fn below(
     ensures stands { IfOk result (λ r. IfSome r (λ e. Stands graph.new e)) }
     ensures less { IfOk result (λ r. IfSome r (λ e. (v : ℕ → Bool) → Consistent v graph.new → ComputesTwo v (ordered Less) a.now b.now (Boolean e))) }
     ensures greater { IfOk result (λ r. IfSome r (λ e. (v : ℕ → Bool) → Consistent v graph.new → ComputesTwo v (ordered Greater) b.now a.now (Boolean e))) }
+    ensures kinds { IfOk result (λ r. is_some r ≡ are_numeric a.now b.now) }
+    ensures kinds_back { IfOk result (λ r. is_some r ≡ are_numeric b.now a.now) }
 {
     match (a, b) {
         (
@@ -86,6 +90,8 @@ fn not_below(
     ensures stands { IfOk result (λ r. IfSome r (λ e. Stands graph.new e)) }
     ensures at_least { IfOk result (λ r. IfSome r (λ e. (v : ℕ → Bool) → Consistent v graph.new → ComputesTwo v (ordered AtLeast) a.now b.now (Boolean e))) }
     ensures at_most { IfOk result (λ r. IfSome r (λ e. (v : ℕ → Bool) → Consistent v graph.new → ComputesTwo v (ordered AtMost) b.now a.now (Boolean e))) }
+    ensures kinds { IfOk result (λ r. is_some r ≡ are_numeric a.now b.now) }
+    ensures kinds_back { IfOk result (λ r. is_some r ≡ are_numeric b.now a.now) }
 {
     match below(alloc, graph, a, b)? {
         None => Ok(None),

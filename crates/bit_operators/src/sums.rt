@@ -1,11 +1,12 @@
 //! `+ - *` and the unary `-`, on words and on integers.
 
-ghost use Rattle.std.specs.Prelude.{◌≡◌, ◌+◌, ◌≤◌, ℕ, Bool, IfOk, IfSome, IsTrue, length, neg_ℤ, true};
+ghost use Rattle.std.specs.Prelude.{◌≡◌, ◌+◌, ◌≤◌, ℕ, Bool, IfOk, IfSome, IsTrue, is_some, length, neg_ℤ, true};
 ghost use Rattle.bit_graph.specs.Meaning.{Consistent};
 ghost use Rattle.bit_graph.specs.Growth.{Extends};
 ghost use Rattle.bit_arith.specs.Number.{AllStand, number_of};
 ghost use Rattle.smv_value.specs.Results.{counted, is_int, is_width, low_bits, of_number, of_numbers, sum_of};
 ghost use Rattle.bit_operators.specs.Integers.{bounded, sum_rule};
+ghost use Rattle.bit_operators.specs.Kinds.{are_numeric};
 ghost use Rattle.bit_operators.specs.Denoting.{ComputesOne, ComputesTwo, StandsIn, integer_of};
 
 use crate::constants::integer;
@@ -30,6 +31,7 @@ pub fn summed(
     ensures extends { Extends graph.old graph.new }
     ensures stands { IfOk result (λ r. IfSome r (λ s. StandsIn graph.new s)) }
     ensures value { IfOk result (λ r. IfSome r (λ s. (v : ℕ → Bool) → Consistent v graph.new → ComputesTwo v (of_numbers (sum_of o)) a.now b.now s)) }
+    ensures kinds { IfOk result (λ r. is_some r ≡ are_numeric a.now b.now) }
 {
     match (a, b) {
         (

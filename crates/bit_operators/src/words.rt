@@ -1,11 +1,12 @@
 //! `:: resize signed unsigned word1`
 
-ghost use Rattle.std.specs.Prelude.{◌≡◌, ◌++◌, ℕ, Bool, IfOk, IfSome, List, pos};
+ghost use Rattle.std.specs.Prelude.{◌≡◌, ◌++◌, ℕ, Bool, IfOk, IfSome, List, is_some, pos};
 ghost use Rattle.bit_graph.specs.declared.edge.Node.{Node};
 ghost use Rattle.bit_graph.specs.Meaning.{Consistent};
 ghost use Rattle.smv_value.specs.declared.value.Value.TheVariants.{Int};
 ghost use Rattle.smv_value.specs.Results.{joined, resized, to_word, with_sign};
 ghost use Rattle.bit_operators.specs.Denoting.{ComputesOne, ComputesTwo, StandsIn};
+ghost use Rattle.bit_operators.specs.Kinds.{has_bits, have_bits, is_boolean};
 
 use crate::Symbolic;
 use crate::resizing::resized;
@@ -17,6 +18,7 @@ use std::alloc::{AllocError, Global};
 pub fn joined(alloc: Global, a: &Symbolic, b: &Symbolic) -> Result<Option<Symbolic>, AllocError>
     ensures stands { IfOk result (λ r. IfSome r (λ s. (g : List Node) → StandsIn g a.now → StandsIn g b.now → StandsIn g s)) }
     ensures value { IfOk result (λ r. IfSome r (λ s. (v : ℕ → Bool) → ComputesTwo v joined a.now b.now s)) }
+    ensures kinds { IfOk result (λ r. is_some r ≡ have_bits a.now b.now) }
 {
     match (a, b) {
         (Symbolic::Word { bits: high, .. }, Symbolic::Word { bits: low, .. }) => {
@@ -49,6 +51,7 @@ pub fn resized_to(
     requires { StandsIn graph.now a.now }
     ensures stands { IfOk result (λ r. IfSome r (λ s. StandsIn graph.now s)) }
     ensures value { IfOk result (λ r. IfSome r (λ s. (v : ℕ → Bool) → Consistent v graph.now → ComputesOne v (λ x. resized x (Int (pos to))) a.now s)) }
+    ensures kinds { IfOk result (λ r. is_some r ≡ has_bits a.now) }
 {
     match a {
         Symbolic::Word { signed, bits } => {
@@ -66,6 +69,7 @@ pub fn resized_to(
 pub fn with_sign(alloc: Global, signed: bool, a: &Symbolic) -> Result<Option<Symbolic>, AllocError>
     ensures stands { IfOk result (λ r. IfSome r (λ s. (g : List Node) → StandsIn g a.now → StandsIn g s)) }
     ensures value { IfOk result (λ r. IfSome r (λ s. (v : ℕ → Bool) → ComputesOne v (with_sign signed) a.now s)) }
+    ensures kinds { IfOk result (λ r. is_some r ≡ has_bits a.now) }
 {
     match a {
         Symbolic::Word { bits, .. } => {
@@ -80,6 +84,7 @@ pub fn with_sign(alloc: Global, signed: bool, a: &Symbolic) -> Result<Option<Sym
 pub fn to_word(alloc: Global, a: &Symbolic) -> Result<Option<Symbolic>, AllocError>
     ensures stands { IfOk result (λ r. IfSome r (λ s. (g : List Node) → StandsIn g a.now → StandsIn g s)) }
     ensures value { IfOk result (λ r. IfSome r (λ s. (v : ℕ → Bool) → ComputesOne v to_word a.now s)) }
+    ensures kinds { IfOk result (λ r. is_some r ≡ is_boolean a.now) }
 {
     match a {
         Symbolic::Boolean(e) => {
