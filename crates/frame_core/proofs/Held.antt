@@ -1,6 +1,7 @@
 -- Lemmas that hold a clause.
-use Rattle.std.proofs.Common.{◌≡◌, ℕ, ◌+◌, ◌<◌, ◌≤◌, Bool, true, List, [], ◌∷◌, ◌++◌, length, get_or, subst, sym, ◌∙◌, inl, inr, arith, length-append, ◌↔◌, Option, Some, None}
+use Rattle.std.proofs.Common.{◌≡◌, ℕ, ◌+◌, ◌<◌, ◌≤◌, Bool, true, List, [], ◌∷◌, ◌++◌, length, get_or, subst, sym, ap, ◌∙◌, inl, inr, arith, length-append, ◌↔◌, Option, Some, None}
 use Rattle.std.specs.List.{All, Contains}
+use Rattle.std.specs.List.Sorted.{IsStrictlyIncreasing}
 use Rattle.std.proofs.Math.ListN.{get_or-append}
 use Rattle.std.proofs.Math.Seq.{get_or-append_seam}
 use Rattle.std.proofs.lemmas.Bool.{cases_eq}
@@ -58,6 +59,25 @@ covers_is lemmas clause level n l b e lt live high is =
       λ h. is.1 (subst (λ (m : Lemma). IsPart clause m.clause) (sym e) h.3),
     )
 
+below_more : (numbers : List ℕ) (n : ℕ) → All (λ k. k < n) numbers → All (λ k. k < n + 1) numbers
+below_more numbers n h k d lt = let small : get_or numbers k d < n = h k d lt in omega arith
+
+-- a greater number is added last
+ascending_more : (numbers : List ℕ) (n : ℕ) → All (λ k. k < n) numbers → IsStrictlyIncreasing numbers → IsStrictlyIncreasing (numbers ++ n ∷ [])
+ascending_more numbers n below up k lt =
+    let count : length (numbers ++ n ∷ []) ≡ length numbers + 1 = length-append numbers (n ∷ []) in
+    let first : get_or (numbers ++ n ∷ []) k 0 ≡ get_or numbers k 0 = get_or-append numbers (n ∷ []) 0 k (omega arith) in
+    elim (cases_eq (k + 1) (length numbers)) [
+      | inl e ↦
+          let small : get_or numbers k 0 < n = below k 0 (omega arith) in
+          let last : get_or (numbers ++ n ∷ []) (k + 1) 0 ≡ n = ap (λ j. get_or (numbers ++ n ∷ []) j 0) e ∙ get_or-append_seam numbers n [] 0 in
+          omega arith
+      | inr ne ↦
+          let next : get_or (numbers ++ n ∷ []) (k + 1) 0 ≡ get_or numbers (k + 1) 0 = get_or-append numbers (n ∷ []) 0 (k + 1) (omega arith) in
+          let rise : get_or numbers k 0 < get_or numbers (k + 1) 0 = up k (omega arith) in
+          omega arith
+    ]
+
 -- one lemma more was looked at: it is covered, and its number is taken
 pub covered_more : (lemmas : List Lemma) (clause : List Lit) (level n : ℕ) (numbers : List ℕ) → CoversAt lemmas clause level n →
     AreCoveredBy lemmas clause level n numbers → AreCoveredBy lemmas clause level (n + 1) (numbers ++ n ∷ [])
@@ -71,6 +91,8 @@ covered_more lemmas clause level n numbers here are =
             let old : Contains numbers k = are.whole k (omega arith) c in
             (old.0, omega (arith, old.1, length-append numbers (n ∷ [])), get_or-append numbers (n ∷ []) k old.0 old.1 ∙ old.2)
       ];
+      below = All-append (λ k. k < n + 1) numbers (n ∷ []) (below_more numbers n are.below) (All-cons (λ k. k < n + 1) n [] (omega arith) (All-nil (λ k. k < n + 1)));
+      ascending = ascending_more numbers n are.below are.ascending;
     }
 
 -- it is not
@@ -83,4 +105,6 @@ covered_same lemmas clause level n numbers none are =
         | inl e ↦ absurd (none (subst (CoversAt lemmas clause level) e c))
         | inr ne ↦ are.whole k (omega arith) c
       ];
+      below = below_more numbers n are.below;
+      ascending = are.ascending;
     }

@@ -1,5 +1,6 @@
 -- Lemmas that are looked up.
 use Rattle.std.specs.Prelude.{◌≡◌, ◌⊎◌, ◌↔◌, ℕ, ◌<◌, ◌≤◌, Bool, true, false, List, [], length, slice_index_or, All, Contains, if◌then◌else◌}
+use Rattle.std.specs.List.Sorted.{IsStrictlyIncreasing}
 use Rattle.clause_core.specs.declared.literal.Lit.{Lit}
 use Rattle.frame_core.specs.declared.parts.Lemma.{Lemma}
 use Rattle.frame_core.specs.declared.parts.Parent.{Parent}
@@ -50,7 +51,9 @@ abbrev pub CoversAt : List Lemma → List Lit → ℕ → ℕ → Type 0
 CoversAt lemmas clause level n =
     (n < length lemmas) × ((lemma_at lemmas n).live ≡ true) × ((lemma_at lemmas n).level ≤ level) × IsPart clause (lemma_at lemmas n).clause
 
--- the numbers are those of the lemmas below the bound that a lemma with this clause and level covers
+-- the numbers are those of the lemmas below the bound that a lemma with this clause and level covers, from the lowest on
 pub record AreCoveredBy (lemmas : List Lemma) (clause : List Lit) (level bound : ℕ) (numbers : List ℕ) : Type 0 where
   pub each : All (CoversAt lemmas clause level) numbers
   pub whole : (n : ℕ) → n < bound → CoversAt lemmas clause level n → Contains numbers n
+  pub below : All (λ n. n < bound) numbers
+  pub ascending : IsStrictlyIncreasing numbers
