@@ -1,6 +1,6 @@
 //! Whether two systems are equal, and the first place at which they differ.
 
-ghost use Rattle.std.specs.Prelude.{◌≡◌, ◌<◌, ◌↔◌, false, length, IsTrue, MatchOption};
+ghost use Rattle.std.specs.Prelude.{◌≡◌, ◌<◌, ◌↔◌, ℕ, false, length, IsTrue, MatchOption};
 ghost use Rattle.frame_core.specs.Differences.{DifferFirstAt, IsSameSystem, DifferAt};
 ghost use Rattle.frame_core.specs.FrameLaw.{AreAlike, system_at};
 
@@ -66,7 +66,7 @@ pub(crate) fn difference(a: &System, b: &System, with_bad: bool) -> Option<Place
 
 /// The first system that differs from the first one by more than its bad and good clauses, and where.
 pub fn first_unlike(systems: &[System]) -> Option<(usize, Place)>
-    ensures { MatchOption result (AreAlike systems.now) (λ u. (u.0 < length systems.now) × DifferAt false (system_at systems.now 0) (system_at systems.now u.0) u.1) }
+    ensures { MatchOption result (AreAlike systems.now) (λ u. (u.0 < length systems.now) × DifferAt false (system_at systems.now 0) (system_at systems.now u.0) u.1 × ((j : ℕ) → j < u.0 → IsSameSystem false (system_at systems.now 0) (system_at systems.now j))) }
 {
     for j in 0..systems.len() {
         if let Some(place) = difference(&systems[0], &systems[j], false) {

@@ -29,4 +29,5 @@ returns-in-Some c =
       lt,
       subst (λ (t : TransitionSystem). DifferAt false t (system_at systems j) c.in-Some.place) ea
           (subst (λ (t : TransitionSystem). DifferAt false a t c.in-Some.place) eb c.in-Some.ensures),
+      c.loop-j.invariant,
     )
