@@ -3,3 +3,4 @@ pub mod Counting
 pub mod Longest
 pub mod Ascii
 pub mod Cuts
+pub mod ByFirst

@@ -1,4 +1,5 @@
 pub mod Words
+pub mod Rows
 pub mod Numbers
 pub mod Comments
 pub mod Lexemes
