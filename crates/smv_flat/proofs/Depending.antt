@@ -57,7 +57,7 @@ module _ (slots : ℕ) (nodes : List Node) (time : Time) (all : List Assigned) w
   dependency = slot_graph slots time (map (assigned_by nodes) all)
 
   -- an assignment that ties two slots
-  tied : (x y : ℕ) → depends time (map (assigned_by nodes) all) x y ≡ true
+  pub tied : (x y : ℕ) → depends time (map (assigned_by nodes) all) x y ≡ true
       → (a : Assigned) × Contains all a × (gives time x (assigned_by nodes a) ≡ true) × (occurs (looks_ahead a.kind) y (part_of nodes a.value) ≡ true)
   tied x y holds =
       let some = Any-from_list_any (λ (a : Assigned). ties time x y (assigned_by nodes a)) all (sym (any_mapped (ties time x y) (assigned_by nodes) all) ∙ holds) in

@@ -5,5 +5,6 @@ pub mod Rows
 pub mod Reading
 pub mod Leading
 pub mod Depending
+pub mod Quiet
 pub mod Rounds
 pub mod Within

@@ -1,3 +1,4 @@
 pub mod Assignments
 pub mod Graph
 pub mod Marks
+pub mod Reads

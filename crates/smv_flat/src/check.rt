@@ -5,7 +5,8 @@ ghost use Rattle.std.proofs.Props.{props};
 ghost use Rattle.smv_flat.specs.Assignments.{AreAssignable, IsAssignmentStop};
 
 use crate::assigned::assignments_of;
-use crate::cycles::refuse_cycle;
+use crate::cycles::judge_cycle;
+use crate::reads::reads_of;
 use crate::time::Time;
 use crate::twice::refuse_twice;
 use smv_meaning::Typed;
@@ -38,7 +39,8 @@ pub fn flatten(alloc: Global, typed: Typed) -> Result<Flat, TextStop>
 {
     let all = assignments_of(alloc, &typed)?;
     refuse_twice(alloc, &typed, &all)?;
-    refuse_cycle(alloc, &typed, Time::First, &all)?;
-    refuse_cycle(alloc, &typed, Time::Next, &all)?;
+    let reads = reads_of(alloc, typed.nodes.as_slice())?;
+    judge_cycle(alloc, &typed, Time::First, &all, &reads)?;
+    judge_cycle(alloc, &typed, Time::Next, &all, &reads)?;
     Ok(Flat { typed })
 }

@@ -4,10 +4,13 @@ ghost use Rattle.std.specs.Prelude.{◌≡◌, map, IfErr, IfOk, OnOk};
 ghost use Rattle.digraph.specs.Cycles.{Acyclic};
 ghost use Rattle.smv_flat.specs.Assignments.{IsCycleStop, assignments_of, cycle_refusal, dependencies, path_text, place_of_assignment};
 ghost use Rattle.smv_flat.specs.Graph.{assigned_by, slots_among};
+ghost use Rattle.smv_flat.specs.Reads.{reads_of};
+ghost use Rattle.smv_resolve.specs.Resolved.{parts_of};
 
 use crate::assigned::Assigned;
 use crate::graph::whole_graph;
 use crate::names::name_of_slot;
+use crate::reads::{Reads, is_apart};
 use crate::time::{Time, gives};
 use digraph::canonical_cycle;
 use plain_text::Text;
@@ -19,13 +22,28 @@ use std::alloc::{AllocError, Global};
 // More slots, or more nodes, are not numbered in one graph.
 const MOST: usize = 0x4000_0000;
 
-/// Refuses a cycle among the values of this time.
-pub fn refuse_cycle(
+/// Refuses a cycle among the values of this time, where it is known what each node reads. No graph is made where no value reads
+/// another of its own time.
+pub fn judge_cycle(
     alloc: Global,
     typed: &Typed,
     time: Time,
     all: &[Assigned],
+    reads: &[Reads],
 ) -> Result<(), TextStop>
+    requires assigned { map (assigned_by typed.now.nodes) all.now ≡ assignments_of typed.now.scope.program }
+    requires reads { reads.now ≡ map reads_of (parts_of typed.now.nodes) }
+    ensures right { OnOk result (Acyclic (dependencies typed.now.scope.program time)) }
+    ensures refused { IfErr result (IsCycleStop typed.now.scope.program time) }
+{
+    if is_apart(time, reads, all) {
+        return Ok(());
+    }
+    refuse_cycle(alloc, typed, time, all)
+}
+
+// Refuses a cycle among the values of this time.
+fn refuse_cycle(alloc: Global, typed: &Typed, time: Time, all: &[Assigned]) -> Result<(), TextStop>
     requires { map (assigned_by typed.now.nodes) all.now ≡ assignments_of typed.now.scope.program }
     ensures right { OnOk result (Acyclic (dependencies typed.now.scope.program time)) }
     ensures refused { IfErr result (IsCycleStop typed.now.scope.program time) }

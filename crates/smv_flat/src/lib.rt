@@ -6,6 +6,7 @@ mod check;
 mod cycles;
 mod graph;
 mod names;
+mod reads;
 mod time;
 mod twice;
 
