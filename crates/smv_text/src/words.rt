@@ -12,7 +12,7 @@ const FIRST_LETTER: u8 = b'A';
 
 /// The words with a meaning: the reserved words, the names of functions, and the words of NuSMV that the language does without.
 /// Each row has those that begin with one letter, from `A` on to `x`.
-const WORDS: [&[(&[u8], TokenKind)]; 56] = [
+static WORDS: [&[(&[u8], TokenKind)]; 56] = [
     &[
         (b"ASSIGN", TokenKind::Assign),
         (b"A", TokenKind::Unsupported),
@@ -137,7 +137,7 @@ const WORDS: [&[(&[u8], TokenKind)]; 56] = [
 const FIRST_SIGN: u8 = b'!';
 
 /// The symbols. Each row has those that begin with one byte, from `!` on to `}`.
-const SYMBOLS: [&[(&[u8], TokenKind)]; 93] = [
+static SYMBOLS: [&[(&[u8], TokenKind)]; 93] = [
     &[(b"!=", TokenKind::NotEqual), (b"!", TokenKind::Not)],
     &[],
     &[],
