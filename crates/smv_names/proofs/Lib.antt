@@ -6,3 +6,4 @@ pub mod OfEntries
 pub mod Once
 pub mod Ordered
 pub mod Uses
+pub mod Noted

@@ -6,3 +6,4 @@ pub mod Rules
 pub mod Lent
 pub mod Marks
 pub mod Entries
+pub mod Nameless

@@ -7,6 +7,7 @@ mod defined;
 mod entries;
 mod graph;
 mod known;
+mod nameless;
 mod names;
 mod numbers;
 mod one_judgement;

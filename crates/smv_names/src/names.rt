@@ -6,11 +6,14 @@ ghost use Rattle.smv_tree.specs.declared.tree.Name.{Name};
 ghost use Rattle.smv_tree.specs.declared.tree.Start.TheVariants as start;
 ghost use Rattle.smv_scope.specs.Lookup.{as_instance, depth_limit, instance_within};
 ghost use Rattle.smv_scope.specs.Targets.{seen};
+ghost use Rattle.smv_scope.specs.Modules.{sections_of};
 ghost use Rattle.smv_tree.specs.Occurring.{read};
+ghost use Rattle.smv_names.specs.Nameless.{AreNameless};
 ghost use Rattle.smv_names.specs.Lent.{read_some};
 ghost use Rattle.smv_names.specs.Named.{unknown_before, unknown_from, unknown_identifier, unknown_in_all, unknown_in_assignment, unknown_in_dimension, unknown_in_expression, unknown_in_name, unknown_in_section, unknown_in_sections, unknown_in_type, unknown_in_variable, unknown_last, unknown_members, unknown_names};
 ghost use Rattle.smv_verdicts.specs.Verdicts.{Judges, first_of};
 
+use crate::nameless::{is_nameless_module, nameless_modules};
 use smv_scope::{NameTarget, Scope, instance_of, member_target, own_target, sections_of};
 use smv_tree::{
     Assignment, Definition, Dimension, Expr, Identifier, Name, Rule, Section, Start, TextStop,
@@ -23,10 +26,28 @@ use std::alloc::Global;
 pub(crate) fn unknown_names(alloc: Global, scope: &Scope) -> Result<(), TextStop>
     ensures { Judges result (unknown_names scope.now.program) }
 {
+    let nameless = nameless_modules(alloc, &scope.program)?;
     for (n, x) in scope.tree.as_slice().iter().enumerate() {
-        unknown_in_sections(alloc, scope, n, sections_of(&scope.program, x.of_module))?;
+        unknown_in_instance(alloc, scope, &nameless, n, x.of_module)?;
     }
     Ok(())
+}
+
+// Each name of this instance of the module of this number. There is nothing to do where it is noted that none stands there.
+fn unknown_in_instance(
+    alloc: Global,
+    scope: &Scope,
+    nameless: &[bool],
+    at: usize,
+    m: usize,
+) -> Result<(), TextStop>
+    requires { AreNameless scope.now.program nameless.now }
+    ensures { Judges result (unknown_in_sections scope.now.program at (sections_of scope.now.program m)) }
+{
+    if is_nameless_module(nameless, m) {
+        return Ok(());
+    }
+    unknown_in_sections(alloc, scope, at, sections_of(&scope.program, m))
 }
 
 fn unknown_in_sections(
