@@ -10,7 +10,7 @@ use crate::sums::add;
 use bit_graph::{Edge, Graph};
 use std::alloc::{AllocError, Global};
 
-/// The product, round 2 to the power of the width.
+/// The product, modulo 2 to the power of the width.
 pub fn multiply(
     alloc: Global,
     graph: &mut Graph,

@@ -13,7 +13,7 @@ use crate::sums::subtract;
 use bit_graph::{Edge, Graph};
 use std::alloc::{AllocError, Global};
 
-/// The negation, round 2 to the power of the width.
+/// The negation, modulo 2 to the power of the width.
 pub fn negate(alloc: Global, graph: &mut Graph, a: &[Edge]) -> Result<Vec<Edge>, AllocError>
     requires { AllStand graph.old a.now }
     ensures extends { Extends graph.old graph.new }

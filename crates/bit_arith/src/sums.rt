@@ -9,7 +9,7 @@ ghost use Rattle.bit_arith.specs.Words.{difference};
 use bit_graph::{Edge, Graph};
 use std::alloc::{AllocError, Global};
 
-/// The sum, round 2 to the power of the width.
+/// The sum, modulo 2 to the power of the width.
 pub fn add(
     alloc: Global,
     graph: &mut Graph,
@@ -30,7 +30,7 @@ pub fn add(
     Ok(sum)
 }
 
-/// The difference, round 2 to the power of the width.
+/// The difference, modulo 2 to the power of the width.
 pub fn subtract(
     alloc: Global,
     graph: &mut Graph,

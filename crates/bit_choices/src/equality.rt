@@ -1,4 +1,4 @@
-//! `= !=`
+//! Equality of values as edges: `=` and `!=`.
 
 ghost use Rattle.std.specs.Prelude.{◌≡◌, ℕ, Bool, IfOk, IfSome, Some, is_some};
 ghost use Rattle.bit_graph.specs.Meaning.{Consistent, Stands, edge_value};

@@ -1,4 +1,4 @@
-//! Laws of systems that stand for a program and a formula.
+//! Laws from lassos over bits to lassos of a program, by a system that stands for the program and a formula.
 
 ghost use Rattle.std.specs.Prelude.{ℕ, Bool, List};
 ghost use Rattle.ltl_meaning.specs.Unfolded.{unfolded};

@@ -1,4 +1,4 @@
-//! `count`
+//! How many operands are TRUE: `count`.
 
 ghost use Rattle.std.specs.Prelude.{◌≡◌, ◌<◌, ℕ, Bool, IfOk, IfSome, List, Some, count_by, is_some, length, pos};
 ghost use Rattle.std.specs.List.{list_all};

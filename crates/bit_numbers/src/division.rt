@@ -1,4 +1,4 @@
-//! `/ mod`
+//! Quotients and remainders: `/` and `mod`.
 
 ghost use Rattle.std.specs.Prelude.{◌≡◌, ◌≢◌, ◌==◌, ℕ, Bool, IfOk, IfSome, Some, false, is_some, length, pos, true};
 ghost use Rattle.bit_graph.specs.Meaning.{Consistent, Stands, edge_value};

@@ -1,4 +1,4 @@
-//! `[ : ] extend bool sizeof uwconst swconst`
+//! Parts of words, and words made of constants: `[ : ] extend bool sizeof uwconst swconst`.
 
 ghost use Rattle.std.specs.Prelude.{◌≡◌, ◌+◌, ◌-◌, ◌<◌, ◌≤◌, ◌&&◌, ℕ, Bool, IfOk, IfSome, List, Some, drop, int_le, is_some, length, pos, take};
 ghost use Rattle.bit_graph.specs.declared.edge.Node.{Node};

@@ -1,4 +1,4 @@
-//! `<< >>`
+//! Shifts of words: `<<` and `>>`.
 
 ghost use Rattle.std.specs.Prelude.{◌≡◌, ℕ, Bool, IfOk, IfSome, false, is_some, length, pos, true};
 ghost use Rattle.bit_graph.specs.Meaning.{Consistent, Denotes, Stands};

@@ -1,4 +1,4 @@
-//! `! & | xor xnor -> <->`
+//! Logic on booleans and on words, bit by bit: `! & | xor xnor -> <->`.
 
 ghost use Rattle.std.specs.Prelude.{◌≡◌, ◌||◌, ℕ, Bool, IfOk, IfSome, List, is_some, length, map, not};
 ghost use Rattle.std.specs.Bool.{beq};

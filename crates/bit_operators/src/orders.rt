@@ -1,4 +1,4 @@
-//! `< <= > >=`
+//! The order of words and of integers: `< <= > >=`.
 
 ghost use Rattle.std.specs.Prelude.{◌≡◌, ℕ, Bool, IfOk, IfSome, int_lt, is_some, length};
 ghost use Rattle.bit_graph.specs.Meaning.{Consistent, Denotes, Stands};

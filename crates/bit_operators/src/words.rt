@@ -1,4 +1,4 @@
-//! `:: resize signed unsigned word1`
+//! Words made of words: `:: resize signed unsigned word1`.
 
 ghost use Rattle.std.specs.Prelude.{◌≡◌, ◌++◌, ℕ, Bool, IfOk, IfSome, List, is_some, pos};
 ghost use Rattle.bit_graph.specs.declared.edge.Node.{Node};

@@ -1,4 +1,4 @@
-//! Laws of systems that stand for a program.
+//! Laws from the frames of systems that stand for a program to its runs.
 
 ghost use Rattle.std.specs.Prelude.{◌<◌, ℕ, List, length};
 ghost use Rattle.clause_core.specs.Systems.{TransitionSystem};

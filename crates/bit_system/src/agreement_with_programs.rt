@@ -1,4 +1,4 @@
-//! Laws of systems that stand for a program.
+//! Laws of systems that stand for a program: they agree with it, and what they never reach no run of it does.
 
 ghost use Rattle.std.specs.Prelude.{ℕ};
 ghost use Rattle.clause_core.specs.Systems.{TransitionSystem};

@@ -1,4 +1,4 @@
-//! A law of operators.
+//! The law of operators: what one gives of values is a value.
 
 ghost use Rattle.std.specs.Prelude.{◌≡◌, List, Some, true};
 ghost use Rattle.std.specs.List.{list_all};

@@ -1,4 +1,4 @@
-//! Laws of bits.
+//! Laws of values as bits: the width of a type, and one list of bits for each value.
 
 ghost use Rattle.std.specs.Prelude.{◌≡◌, ℕ, true};
 ghost use Rattle.value_types.specs.declared.value_type.ValueType.{ValueType};

@@ -1,4 +1,4 @@
-//! A soundness block while it is read: items in order, each with its derivation.
+//! A sound block while it is read: items in order, each with its derivation.
 
 ghost use Rattle.std.specs.Prelude.{◌≡◌, ◌∷◌, [], IfOk, None, Some, replicate};
 ghost use Rattle.clause_core.specs.Literals.{Within};

@@ -1,4 +1,4 @@
-//! Prints certificates and soundness blocks as comment lines of a model.
+//! Prints certificates and sound blocks as comment lines of a model.
 
 ghost use Rattle.std.specs.Prelude.{◌≡◌, ◌++◌, ◌<◌, IfOk, OnOk, All, None, Some, codes, slice_index_or, string_bytes};
 ghost use Rattle.clause_core.specs.Literals.{Within};

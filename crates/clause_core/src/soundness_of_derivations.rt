@@ -1,4 +1,5 @@
-//! What the definitions give, as contracts of functions that do nothing.
+//! What follows by unit propagation is implied, and what derives the empty clause has no model: as contracts of
+//! functions that do nothing.
 
 ghost use Rattle.std.specs.Prelude.{ℕ, List, All, Bool};
 ghost use Rattle.clause_core.specs.declared.literal.Lit.{Lit};

@@ -236,7 +236,7 @@ Accepts f c (PushFailed n level) =
     × ((x y : ℕ → Bool) × InFrame (system_at f.systems 0) f.lemmas level x × StepBits (system_at f.systems 0) x y
     × (ClauseTrue y (lemma_at f.lemmas n).clause → ⊥))
 Accepts f c (Limit j) = ⊥
--- the purse was spent
+-- that the purse was spent is no fact about frames: any claim may end so
 Accepts f c Spent = Unit {0}
 
 -- the top of j is past the limit, and at each level up to the limit a push failed since a lemma was last added or raised
@@ -263,7 +263,7 @@ AcceptsEach limits s (c ∷ cs) = AcceptsNext limits s c × AcceptsEach limits (
 abbrev pub IsOut : BookState → ℕ → ℕ → Made → Type 0
 IsOut s worker n c = (claim_at s.claims n ≡ Some c) × (c.out ≡ true) × (c.worker ≡ worker)
 
--- one change comes of this claim, the others follow from it, and at the end no limit is left
+-- one change comes of this claim, the others follow from it, and at the end each limit that is met is noted
 abbrev pub AcceptsAll : Limits → BookState → Made → List Change → Type 0
 AcceptsAll limits s c [] = ⊥
 AcceptsAll limits s c (d ∷ ds) =

@@ -1,4 +1,4 @@
-//! What the definitions give, as contracts of functions that do nothing.
+//! Steps that follow by hints are a derivation, as contracts of functions that do nothing.
 
 ghost use Rattle.std.specs.Prelude.{ℕ, List};
 ghost use Rattle.clause_core.specs.declared.literal.Lit.{Lit};

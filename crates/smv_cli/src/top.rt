@@ -333,10 +333,15 @@ fn perform<'a, R: Threads + Wait + Sync, S: Source, K: Sink, G: Gate + Sync>(
 
 /// Does what the words of the command line say, and answers the status.
 ///
-/// `check` decides each INVARSPEC by IC3 (Bradley 2011; Een, Mishchenko and Brayton 2011): by lemmas that are an inductive
-/// invariant, or by a run that is replayed before it is printed. Each has the whole effort of the words to itself, and its
-/// record is written as soon as it is made; with `--together` all share one pool of lemmas and one effort, and are decided
-/// before the first record. The time is that of as many solver queries and learned clauses as the effort has tickets.
+/// `check` first asks of each item whether it ever faults (`smv_prepare`); a model of which one does is refused. It decides
+/// each INVARSPEC by IC3 (Bradley 2011; Een, Mishchenko and Brayton 2011): by lemmas that are an inductive invariant, or
+/// by a run. It decides each LTLSPEC by lassos and by counted signals (Claessen and Sörensson 2012). A run or a lasso is
+/// replayed before it is printed. Each specification has the whole effort of the words to itself, and its record is
+/// written as soon as it is made. With `--together` all INVARSPECs share one pool of lemmas and one effort, and are decided
+/// before the first record. The time is that of as many solver queries and learned clauses as the effort has tickets, and
+/// of the small tries that an LTLSPEC has before.
+///
+/// `flat` lists the slots of the model, and its items but for specifications.
 ///
 /// `recheck` judges a report that stands beside its model, by its traces and certificates alone, and asks no solver
 /// (`smv_recheck::recheck`); with `--upgrade` it prints each certificate anew in the form that is judged by hints. What it shows holds.

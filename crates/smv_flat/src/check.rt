@@ -13,7 +13,7 @@ use smv_meaning::Typed;
 use smv_tree::TextStop;
 use std::alloc::Global;
 
-/// A program whose assignments give each variable at most one value at a time, and none in a circle. Its items stand flat, for
+/// A program whose assignments give each variable at most one value at a time, and none in a cycle. Its items stand flat, for
 /// all instances; their nodes hold each definition of each instance once.
 #[derive(Debug, Drop)]
 pub struct Flat {

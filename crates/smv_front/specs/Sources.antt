@@ -39,7 +39,7 @@ pub data IsRefusedBy (bytes : List ℕ) (r : Refusal) : Type 0 where
   in_assignments : (tokens : Tokens) (p : Program) → Spells bytes tokens p → types_verdict p None → IsRefusedByAssignments p r → IsRefusedBy bytes r
   in_bits : (tokens : Tokens) (p : Program) → Spells bytes tokens p → types_verdict p None → AreAssignable p → bit_limit < bits_of p → r ≡ too_many_bits → IsRefusedBy bytes r
 
--- two refusals that are equal, or of which each tells a circle of assignments (502): of several circles either may be told
+-- two refusals that are equal, or of which each tells a cycle of assignments (502): of several cycles either may be told
 abbrev pub AreAlike : Refusal → Refusal → Type 0
 AreAlike a b = (a ≡ b) ⊎ ((a.rule ≡ AssignCycle) × (b.rule ≡ AssignCycle))
 

@@ -1,4 +1,4 @@
-//! Kinds beside each other.
+//! Whether kinds go together, and the kind of what joins them.
 
 ghost use Rattle.std.specs.Prelude.{◌≡◌};
 ghost use Rattle.smv_value.specs.Results.{alike};

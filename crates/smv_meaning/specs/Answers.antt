@@ -1,4 +1,4 @@
--- What the value of an expression that is looked up is.
+-- What the evaluation of one expression answers.
 use Rattle.std.specs.Prelude.{◌≡◌, ℕ, true, false, List, [], Some, Result, Ok, Err, if◌then◌else◌}
 use Rattle.std.specs.List.{Contains}
 use Rattle.smv_tree.specs.declared.tree.Program.{Program}

@@ -40,12 +40,13 @@ pub record IsLasso (p : Program) (w : Lasso) : Type 0 where
   pub steps : (i : ℕ) → i + 1 < length w.states → IsStep p (at_time w.states i) (at_time w.inputs i) (at_time w.states (i + 1))
   pub back : IsStep p (at_time w.states (length w.states - 1)) (at_time w.inputs (length w.states - 1)) (at_time w.states w.start)
 
--- each JUSTICE is TRUE in some state of the loop (manual 2.3.7, FAIRNESS Constraints)
+-- each JUSTICE is TRUE in some state of the loop (manual 2.3.9, FAIRNESS Constraints)
 abbrev pub MeetsJustice : Program → Lasso → Type 0
 MeetsJustice p w =
     (x : ResolvedItem) → Contains (items_of p) x → x.kind ≡ item.Constraint asked.Justice →
     (j : ℕ) × (w.start ≤ j) × (j < length w.states) × (outcome_in (slots_of p) (at_time w.states j) x.value ≡ one (value.Bool true))
 
+-- a lasso in whose loop each JUSTICE is TRUE in some state
 pub record IsFairLasso (p : Program) (w : Lasso) : Type 0 where
   pub lasso : IsLasso p w
   pub fair : MeetsJustice p w

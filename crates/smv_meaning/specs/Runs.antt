@@ -26,7 +26,7 @@ use Rattle.smv_meaning.specs.Formulas.{is_known, is_known_formula}
 use Rattle.smv_meaning.specs.Outcomes.{one, truth, value_in}
 use Rattle.smv_meaning.specs.Values.{outcome, outcome_in}
 
--- the value is one of the type's, if there is a type (manual 2.1, Types Overview)
+-- the value is one of the type; where there is no type it is none (manual 2.1, Types Overview)
 abbrev pub in_type : Option ValueType → Value → Bool
 in_type (Some t) v = is_of_type v t
 in_type None v = false
@@ -84,8 +84,8 @@ asks_always x e (item.Constraint asked.Trans) = true
 asks_always x e (item.Constraint asked.Justice) = true
 asks_always x e (item.Specification kind) = true
 
--- What an item asks of a step, by the outcome of what it assigns in the next state and of its value in this one:
--- `next(x) := e` gives x in the next state the value of e in this one (manual 2.3.8), and TRANS (2.3.7).
+-- What an item asks of a step, by the outcome of what it assigns in the next state and of its value at the step:
+-- `next(x) := e` gives x in the next state the value of e at the step (manual 2.3.8), and TRANS (2.3.7).
 abbrev pub asks_step : Outcome → Outcome → ItemKind → Bool
 asks_step x e (item.Assignment side.Init) = true
 asks_step x e (item.Assignment side.Current) = true
@@ -177,8 +177,8 @@ speaks_of_step other = false
 abbrev pub item_outcome : List Slot → List Value → List Value → List Value → Resolved → ItemKind → Outcome
 item_outcome slots s u t e kind = if speaks_of_step kind then outcome slots s u t e else outcome_in slots s e
 
--- What an item assigns has one value in a state, and what it gets has values or faults. What is asked for or claimed is TRUE or FALSE
--- or faults; so are the parts of a temporal formula.
+-- The variable that an item assigns has one value in a state, and its right side has values or faults. What is asked for or
+-- claimed is TRUE or FALSE or faults; so are the parts of a temporal formula.
 abbrev pub is_known_by : List Slot → List Value → List Value → List Value → Option Resolved → Resolved → ItemKind → Bool
 is_known_by slots s u t target e (item.Assignment which) =
     is_single (outcome_of_target slots s target) && is_given (item_outcome slots s u t e (item.Assignment which))
@@ -189,7 +189,7 @@ is_known_by slots s u t target e (item.Specification claim.Temporal) = is_known_
 abbrev pub is_known_item : List Slot → List Value → List Value → List Value → ResolvedItem → Bool
 is_known_item slots s u t x = is_known_by slots s u t x.target x.value x.kind
 
--- So is each item of the program in all states and steps, reached or not, since its kinds fit.
+-- Each item of the program is so in all states and steps of the declared types, reached or not.
 abbrev pub AllKnown : Program → Type 0
 AllKnown p = (s u t : List Value) → is_state p s ≡ true → are_inputs p u ≡ true → is_state p t ≡ true →
     list_all (is_known_item (slots_of p) s u t) (items_of p) ≡ true

@@ -1,4 +1,4 @@
-//! Laws of lassos.
+//! Laws of lassos: steps go on for ever, and without the step back a lasso is a run.
 
 ghost use Rattle.std.specs.Prelude.{ℕ, ◌+◌, ◌-◌, length, take};
 ghost use Rattle.smv_tree.specs.declared.tree.Program.{Program};

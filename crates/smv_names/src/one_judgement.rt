@@ -1,4 +1,4 @@
-//! A law of the rules.
+//! The law of the rules of names: what is right to say of a program is one thing.
 
 ghost use Rattle.smv_names.specs.Rules.{AreNamesJudgedOnce};
 

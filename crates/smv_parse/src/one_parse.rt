@@ -1,4 +1,4 @@
-//! Laws of the definitions.
+//! The law of parsing: tokens spell one program at most, or are refused in one way.
 
 ghost use Rattle.std.specs.Prelude.{◌≡◌, ◌⊎◌, List};
 ghost use Rattle.smv_tree.specs.declared.token.Token.{Token};

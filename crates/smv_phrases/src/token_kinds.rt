@@ -1,4 +1,4 @@
-//! Laws of the definitions.
+//! The law of kinds: each token is of one kind alone.
 
 ghost use Rattle.std.specs.Prelude.{◌≡◌, true};
 ghost use Rattle.smv_tree.specs.declared.token.Token.{Token};

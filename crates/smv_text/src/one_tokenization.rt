@@ -1,4 +1,4 @@
-//! Laws of the definitions.
+//! The law of tokens: a text has one list of tokens at most, or is refused in one way.
 
 ghost use Rattle.std.specs.Prelude.{◌≡◌, ℕ, List};
 ghost use Rattle.smv_tree.specs.declared.token.Tokens.{Tokens};

@@ -1,4 +1,4 @@
-//! Refusals, made.
+//! Makes refusals of a rule, a place and a name.
 
 ghost use Rattle.std.specs.Prelude.{◌≡◌, MatchBool, None, Some};
 ghost use Rattle.smv_tree.specs.declared.refusal.TextStop.TheVariants.{Refused};

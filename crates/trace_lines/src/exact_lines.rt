@@ -1,4 +1,4 @@
-//! A law of lines.
+//! The law of lines: each says what is printed so, and nothing else.
 
 ghost use Rattle.std.specs.Prelude.{List, ℕ};
 ghost use Rattle.trace_lines.specs.declared.entry.Entry.{Entry};

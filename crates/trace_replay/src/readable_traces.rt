@@ -1,4 +1,4 @@
-//! Laws of the definitions.
+//! Laws of texts of traces: they are read in one way, and what is printed is read back.
 
 ghost use Rattle.std.specs.Prelude.{◌≡◌, ◌<◌, ◌≤◌, ◌-◌, ◌^◌, ℕ, length, List, Option, None, Some, map, replicate, slice_set, true};
 ghost use Rattle.std.specs.List.{list_all};

@@ -1,4 +1,4 @@
-//! Laws of pictures.
+//! Laws of pictures: each is well-formed, and no text in it begins or ends a tag.
 
 ghost use Rattle.std.specs.Prelude.{◌≡◌, List, ℕ, true};
 ghost use Rattle.std.specs.List.{list_all};

@@ -1,4 +1,4 @@
-//! A law of texts.
+//! The law of texts of values: each value is read from its text, and only from it.
 
 ghost use Rattle.std.specs.Prelude.{◌≡◌, ℕ, List, true};
 ghost use Rattle.value_types.specs.declared.value_type.ValueType.{ValueType};

@@ -1,4 +1,4 @@
-//! Laws of codes and intervals.
+//! Laws of types: values and codes are each other's, and the interval of a type has its integers.
 
 ghost use Rattle.std.specs.Prelude.{◌≡◌, ℤ, true};
 ghost use Rattle.smv_value.specs.declared.value.Value.TheVariants.{Int};
