@@ -151,7 +151,7 @@ module _ (slots : List Slot) (nodes : List Node) where
       (all_clear when (outcomes_of slots w [] [] nodes) (outcomes_of slots s u t nodes) items)
       (clear_at (demand_of when x.kind) w s u t x ∙ each x after.0 before.0) (clear_by when w s u t known there each items after.1 before.1)
 
-  -- first states, both states of a step, and steps
+  -- initial states, both states of a step, and steps
 
   pub all_first_clear : (s u t : List Value) (items : List Item) → list_all (is_known_item slots s u t) (map (item_by nodes) items) ≡ true →
       all_clear First (outcomes_of slots s [] [] nodes) (outcomes_of slots s [] [] nodes) items ≡ true

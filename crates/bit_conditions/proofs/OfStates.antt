@@ -44,7 +44,7 @@ module _ (typed : Typed) where
   known s u t a b c = ap (list_all (is_known_item (slots_of program) s u t)) typed.resolved ∙ typed.known s u t a b c
 
   module _ (v : ℕ → Bool) (here : List Told) (items : List Item) (items_is : items ≡ typed.items) (old new : Bool) where
-    -- a first state
+    -- an initial state
     pub first_told : (s u : List Value) → is_state program s ≡ true → are_inputs program u ≡ true → TellsAll v here (outcomes_of (slots_of program) s [] [] typed.nodes) →
         ((ps os : List Outcome) → TellsAll v here ps → TellsAll v here os → all_clear First ps os items ≡ true → new ≡ (old && all_met First ps os items)) →
         new ≡ (old && list_all (allows_first (slots_of program) s) (items_of program))

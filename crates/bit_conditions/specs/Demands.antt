@@ -14,7 +14,7 @@ use Rattle.bit_conditions.specs.declared.demands.Demand.TheVariants.{Nothing, Ta
 use Rattle.bit_conditions.specs.declared.demands.When.{When}
 use Rattle.bit_conditions.specs.declared.demands.When.TheVariants.{First, Always, Step}
 
--- by the kind of an item: of a first state, of both states of a step, and of the step
+-- by the kind of an item: of an initial state, of both states of a step, and of the step
 
 abbrev pub first_demand : ItemKind → Demand
 first_demand (item.Assignment side.Init) = Takes

@@ -1,4 +1,4 @@
-//! What is asked of first states and steps, as conditions of edges.
+//! What is asked of initial states and steps, as conditions of edges.
 
 ghost use Rattle.std.specs.Prelude.{◌≡◌, ◌&&◌, ℕ, Bool, true, IfOk, OnOk};
 ghost use Rattle.std.specs.List.{list_all};
@@ -20,7 +20,7 @@ use bit_states::state_types;
 use smv_meaning::{Typed, state_slots};
 use std::alloc::{AllocError, Global};
 
-// Asks what the items ask of a first state.
+// Asks what the items ask of an initial state.
 fn ask_first(
     alloc: Global,
     graph: &mut Graph,
@@ -141,7 +141,7 @@ fn ask_frozen(
     Ok(())
 }
 
-/// What is asked of a first state: what its items ask, and that its bits are those of a state.
+/// What is asked of an initial state: what its items ask, and that its bits are those of a state.
 ///
 /// Conditions grow with the items, and gates with what assignments choose from. The only error is running out of memory, or outcomes of
 /// which nothing is told, which in a typed program do not come.

@@ -6,7 +6,7 @@ ghost use Rattle.bit_conditions.specs.Demands.{always_demand, demand_of, first_d
 use smv_resolve::ItemKind;
 use smv_tree::{AssignmentKind, ConstraintKind};
 
-/// When items ask: of a first state, of both states of a step, or of the step.
+/// When items ask: of an initial state, of both states of a step, or of the step.
 #[derive(Clone, Copy, Debug, Drop)]
 pub enum When {
     First,

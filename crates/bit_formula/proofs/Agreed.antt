@@ -1,4 +1,4 @@
--- A system that stands for a program and a formula has its first states and steps, and tells JUSTICE and the atoms.
+-- A system that stands for a program and a formula has its initial states and steps, and tells JUSTICE and the atoms.
 use Rattle.std.proofs.Common.{◌≡◌, ◌∙◌, ℕ, ◌+◌, ◌-◌, ◌<◌, ◌≤◌, Bool, true, false, cond, List, [], ◌∷◌, map, ◌↔◌, refl, sym, ap, subst, arith, All}
 use Rattle.std.specs.Prelude.{nat_lt, slice_get, slice_index_or}
 use Rattle.std.specs.Bool.{beq}

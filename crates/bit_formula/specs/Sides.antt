@@ -12,7 +12,7 @@ use Rattle.bit_formula.specs.declared.sides.JointSide.{JointSide}
 use Rattle.bit_formula.specs.Coding.{joint_named, joint_width}
 use Rattle.bit_formula.specs.Standing.{atom_values, is_first_at, is_step_at, joint_just_values}
 
--- the clauses of first states, and of what is defined of a state with inputs
+-- the clauses of initial states, and of what is defined of a state with inputs
 pub record IsJointSide (p : Program) (reads : List ℕ) (parts : List Resolved) (r : JointSide) : Type 0 where
   pub init : Decides (joint_width p reads) r.init (is_first_at p reads)
   pub defs : Gives (joint_width p reads) (r.fair ++ r.atoms.items) r.defs

@@ -37,7 +37,7 @@ is_coded p reads x = is_state p (state_in p reads x) && are_inputs p (read_input
 abbrev pub is_true_at : Program → List ℕ → Resolved → (ℕ → Bool) → Bool
 is_true_at p reads r x = is_coded p reads x && is_true (outcome (slots_of p) (state_in p reads x) (read_inputs p reads x) [] r)
 
--- they are those of a first state, and of the inputs that are read
+-- they are those of an initial state, and of the inputs that are read
 abbrev pub is_first_at : Program → List ℕ → (ℕ → Bool) → Bool
 is_first_at p reads x = is_first_state p (state_in p reads x) && are_inputs p (read_inputs p reads x)
 
@@ -52,9 +52,10 @@ atom_values p reads parts = map (is_true_at p reads) parts
 abbrev pub joint_just_values : Program → List ℕ → List ((ℕ → Bool) → Bool)
 joint_just_values p reads = map (λ (x : ResolvedItem). λ (b : ℕ → Bool). is_just_in p (state_in p reads b) x) (justices_of p)
 
--- The system of an LTLSPEC. The clauses of first states and of steps say what the program says of the states that the bits are. The
--- inputs that are read are free in each state, but for their types, and are those of the step from it. No state is bad. Its fair literals
--- are those of JUSTICE, and the formula, over atoms whose literals these are, says what the specification says.
+-- The system of an LTLSPEC. The clauses of initial states and of steps say what the program says of the states that the
+-- bits are. The inputs that are read are free in each state, but for their types, and are those of the step from it. No
+-- state is bad. Its fair literals are those of JUSTICE, and the formula, over atoms whose literals these are, says what
+-- the specification says.
 pub record StandsForFormula (p : Program) (spec : ResolvedItem) (r : FormulaSystem) : Type 0 where
   pub types : HasTypes p
   -- the parts of the specification that the atoms stand for

@@ -19,8 +19,8 @@ pub fn what_is_read()
     ensures { (p : Program) (parts : List Resolved) → AreAllRead p parts }
 {}
 
-/// A system that stands for a program and the formula of a specification has the program's first states and steps. Its literals tell
-/// where JUSTICE and the atoms of the formula are TRUE.
+/// A system that stands for a program and the formula of a specification has the program's initial states and steps.
+/// Its literals tell where JUSTICE and the atoms of the formula are TRUE.
 pub fn what_stands_agrees_with_formulas()
     ensures { (p : Program) (spec : ResolvedItem) (r : FormulaSystem) (stands : StandsForFormula p spec r) → FormulaAgrees p r stands.parts }
 {}

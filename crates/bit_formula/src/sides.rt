@@ -22,7 +22,7 @@ use clause_core::{Clause, Clauses, Lit};
 use smv_meaning::Typed;
 use std::alloc::{AllocError, Global};
 
-/// The clauses of first states and of what is defined of a state, each with gates of its own.
+/// The clauses of initial states and of what is defined of a state, each with gates of its own.
 #[derive(Drop)]
 pub struct JointSide {
     pub vars: usize,
@@ -52,8 +52,8 @@ fn split(alloc: Global, literals: &[Lit], count: usize) -> Result<Literals, Allo
     Ok(Literals { fair, atoms })
 }
 
-/// The clauses of first states, and of what is defined of a state of so many bits. The variables behind these bits are moved up by
-/// `by`.
+/// The clauses of initial states, and of what is defined of a state of so many bits. The variables behind these bits
+/// are moved up by `by`.
 pub fn joint_side(
     alloc: Global,
     parts: &JointConditions,

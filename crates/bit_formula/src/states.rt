@@ -35,7 +35,7 @@ use value_types::ValueType;
 #[derive(Drop)]
 pub struct JointConditions {
     pub graph: Graph,
-    /// What is asked of a first state.
+    /// What is asked of an initial state.
     pub first: Vec<Either>,
     /// The formulas of JUSTICE, and then the atoms.
     pub defined: Vec<Edge>,
@@ -222,7 +222,7 @@ fn defined_edges(
     Ok(Defined { edges, justices })
 }
 
-// What is asked of a first state with inputs.
+// What is asked of an initial state with inputs.
 fn first_with_inputs(
     alloc: Global,
     graph: &mut Graph,

@@ -10,7 +10,7 @@ ghost use Rattle.bit_system.specs.Building.{BitProgram, IsBuilt};
 ghost use Rattle.bit_system.specs.Claims.{IsUnbroken, IsUnbrokenWithin};
 ghost use Rattle.bit_system.specs.Standing.{StandsFor};
 
-/// The systems of a program have the same bits, first states and steps.
+/// The systems of a program have the same bits, initial states and steps.
 pub fn what_is_built_is_alike()
     ensures { (p : Program) (b : BitProgram) → IsBuilt p b → AreAlike b.systems }
 {}

@@ -1,4 +1,4 @@
--- A system that stands for a program has its first states, steps, bad and good states.
+-- A system that stands for a program has its initial states, steps, bad and good states.
 use Rattle.std.proofs.Common.{◌≡◌, ◌∙◌, ℕ, ◌+◌, ◌-◌, ◌<◌, ◌≤◌, Bool, true, false, ◌&&◌, cond, List, [], ◌∷◌, map, ◌↔◌, refl, sym, ap, subst, arith, All}
 use Rattle.std.specs.Prelude.{nat_lt, slice_index_or}
 use Rattle.std.specs.Bool.{beq}

@@ -19,7 +19,7 @@ use Rattle.bit_system.specs.declared.systems.Shared.{Shared}
 use Rattle.bit_system.specs.Conditions.{is_bad_in}
 use Rattle.bit_system.specs.Standing.{just_values}
 
--- the clauses of first states and of the formulas of JUSTICE
+-- the clauses of initial states and of the formulas of JUSTICE
 pub record IsStateSide (p : Program) (r : StateSide) : Type 0 where
   pub init : Decides (state_width p) r.init (λ x. is_first_state p (state_of p x))
   pub defs : Gives (state_width p) r.fair r.defs

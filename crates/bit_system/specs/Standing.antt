@@ -17,8 +17,8 @@ use Rattle.bit_clauses.specs.Gated.{DefinesAll}
 abbrev pub just_values : Program → List ((ℕ → Bool) → Bool)
 just_values p = map (λ (x : ResolvedItem). λ (b : ℕ → Bool). is_just_in p (state_of p b) x) (justices_of p)
 
--- The clauses of first states, steps, bad and good states say what the program says of the states that the bits are, alone and
--- by unit propagation: from the bits of a state, and of a step from those of both states and of the inputs.
+-- The clauses of initial states, steps, bad and good states say what the program says of the states that the bits are,
+-- alone and by unit propagation: from the bits of a state, and of a step from those of both states and of the inputs.
 pub record StandsFor (p : Program) (spec : ResolvedItem) (sys : TransitionSystem) : Type 0 where
   pub types : HasTypes p
   pub bits : sys.state_bits ≡ state_width p

@@ -7,8 +7,8 @@ ghost use Rattle.smv_resolve.specs.Items.{ResolvedItem};
 ghost use Rattle.bit_system.specs.Claims.{IsUnbroken, IsUnbrokenWithin, NeverBad, NeverBadWithin};
 ghost use Rattle.bit_system.specs.Standing.{AgreesWith, StandsFor};
 
-/// A system that stands for a program and a specification has the program's first states and steps, and as bad states those in
-/// which the specification is FALSE.
+/// A system that stands for a program and a specification has the program's initial states and steps, and as bad states
+/// those in which the specification is FALSE.
 pub fn what_stands_agrees()
     ensures { (p : Program) (spec : ResolvedItem) (sys : TransitionSystem) → StandsFor p spec sys → AgreesWith p spec sys }
 {}

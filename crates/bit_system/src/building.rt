@@ -60,10 +60,10 @@ fn built_on(
 
 /// The systems of a program over bits.
 ///
-/// There is one graph for states and one for steps, and their clauses are made once. The variables of each system are the bits of a
-/// state in the order of the slots, those of the next state, those of the inputs, and then those that clauses need. Bits that are the
-/// code of no values are of no first state, no step and no bad state. Time and memory grow with the nodes of the program and the bits
-/// of their values, and the copies of clauses with the specifications.
+/// There is one graph for states and one for steps, and their clauses are made once. The variables of each system are
+/// the bits of a state in the order of the slots, those of the next state, those of the inputs, and then those that
+/// clauses need. Bits that are the code of no values are of no initial state, no step and no bad state. Time and memory
+/// grow with the nodes of the program and the bits of their values, and the copies of clauses with the specifications.
 ///
 /// # Errors
 ///

@@ -1,5 +1,6 @@
-//! A model as systems over bits, one for each specification: its first states, its steps, the states in which the specification
-//! is FALSE and those in which it is not, as clauses (Biere and others 1999; Een, Mishchenko and Sorensson 2007).
+//! A model as systems over bits, one for each specification: its initial states, its steps, the states in which the
+//! specification is FALSE and those in which it is not, as clauses (Biere and others 1999; Een, Mishchenko and
+//! Sorensson 2007).
 #![tactic(auto)]
 
 mod agreement_with_programs;

@@ -28,7 +28,7 @@ use std::alloc::{AllocError, Global};
 #[derive(Drop)]
 pub struct StateConditions {
     pub graph: Graph,
-    /// What is asked of a first state.
+    /// What is asked of an initial state.
     pub first: Vec<Either>,
     /// The formulas of JUSTICE.
     pub fair: Vec<Edge>,
@@ -45,7 +45,7 @@ pub struct StepConditions {
     pub step: Vec<Either>,
 }
 
-/// The clauses of first states and of what is defined of a state, each with gates of its own.
+/// The clauses of initial states and of what is defined of a state, each with gates of its own.
 #[derive(Drop)]
 pub struct StateSide {
     pub vars: usize,
@@ -124,8 +124,8 @@ pub fn higher(a: usize, b: usize) -> usize
     if a < b { b } else { a }
 }
 
-/// The clauses of first states and of the formulas of JUSTICE. The variables behind the bits of the state, which are so many,
-/// are moved up by `by`.
+/// The clauses of initial states and of the formulas of JUSTICE. The variables behind the bits of the state, which are
+/// so many, are moved up by `by`.
 pub fn state_side(
     alloc: Global,
     typed: &Typed,

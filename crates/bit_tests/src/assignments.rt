@@ -12,8 +12,8 @@ use smv_tree::ConstraintKind;
 use std::alloc::{AllocError, Global};
 use std::test::Fail;
 
-// A model, how many bits a state has and all named bits are, how many assignments these have, and how many clauses its first
-// specification has: of first states, steps, bad states, good states and definitions.
+// A model, how many bits a state has and all named bits are, how many assignments these have, and how many clauses its
+// first specification has: of initial states, steps, bad states, good states and definitions.
 #[derive(Clone, Copy)]
 struct Row {
     source: &'static str,
@@ -154,7 +154,7 @@ fn value_in(alloc: Global, typed: &Typed, s: &State, node: usize) -> Result<u8, 
     })
 }
 
-// Whether first states are those of the model, and go to bits and back.
+// Whether initial states are those of the model, and go to bits and back.
 fn is_first_right(
     alloc: Global,
     typed: &Typed,

@@ -74,7 +74,7 @@ pub record Certifies (sys : TransitionSystem) (cert : Block) : Type 0 where
       (part_of cert (Kept k))
   pub safe : Shows cert.form sys.all_bits (safe_clauses sys cert.clauses) cert.safe
 
--- the clauses hold in each first state, are kept by each step, and exclude bad states
+-- the clauses hold in each initial state, are kept by each step, and exclude bad states
 pub record IsInvariant (sys : TransitionSystem) (cs : List (List Lit)) : Type 0 where
   pub initial : (x : ℕ → Bool) → FirstBits sys x → All (ClauseTrue x) cs
   pub kept : (x y : ℕ → Bool) → All (ClauseTrue x) cs → StepBits sys x y → All (ClauseTrue y) cs

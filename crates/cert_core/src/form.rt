@@ -14,7 +14,7 @@ pub enum Form {
 pub enum Part {
     /// From all clauses and the step clauses follow the steps that the kept parts share.
     Shared,
-    /// A first state meets this clause, counted from 0.
+    /// An initial state meets this clause, counted from 0.
     First(usize),
     /// A step from a state that meets all clauses ends in one that meets this clause, counted from 0.
     Kept(usize),

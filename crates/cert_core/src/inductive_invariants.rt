@@ -5,7 +5,7 @@ ghost use Rattle.clause_core.specs.Systems.{TransitionSystem, BadBits, ReachedWi
 ghost use Rattle.cert_core.specs.Blocks.{Block};
 ghost use Rattle.cert_core.specs.Certificates.{Certifies, IsInvariant};
 
-/// The clauses of what certifies hold in each first state, are kept by each step, and exclude bad states.
+/// The clauses of what certifies hold in each initial state, are kept by each step, and exclude bad states.
 pub fn what_is_certified_is_invariant()
     ensures { (sys : TransitionSystem) (cert : Block) → Certifies sys cert → IsInvariant sys cert.clauses }
 {}

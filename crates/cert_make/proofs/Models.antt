@@ -34,7 +34,7 @@ all_left a cs ds all k d lt = All-contains (ClauseTrue a) (cs ++ ds) (get_or cs 
 all_right : (a : ℕ → Bool) (cs ds : List (List Lit)) → All (ClauseTrue a) (cs ++ ds) → All (ClauseTrue a) ds
 all_right a cs ds all k d lt = All-contains (ClauseTrue a) (cs ++ ds) (get_or ds k d) all (at_right cs ds ds (here ds) k d lt)
 
--- a first state meets each clause
+-- an initial state meets each clause
 pub first_no_model : (sys : TransitionSystem) (cs : List (List Lit)) (k : ℕ) → IsInvariant sys cs → k < length cs → HasNoModel sys.init (negated (get_or cs k []))
 first_no_model sys cs k h lt a all off = not_both a (get_or cs k []) (h.initial a (a, (λ v below. refl), all) k [] lt) off
 

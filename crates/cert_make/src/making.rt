@@ -47,7 +47,7 @@ fn bare(alloc: Global, clauses: &Clauses) -> Result<Certificate, AllocError>
     Ok(bare)
 }
 
-// Gives each clause's part `first` its steps, by a solver of the clauses of first states.
+// Gives each clause's part `first` its steps, by a solver of the clauses of initial states.
 fn put_first_with<Q: Purse>(
     alloc: Global,
     solver: &mut Engine,

@@ -1,11 +1,11 @@
--- Transition systems over bits: first states, steps, bad states (Bradley 2011, section 2).
+-- Transition systems over bits: initial states, steps, bad states (Bradley 2011, section 2).
 use Rattle.std.specs.Prelude.{◌≡◌, ℕ, zero, suc, ◌+◌, ◌*◌, ◌<◌, ◌≤◌, ◌⊎◌, Bool, List, All}
 use Rattle.clause_core.specs.declared.literal.Lit.{Lit}
 use Rattle.clause_core.specs.Literals.{Within}
 use Rattle.clause_core.specs.Assignments.{ClauseTrue, Agrees}
 
--- a system as data: clauses of a first state, of a step, of a bad state and of one that isn't bad, fairness literals,
--- definitions
+-- a system as data: clauses of an initial state, of a step, of a bad state and of one that isn't bad, fairness
+-- literals, definitions
 pub record TransitionSystem : Type 0 where
   pub state_bits : ℕ
   pub all_bits : ℕ
@@ -47,7 +47,7 @@ pub record IsSystem (sys : TransitionSystem) : Type 0 where
   pub defs_in : All (Within sys.all_bits) sys.defs
   pub gives : Gives sys.state_bits sys.fair sys.defs
 
--- x is a first state: with some values of the other bits it meets all init clauses
+-- x is an initial state: with some values of the other bits it meets all init clauses
 abbrev pub FirstBits : TransitionSystem → (ℕ → Bool) → Type 0
 FirstBits sys x = Meets sys.state_bits x sys.init
 
@@ -73,7 +73,7 @@ abbrev pub DefinedTrue : TransitionSystem → (ℕ → Bool) → Lit → Type 0
 DefinedTrue sys x l =
     (a : ℕ → Bool) × Agrees sys.state_bits a x × All (ClauseTrue a) sys.defs × (a l.var ≡ l.positive)
 
--- x is reached from a first state in at most j steps
+-- x is reached from an initial state in at most j steps
 abbrev pub ReachedWithin : TransitionSystem → ℕ → (ℕ → Bool) → Type 0
 ReachedWithin sys zero x = FirstBits sys x
 ReachedWithin sys (suc j) x = ReachedWithin sys j x ⊎ ((y : ℕ → Bool) × ReachedWithin sys j y × StepBits sys y x)

@@ -1,4 +1,4 @@
-//! Transition systems over bits, as clauses: first states, steps, bad and good states, and fairness
+//! Transition systems over bits, as clauses: initial states, steps, bad and good states, and fairness
 //! literals.
 
 ghost use Rattle.std.specs.Prelude.{◌≡◌, [], ◌∷◌, IfOk, map};
@@ -136,7 +136,7 @@ impl System {
         self.all_bits
     }
 
-    /// The clauses of a first state.
+    /// The clauses of an initial state.
     pub fn init(&self) -> &Clauses
         ensures { result.now ≡ self.now.init }
     {

@@ -290,7 +290,8 @@ retired sys ls k m h lt lm ne cover =
       ];
     }
 
--- the lemmas hold in a system whose first states and steps, cut to the bits of the old one, are among those of the old one
+-- the lemmas hold in a system whose initial states and steps, cut to the bits of the old one, are among those of the
+-- old one
 pub carried : (old new : TransitionSystem) (ls : List Lemma) → IsCut old new → LemmasHold old ls → LemmasHold new ls
 carried old new ls cut h =
     record {

@@ -120,7 +120,7 @@ Notes before j f parent (noting.Noted n) after =
 Notes before j f parent (noting.OtherSystem place) after =
     DifferAt (is_none parent) (system_at before.systems j) f.system place × (after ≡ before)
 
--- cut to the bits of the old system's states, first states and steps of the new one are among those of the old one
+-- cut to the bits of the old system's states, initial states and steps of the new one are among those of the old one
 pub record IsCut (old new : TransitionSystem) : Type 0 where
   pub bits : old.state_bits ≤ new.state_bits
   pub first : (x : ℕ → Bool) → FirstBits new x → FirstBits old x
@@ -138,12 +138,13 @@ HasLiveAt lemmas i = (n : ℕ) × (n < length lemmas) × ((lemma_at lemmas n).li
 abbrev pub HasNoneAt : List Lemma → ℕ → Type 0
 HasNoneAt lemmas i = (n : ℕ) → n < length lemmas → (lemma_at lemmas n).live ≡ true → (lemma_at lemmas n).level ≢ i
 
--- the state of obligation n is a first one
+-- the state of obligation n is an initial one
 abbrev pub IsFirstObligation : FrameState → ℕ → Type 0
 IsFirstObligation f n =
     FirstBits (system_at f.systems (obligation_at f.obligations n).system) (assignment_of (obligation_at f.obligations n).values)
 
--- of system j: none, each level from 1 below the top has a live lemma, and no obligation of j is a first state; an invariant, or a first state, as said
+-- of system j: none, each level from 1 below the top has a live lemma, and no obligation of j is an initial state; an
+-- invariant, or an initial state, as said
 abbrev pub VerdictSays : FrameState → ℕ → Option Verdict → Type 0
 VerdictSays f j None =
     ((i : ℕ) → 0 < i → i < top_at f.tops j → HasLiveAt f.lemmas i)

@@ -1,4 +1,5 @@
--- What is kept beside the frames: how many live lemmas each level has, and the first obligation that is a first state.
+-- What is kept beside the frames: how many live lemmas each level has, and the first obligation that is an initial
+-- state.
 use Rattle.std.specs.Prelude.{◌≡◌, ◌==◌, ◌&&◌, ℕ, ◌+◌, ◌-◌, ◌<◌, ◌≤◌, Bool, true, false, List, length, slice_index, slice_index_or, slice_set, count_by, Option, Some, None}
 use Rattle.frame_core.specs.declared.parts.Lemma.{Lemma}
 use Rattle.frame_core.specs.declared.parts.Obligation.{Obligation}
@@ -21,7 +22,7 @@ abbrev pub less_at : Bool → List ℕ → ℕ → List ℕ
 less_at true counts i = slice_set counts i (slice_index counts i - 1)
 less_at false counts i = counts
 
--- the mark that is there, else this obligation where it is a first state
+-- the mark that is there, else this obligation where it is an initial state
 abbrev pub first_of : Option ℕ → Bool → ℕ → Option ℕ
 first_of (Some m) first n = Some m
 first_of None true n = Some n
@@ -31,7 +32,7 @@ first_of None false n = None
 abbrev pub marked_at : List (Option ℕ) → ℕ → Bool → ℕ → List (Option ℕ)
 marked_at marks j first n = slice_set marks j (first_of (slice_index_or marks j None) first n)
 
--- the mark of system j: an obligation of j that is a first state, if there is one
+-- the mark of system j: an obligation of j that is an initial state, if there is one
 abbrev pub IsMark : List Obligation → ℕ → Option ℕ → Type 0
 IsMark obligations j None =
     (n : ℕ) → n < length obligations → (obligation_at obligations n).system ≡ j → (obligation_at obligations n).first ≡ false

@@ -22,7 +22,8 @@ pub record ProvedClause : Type 0 where
 abbrev pub IsPart : List Lit → List Lit → Type 0
 IsPart c d = All (Contains d) c
 
--- first states meet the clause, and a step from a state that meets the parents and the clause, at level 1 from a first state, ends in its part
+-- initial states meet the clause, and a step from a state that meets the parents and the clause, at level 1 from an
+-- initial state, ends in its part
 pub record IsProved (p : ProvedClause) : Type 0 where
   pub above : 0 < p.level
   pub within : Within p.system.state_bits p.clause
@@ -37,7 +38,7 @@ pub record ClearLevel : Type 0 where
   pub level : ℕ
   pub parents : List Parent
 
--- no state that meets the parents is bad; at level 0 no first state is
+-- no state that meets the parents is bad; at level 0 no initial state is
 pub record IsClear (c : ClearLevel) : Type 0 where
   pub safe : (x : ℕ → Bool) → (c.level ≡ 0 → FirstBits c.system x) → (0 < c.level → MeetsParents c.parents x) → BadBits c.system x → ⊥
 
@@ -51,19 +52,19 @@ pub record IsStep (s : FoundStep) : Type 0 where
   pub whole : length s.values ≡ s.system.all_bits
   pub step : All (ClauseTrue (assignment_of s.values)) s.system.step
 
--- `first` says whether the state of these values is a first one
+-- `first` says whether the state of these values is an initial one
 pub record IsFirstFlag (sys : TransitionSystem) (values : List Bool) (first : Bool) : Type 0 where
   pub is_first : first ≡ true → FirstBits sys (assignment_of values)
   pub not_first : first ≡ false → FirstBits sys (assignment_of values) → ⊥
 
--- a state that leads to a bad one: values of all bits, whether they are of a step, and whether the state is a first one
+-- a state that leads to a bad one: values of all bits, whether they are of a step, and whether the state is an initial one
 pub record FoundState : Type 0 where
   pub system : TransitionSystem
   pub values : List Bool
   pub is_step : Bool
   pub first : Bool
 
--- the values are of a step, or of a bad state, and `first` says whether the state is a first one
+-- the values are of a step, or of a bad state, and `first` says whether the state is an initial one
 pub record IsFound (f : FoundState) : Type 0 where
   pub whole : length f.values ≡ f.system.all_bits
   pub step : f.is_step ≡ true → All (ClauseTrue (assignment_of f.values)) f.system.step

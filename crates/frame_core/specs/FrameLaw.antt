@@ -44,7 +44,7 @@ lemma_at lemmas n = slice_index_or lemmas n no_lemma
 abbrev pub MeetsFrom : List Lemma → ℕ → (ℕ → Bool) → Type 0
 MeetsFrom lemmas i x = (n : ℕ) → n < length lemmas → i ≤ (lemma_at lemmas n).level → ClauseTrue x (lemma_at lemmas n).clause
 
--- x is a state of frame i: of frame 0 the first states are, of frame i those that meet each lemma of level i or more
+-- x is a state of frame i: of frame 0 the initial states are, of frame i those that meet each lemma of level i or more
 abbrev pub InFrame : TransitionSystem → List Lemma → ℕ → (ℕ → Bool) → Type 0
 InFrame sys lemmas i x = (i ≡ 0 → FirstBits sys x) × (0 < i → MeetsFrom lemmas i x)
 
@@ -79,7 +79,7 @@ pub record LemmasHold (sys : TransitionSystem) (lemmas : List Lemma) : Type 0 wh
   -- each lemma has a level of at least 1, and is over state bits
   pub above : (n : ℕ) → n < length lemmas → 0 < (lemma_at lemmas n).level
   pub within : (n : ℕ) → n < length lemmas → Within sys.state_bits (lemma_at lemmas n).clause
-  -- first states meet each lemma
+  -- initial states meet each lemma
   pub first : (n : ℕ) → n < length lemmas → (x : ℕ → Bool) → FirstBits sys x → ClauseTrue x (lemma_at lemmas n).clause
   -- a step from a state of the frame below ends in each lemma
   pub step : (n : ℕ) → n < length lemmas → (x y : ℕ → Bool) → InFrame sys lemmas ((lemma_at lemmas n).level - 1) x →

@@ -7,7 +7,8 @@ use Rattle.clause_core.specs.Systems.{TransitionSystem, FirstBits, NextIs}
 abbrev pub row_at : List (List Bool) → ℕ → ℕ → Bool
 row_at rows k = assignment_of (slice_index_or rows k [])
 
--- the rows are values of all bits; the first state is a first one, and each row's values are those of a step to the next row's state
+-- the rows are values of all bits; the first state is an initial one, and each row's values are those of a step to the
+-- next row's state
 pub record IsBitRun (sys : TransitionSystem) (rows : List (List Bool)) : Type 0 where
   pub some : 0 < length rows
   pub whole : All (λ (r : List Bool). length r ≡ sys.all_bits) rows

@@ -1,5 +1,5 @@
 //! What the frames keep so that a verdict looks at no lemma and no obligation: the number of live lemmas
-//! of each level, and the first obligation that is a first state.
+//! of each level, and the first obligation that is an initial state.
 
 ghost use Rattle.std.specs.Prelude.{◌≡◌, ◌≢◌, ◌<◌, ◌≤◌, ◌+◌, ◌^◌, ℕ, length, slice_index, count_by, replicate, cond, None, OnOk, MatchOption, slice_index_or, slice_set};
 ghost use Rattle.frame_core.specs.Counting.{is_live_at, AreCounts, more_at, less_at, first_of, marked_at};
@@ -91,7 +91,7 @@ fn earlier(mark: Option<usize>, first: bool, n: usize) -> Option<usize>
     }
 }
 
-// Marks obligation `n` of system `j`, where it is the first that is a first state.
+// Marks obligation `n` of system `j`, where it is the first that is an initial state.
 pub(crate) fn mark(marks: &mut Vec<Option<usize>>, j: usize, first: bool, n: usize)
     requires { j < length marks.old.items }
     ensures { marks.new.items ≡ marked_at marks.old.items j first n }

@@ -5,8 +5,8 @@ use crate::parts::Parent;
 use clause_core::{Bits, Clause, Lit, System};
 use std::marker::Model;
 
-/// A clause that a query showed to hold one step on: first states meet it, and a step from a state that
-/// meets the parents and the clause (at level 1: from a first state) ends in its part. The part has some
+/// A clause that a query showed to hold one step on: initial states meet it, and a step from a state that
+/// meets the parents and the clause (at level 1: from an initial state) ends in its part. The part has some
 /// of its literals, those that the query needed: so such a step ends in the clause, too.
 #[derive(Drop)]
 pub struct Proved<'a> {
@@ -132,7 +132,7 @@ impl<'a> Proved<'a> {
 }
 
 /// A level that a query showed to have no bad state: none that meets the parents is bad, and at level 0
-/// no first state is.
+/// no initial state is.
 #[derive(Drop)]
 pub struct Clear<'a> {
     system: &'a System,
@@ -256,7 +256,7 @@ impl<'a> Step<'a> {
 }
 
 /// A state that a query found: a bad one, or one with a step to another, with values of all bits that
-/// show it; and whether the state is a first one.
+/// show it; and whether the state is an initial one.
 #[derive(Drop)]
 pub struct Found<'a> {
     system: &'a System,
@@ -292,7 +292,7 @@ impl<'a> Found<'a> {
         }
     }
 
-    /// The state that a step leads from, where it is known whether it is a first one; takes no memory.
+    /// The state that a step leads from, where it is known whether it is an initial one; takes no memory.
     pub fn of_step(step: Step<'a>, first: bool) -> Found<'a>
         requires { IsFirstFlag step.system step.values first }
         ensures { result ≡ record { system = step.entry.system; values = step.entry.values; is_step = true; first = first } }
@@ -337,7 +337,7 @@ impl<'a> Found<'a> {
         self.is_step
     }
 
-    /// Whether the state is a first one.
+    /// Whether the state is an initial one.
     pub fn is_first(&self) -> bool
         ensures { result ≡ self.now.first }
     {

@@ -30,7 +30,7 @@ pub struct Frames<'a> {
     obligations: Vec<Obligation>,
     // how many live lemmas each level has; there is a count for each level below a top
     counts: Vec<usize>,
-    // for each system its first obligation that is a first state
+    // for each system its first obligation that is an initial state
     marks: Vec<Option<usize>>,
 }
 
@@ -401,7 +401,7 @@ impl<'a> Frames<'a> {
         Ok(Noting::Noted(number))
     }
 
-    /// What the frames say of system `j`: an obligation of `j` that is a first state, else a level from 1
+    /// What the frames say of system `j`: an obligation of `j` that is an initial state, else a level from 1
     /// below the top of `j` that no live lemma has. Takes no memory, and looks at a count for each level
     /// below the top, at no lemma and at no obligation.
     pub fn verdict(&self, j: usize) -> Option<Verdict>
@@ -417,7 +417,7 @@ impl<'a> Frames<'a> {
         }
     }
 
-    /// The run from obligation `n`, which is a first state, to a state that is bad for its system.
+    /// The run from obligation `n`, which is an initial state, to a state that is bad for its system.
     pub fn run_of(&self, alloc: Global, n: usize) -> Result<BitRun, AllocError>
         requires in_range { n < length self.now.obligations }
         requires first { IsFirstObligation self.now n }

@@ -56,6 +56,6 @@ pub enum Noting {
 pub enum Verdict {
     /// No live lemma has this level: the lemmas above are an inductive invariant that excludes bad states.
     Invariant(u32),
-    /// This obligation is a first state: a run leads from it to a bad one.
+    /// This obligation is an initial state: a run leads from it to a bad one.
     Reached(usize),
 }

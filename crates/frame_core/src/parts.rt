@@ -30,6 +30,6 @@ pub struct Obligation {
     pub values: Bits,
     /// The obligation that a step leads to.
     pub parent: Option<usize>,
-    /// Whether the state is a first state.
+    /// Whether the state is an initial state.
     pub first: bool,
 }

@@ -149,8 +149,8 @@ pub record IsLawfulClaim (limits : Limits) (s : BookState) (subject : Subject) (
 
 -- ---- What a settlement may change
 
--- first states meet the clause; a step from a state that meets it and the parents, at level 1 from a first state, ends in it; and the
--- kept level of each parent is at least one below
+-- initial states meet the clause; a step from a state that meets it and the parents, at level 1 from an initial state,
+-- ends in it; and the kept level of each parent is at least one below
 pub record IsShown (f : FrameState) (clause : List Lit) (level : ℕ) (parents : List Parent) : Type 0 where
   pub above : 0 < level
   pub within : Within (system_at f.systems 0).state_bits clause

@@ -2,7 +2,7 @@
 -- state bits for the state at which the loop begins; a length is asked for by literals alone (Biere, Heljanko, Junttila,
 -- Latvala and Schuppan 2006).
 --
--- The first variables are those of that state, and those that only the clauses of a first state have. Then come the
+-- The first variables are those of that state, and those that only the clauses of an initial state have. Then come the
 -- variables of one time after another, as many for each: those of the state and of what is defined of it, those that
 -- only its step has, and those that tell of the loop.
 use Rattle.std.specs.Prelude.{ℕ, zero, suc, ◌+◌, ◌-◌, ◌*◌, true, List, [], ◌∷◌, ◌++◌, map, length, nat_lt, if◌then◌else◌}

@@ -6,7 +6,7 @@ ghost use Rattle.lasso_search.specs.Unrolling.{plan_of, stride, spot, loop_kind,
 use clause_core::{Clauses, Lit, System};
 use std::alloc::{AllocError, Global};
 
-// How the variables of an unrolling lie: first a copy of the state bits and what only the clauses of a first
+// How the variables of an unrolling lie: first a copy of the state bits and what only the clauses of an initial
 // state have, then those of one time after another, as many for each, by kinds: the system's variables, those
 // that only its steps have, two that tell of the loop, and one for each fairness set.
 #[derive(Clone, Copy, Drop)]

@@ -1,4 +1,4 @@
--- A system put together from a system and a draft: what its first states, steps and definitions are.
+-- A system put together from a system and a draft: what its initial states, steps and definitions are.
 use Rattle.std.proofs.Common.{inl, inr, ◌≡◌, ℕ, ◌+◌, ◌-◌, ◌*◌, ◌<◌, ◌≤◌, Bool, List, ◌++◌, map, refl, sym, ap, ◌∙◌, arith}
 use Rattle.std.specs.Prelude.{nat_lt, if◌then◌else◌, All}
 use Rattle.std.proofs.lemmas.Bool.{cases_lt}
@@ -270,7 +270,7 @@ module _ (sys : TransitionSystem) (n : ℕ) (atoms : List Lit) (ok : IsSystem sy
         gives = gives;
       }
 
-      -- a first state
+      -- an initial state
       pub first_from : (y : ℕ → Bool) → FirstBits m y → FirstBits sys y × ((u : ℕ → Bool) × Agrees wide_bits u y × Met u d.defs × Met u d.starts)
       first_from y h =
           let w = h.0 in

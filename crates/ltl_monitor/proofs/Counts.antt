@@ -138,7 +138,7 @@ module _ (m : TransitionSystem) (k : ℕ) (ok : IsSystem m) where
   x_gated : Gated s (begun p m) x.draft x.lit
   x_gated = fired_gated z (omega arith)
 
-  -- one rule and the first state's
+  -- one rule and that of an initial state
   rule_moved : (d e : Draft) (cs : List (List Lit)) (j : ℕ) → Moved s d e → Lits (Below (last s e)) cs → j < z + k → Moved s d (unset_added p j (row_added cs e))
   rule_moved d e cs j h c lt =
       let r = row_move s e cs h.sound c in
@@ -374,7 +374,7 @@ module _ (m : TransitionSystem) (k : ℕ) (ok : IsSystem m) where
   pub is_system : IsSystem c
   is_system = base.is_system m (z + k) [] ok none_in given d y_gated.sound later bad good bad_in good_in opposed
 
-  -- the rules of the first state
+  -- the rules of an initial state
   abbrev pub Off : (ℕ → Bool) → ℕ → Type 0
   Off v i = v (m.state_bits + i) ≡ false
 

@@ -238,7 +238,7 @@ counter_grows m c d k old new gives = record {
       (old.step x y g.0 (g.1, g.2)).1 (w.0, w.1, λ j lt. w.2 j (omega (arith, lt))));
 }
 
--- and all first states and steps of the one before are there
+-- and all initial states and steps of the one before are there
 module _ (m c d : TransitionSystem) (k : ℕ) (old : IsCounted m k c) (new : IsCounted m (k + 1) d) (gives : Gives m.state_bits m.fair m.defs) where
   own_bits : (x z : ℕ → Bool) → Agrees c.state_bits x z → Agrees m.state_bits x z
   own_bits x z g v lt = g v (let b = old.bits in omega (arith, b, lt))

@@ -302,7 +302,7 @@ module _ (s : Scene) where
     row_same : (d : Draft) (b x : Lit) → Sound d → Below (last d) b → Below (last d) x → Moved d (row_added (is_same b x) d)
     row_same d b x h hb hx = row_move d (is_same b x) h (same_lits (λ v. v < last d) b x hb hx)
 
-    -- and then a set, or a rule of the first state
+    -- and then a set, or a rule of an initial state
     set_after : (d : Draft) (cs : List (List Lit)) (x y : Lit) → Moved d (row_added cs d) → Known d x → Known d y → Moved d (set_added x y (row_added cs d))
     set_after d cs x y m kx ky =
         move_on d (row_added cs d) (set_added x y (row_added cs d)) m

@@ -58,7 +58,7 @@ is_or_and b x y z =
 abbrev pub gate_added : List (List Lit) → Draft → Draft
 gate_added cs d = record d { gate = d.gate + 1; defs = d.defs ++ cs }
 
--- with the clauses of a rule for a step, or for the first state
+-- with the clauses of a rule for a step, or for an initial state
 abbrev pub row_added : List (List Lit) → Draft → Draft
 row_added cs d = record d { rows = d.rows ++ cs }
 

@@ -5,7 +5,7 @@ use Rattle.clause_core.specs.Systems.{TransitionSystem, FirstBits, StepBits, Def
 use Rattle.ltl_monitor.specs.States.{shown}
 use Rattle.ltl_monitor.specs.FairLasso.{Sequence}
 
--- n states, the first a first state, each next by a step, and a step from the last back to the one at l
+-- n states, the first an initial state, each next by a step, and a step from the last back to the one at l
 pub record IsLasso (sys : TransitionSystem) (xs : ℕ → ℕ → Bool) (n l : ℕ) : Type 0 where
   pub inside : l < n
   pub first : FirstBits sys (xs 0)

@@ -122,7 +122,7 @@ rows (Ltl.Binary o f g) n s t =
     (truth f n t) (truth g (n + nodes f) t)
     × rows f n s t × rows g (n + nodes f) s t
 
--- an operator's rule for the first state
+-- an operator's rule for an initial state
 abbrev pub unary_start : UnaryOperator → Bool → Bool → Type 0
 unary_start UnaryOperator.Not bit p = Unit {0}
 unary_start UnaryOperator.Next bit p = Unit {0}
@@ -149,7 +149,7 @@ binary_start BinaryOperator.Releases bit q = Unit {0}
 binary_start BinaryOperator.Since bit q = bit ≡ q
 binary_start BinaryOperator.Triggered bit q = bit ≡ q
 
--- the rules of the first state
+-- the rules of an initial state
 abbrev pub starts : Ltl → ℕ → Side → Type 0
 starts (Ltl.Constant b) n s = Unit {0}
 starts (Ltl.Atom a) n s = Unit {0}

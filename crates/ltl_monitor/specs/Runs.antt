@@ -7,7 +7,7 @@ use Rattle.clause_core.specs.Systems.{TransitionSystem, FirstBits, StepBits, Bad
 use Rattle.ltl_monitor.specs.States.{Extends, shown, justice_of}
 use Rattle.ltl_monitor.specs.FairLasso.{Sequence, beside, Signals}
 
--- states of a run of n steps: the first a first state, each next by a step
+-- states of a run of n steps: the first an initial state, each next by a step
 pub record IsRun (sys : TransitionSystem) (xs : ℕ → ℕ → Bool) (n : ℕ) : Type 0 where
   pub first : FirstBits sys (xs 0)
   pub steps : (i : ℕ) → i < n → StepBits sys (xs i) (xs (i + 1))
@@ -33,14 +33,14 @@ SignalsWithin sys f atoms n k = (i : ℕ) × (i ≤ n) × SignalRun sys f atoms 
 abbrev pub BadWithin : TransitionSystem → ℕ → Type 0
 BadWithin sys n = (x : ℕ → Bool) × ReachedWithin sys n x × BadBits sys x
 
--- cut to the state bits of the old system, first states and steps of the new one are among those of the old one
+-- cut to the state bits of the old system, initial states and steps of the new one are among those of the old one
 pub record IsCut (old new : TransitionSystem) : Type 0 where
   pub bits : old.state_bits ≤ new.state_bits
   pub first : (x : ℕ → Bool) → FirstBits new x → FirstBits old x
   pub step : (x y : ℕ → Bool) → StepBits new x y → StepBits old x y
 
--- the other way round: each first state of the old system is that of the new one, cut; and where a state of the new one is
--- cut to the state before a step of the old one, it has a step that is cut to this
+-- the other way round: each initial state of the old system is that of the new one, cut; and where a state of the new
+-- one is cut to the state before a step of the old one, it has a step that is cut to this
 pub record IsCutOnto (old new : TransitionSystem) : Type 0 where
   pub first : (x : ℕ → Bool) → FirstBits old x → (z : ℕ → Bool) × Agrees old.state_bits x z × FirstBits new z
   pub step : (x y z : ℕ → Bool) → Agrees old.state_bits x z → StepBits old x y →

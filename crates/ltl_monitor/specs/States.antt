@@ -51,8 +51,8 @@ own_var sys m v =
 abbrev pub own_values : TransitionSystem → TransitionSystem → (ℕ → Bool) → ℕ → Bool
 own_values sys m a v = a (own_var sys m v)
 
--- m is the system with a formula's monitor beside it: a state has one bit more for each temporal operator; a first
--- state is one of the system whose node bits meet the rules of the first state and make the formula false; a step is
+-- m is the system with a formula's monitor beside it: a state has one bit more for each temporal operator; an initial
+-- state is one of the system whose node bits meet the rules of an initial state and make the formula false; a step is
 -- one of the system whose node bits meet the rules of a step; the fairness literals tell the sets; bad and good are as
 -- before; values of all bits that meet the step clauses have among them values of the system's bits that meet its own
 pub record IsMonitor (sys : TransitionSystem) (f : Ltl) (atoms : List Lit) (m : TransitionSystem) : Type 0 where

@@ -127,7 +127,7 @@ fn all_rules(
     })
 }
 
-// The clauses of a first state.
+// The clauses of an initial state.
 fn initial(
     alloc: Global,
     layout: &Layout,

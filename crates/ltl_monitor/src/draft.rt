@@ -1,5 +1,5 @@
 //! Builds a formula's monitor from its operands up (Lichtenstein, Pnueli and Zuck 1985). Each
-//! operator adds a bit or a gate, and clauses for first states, steps and fairness sets.
+//! operator adds a bit or a gate, and clauses for initial states, steps and fairness sets.
 
 ghost use Rattle.std.specs.Prelude.{◌≡◌, ◌+◌, ◌-◌, ◌∷◌, ◌++◌, [], IfOk, OnOk};
 ghost use Rattle.clause_core.specs.Literals.{at, negate};
@@ -34,7 +34,7 @@ pub struct Draft {
     pub gate: usize,
     // What gives the gates, of one state.
     pub defs: Clauses,
-    // The rules of the first state, of one state.
+    // The rules of an initial state, of one state.
     pub starts: Clauses,
     // The rules of a step, of the monitored system.
     pub rows: Clauses,
@@ -210,7 +210,7 @@ impl Draft {
         self.unary_ends(operator, b, f)
     }
 
-    // Adds the rule of the first state, or the fairness set, of an operator.
+    // Adds the rule of an initial state, or the fairness set, of an operator.
     fn unary_ends(&mut self, operator: UnaryOperator, b: Both, f: Both) -> Result<(), AllocError>
         ensures { OnOk result (self.new ≡ record (unary_rules operator b f self.old) { rows = self.old.rows }) }
     {
@@ -244,7 +244,7 @@ impl Draft {
         self.binary_ends(operator, b, f, g)
     }
 
-    // Adds the gate of an operator, or its rule of the first state, or its fairness set.
+    // Adds the gate of an operator, or its rule of an initial state, or its fairness set.
     fn binary_ends(
         &mut self,
         operator: BinaryOperator,

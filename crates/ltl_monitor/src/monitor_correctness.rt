@@ -37,9 +37,9 @@ pub fn signal_runs()
     ensures { (sys m c : TransitionSystem) (f : Ltl) (atoms : List Lit) (k n : ℕ) → IsMonitor sys f atoms m → IsCounted m k c → Gives sys.state_bits sys.fair sys.defs → Gives m.state_bits m.fair m.defs → SignalsWithin sys f atoms n (k + 1) ↔ BadWithin c n }
 {}
 
-/// A counter up to one more has one bit more, the last; cut to the others, first states and steps are those
-/// of the counter before, and all of those (`onto`): each first state of that counter is one of the new, and from
-/// whatever state the new one is in, it has each step that the one before has. It does nothing: its contract is the law.
+/// A counter up to one more has one bit more, the last; cut to the others, initial states and steps are those of the
+/// counter before, and all of those (`onto`): each initial state of that counter is one of the new, and from whatever
+/// state the new one is in, it has each step that the one before has. It does nothing: its contract is the law.
 pub fn counters()
     ensures bits { (m c d : TransitionSystem) (k : ℕ) → IsCounted m k c → IsCounted m (k + 1) d → d.state_bits ≡ c.state_bits + 1 }
     ensures cut { (m c d : TransitionSystem) (k : ℕ) → IsCounted m k c → IsCounted m (k + 1) d → Gives m.state_bits m.fair m.defs → IsCut c d }

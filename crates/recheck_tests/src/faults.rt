@@ -44,7 +44,7 @@ const FALSE_FORMULA: &str = "-- spec 1 LTLSPEC is shown false\n";
 type Row = (&'static str, &'static str, &'static str, u8);
 
 const ROWS: [Row; 24] = [
-    // A first state: a member of a set is no value of the slot, or INIT divides by zero.
+    // An initial state: a member of a set is no value of the slot, or INIT divides by zero.
     (
         FIRST,
         "--@ spec 1\n--@ state 0: x = 1\n",

@@ -230,7 +230,7 @@ const CASES: [Case; 87] = [
     ("check --conflicts 0", BOTH, BOTH_SPENT, 2),
     ("check --together --conflicts 0", BOTH, BOTH_SPENT, 2),
     ("check --together", "MODULE main\nVAR x : boolean;\n", "", 0),
-    // There is no first state.
+    // There is no initial state.
     (
         "check",
         "MODULE main\nVAR x : boolean;\nINIT FALSE\nINVARSPEC FALSE\n",
@@ -746,7 +746,7 @@ const MODELS: [Case; 19] = [
         "-- spec 1 INVARSPEC is false\n--@ spec 1\n--@ state 0: x = TRUE\n--@ state 1: x = FALSE\n",
         1,
     ),
-    // Of first states and of later ones.
+    // Of initial states and of later ones.
     (
         "check",
         "MODULE main\nVAR x : boolean; y : boolean;\nINVAR x != y\nASSIGN init(x) := TRUE; next(x) := FALSE;\nINVARSPEC x | y\nINVARSPEC !y\n",

@@ -121,7 +121,7 @@ abbrev mutual
   occurs_in_some ahead y Operands.End = false
   occurs_in_some ahead y (Operands.With r rs) = occurs ahead y r || occurs_in_some ahead y rs
 
--- whether an assignment gives a value of this time: of first states, or of next ones
+-- whether an assignment gives a value of this time: of initial states, or of next ones
 abbrev pub speaks_of : Time → AssignmentKind → Bool
 speaks_of when.First side.Init = true
 speaks_of when.First side.Next = false
@@ -194,8 +194,8 @@ pub record AreAssignable (p : Program) : Type 0 where
   pub first_times : Acyclic (dependencies p when.First)
   pub next_times : Acyclic (dependencies p when.Next)
 
--- How a program is refused by its assignments: the first that meets one before it; or where none does, a cycle among the
--- values of first states; or where there is none either, one among those of next states.
+-- How a program is refused by its assignments: the first that meets one before it; or where none does, a cycle among
+-- the values of initial states; or where there is none either, one among those of next states.
 pub data IsRefusedByAssignments (p : Program) (r : Refusal) : Type 0 where
   twice_assigned : assigned_twice p ≡ Some r → IsRefusedByAssignments p r
   first_cycle : assigned_twice p ≡ None → TellsCycle p when.First r → IsRefusedByAssignments p r

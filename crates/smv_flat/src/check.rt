@@ -29,7 +29,7 @@ pub struct Flat {
 ///
 /// - `Refused` by 501 AssignedTwice, at the first assignment that meets one before it: both give one variable a first
 ///   value, or both a next one; `x := e` gives both.
-/// - `Refused` by 502 AssignCycle where values of first states depend on each other in a cycle, or else those of next
+/// - `Refused` by 502 AssignCycle where values of initial states depend on each other in a cycle, or else those of next
 ///   states. The detail is a cycle that passes each variable once, from its first variable in the order of declaration
 ///   round to that one again; the place is that of the first assignment to it that speaks of this time.
 /// - `NoMemory` where memory was refused, or where 2^30 nodes or more would have to be numbered.

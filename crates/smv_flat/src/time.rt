@@ -9,7 +9,7 @@ use smv_tree::AssignmentKind;
 /// The states whose values assignments give.
 #[derive(Clone, Copy, Debug, PartialEq, Eq)]
 pub enum Time {
-    /// First states.
+    /// Initial states.
     First,
     /// Next states.
     Next,

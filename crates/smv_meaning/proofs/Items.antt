@@ -35,7 +35,7 @@ module _ (slots : List Slot) (nodes : List Node) where
         ap (λ (b : Bool). b && list_all (λ (x : Item). ask (target_at (outcomes_of slots w [] [] nodes) x.target) (outcome_at (outcomes_of slots s u t nodes) x.value) x.kind) items) (asked x)
         ∙ ap (λ (b : Bool). ask (outcome_of_target slots w (target_by nodes x.target)) (outcome slots s u t (part_of nodes x.value)) x.kind && b) (all_asked items)
 
-  -- first states, both states of a step, and steps
+  -- initial states, both states of a step, and steps
   pub first_asked : (s : List Value) (items : List Item) → first_allowed (outcomes_of slots s [] [] nodes) items ≡ list_all (allows_first slots s) (map (item_by nodes) items)
   first_asked s items = all_asked asks_first s [] [] s items
 

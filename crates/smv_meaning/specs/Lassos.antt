@@ -32,7 +32,7 @@ pub record Lasso : Type 0 where
   pub inputs : List (List Value)
   pub start : ℕ
 
--- a first state, steps from each state to the next, and a step from the last state back to the one at `start`
+-- an initial state, steps from each state to the next, and a step from the last state back to the one at `start`
 pub record IsLasso (p : Program) (w : Lasso) : Type 0 where
   pub long : length w.states ≡ length w.inputs
   pub inside : w.start < length w.states

@@ -1,4 +1,5 @@
--- States, first states, steps and runs of a program, and what breaks an invariant (NuSMV 2.6 User Manual, 2.3, 2.4.2).
+-- States, initial states, steps and runs of a program, and what breaks an invariant (NuSMV 2.6 User Manual, 2.3,
+-- 2.4.2).
 use Rattle.std.specs.Prelude.{◌≡◌, ℕ, ◌+◌, ◌<◌, Bool, true, false, not, ◌&&◌, ◌||◌, ◌==◌, List, [], length, filter, Option, None, Some, IsTrue, slice_get, slice_index_or, unwrap_or, if◌then◌else◌}
 use Rattle.std.specs.List.{list_all, list_any, zip}
 use Rattle.std.specs.Option.{is_some}
@@ -61,8 +62,8 @@ outcome_of_target slots s (Some target) = outcome_in slots s target
 abbrev pub is_true : Outcome → Bool
 is_true o = unwrap_or (truth o) false
 
--- What an item asks of a first state, by the outcomes of what it assigns and of its value there: `init(x) := e`, `x := e`
--- (manual 2.3.8), INIT (2.3.5) and INVAR (2.3.6).
+-- What an item asks of an initial state, by the outcomes of what it assigns and of its value there: `init(x) := e`,
+-- `x := e` (manual 2.3.8), INIT (2.3.5) and INVAR (2.3.6).
 abbrev pub asks_first : Outcome → Outcome → ItemKind → Bool
 asks_first x e (item.Assignment side.Init) = takes x e
 asks_first x e (item.Assignment side.Current) = takes x e
@@ -129,7 +130,7 @@ is_state p s = fits (types_of p) (state_slots (slots_of p)) s
 abbrev pub are_inputs : Program → List Value → Bool
 are_inputs p u = fits (types_of p) (input_slots (slots_of p)) u
 
--- a state with what the program asks of a first one
+-- a state with what the program asks of an initial one
 abbrev pub is_first_state : Program → List Value → Bool
 is_first_state p s = is_state p s && list_all (allows_first (slots_of p) s) (items_of p)
 
@@ -139,7 +140,7 @@ is_step p s u t =
     (is_state p s && are_inputs p u && is_state p t) && keeps_frozen (slots_of p) s t
     && list_all (allows_step (slots_of p) s u t) (items_of p) && (meets_invariants p s && meets_invariants p t)
 
--- a first state of the program
+-- an initial state of the program
 abbrev pub IsFirstState : Program → List Value → Type 0
 IsFirstState p s = IsTrue (is_first_state p s)
 
@@ -151,7 +152,7 @@ IsStep p s u t = IsTrue (is_step p s u t)
 abbrev pub at_time : List (List Value) → ℕ → List Value
 at_time values i = slice_index_or values i []
 
--- a run of any length: a first state, and then steps, each with its inputs
+-- a run of any length: an initial state, and then steps, each with its inputs
 pub record IsRun (p : Program) (states inputs : List (List Value)) : Type 0 where
   pub long : length states ≡ length inputs + 1
   pub first : IsFirstState p (at_time states 0)

@@ -46,7 +46,7 @@ outcome_by slots s u here later (node.Operand a) = outcome_at here a
 outcome_by slots s u here later (node.Apply place o count) = applied o place (last_of count here)
 outcome_by slots s u here later (node.Link place o a b) = applied o place (outcome_at here a ∷ outcome_at here b ∷ [])
 
--- what items ask of a first state, where the nodes have these outcomes
+-- what items ask of an initial state, where the nodes have these outcomes
 abbrev pub first_allowed : List Outcome → List Item → Bool
 first_allowed here items = list_all (λ (x : Item). asks_first (target_at here x.target) (outcome_at here x.value) x.kind) items
 

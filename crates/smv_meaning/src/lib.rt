@@ -1,4 +1,4 @@
-//! What a model means: the values of its expressions, its first states, its steps and its runs
+//! What a model means: the values of its expressions, its initial states, its steps and its runs
 //! (NuSMV 2.6 User Manual, chapter 2). The definitions are in `specs/`; the calls here compute what they say.
 #![tactic(auto)]
 

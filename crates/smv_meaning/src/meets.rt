@@ -1,4 +1,4 @@
-//! First states and steps.
+//! Initial states and steps.
 
 ghost use Rattle.std.specs.Prelude.{◌≡◌, ◌&&◌, [], Some, IfOk, slice_get};
 ghost use Rattle.std.specs.Option.{option_copied};
@@ -21,7 +21,7 @@ use sqlite_items::at;
 use std::alloc::{AllocError, Global};
 use value_types::ValueType;
 
-/// Whether the state is a first state of the program.
+/// Whether the state is an initial state of the program.
 pub fn meets_init(alloc: Global, typed: &Typed, s: &State) -> Result<bool, AllocError>
     ensures { IfOk result (λ met. met ≡ is_first_state typed.now.scope.program s.now) }
 {
@@ -141,7 +141,7 @@ fn outcomes_in(alloc: Global, typed: &Typed, s: &[Value]) -> Result<Vec<Outcome>
     )
 }
 
-// Whether the items allow the state as a first one.
+// Whether the items allow the state as an initial one.
 fn all_allow_first(alloc: Global, typed: &Typed, s: &[Value]) -> Result<bool, AllocError>
     ensures { IfOk result (λ met. met ≡ list_all (allows_first (slots_of typed.now.scope.program) s.now) (items_of typed.now.scope.program)) }
 {
@@ -197,7 +197,7 @@ fn in_type(types: &[ValueType], number: usize, v: Value) -> bool
     }
 }
 
-// What the items ask of a first state, by the outcomes there.
+// What the items ask of an initial state, by the outcomes there.
 fn first_allowed(here: &[Outcome], items: &[Item]) -> bool
     ensures { result ≡ first_allowed here.now items.now }
 {

@@ -122,7 +122,7 @@ pub struct Definition {
     pub body: Expr,
 }
 
-/// What a constraint speaks of: first states, all states, steps, or what comes again and again.
+/// What a constraint speaks of: initial states, all states, steps, or what comes again and again.
 #[derive(Clone, Copy, Debug, PartialEq, Eq)]
 pub enum ConstraintKind {
     Init,

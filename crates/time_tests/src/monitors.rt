@@ -1,4 +1,4 @@
-//! Tests of monitors beside a small system: first states, steps and fairness sets of each operator,
+//! Tests of monitors beside a small system: initial states, steps and fairness sets of each operator,
 //! and counted signals.
 
 ghost use Rattle.std.specs.Prelude.{◌≡◌, ◌+◌, ◌<◌, [], ◌∷◌, IfOk, IsTrue, All};
@@ -270,7 +270,7 @@ fn set_places(alloc: Global, system: &System) -> Result<u64, AllocError> {
     places
 }
 
-// Of a monitor of one temporal operator beside the turning system, whose bit is JUSTICE: first states, steps, and
+// Of a monitor of one temporal operator beside the turning system, whose bit is JUSTICE: initial states, steps, and
 // the states of the operator's set. A state is its bit and the operator's own bit; a step is both states.
 struct Shown {
     formula: &'static [u8],
@@ -428,7 +428,7 @@ fn wrong_step(alloc: Global, system: &System) -> Result<Option<u32>, AllocError>
     Ok(None)
 }
 
-// Whether first states, bad states and good ones are these.
+// Whether initial states, bad states and good ones are these.
 fn has_places(alloc: Global, system: &System) -> Result<bool, AllocError> {
     let vars = system.all_bits();
     let first = places(alloc, system.init(), vars, 4, 16)?;

@@ -33,7 +33,7 @@ use Rattle.trace_replay.specs.Tests.{ShowsBroken, begins, ends, goes_on, inputs_
 use Rattle.trace_replay.proofs.Cells.{row_back}
 use Rattle.trace_replay.proofs.Shows.{each_fit, fit, fits_due, read_at, unasked, unless}
 
--- what is asked of a first state has what is asked of each
+-- what is asked of an initial state has what is asked of each
 always_from_first : (x e : Outcome) (kind : ItemKind) → asks_first x e kind ≡ true → asks_always x e kind ≡ true
 always_from_first x e (item.Assignment side.Init) h = refl
 always_from_first x e (item.Assignment side.Next) h = refl

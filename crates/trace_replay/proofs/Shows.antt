@@ -67,7 +67,7 @@ false_is (Values (value.Word s w b ∷ [])) h = absurd (let never : ⊥ = cc in 
 false_is (Values (v ∷ w ∷ vs)) h = absurd (let never : ⊥ = cc in never)
 false_is (Fault f place) h = absurd (let never : ⊥ = cc in never)
 
--- a first state and a step, and that nothing faults which is asked of them
+-- an initial state and a step, and that nothing faults which is asked of them
 
 pub well_begun : (p : Program) (s : List Value) → begins_well p s ≡ true → (is_first_state p s ≡ true) × (all_faultless First p s [] [] ≡ true)
 well_begun p s h = and_parts (is_first_state p s) (all_faultless First p s [] []) h

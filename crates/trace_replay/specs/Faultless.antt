@@ -17,7 +17,7 @@ use Rattle.smv_meaning.specs.Runs.{asks_always, asks_first, asks_step, at_time, 
 use Rattle.trace_replay.specs.declared.faultless.Asked.{Asked}
 use Rattle.trace_replay.specs.declared.faultless.Asked.TheVariants.{First, Always, Step}
 
--- what items ask of a first state, of each state, and of a step
+-- what items ask of an initial state, of each state, and of a step
 abbrev pub asks : Asked → Outcome → Outcome → ItemKind → Bool
 asks First = asks_first
 asks Always = asks_always
@@ -35,7 +35,7 @@ is_faultless p s u t x = is_none (item_fault (types_of p) (slots_of p) s u t x)
 abbrev pub all_faultless : Asked → Program → List Value → List Value → List Value → Bool
 all_faultless asked p s u t = list_all (λ (x : ResolvedItem). not (is_asking asked x.kind) || is_faultless p s u t x) (items_of p)
 
--- a first state, in which no item faults that asks something of a first state
+-- an initial state, in which no item faults that asks something of an initial state
 abbrev pub begins_well : Program → List Value → Bool
 begins_well p s = is_first_state p s && all_faultless First p s [] []
 

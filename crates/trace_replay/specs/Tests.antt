@@ -70,7 +70,7 @@ starts_at (Some n) i = n == i
 abbrev pub values_fit : Program → Trace → ℕ → Bool
 values_fit p t i = state_fits p t i && inputs_fit p t i
 
--- state 0 is a first state
+-- state 0 is an initial state
 abbrev pub begins : Program → List (List Value) → ℕ → Bool
 begins p states i = not (i == 0) || begins_well p (at_time states 0)
 

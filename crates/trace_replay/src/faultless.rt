@@ -20,7 +20,7 @@ use sqlite_items::{Items, at};
 use std::alloc::{AllocError, Global};
 use value_types::ValueType;
 
-/// What items ask something of: a first state, each state, or a step.
+/// What items ask something of: an initial state, each state, or a step.
 #[derive(Clone, Copy, Debug, PartialEq, Eq)]
 pub enum Asked {
     First,
@@ -28,7 +28,7 @@ pub enum Asked {
     Step,
 }
 
-/// Whether the state is a first state, and nothing faults that is asked of it.
+/// Whether the state is an initial state, and nothing faults that is asked of it.
 pub fn begins_well(alloc: Global, typed: &Typed, s: &State) -> Result<bool, AllocError>
     ensures { IfOk result (λ well. well ≡ begins_well typed.now.scope.program s.now) }
 {

@@ -10,7 +10,7 @@ use std::fmt;
 pub enum ReplayRule {
     /// The lines have the names of the slots and values of their types, and there are as many as there should be.
     Values,
-    /// The first state is a first state of the program.
+    /// The first state is an initial state of the program.
     First,
     /// A state has what invariants ask.
     Inv,

@@ -1,4 +1,4 @@
--- The conditions of a first state decide whether it is one, and the edges of JUSTICE define their literals.
+-- The conditions of an initial state decide whether it is one, and the edges of JUSTICE define their literals.
 use Rattle.std.proofs.Common.{List, subst}
 use Rattle.clause_core.specs.Systems.{Gives}
 use Rattle.bit_graph.specs.declared.edge.Edge.{Edge}
