@@ -42,11 +42,11 @@ workers_option = record { word = codes "workers"; least = 1; greatest = 64; defa
 abbrev pub conflicts_option : OptionRow
 conflicts_option = record { word = codes "conflicts"; least = 0; greatest = 1099511627776; default = codes "1000000" }
 
--- how many steps the runs have at most that are looked for
+-- how many states the lassos have at most that are looked for
 abbrev pub bound_option : OptionRow
 bound_option = record { word = codes "bound"; least = 0; greatest = 10000; default = codes "30" }
 
--- up to which level frames are looked at
+-- the greatest level of the frames at which bad states are looked for
 abbrev pub frames_option : OptionRow
 frames_option = record { word = codes "frames"; least = 0; greatest = 100000; default = codes "1000" }
 

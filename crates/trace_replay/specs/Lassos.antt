@@ -68,7 +68,7 @@ justices_of p = filter (λ (x : ResolvedItem). is_justice x.kind) (items_of p)
 abbrev pub each_value_fits : Program → Trace → ℕ → Bool
 each_value_fits p t i = state_fits p t i && each_input_fits p t i
 
--- there is a step from the last state to the one of this number
+-- there is a step from the last state to the one of this number, and nothing that is asked of it faults
 abbrev pub is_loop : Program → List (List Value) → List (List Value) → ℕ → Bool
 is_loop p states inputs n =
     nat_lt n (length states) && steps_well p (at_time states (length states - 1)) (at_time inputs (length states - 1)) (at_time states n)

@@ -70,15 +70,15 @@ starts_at (Some n) i = n == i
 abbrev pub values_fit : Program → Trace → ℕ → Bool
 values_fit p t i = state_fits p t i && inputs_fit p t i
 
--- state 0 is an initial state
+-- state 0 is an initial state, and nothing that is asked of it faults
 abbrev pub begins : Program → List (List Value) → ℕ → Bool
 begins p states i = not (i == 0) || begins_well p (at_time states 0)
 
--- state i has what invariants ask
+-- state i has what invariants ask, and none of these faults there
 abbrev pub stays : Program → List (List Value) → ℕ → Bool
 stays p states i = not (nat_lt i (length states)) || stays_well p (at_time states i)
 
--- there is a step from state i to state i + 1
+-- there is a step from state i to state i + 1, and nothing that is asked of it faults
 abbrev pub goes_on : Program → List (List Value) → List (List Value) → ℕ → Bool
 goes_on p states inputs i = not (nat_lt (i + 1) (length states)) || steps_well p (at_time states i) (at_time inputs i) (at_time states (i + 1))
 
