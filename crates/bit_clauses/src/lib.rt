@@ -5,6 +5,8 @@
 //! conjunction is cut into its parts, a disjunction is one clause, and where a condition joins an input
 //! to a gate, the input stands for the gate's variable (Plaisted and Greenbaum 1986; Een, Mishchenko and
 //! Sorensson 2007).
+//!
+//! The only error of a call is running out of memory.
 #![tactic(auto)]
 
 mod claims;

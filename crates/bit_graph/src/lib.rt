@@ -6,6 +6,8 @@
 //! `Consistent` with the graph as it stands after the call: what was said of an edge then holds in
 //! each later graph too, by `Extends`. `Graph::one_way` ties this to the value of an edge under an
 //! assignment of the inputs.
+//!
+//! The only error of a call is running out of memory; each edge that was made before keeps its value.
 #![tactic(auto)]
 
 mod edge;

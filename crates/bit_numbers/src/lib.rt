@@ -2,6 +2,8 @@
 //! lesser, counts, and parts of words.
 //!
 //! A comparison with a constant that the bits cannot reach is a constant, and has no gate.
+//!
+//! The only error of a call is running out of memory.
 #![tactic(auto)]
 
 mod comparing;

@@ -1,4 +1,6 @@
 //! Judges certificates, by unit propagation or by hints alone.
+//!
+//! The only error of a call is running out of memory.
 #![tactic(auto)]
 
 pub mod hinting;

@@ -1,5 +1,7 @@
 //! Certificates of invariants of a transition system: clauses, and for each of them, and for the bad states,
 //! a derivation that shows it.
+//!
+//! The only error of a call is running out of memory.
 #![tactic(auto)]
 
 pub mod certificate;

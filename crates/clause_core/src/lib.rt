@@ -1,5 +1,7 @@
 //! Literals, clauses and transition systems over bits; what unit propagation finds in clauses, and does
 //! at one clause under a partial assignment; and what a derivation shows.
+//!
+//! The only error of a call is running out of memory.
 #![tactic(auto)]
 
 pub mod assignment;

@@ -1,4 +1,6 @@
 //! Cycles of directed graphs.
+//!
+//! The only error of a call is running out of memory.
 #![tactic(auto)]
 
 mod canonical;

@@ -1,5 +1,7 @@
 //! The frames of IC3 (Bradley 2011): lemmas with levels, the top, and obligations, whose law every value
 //! of `Frames` keeps; and what queries show of a system, as types.
+//!
+//! The only error of a call is running out of memory.
 #![tactic(auto)]
 
 mod comparing;

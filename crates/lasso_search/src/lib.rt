@@ -1,6 +1,8 @@
 //! Fair lassos of a transition system, as a monitored one, looked for length by length: by queries to one solver
 //! that is kept over all lengths, and a book of what was found at which length.
 //!
+//! The only error of a call is running out of memory.
+//!
 //! # Variables and clauses
 //!
 //! A lasso of n states is a run of n steps whose last state, at time n, is one that came before. The query for n

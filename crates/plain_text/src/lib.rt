@@ -1,4 +1,6 @@
 //! Text that contracts see as plain data: the list of its bytes. Also the numbers that texts write.
+//!
+//! The only error of a call is running out of memory.
 #![tactic(auto)]
 
 ghost use Rattle.std.specs.Prelude.{◌≡◌, IfOk, IsTrue, ◌↔◌, Some, bytes_eq};

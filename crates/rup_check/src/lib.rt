@@ -1,5 +1,7 @@
 //! Checks a derivation: whether each of its clauses follows by unit propagation from the given clauses
 //! and those before it, and the last is empty (Goldberg, Novikov 2003).
+//!
+//! The only error of a call is running out of memory.
 #![tactic(auto)]
 
 mod chains;

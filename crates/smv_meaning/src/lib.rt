@@ -1,5 +1,7 @@
 //! What a model means: the values of its expressions, its initial states, its steps and its runs
 //! (NuSMV 2.6 User Manual, chapter 2). The definitions are in `specs/`; the calls here compute what they say.
+//!
+//! The only error of a call but `eval` is running out of memory.
 #![tactic(auto)]
 
 mod evaluation;

@@ -1,5 +1,8 @@
 //! Phrases of tokens: what is read at the front, how far, and why not; single tokens, and names (NuSMV 2.6 User Manual,
 //! 2.3.13).
+//!
+//! A call refuses tokens at the first that is out of place, or that opens a level too many. The other error is running
+//! out of memory.
 #![tactic(auto)]
 
 mod names;

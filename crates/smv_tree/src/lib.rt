@@ -1,4 +1,6 @@
 //! The tokens and the syntax tree of a model, with the place of each, and the refusals that a text may meet.
+//!
+//! The only error of a call is running out of memory.
 #![tactic(auto)]
 
 mod occurring;

@@ -1,4 +1,6 @@
 //! The counterexamples of a report, read from its text alone: no model is needed, and none is asked for.
+//!
+//! The only error of a call but `report_read` is running out of memory.
 #![tactic(auto)]
 
 mod entry;

@@ -1,4 +1,6 @@
 //! Counterexamples as tables; and the kinds of their values, which the texts of the values tell.
+//!
+//! The only error of a call is running out of memory.
 #![tactic(auto)]
 
 mod cells;
