@@ -58,6 +58,7 @@ claim_at claims n = slice_index_or claims n None
 abbrev pub grown : BookState → FrameState → BookState
 grown s frames = record s { frames = frames; growth = s.growth + 1; failed = replicate (length s.failed) false }
 
+-- the state after a change
 abbrev pub changed : BookState → Change → BookState
 changed s (Add clause level parents) = grown s (with_lemma s.frames clause level)
 changed s (Raise n level parents) = grown s (with_level s.frames n level)
@@ -74,6 +75,7 @@ changed s (PushFailed n level) = record s { failed = slice_set s.failed level tr
 changed s (Limit j) = record s { limited = slice_set s.limited j true }
 changed s Spent = record s { spent = true }
 
+-- the state after these changes, one after another
 abbrev pub all_changed : BookState → List Change → BookState
 all_changed s [] = s
 all_changed s (c ∷ cs) = all_changed (changed s c) cs
@@ -92,6 +94,7 @@ abbrev pub is_behind : List Change → Bool
 is_behind (Behind lag ∷ cs) = true
 is_behind cs = false
 
+-- the state after an entry
 abbrev pub after : BookState → Entry → BookState
 after s (Claim worker subject level) =
     let made : Made = record { worker = worker; subject = subject; level = level; growth = s.growth; out = true; void = false } in
@@ -99,6 +102,7 @@ after s (Claim worker subject level) =
 after s (Settle worker n changes) = with_ended (all_changed s changes.items) n (is_behind changes.items)
 after s (Back worker n) = with_ended s n true
 
+-- the state after these entries, one after another
 abbrev pub replay : BookState → List Entry → BookState
 replay s [] = s
 replay s (e ∷ es) = replay (after s e) es
@@ -142,6 +146,7 @@ IsNew s subject level =
     (n : ℕ) (c : Made) → n < length s.claims → claim_at s.claims n ≡ Some c → c.subject ≡ subject → c.level ≡ level → c.growth ≡ s.growth →
     c.void ≡ true
 
+-- a claim that may be made now: the history is not closed, its subject fits the frames, and no equal claim stands
 pub record IsLawfulClaim (limits : Limits) (s : BookState) (subject : Subject) (level : ℕ) : Type 0 where
   pub still_open : IsClosed s → ⊥
   pub task : IsOpenTask limits s subject level

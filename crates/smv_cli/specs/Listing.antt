@@ -21,6 +21,7 @@ use Rattle.smv_slots.specs.Names.{slot_name}
 use Rattle.smv_slots.specs.Slots.{slots_of, types_of}
 use Rattle.smv_meaning.specs.Runs.{is_claim}
 
+-- the kind of a slot
 abbrev pub sort_text : VariableKind → List ℕ
 sort_text sort.State = codes "state"
 sort_text sort.Frozen = codes "frozen"
@@ -31,6 +32,7 @@ abbrev pub declared_text : List (List ℕ) → Option ValueType → List ℕ
 declared_text names None = []
 declared_text names (Some t) = type_text names t
 
+-- the kind of an item
 abbrev pub item_kind_text : ItemKind → List ℕ
 item_kind_text (item.Constraint asked.Init) = codes "INIT"
 item_kind_text (item.Constraint asked.Invar) = codes "INVAR"
@@ -41,9 +43,11 @@ item_kind_text (item.Assignment side.Next) = codes "next"
 item_kind_text (item.Assignment side.Current) = codes "now"
 item_kind_text (item.Specification kind) = kind_text kind
 
+-- the line of slot i
 abbrev pub slot_line : Program → ℕ → Slot → List ℕ
 slot_line p i slot = codes "-- slot " ++ decimal i ++ codes " " ++ sort_text slot.kind ++ codes " " ++ slot_name p slot ++ codes " : " ++ declared_text (symbols_of p) (slice_get (types_of p) slot.declared) ++ line_end
 
+-- the line of item i
 abbrev pub item_line : Program → ℕ → ResolvedItem → List ℕ
 item_line p i x = codes "-- item " ++ decimal i ++ codes " " ++ item_kind_text x.kind ++ codes " at " ++ place_text x.place ++ codes " of " ++ shown_path (path_of p x.at) ++ line_end
 

@@ -48,6 +48,7 @@ IsCheckStop bytes NoMemory = Unit {0}
 abbrev pub is_printed : Effort → ℕ → List (Option HintedLog) → Bool
 is_printed effort count parts = effort.cert && nat_lt 0 count && list_any is_some parts
 
+-- the sound block, where it is printed
 abbrev pub sound_block : Effort → ℕ → List (Option HintedLog) → List ℕ
 sound_block effort count parts = if is_printed effort count parts then sound_text parts else []
 

@@ -115,6 +115,7 @@ pub record IsFormulaCertified (p : Program) (effort : Effort) (spec : ResolvedIt
   pub stands : StandsForFormula p spec formula
   pub certifies : IsLtlCertificate formula.system (unfolded formula.formula) formula.atoms effort.counter cert
 
+-- the same of an LTLSPEC
 abbrev pub IsFormulaShownBy : Bool → Program → Effort → ResolvedItem → Option Block → Type 0
 IsFormulaShownBy true p effort spec (Some cert) = IsFormulaCertified p effort spec cert
 IsFormulaShownBy true p effort spec None = ⊥
@@ -159,11 +160,13 @@ RightOf p effort kind = IsRight kind p effort
 abbrev pub OpenOf : ℕ → ℕ → SpecificationKind → ResolvedItem → Verdict → Type 0
 OpenOf drawn budget kind spec verdict = verdict ≡ Unknown (reason.Preparing drawn budget)
 
+-- the record says false
 abbrev pub is_false : Verdict → Bool
 is_false (True shown) = false
 is_false (False trace) = true
 is_false (Unknown cause) = false
 
+-- the record says unknown
 abbrev pub is_unknown : Verdict → Bool
 is_unknown (True shown) = false
 is_unknown (False trace) = false

@@ -26,6 +26,7 @@ ltl_cause_text (ltl.Conflicts drawn budget) = codes "conflicts " ++ decimal draw
 ltl_cause_text (ltl.Bound bound counter) = codes "bound " ++ decimal bound ++ codes ", counter " ++ decimal counter
 ltl_cause_text (ltl.Frames bound frames counter) = codes "bound " ++ decimal bound ++ codes ", frames " ++ decimal frames ++ codes " at " ++ decimal counter
 
+-- what follows `unknown: `, of any specification
 abbrev pub reason_text : Reason → List ℕ
 reason_text (reason.Invariant cause) = cause_text cause
 reason_text (reason.Formula cause) = ltl_cause_text cause
@@ -42,8 +43,10 @@ verdict_text number (True shown) = codes "true" ++ line_end ++ shown_text number
 verdict_text number (False trace) = codes "false" ++ line_end ++ trace_text number trace
 verdict_text number (Unknown why) = codes "unknown: " ++ reason_text why ++ line_end
 
+-- a record: its line, and the certificate or the trace behind it
 abbrev pub record_text : Record → List ℕ
 record_text r = codes "-- spec " ++ decimal r.number ++ codes " " ++ kind_text r.kind ++ codes " is " ++ verdict_text r.number r.verdict
 
+-- the line of usage
 abbrev pub usage_text : List ℕ
 usage_text = codes "-- usage: smvcheck check | recheck | flat | self N SEED" ++ line_end

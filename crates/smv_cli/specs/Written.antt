@@ -138,6 +138,7 @@ pub record RecordedPartBy (IsSo : SpecificationKind → ResolvedItem → Verdict
 abbrev pub Recorded : Program → Effort → List ResolvedItem → Option (List ℕ) → Option (List ℕ) → ℕ → Type 0
 Recorded p effort = RecordedBy (RightOf p effort)
 
+-- a prefix of these
 abbrev pub RecordedPart : Program → Effort → List ResolvedItem → Option (List ℕ) → Option (List ℕ) → Type 0
 RecordedPart p effort = RecordedPartBy (RightOf p effort)
 
@@ -145,6 +146,7 @@ RecordedPart p effort = RecordedPartBy (RightOf p effort)
 abbrev pub OpenRecorded : ℕ → ℕ → List ResolvedItem → Option (List ℕ) → Option (List ℕ) → Type 0
 OpenRecorded drawn budget specs before now = (status : ℕ) × RecordedBy (OpenOf drawn budget) specs before now status
 
+-- a prefix of these
 abbrev pub OpenRecordedPart : ℕ → ℕ → List ResolvedItem → Option (List ℕ) → Option (List ℕ) → Type 0
 OpenRecordedPart drawn budget = RecordedPartBy (OpenOf drawn budget)
 

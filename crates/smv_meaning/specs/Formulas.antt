@@ -14,11 +14,13 @@ use Rattle.smv_meaning.specs.declared.outcome.Outcome.TheVariants.{Fault}
 use Rattle.smv_meaning.specs.Outcomes.{truth}
 use Rattle.smv_meaning.specs.Values.{outcome}
 
+-- `!`, `&`, `|`, `xor`, `xnor`, `->`, `<->`
 abbrev pub is_propositional : Operator → Bool
 is_propositional operator.Not = true
 is_propositional (operator.Logic o) = true
 is_propositional other = false
 
+-- a temporal operator: without bounds, with bounds, or with bounds as they are written
 abbrev pub is_temporal : Operator → Bool
 is_temporal (operator.Temporal o) = true
 is_temporal (operator.Bounded o low high) = true

@@ -61,6 +61,7 @@ IsTrueIn p w r t = outcome (slots_of p) (at_time w.states (place_at w t)) (at_ti
 
 -- the operators by what holds of their operands
 
+-- an operator between propositions
 abbrev pub logic_holds : Logic → Moment → Moment → Moment
 logic_holds logic.And = binary_truth BinaryOperator.And
 logic_holds logic.Or = binary_truth BinaryOperator.Or
@@ -69,6 +70,7 @@ logic_holds logic.Xnor = binary_truth BinaryOperator.Xnor
 logic_holds logic.Implies = binary_truth BinaryOperator.Implies
 logic_holds logic.Iff = binary_truth BinaryOperator.Iff
 
+-- a temporal operator without bounds; one with one operand looks at the first alone
 abbrev pub temporal_holds : Temporal → Moment → Moment → Moment
 temporal_holds tense.Next P Q = unary_truth UnaryOperator.Next P
 temporal_holds tense.Finally P Q = unary_truth UnaryOperator.Finally P
@@ -82,12 +84,14 @@ temporal_holds tense.Releases P Q = binary_truth BinaryOperator.Releases P Q
 temporal_holds tense.Since P Q = binary_truth BinaryOperator.Since P Q
 temporal_holds tense.Triggered P Q = binary_truth BinaryOperator.Triggered P Q
 
+-- one with bounds, from the lower to the upper
 abbrev pub bounded_holds : Bounded → ℕ → ℕ → Moment → Moment
 bounded_holds bounded.Finally = FinallyWithin
 bounded_holds bounded.Globally = GloballyWithin
 bounded_holds bounded.Once = OnceWithin
 bounded_holds bounded.Historically = HistoricallyWithin
 
+-- any operator that may stand over formulas; where another one is meant, nothing holds
 abbrev pub operator_holds : Operator → Moment → Moment → Moment
 operator_holds operator.Not P Q = unary_truth UnaryOperator.Not P
 operator_holds (operator.Logic o) P Q = logic_holds o P Q

@@ -13,6 +13,7 @@ use Rattle.value_sets.specs.Members.{only, run}
 use Rattle.smv_meaning.specs.declared.outcome.Outcome.{Outcome}
 use Rattle.smv_meaning.specs.declared.outcome.Outcome.TheVariants.{Fault, Nothing, Values}
 
+-- a single value
 abbrev pub one : Value → Outcome
 one v = Values (v ∷ [])
 
@@ -35,6 +36,7 @@ abbrev pub values_in : Outcome → Option (List Value)
 values_in (Values vs) = Some vs
 values_in other = None
 
+-- TRUE or FALSE, of a value
 abbrev pub truth_of : Value → Option Bool
 truth_of (value.Bool b) = Some b
 truth_of other = None
@@ -63,6 +65,7 @@ abbrev pub united : List Value → List Outcome → Outcome
 united vs [] = Values vs
 united vs (o ∷ os) = over o (values_in o) (λ ws. united (vs ++ ws) os)
 
+-- an operator over two operands; of more or fewer it gives nothing
 abbrev pub two : (Outcome → Outcome → Outcome) → List Outcome → Outcome
 two f (a ∷ b ∷ []) = f a b
 two f other = Nothing
@@ -72,6 +75,7 @@ abbrev pub integers_between : Value → Value → Outcome
 integers_between (value.Int a) (value.Int b) = Values (run a b)
 integers_between v w = Nothing
 
+-- the integers between the values of two operands, or the first fault
 abbrev pub ranged : Outcome → Outcome → Outcome
 ranged a b = over a (value_in a) (λ v. over b (value_in b) (λ w. integers_between v w))
 

@@ -9,6 +9,7 @@ abbrev pub whole_of : Target → Option ℕ
 whole_of (Target.Whole i) = Some i
 whole_of other = None
 
+-- where one gets from the instance, if there is one
 abbrev pub behind : (ℕ → Option ℕ) → Option ℕ → Option ℕ
 behind go None = None
 behind go (Some i) = go i

@@ -97,12 +97,15 @@ asks_step x e (item.Constraint asked.Trans) = is_true e
 asks_step x e (item.Constraint asked.Justice) = true
 asks_step x e (item.Specification kind) = true
 
+-- the state has what the item asks of an initial state
 abbrev pub allows_first : List Slot → List Value → ResolvedItem → Bool
 allows_first slots s x = asks_first (outcome_of_target slots s x.target) (outcome_in slots s x.value) x.kind
 
+-- the state has what the item asks of both states of a step
 abbrev pub allows_always : List Slot → List Value → ResolvedItem → Bool
 allows_always slots s x = asks_always (outcome_of_target slots s x.target) (outcome_in slots s x.value) x.kind
 
+-- the step from s to t with the inputs u has what the item asks of a step
 abbrev pub allows_step : List Slot → List Value → List Value → List Value → ResolvedItem → Bool
 allows_step slots s u t x = asks_step (outcome_of_target slots t x.target) (outcome slots s u t x.value) x.kind
 
@@ -110,6 +113,7 @@ allows_step slots s u t x = asks_step (outcome_of_target slots t x.target) (outc
 abbrev pub meets_invariants : Program → List Value → Bool
 meets_invariants p s = list_all (allows_always (slots_of p) s) (items_of p)
 
+-- a variable of FROZENVAR
 abbrev pub is_frozen : VariableKind → Bool
 is_frozen sort.Frozen = true
 is_frozen other = false
@@ -187,6 +191,7 @@ is_known_by slots s u t target e (item.Constraint which) = is_known (item_outcom
 is_known_by slots s u t target e (item.Specification claim.Invariant) = is_known (outcome_in slots s e)
 is_known_by slots s u t target e (item.Specification claim.Temporal) = is_known_formula slots s u e
 
+-- the same of an item
 abbrev pub is_known_item : List Slot → List Value → List Value → List Value → ResolvedItem → Bool
 is_known_item slots s u t x = is_known_by slots s u t x.target x.value x.kind
 
@@ -195,6 +200,7 @@ abbrev pub AllKnown : Program → Type 0
 AllKnown p = (s u t : List Value) → is_state p s ≡ true → are_inputs p u ≡ true → is_state p t ≡ true →
     list_all (is_known_item (slots_of p) s u t) (items_of p) ≡ true
 
+-- a specification
 abbrev pub is_claim : ItemKind → Bool
 is_claim (item.Specification kind) = true
 is_claim other = false

@@ -31,6 +31,7 @@ seen (Some o) = o
 abbrev pub outcome_at : List Outcome → ℕ → Outcome
 outcome_at outcomes k = seen (slice_get outcomes k)
 
+-- the outcome of what an item assigns, if it assigns
 abbrev pub target_at : List Outcome → Option ℕ → Outcome
 target_at outcomes None = Nothing
 target_at outcomes (Some k) = outcome_at outcomes k
@@ -60,9 +61,11 @@ step_allowed here later items = list_all (λ (x : Item). asks_step (target_at la
 
 -- faults of formulas and slots that are assigned
 
+-- the fault of the node of this number, if it has one
 abbrev pub fault_at : List (Option (FaultRule × Place)) → ℕ → Option (FaultRule × Place)
 fault_at faults k = slice_index_or faults k None
 
+-- the first fault that is there
 abbrev pub first_fault : List (Option (FaultRule × Place)) → Option (FaultRule × Place)
 first_fault [] = None
 first_fault (f ∷ fs) = option_or f (first_fault fs)
@@ -79,6 +82,7 @@ fault_by_node mine faults (node.Apply place o count) = if is_over_formulas o the
 fault_by_node mine faults (node.Link place o a b) =
     if is_over_formulas o then first_fault (fault_at faults a ∷ fault_at faults b ∷ []) else mine
 
+-- the slot that the node of this number is, if it is one
 abbrev pub slot_at : List (Option ℕ) → ℕ → Option ℕ
 slot_at slots k = slice_index_or slots k None
 
