@@ -3,8 +3,8 @@
 -- A set of literals is a test `t`: the literals that are set true. Where all literals of a clause but
 -- one are false, unit propagation sets that one; where all are false, it has met a conflict. What it
 -- sets, from the literals that it starts with, is the least set that has these and is closed under this
--- rule, so a literal is set exactly where it is in each such set. A conflict that the least set has,
--- each larger one has too, so a conflict is met exactly where each closed set has one. The definitions
+-- rule. So a literal is set exactly where it is in each such set. A conflict that the least set has,
+-- each larger one has too. So a conflict is met exactly where each closed set has one. The definitions
 -- below say it by closed sets: no order of the steps is in them.
 use Rattle.std.specs.Prelude.{◌≡◌, ℕ, ◌<◌, ◌⊎◌, Bool, true, List, length, take, All, Any, Contains}
 use Rattle.clause_core.specs.declared.literal.Lit.{Lit}

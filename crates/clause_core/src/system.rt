@@ -13,9 +13,9 @@ use std::marker::Model;
 /// the bit of the next state that belongs to state bit b is variable `state_bits + b`; the variables
 /// after these, below `all_bits`, are inputs and what the clauses were built with.
 ///
-/// Its type keeps that twice `state_bits` is at most `all_bits`, that no literal is past `all_bits`,
-/// that each state meets either the good clauses or the bad ones, and that the definitions give the
-/// variables of `fair` and their own from the state bits, in one way for each state.
+/// Its type keeps that twice `state_bits` is at most `all_bits`, and that no literal is past `all_bits`.
+/// Each state meets either the good clauses or the bad ones. The definitions give the variables of
+/// `fair`, and their own, from the state bits, in one way for each state.
 #[derive(Drop)]
 pub struct System {
     state_bits: usize,

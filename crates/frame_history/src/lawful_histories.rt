@@ -22,8 +22,8 @@ pub fn lemmas_hold_in_reached_states()
     ensures { (limits : ALimits) (systems : List TransitionSystem) (carried : List ALemma) (history : List AnEntry) → AreCarried systems carried → IsLawful limits (start limits systems carried) history → (n j : ℕ) → j < length systems → (i : ℕ) (x : ℕ → Bool) → ReachedWithin (system_at systems j) i x → (l : ℕ) → l < length (replay (start limits systems carried) (take n history)).frames.lemmas → i ≤ (lemma_at (replay (start limits systems carried) (take n history)).frames.lemmas l).level → ClauseTrue x (lemma_at (replay (start limits systems carried) (take n history)).frames.lemmas l).clause }
 {}
 
-/// Where the limit of a system is met, some entry left the frames with a top past it and steps out of each frame up to it, and
-/// no bad state of the system is reached in so many steps.
+/// Where the limit of a system is met, some entry left the frames with a top past it and steps out of each frame from 1
+/// up to it. No bad state of the system is reached in so many steps.
 pub fn a_limit_that_is_met_was_reached()
     ensures { (limits : ALimits) (systems : List TransitionSystem) (carried : List ALemma) (history : List AnEntry) → AreCarried systems carried → IsLawful limits (start limits systems carried) history → (j : ℕ) → j < length systems → slice_index_or (replay (start limits systems carried) history).limited j false ≡ true → WasAtLimit limits (start limits systems carried) history j × IsSafeWithin (system_at systems j) limits.frames }
 {}

@@ -1,7 +1,7 @@
 -- Steps that follow by hints (Cruz-Filipe and others 2017: linear RUP).
 --
--- A step follows by its hints if, once its literals are set false, each hinted clause in turn has all
--- literals false but one that is unset, which is then set true, and the last one has all literals false.
+-- A step's literals are set false first. It follows by its hints if each hinted clause in turn has all
+-- literals false but one that is unset, which is then set true. The last one has all literals false.
 -- The literals that are set true are a list. A step that has a literal and its negation can't have both
 -- set false, so it follows by no hints.
 use Rattle.std.specs.Prelude.{◌≡◌, ℕ, ◌<◌, ◌⊎◌, List, [], ◌∷◌, ◌++◌, length, take, map, All, Contains, slice_index_or}

@@ -77,9 +77,9 @@ impl Checker {
     /// The clauses may be of any length and may repeat.
     ///
     /// Takes no memory. For each step it goes over the clauses and the steps before it until nothing is
-    /// left to set, so its time grows with the product of the log's length and the number of all clauses,
-    /// times the rounds, which are about ten a step on logs of real solvers: some seconds for ten
-    /// thousand steps over a thousand clauses.
+    /// left to set. So its time grows with the product of the log's length and the number of all clauses,
+    /// times the rounds. These are about ten a step on logs of real solvers: some seconds for ten thousand
+    /// steps over a thousand clauses.
     pub fn check(&mut self, clauses: &Clauses, log: &Log) -> Verdict
         requires { All (Within self.old) clauses.now }
         ensures vars { self.new ≡ self.old }

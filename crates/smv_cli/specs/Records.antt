@@ -50,8 +50,8 @@ ltl_effort effort = record { conflicts = effort.conflicts; frames = effort.frame
 abbrev pub invariants_of : Program → List ResolvedItem
 invariants_of p = filter (λ (x : ResolvedItem). is_invariant x.kind) (specifications_of p)
 
--- the specifications whose systems share one pool of lemmas and one budget with this one: all INVARSPECs with `--together`,
--- else this one alone
+-- the specifications whose systems share one pool of lemmas and one budget with this one: all INVARSPECs with
+-- `--together`, else this one alone
 abbrev pub asked_with : Effort → Program → ResolvedItem → List ResolvedItem
 asked_with effort p spec = if effort.together then invariants_of p else spec ∷ []
 
@@ -65,8 +65,8 @@ abbrev pub SaysOfRuns : Program → ResolvedItem → Cause → Type 0
 SaysOfRuns p spec (Conflicts drawn budget) = ⊤
 SaysOfRuns p spec (Frames frames) = IsUnbrokenWithin p spec frames
 
--- Why a specification is unknown: for systems that stand for the program and the specifications that are asked with it, there is
--- a lawful history within the effort by which the system of this specification is left open for this cause.
+-- Why a specification is unknown. There are systems that stand for the program and the specifications that are asked with
+-- it, and a lawful history of theirs within the effort. It leaves the system of this specification open for this cause.
 pub record IsLeftOpen (p : Program) (effort : Effort) (spec : ResolvedItem) (why : Cause) : Type 0 where
   pub systems : List TransitionSystem
   pub history : List Entry
@@ -91,15 +91,15 @@ IsShownBy true p spec None = ⊥
 IsShownBy false p spec (Some cert) = ⊥
 IsShownBy false p spec None = Unit {0}
 
--- What a cause says of lassos, where past operators nest h deep: no lasso violates the specification whose states, with h passes more of
--- its loop, are at most so many.
+-- What a cause says of lassos, where past operators nest h deep: no lasso violates the specification whose states, with
+-- h passes more of its loop, are at most so many.
 abbrev pub SaysOfLassos : Program → ResolvedItem → ℕ → LtlCause → Type 0
 SaysOfLassos p spec h (ltl.Conflicts drawn budget) = ⊤
 SaysOfLassos p spec h (ltl.Bound bound counter) = IsUnviolatedWithin p spec h bound
 SaysOfLassos p spec h (ltl.Frames bound frames counter) = IsUnviolatedWithin p spec h bound
 
--- Why an LTLSPEC is unknown: for a system that stands for the program and the specification, what was done within the effort leaves its
--- formula open for this cause.
+-- Why an LTLSPEC is unknown: for a system that stands for the program and the specification, what was done within the
+-- effort leaves its formula open for this cause.
 pub record IsFormulaOpen (p : Program) (effort : Effort) (spec : ResolvedItem) (why : LtlCause) : Type 0 where
   pub formula : FormulaSystem
   pub log : LtlLog
@@ -108,8 +108,8 @@ pub record IsFormulaOpen (p : Program) (effort : Effort) (spec : ResolvedItem) (
   pub cause : IsLtlCause formula.system (unfolded formula.formula) formula.atoms (ltl_effort effort) log why
   pub lassos : SaysOfLassos p spec (past_height (unfolded formula.formula)) why
 
--- The certificate certifies that a system that stands for the program and the specification, with a monitor and a counter beside it up to
--- the number that the certificate names, reaches no bad state.
+-- The certificate is of a system that stands for the program and the specification, with a monitor and a counter beside
+-- it. It certifies that no bad state is reached, where the counter goes up to the number that the certificate names.
 pub record IsFormulaCertified (p : Program) (effort : Effort) (spec : ResolvedItem) (cert : Block) : Type 0 where
   pub formula : FormulaSystem
   pub stands : StandsForFormula p spec formula
@@ -122,9 +122,9 @@ IsFormulaShownBy true p effort spec None = ⊥
 IsFormulaShownBy false p effort spec (Some cert) = ⊥
 IsFormulaShownBy false p effort spec None = Unit {0}
 
--- What is said of an INVARSPEC with this effort is right. True: no run of any length breaks it, and with `--cert` a certificate
--- shows it. False: the trace is that of a run that breaks it. Unknown: the prover's work within the effort leaves it open for this
--- cause.
+-- What is said of an INVARSPEC with this effort is right. True: no run of any length breaks it, and with `--cert` a
+-- certificate shows it. False: the trace is that of a run that breaks it. Unknown: the prover's work within the effort
+-- leaves it open for this cause.
 abbrev pub IsRightInvariant : Program → Effort → ResolvedItem → Verdict → Type 0
 IsRightInvariant p effort spec (True shown) = IsUnbroken p spec × IsShownBy effort.cert p spec shown
 IsRightInvariant p effort spec (False trace) = ShowsBroken p spec trace
@@ -145,7 +145,8 @@ abbrev pub IsRight : SpecificationKind → Program → Effort → ResolvedItem �
 IsRight claim.Invariant = IsRightInvariant
 IsRight claim.Temporal = IsRightFormula
 
--- Records of the first specifications, in their order, numbered from i on: of each this is so, by its kind and by what is said of it.
+-- Records of the first specifications, in their order, numbered from i on: of each this is so, by its kind and by what
+-- is said of it.
 abbrev pub RecordsFrom : (SpecificationKind → ResolvedItem → Verdict → Type 0) → ℕ → List ResolvedItem → List Record → Type 0
 RecordsFrom IsSo i specs [] = Unit {0}
 RecordsFrom IsSo i [] (r ∷ rs) = ⊥
