@@ -48,7 +48,7 @@ pub record IsAsked (f : FrameState) (v : ClaimView) (over : Bool) (o : Outcome) 
   pub timely : IsTimely f v o
   pub spent : IsSpentBy over o
 
--- queries over the frames, of questions that this claim may ask, no two of which are equal, were paid for
+-- queries over the frames, of questions that this claim may ask, no two of one question, were paid for
 abbrev pub PaysClaim : FrameState → ClaimView → List (List Lit) → List (List Lit) → List ℕ → List ℕ → Type 0
 PaysClaim f v old new before after =
     (log : List AskedQuery)

@@ -14,8 +14,8 @@ use std::alloc::{AllocError, Global};
 
 /// The outcome of a claim, by a solver of these systems that has the lemmas as they were when the claim was made.
 ///
-/// It is `Spent` only where the purse is. What was asked may be asked for this claim, no two queries are equal, and each
-/// was paid for with what it learned, after each way out. The only error is out of memory.
+/// It is `Spent` only where the purse is. What was asked may be asked for this claim, no two queries are of one
+/// question, and each was paid for with what it learned, after each way out. The only error is out of memory.
 pub fn ask<'a, Q: Purse>(
     alloc: Global,
     systems: &'a [System],

@@ -26,18 +26,18 @@ use work_crew::Crew;
 
 /// Explores these frames, which have no obligation and tops 0, by so many workers, but by 4294967294 at most.
 ///
-/// The budget is that of the purse. The workers have the numbers from 1 on. They share a book under a lock, and ask for their claims without it, each by a
-/// solver of its own. They take turns: one claim is out at a time, and the next is left for a while to the worker who had
-/// the last one. Then the caller, number 0, finishes alone what is left. What was drawn was paid for queries of the
-/// history's claims, and no two of these are equal.
+/// The budget is that of the purse. The workers have the numbers from 1 on. They share a book under a lock, and ask for
+/// their claims without it, each by a solver of its own. They take turns: one claim is out at a time, and the next is
+/// left for a while to the worker who had the last one. Then the caller, number 0, finishes alone what is left. What
+/// was drawn was paid for queries of the history's claims, no two of which have one key (`Key` of `frame_claims`).
 ///
 /// The book is dropped in four cases: the history that workers saw is not a beginning of the book's, or an entry of the
-/// book could not be added to it; a claim that came to nothing may have been made twice; the book notes that the purse was
-/// spent, and the seat knows nothing of that; a claim is still out.
+/// book could not be added to it; a claim that came to nothing may have been made twice; the book notes that the purse
+/// was spent, and the seat knows nothing of that; a claim is still out.
 ///
-/// Each worker counts the settlements that it makes, by a share of one ledger. Their sum, with the caller's, is how many the
-/// history has: none was dropped, doubled or invented. (A sum past 18446744073709551615 stays there.) A worker that is refused memory ends alone; that the caller is refused
-/// memory, while it finishes too, is the only error.
+/// Each worker counts the settlements that it makes, by a share of one ledger. Their sum, with the caller's, is how
+/// many the history has: none was dropped, doubled or invented. (A sum past 18446744073709551615 stays there.) A worker
+/// that is refused memory ends alone; that the caller is refused memory, while it finishes too, is the only error.
 pub fn explore_together<'a, R: Threads + Wait + Sync, G: Gate + Sync>(
     rt: &R,
     alloc: Global,

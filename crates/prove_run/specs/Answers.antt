@@ -32,8 +32,8 @@ first_of systems effort = start (limits_of effort) systems []
 abbrev pub frames_of : List TransitionSystem → Effort → List Entry → FrameState
 frames_of systems effort history = (replay (first_of systems effort) history).frames
 
--- as many tickets as the effort has were drawn: first for queries of the history's claims, a list for each worker, then for queries for
--- certificates, no two of which are equal
+-- as many tickets as the effort has were drawn: first for queries of the history's claims, a list for each worker, then
+-- for queries for certificates, no two for one part of one system
 pub record IsSpent (systems : List TransitionSystem) (effort : Effort) (history : List Entry) (parts : List CertQuery) : Type 0 where
   pub drawn : ℕ
   pub logs : List (List ClaimQuery)
@@ -44,12 +44,13 @@ pub record IsSpent (systems : List TransitionSystem) (effort : Effort) (history 
   pub certified : PaysCertificates (frames_of systems effort history) claimed spent parts
   pub all : drawn + tickets_in (queries_of parts) ≡ effort.conflicts
 
--- what was done leaves system j open: its frames tell no verdict; or they tell an invariant, and its certificate lacks a part
+-- what was done leaves system j open: its frames tell no verdict; or they tell an invariant, and its certificate lacks
+-- a part
 abbrev pub IsLeftOpen : FrameState → List CertQuery → ℕ → Type 0
 IsLeftOpen f parts j = (HasVerdict f j → ⊥) ⊎ LacksPart f parts j
 
--- Why system j is unknown: the budget was spent, which left it open; or the frames tell no verdict of it, the top of its frames is past the
--- limit, steps led out of each frame up to it, and no bad state is reached in so many steps.
+-- Why system j is unknown: the budget was spent, which left it open; or the frames tell no verdict of it, the top of
+-- its frames is past the limit, steps led out of each frame up to it, and no bad state is reached in so many steps.
 abbrev pub IsCause : List TransitionSystem → Effort → List Entry → ℕ → Cause → Type 0
 IsCause systems effort history j (Conflicts drawn budget) =
     (drawn ≡ effort.conflicts) × (budget ≡ effort.conflicts)
@@ -58,7 +59,8 @@ IsCause systems effort history j (Frames frames) =
     (frames ≡ effort.frames) × (HasVerdict (frames_of systems effort history) j → ⊥)
     × WasAtLimit (limits_of effort) (first_of systems effort) history j × IsSafeWithin (system_at systems j) frames
 
--- an answer about system j is right: this certificate, of no counter, certifies; or this run leads to a bad state; or there is this cause
+-- an answer about system j is right: this certificate, of no counter, certifies; or this run leads to a bad state; or
+-- there is this cause
 abbrev pub IsRight : List TransitionSystem → Effort → List Entry → ℕ → Answer → Type 0
 IsRight systems effort history j (True cert) = Certifies (system_at systems j) cert × (cert.counter ≡ None)
 IsRight systems effort history j (False run) = IsBadRun (system_at systems j) run
@@ -79,15 +81,17 @@ abbrev pub cause_of : Bool → Effort → Cause
 cause_of true effort = spent_cause effort
 cause_of false effort = Frames effort.frames
 
--- what is answered of system j by its frames, where `over` says whether the purse was spent in the book, and `spent` whether it is by now: this
--- certificate certifies; this run leads to a bad state; no verdict is told, for a cause; or the purse was spent before the certificate was made
+-- what is answered of system j by its frames, where `over` says whether the purse was spent in the book, and `spent`
+-- whether it is by now: this certificate certifies; this run leads to a bad state; no verdict is told, for a cause; or
+-- the purse was spent before the certificate was made
 abbrev pub Answers : Effort → FrameState → Bool → List CertQuery → Bool → ℕ → Answer → Type 0
 Answers effort f over parts spent j (True cert) = Certifies (system_at f.systems j) cert × (cert.counter ≡ None)
 Answers effort f over parts spent j (False run) = IsBadRun (system_at f.systems j) run
 Answers effort f over parts spent j (Unknown cause) =
     ((HasVerdict f j → ⊥) × (cause ≡ cause_of over effort)) ⊎ (LacksPart f parts j × (spent ≡ true) × (cause ≡ spent_cause effort))
 
--- some certificate: it certifies, and has this counter; none: the purse is spent, and some part was not answered. What was asked was paid for.
+-- some certificate: it certifies, and has this counter; none: the purse is spent, and some part was not answered. What
+-- was asked was paid for.
 abbrev pub CertifySays : TransitionSystem → List (List Lit) → Option ℕ → List ℕ → List ℕ → Bool → Option Block → Type 0
 CertifySays sys cs counter before after spent None = (spent ≡ true) × PaysOpen sys cs before after
 CertifySays sys cs counter before after spent (Some cert) =

@@ -10,8 +10,9 @@ use Rattle.frame_book.specs.Claims.{ClaimView}
 use Rattle.frame_book.specs.Book.{BookView, IsBook, Claims, SettlesBy, entered}
 use Rattle.frame_claims.specs.Paying.{ClaimQuery, IsPaidRun}
 
--- no claim is out or void; the solver has the systems, and the lemmas as they were; that the purse was spent is noted only where it was; and
--- what was drawn since `old` was paid for queries of the history's claims, no two of which are equal
+-- no claim is out or void; the solver has the systems, and the lemmas as they were; that the purse was spent is noted
+-- only where it was; and what was drawn since `old` was paid for queries of the history's claims, no two of which have
+-- one key
 pub record IsPlayed (old : List ℕ) (b : BookView) (v : SolverView) (tickets : List ℕ) (over : Bool) : Type 0 where
   pub book : IsBook b
   pub systems : v.systems ≡ b.systems

@@ -21,9 +21,9 @@ use std::sync::ledger::{Blank, Ledger, Share};
 
 /// Explores these frames, which have no obligation and tops 0, up to the limit; their lemmas are of use from the start.
 ///
-/// The caller is the one worker, with number 0, who passes the gate before each task. Where the purse was not spent, each
-/// system has a verdict, or met the limit. What was drawn was paid for queries of the history's claims, no two of which are
-/// equal. The only error is out of memory.
+/// The caller is the one worker, with number 0, who passes the gate before each task. Where the purse was not spent,
+/// each system has a verdict, or met the limit. What was drawn was paid for queries of the history's claims, no two of
+/// which have one key (`Key` of `frame_claims`). The only error is out of memory.
 pub fn explore<'a, R: Wait, Q: Purse, G: Gate>(
     rt: &R,
     alloc: Global,

@@ -22,15 +22,17 @@ use std::thread::Threads;
 
 /// Whether each of these systems reaches a bad state, over one pool of lemmas, by so many workers.
 ///
-/// An answer is a certificate that no bad state is reached, which the check of certificates accepted; a run to a bad state; or
-/// the cause why neither is known: the tickets of the effort were drawn, each for a query of a claim of the history, for one
-/// for a part of a certificate, or for a clause that one of them learned, and no two queries are equal; or the frames went up
-/// to the limit. Certificates are made by the caller when the frames are done, in the order of the systems, and paid for by
-/// what is left.
+/// An answer is a certificate that no bad state is reached, which the check of certificates accepted; a run to a bad
+/// state; or the cause why neither is known. Either the tickets of the effort were drawn. Each was for a query of a
+/// claim of the history, for one for a part of a certificate, or for a clause that one of them learned. No two queries
+/// of claims have one key (`Key` of `frame_claims`), and no two are for one part. Or the frames went up to the limit.
+/// Certificates are made by the caller when the frames are done, in the order of the systems, and paid for by what is
+/// left.
 ///
-/// One worker is the caller, with number 0. Several have the numbers from 1 on; the caller finishes what they leave. Where
-/// their book has to be dropped, the caller begins anew alone, with a purse of its own. Each worker passes the gate before
-/// each of its tasks. A worker of several that is refused memory ends alone; that the caller is refused memory is the only error.
+/// One worker is the caller, with number 0. Several have the numbers from 1 on; the caller finishes what they leave.
+/// Where their book has to be dropped, the caller begins anew alone, with a purse of its own. Each worker passes the
+/// gate before each of its tasks. A worker of several that is refused memory ends alone; that the caller is refused
+/// memory is the only error.
 pub fn prove_all<R: Threads + Wait + Sync, G: Gate + Sync>(
     rt: &R,
     alloc: Global,
