@@ -52,8 +52,8 @@ pub fn subtract(
 
 // The sum of three bits: its low bit and its carry.
 //
-// The carry is a choice by one bit of whether one of the others is set, or both. A choice by `half` has fewer gates, but on
-// hard questions it costs a solver a third more conflicts (docs/PERFORMANCE.md).
+// The carry is a choice by one bit of whether one of the others is set, or both. A choice by `half` has fewer gates,
+// but on hard questions it costs a solver a third more conflicts (docs/PERFORMANCE.md).
 fn full_adder(graph: &mut Graph, x: Edge, y: Edge, carry: Edge) -> Result<(Edge, Edge), AllocError>
     requires x_stands { Stands graph.old x }
     requires y_stands { Stands graph.old y }

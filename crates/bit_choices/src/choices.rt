@@ -20,8 +20,8 @@ use std::alloc::{AllocError, Global};
 
 /// The value `a` where the condition is true, else `b`.
 ///
-/// It is `None` where the operands are neither two booleans, nor two words of one type, nor two discrete values. The only error
-/// is running out of memory.
+/// It is `None` where the operands are neither two booleans, nor two words of one type, nor two discrete values. The
+/// only error is running out of memory.
 pub fn choose(
     alloc: Global,
     graph: &mut Graph,

@@ -16,8 +16,8 @@ use std::alloc::{AllocError, Global};
 
 /// The edge that is true where the values are the same.
 ///
-/// It is `None` where the operands are neither two booleans, nor two words of one type, nor two discrete values. The only error
-/// is running out of memory.
+/// It is `None` where the operands are neither two booleans, nor two words of one type, nor two discrete values. The
+/// only error is running out of memory.
 pub fn equal(
     alloc: Global,
     graph: &mut Graph,

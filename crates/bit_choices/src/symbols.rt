@@ -140,7 +140,8 @@ fn begins(xs: &[u32], ys: &[u32]) -> bool
     true
 }
 
-/// The symbols of both lists, each once, those of the first list in their places. The only error is running out of memory.
+/// The symbols of both lists, each once, those of the first list in their places. The only error is running out of
+/// memory.
 pub fn united(alloc: Global, xs: &[u32], ys: &[u32]) -> Result<Vec<u32>, AllocError>
     requires { IsTrue (is_distinct xs.now) }
     ensures distinct { IfOk result (λ r. IsTrue (is_distinct r.items)) }
@@ -169,7 +170,8 @@ fn push_new(all: &mut Vec<u32>, symbol: u32) -> Result<(), AllocError>
     }
 }
 
-/// The code, among the symbols `to`, of the symbol that the code stands for among `from`. The only error is running out of memory.
+/// The code, among the symbols `to`, of the symbol that the code stands for among `from`. The only error is running out
+/// of memory.
 pub fn recoded(
     alloc: Global,
     graph: &mut Graph,

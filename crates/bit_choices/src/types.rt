@@ -20,7 +20,8 @@ use value_types::{Element, ValueType};
 
 /// The edge that is true where the value is one of the type. The only error is running out of memory.
 ///
-/// It is a constant where the kinds are enough to tell. A symbol costs a gate only if the value may be one that is not of the type.
+/// It is a constant where the kinds are enough to tell. A symbol costs a gate only if the value may be one that is not
+/// of the type.
 pub fn is_in_type(
     alloc: Global,
     graph: &mut Graph,

@@ -19,7 +19,8 @@ use sqlite_items::Items;
 use std::alloc::{AllocError, Global};
 use value_types::ValueType;
 
-/// The value of a variable of this type that has these bits, where they are those of a value. The only error is running out of memory.
+/// The value of a variable of this type that has these bits, where they are those of a value. The only error is running
+/// out of memory.
 ///
 /// A range that begins at 0 has no gate, nor has an enumeration of symbols alone, or of 0, 1 and so on.
 pub fn variable(

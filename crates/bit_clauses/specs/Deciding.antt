@@ -15,8 +15,8 @@ Sets n x t = (k : ℕ) → k < n → t record { var = k; positive = x k } ≡ tr
 abbrev pub Refuted : ℕ → (ℕ → Bool) → List (List Lit) → Type 0
 Refuted n x cs = (t : Lit → Bool) → Sets n x t → Closed t cs → HasConflict t cs
 
--- the clauses decide f of the first n variables: they can be met just where it is true, and unit propagation refutes them
--- just where it is false
+-- the clauses decide f of the first n variables: they can be met just where it is true, and unit propagation refutes
+-- them just where it is false
 pub record Decides (n : ℕ) (cs : List (List Lit)) (f : (ℕ → Bool) → Bool) : Type 0 where
   pub meets : (x : ℕ → Bool) → Meets n x cs ↔ (f x ≡ true)
   pub refuted : (x : ℕ → Bool) → Refuted n x cs ↔ (f x ≡ false)

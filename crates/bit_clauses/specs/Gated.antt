@@ -15,8 +15,8 @@ use Rattle.bit_clauses.specs.Deciding.{Decides, Defines}
 abbrev pub HasLiteral : ℕ → List Node → (ℕ → ℕ) → List (List Lit) → Edge → Type 0
 HasLiteral n g name cs e = Defines n cs (lit name e) (λ x. value_under x g e)
 
--- the clauses have values for each assignment of the n inputs of the graph, in one way, and give the literals, one for each
--- edge, their edges' values
+-- the clauses have values for each assignment of the n inputs of the graph, in one way, and give the literals, one for
+-- each edge, their edges' values
 pub record IsGated (n : ℕ) (g : List Node) (es : List Edge) (cs : List (List Lit)) (lits : List Lit) : Type 0 where
   pub name : ℕ → ℕ
   pub literals : lits ≡ map (lit name) es

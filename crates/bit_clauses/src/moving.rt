@@ -63,8 +63,8 @@ pub fn moved(
     Ok(made)
 }
 
-/// The gates with each variable from number `from` on, which is the number of inputs, moved up by `by`: they are gates of the
-/// same conditions.
+/// The gates with each variable from number `from` on, which is the number of inputs, moved up by `by`: they are gates
+/// of the same conditions.
 pub fn moved_gates(
     alloc: Global,
     gates: &Gates,

@@ -1,4 +1,5 @@
--- What the items of a program say of a state: which specifications are broken there, and which formulas of JUSTICE hold.
+-- What the items of a program say of a state: which specifications are broken there, and which formulas of JUSTICE
+-- hold.
 use Rattle.std.specs.Prelude.{Bool, true, false, ◌&&◌, List, filter}
 use Rattle.smv_tree.specs.declared.tree.Program.{Program}
 use Rattle.smv_tree.specs.declared.tree.ConstraintKind.TheVariants as asked

@@ -33,8 +33,9 @@ pub record SomeInputs (p : Program) : Type 0 where
   pub given : List Value
   pub typed : are_inputs p given ≡ true
 
--- What is told of a state: its edges, whether they are those of a state, and, where they are, its values and the outcome of each node
--- there. Inputs that a step from it may have are there, so that what is known of steps is known of states.
+-- What is told of a state: its edges, whether they are those of a state, and, where they are, its values and the
+-- outcome of each node there. Inputs that a step from it may have are there, so that what is known of steps is known of
+-- states.
 pub record TellsState (g : List Node) (typed : Typed) (state : ToldState) : Type 0 where
   pub inputs : SomeInputs typed.scope.program
   pub bits : AllStand g state.bits

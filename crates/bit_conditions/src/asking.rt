@@ -18,8 +18,8 @@ use bit_outcomes::{Told, false_edge, takes_edge, true_edge};
 use smv_resolve::Item;
 use std::alloc::{AllocError, Global};
 
-/// The edge that is true where the node of this number is TRUE, which it is not if there is no such node. Out of memory is answered too
-/// where it is told as something else than TRUE, FALSE or a fault.
+/// The edge that is true where the node of this number is TRUE, which it is not if there is no such node. Out of memory
+/// is answered too where it is told as something else than TRUE, FALSE or a fault.
 pub fn true_at(graph: &mut Graph, told: &[Told], k: usize) -> Result<Edge, AllocError>
     requires { AllTold graph.old told.now }
     ensures extends { Extends graph.old graph.new }
@@ -127,8 +127,8 @@ fn ask_item(
     Ok(())
 }
 
-/// Asks what the items ask then: `there` tells of what they assign, and `here` of their values. The only error is running out of memory, or
-/// outcomes of which nothing is told.
+/// Asks what the items ask then: `there` tells of what they assign, and `here` of their values. The only error is
+/// running out of memory, or outcomes of which nothing is told.
 pub fn ask_items(
     alloc: Global,
     graph: &mut Graph,

@@ -16,8 +16,8 @@ use smv_meaning::Typed;
 use smv_resolve::Item;
 use std::alloc::{AllocError, Global};
 
-/// The edge that is true where the bits are those of a state in which this specification of the program, which claims an invariant,
-/// is FALSE. It takes constant time; the errors are as of `first_conditions`.
+/// The edge that is true where the bits are those of a state in which this specification of the program, which claims
+/// an invariant, is FALSE. It takes constant time; the errors are as of `first_conditions`.
 pub fn claim_edge(
     alloc: Global,
     graph: &mut Graph,

@@ -143,8 +143,8 @@ fn ask_frozen(
 
 /// What is asked of an initial state: what its items ask, and that its bits are those of a state.
 ///
-/// Conditions grow with the items, and gates with what assignments choose from. The only error is running out of memory, or outcomes of
-/// which nothing is told, which in a typed program do not come.
+/// Conditions grow with the items, and gates with what assignments choose from. The only error is running out of
+/// memory, or outcomes of which nothing is told, which in a typed program do not come.
 pub fn first_conditions(
     alloc: Global,
     graph: &mut Graph,
@@ -161,8 +161,8 @@ pub fn first_conditions(
     Ok(asked)
 }
 
-/// What is asked of a step with these inputs from the one state to the other: what frozen slots, the items and the domains ask. It
-/// grows as `first_conditions`, and so are its errors.
+/// What is asked of a step with these inputs from the one state to the other: what frozen slots, the items and the
+/// domains ask. It grows as `first_conditions`, and so are its errors.
 pub fn step_conditions(
     alloc: Global,
     graph: &mut Graph,

@@ -26,8 +26,8 @@ fn all_have_values(types: &[ValueType]) -> bool
     types.iter().all(|declared| has_values(declared))
 }
 
-/// That a step has inputs: running out of memory is answered too where an input slot is of a type with no value. That is an enumeration with
-/// no element, which no source can write.
+/// That a step has inputs: running out of memory is answered too where an input slot is of a type with no value. That
+/// is an enumeration with no element, which no source can write.
 pub fn some_inputs(alloc: Global, typed: &Typed) -> Result<(), AllocError>
     ensures { OnOk result (all_have_values (input_types typed.now.scope.program) ≡ true) }
 {

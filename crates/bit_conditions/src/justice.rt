@@ -84,8 +84,8 @@ fn true_edges(
     Ok(edges)
 }
 
-/// An edge for each formula of JUSTICE, in the order of the items, that is true where the bits are those of a state in which the
-/// formula is TRUE. Time and memory grow with the items; the errors are as of `first_conditions`.
+/// An edge for each formula of JUSTICE, in the order of the items, that is true where the bits are those of a state in
+/// which the formula is TRUE. Time and memory grow with the items; the errors are as of `first_conditions`.
 pub fn just_edges(
     alloc: Global,
     graph: &mut Graph,

@@ -1,7 +1,8 @@
-//! What edges of a graph tell of states and steps of a program, and what its items ask of these, as conditions (Biere and others,
-//! Symbolic Model Checking without BDDs, 1999).
+//! What edges of a graph tell of states and steps of a program, and what its items ask of these, as conditions (Biere
+//! and others, Symbolic Model Checking without BDDs, 1999).
 //!
-//! A condition, a claim or a formula holds only where the edges of each slot are the code of a value: the domain stands beside it.
+//! A condition, a claim or a formula holds only where the edges of each slot are the code of a value: the domain stands
+//! beside it.
 #![tactic(auto)]
 
 mod asking;

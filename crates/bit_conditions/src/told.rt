@@ -42,8 +42,8 @@ pub struct ToldInputs {
 
 /// What is told of each node where there is no state.
 ///
-/// Time and memory grow with the nodes. The only error is running out of memory, or operands whose kinds do not fit, which in a typed
-/// program does not come.
+/// Time and memory grow with the nodes. The only error is running out of memory, or operands whose kinds do not fit,
+/// which in a typed program does not come.
 pub fn nowhere(alloc: Global, graph: &mut Graph, typed: &Typed) -> Result<Items<Told>, AllocError>
     ensures extends { Extends graph.old graph.new }
     ensures told { IfOk result (TellsNowhere graph.new typed.now) }
@@ -54,8 +54,9 @@ pub fn nowhere(alloc: Global, graph: &mut Graph, typed: &Typed) -> Result<Items<
 
 /// The state whose bits have these edges, where the types are those of its slots.
 ///
-/// Operators over values of many bits have gates as circuits do. The errors are as of `nowhere`. Out of memory is answered too where
-/// an input slot is of a type with no value, an enumeration with no element, which no source can write.
+/// Operators over values of many bits have gates as circuits do. The errors are as of `nowhere`. Out of memory is
+/// answered too where an input slot is of a type with no value, an enumeration with no element, which no source can
+/// write.
 pub fn told_state(
     alloc: Global,
     graph: &mut Graph,
@@ -92,7 +93,8 @@ pub fn told_state(
     })
 }
 
-/// The inputs whose bits have these edges, where the types are those of the input slots. The only error is running out of memory.
+/// The inputs whose bits have these edges, where the types are those of the input slots. The only error is running out
+/// of memory.
 pub fn told_inputs(
     alloc: Global,
     graph: &mut Graph,
@@ -116,7 +118,8 @@ pub fn told_inputs(
     })
 }
 
-/// What is told of each node in the step with these inputs from the one state to the other. The errors are as of `nowhere`.
+/// What is told of each node in the step with these inputs from the one state to the other. The errors are as of
+/// `nowhere`.
 pub fn told_step(
     alloc: Global,
     graph: &mut Graph,
@@ -143,7 +146,8 @@ pub fn told_step(
     Ok(told)
 }
 
-/// What is told of each node in the state with these inputs, where no next state is spoken of. The errors are as of `nowhere`.
+/// What is told of each node in the state with these inputs, where no next state is spoken of. The errors are as of
+/// `nowhere`.
 pub fn told_moment(
     alloc: Global,
     graph: &mut Graph,

@@ -12,8 +12,8 @@ use Rattle.smv_meaning.specs.declared.outcome.Outcome.{Outcome}
 use Rattle.smv_meaning.specs.Formulas.{fault_in, formula_fault, is_known_formula}
 use Rattle.smv_meaning.specs.Runs.{is_given}
 
--- The edge is true where some part of the formula faults, in the state s with the inputs u. Where there is no edge, or where a part is
--- neither TRUE nor FALSE nor a fault, nothing is told.
+-- The edge is true where some part of the formula faults, in the state s with the inputs u. Where there is no edge, or
+-- where a part is neither TRUE nor FALSE nor a fault, nothing is told.
 abbrev pub TellsFormula : (ℕ → Bool) → List Slot → List Value → List Value → Option Edge → Resolved → Type 0
 TellsFormula v slots s u None r = Unit {0}
 TellsFormula v slots s u (Some e) r = is_known_formula slots s u r ≡ true → edge_value v e ≡ is_some (formula_fault slots s u r)

@@ -45,8 +45,9 @@ faults_at p x b = are_of_types p b && is_some (fault_of_bits p x b)
 abbrev pub NeverFaults : Program → ResolvedItem → Type 0
 NeverFaults p x = (s u t : List Value) → is_state p s ≡ true → are_inputs p u ≡ true → is_state p t ≡ true → item_fault (types_of p) (slots_of p) s u t x ≡ None
 
--- Clauses over the bits of a step, which are met where they are a valuation at which the item faults. They may leave the types of slots
--- out of account that the fault does not read: where bits meet them, the item faults at the mended bits.
+-- Clauses over the bits of a step, which are met where they are a valuation at which the item faults. They may leave
+-- the types of slots out of account that the fault does not read: where bits meet them, the item faults at the mended
+-- bits.
 pub record TellsFault (p : Program) (x : ResolvedItem) (c : Decided) : Type 0 where
   pub test : (ℕ → Bool) → Bool
   pub decides : Decides (named_width p) c.clauses test

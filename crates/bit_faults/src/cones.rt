@@ -36,9 +36,11 @@ impl Cone {
     }
 }
 
-/// Takes an edge of the graph over into the cone, with all that it leads to, and gives the edge that has its value there.
+/// Takes an edge of the graph over into the cone, with all that it leads to, and gives the edge that has its value
+/// there.
 ///
-/// Time and memory grow with the nodes that the edge leads to and that were not taken over before. The only error is running out of memory.
+/// Time and memory grow with the nodes that the edge leads to and that were not taken over before. The only error is
+/// running out of memory.
 pub fn take_over(
     alloc: Global,
     graph: &Graph,

@@ -18,8 +18,8 @@ use smv_meaning::Typed;
 use std::alloc::{AllocError, Global};
 use value_types::ValueType;
 
-/// For each bit of a step the edge that is true where the bits of its slot are those of a value; the bits are the first inputs of the
-/// graph. The only error is running out of memory.
+/// For each bit of a step the edge that is true where the bits of its slot are those of a value; the bits are the first
+/// inputs of the graph. The only error is running out of memory.
 pub fn step_domains(
     alloc: Global,
     graph: &mut Graph,

@@ -27,10 +27,11 @@ use smv_resolve::{Item, ItemKind};
 use std::alloc::{AllocError, Global};
 use value_types::ValueType;
 
-/// The edge that is true where the item faults, if the bits are those of a valuation; `slots` has the slots that the nodes are.
+/// The edge that is true where the item faults, if the bits are those of a valuation; `slots` has the slots that the
+/// nodes are.
 ///
-/// It takes the gates of one comparison with a type, if something is assigned, and else no gate. The only error is running out of memory, or
-/// an outcome of which nothing is told, which in a typed program does not come.
+/// It takes the gates of one comparison with a type, if something is assigned, and else no gate. The only error is
+/// running out of memory, or an outcome of which nothing is told, which in a typed program does not come.
 pub fn fault_of_item(
     alloc: Global,
     graph: &mut Graph,

@@ -20,8 +20,8 @@ use smv_resolve::{Node, last};
 use sqlite_items::Items;
 use std::alloc::{AllocError, Global};
 
-/// For each node the edge that is true where some part of it faults, as a temporal formula, in a state with inputs, where `here` tells
-/// of the nodes there. There is none where nothing is told.
+/// For each node the edge that is true where some part of it faults, as a temporal formula, in a state with inputs,
+/// where `here` tells of the nodes there. There is none where nothing is told.
 ///
 /// It takes a gate for each operand of a temporal operator or a proposition. The only error is running out of memory.
 pub fn formula_edges(

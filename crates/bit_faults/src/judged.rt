@@ -13,8 +13,8 @@ use smv_tree::{AssignmentKind, ConstraintKind, SpecificationKind};
 use sqlite_items::Items;
 use std::alloc::{AllocError, Global};
 
-/// The items of a program in the order in which they are judged: assignments and constraints, and then specifications, each in the
-/// order of the source. The only error is running out of memory.
+/// The items of a program in the order in which they are judged: assignments and constraints, and then specifications,
+/// each in the order of the source. The only error is running out of memory.
 pub fn judged_items(alloc: Global, typed: &Typed) -> Result<Items<Item>, AllocError>
     ensures { IfOk result (λ items. map (item_by typed.now.nodes) items ≡ judged_items typed.now.scope.program) }
 {

@@ -1,5 +1,5 @@
-//! For each item of a program clauses that are met where it faults, at a valuation of the declared types, and only if it faults at
-//! some. Where an item cannot fault at sight, there are none.
+//! For each item of a program clauses that are met where it faults, at a valuation of the declared types, and only if
+//! it faults at some. Where an item cannot fault at sight, there are none.
 #![tactic(auto)]
 
 mod cones;

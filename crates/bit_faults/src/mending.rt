@@ -14,7 +14,8 @@ use std::alloc::{AllocError, Global};
 
 /// The bits with 0 in each slot whose bits are those of no value; bits past the end of the list are 0.
 ///
-/// They are a valuation, if each type has a value. Time and memory grow with the bits. The only error is running out of memory.
+/// They are a valuation, if each type has a value. Time and memory grow with the bits. The only error is running out of
+/// memory.
 pub fn mended(
     alloc: Global,
     typed: &Typed,

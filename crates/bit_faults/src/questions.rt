@@ -31,14 +31,15 @@ use smv_meaning::Typed;
 use smv_resolve::Item;
 use std::alloc::{AllocError, Global};
 
-/// For each item that may fault clauses that are met where it does, at a valuation of the declared types, or `None` where the edge that
-/// tells its fault is the constant false. Their order is that of `judged_items`.
+/// For each item that may fault clauses that are met where it does, at a valuation of the declared types, or `None`
+/// where the edge that tells its fault is the constant false. Their order is that of `judged_items`.
 ///
-/// The first variables are the bits of the state, of the next one and of the inputs, as in `layout`; those of gates follow. All items
-/// share one graph. The clauses of an item ask for its fault, and for values in the slots that the fault reads: bits that meet them
-/// are `mended` to those of a valuation. So for each item that is asked for, time and memory grow with the gates that its fault stands
-/// on, and with the number of bits. The only error is running out of memory, which is answered too where a slot is of a type with no value,
-/// an enumeration with no element, which no source can write.
+/// The first variables are the bits of the state, of the next one and of the inputs, as in `layout`; those of gates
+/// follow. All items share one graph. The clauses of an item ask for its fault, and for values in the slots that the
+/// fault reads: bits that meet them are `mended` to those of a valuation. So for each item that is asked for, time and
+/// memory grow with the gates that its fault stands on, and with the number of bits. The only error is running out of
+/// memory, which is answered too where a slot is of a type with no value, an enumeration with no element, which no
+/// source can write.
 pub fn fault_questions(
     alloc: Global,
     typed: &Typed,

@@ -10,8 +10,8 @@ ghost use Rattle.bit_states.specs.Layouts.{HasTypes};
 ghost use Rattle.bit_faults.specs.Mending.{mended};
 ghost use Rattle.bit_faults.specs.Questions.{AreFaultQuestions, CanNeverBeMet, IsFaultQuestion, NeverFaults, faults_at, judged_items};
 
-/// Where no question can be met, no item faults at any valuation of the declared types. If none of the first so many can be met, none
-/// of the first so many items faults. It does nothing: its contract is the law.
+/// Where no question can be met, no item faults at any valuation of the declared types. If none of the first so many
+/// can be met, none of the first so many items faults. It does nothing: its contract is the law.
 pub fn what_is_never_met()
     ensures all { (p : Program) (qs : List (Option Decided)) → HasTypes p → AreFaultQuestions p qs →
         ((j : ℕ) (c : Decided) → slice_get qs j ≡ Some (Some c) → CanNeverBeMet c.clauses) → IsFaultFree p }

@@ -50,7 +50,8 @@ fn slot_at(slots: &[Option<usize>], k: usize) -> Option<usize>
     }
 }
 
-/// The type of the variable that is assigned, if one is, where these are the types of all slots and the slots that the nodes are.
+/// The type of the variable that is assigned, if one is, where these are the types of all slots and the slots that the
+/// nodes are.
 pub fn type_assigned<'a>(
     types: &'a [ValueType],
     slots: &[Option<usize>],

@@ -37,8 +37,8 @@ pub struct Valuation {
     pub formulas: Items<Option<Edge>>,
 }
 
-/// The valuation whose bits are the first inputs of the graph. Of operators over values of many bits there are gates as in circuits.
-/// The only error is running out of memory.
+/// The valuation whose bits are the first inputs of the graph. Of operators over values of many bits there are gates as
+/// in circuits. The only error is running out of memory.
 pub fn valuation_of(
     alloc: Global,
     graph: &mut Graph,

@@ -14,8 +14,9 @@ use Rattle.bit_formula.specs.Coding.{input_count, inputs_in, joint_code, joint_w
 use Rattle.bit_formula.specs.Reading.{AgreeOn, reads_of}
 use Rattle.bit_formula.specs.Standing.{FormulaSystem, is_true_at}
 
--- A state with inputs is what its code decodes to, as far as the inputs are read. Only the bits of a state with these inputs tell them.
--- Where inputs have their types, so have those that agree with them where they are read, with bits that are false elsewhere.
+-- A state with inputs is what its code decodes to, as far as the inputs are read. Only the bits of a state with these
+-- inputs tell them. Where inputs have their types, so have those that agree with them where they are read, with bits
+-- that are false elsewhere.
 pub record IsJointCoding (p : Program) (reads : List ℕ) : Type 0 where
   pub state : (s u : List Value) → is_state p s ≡ true → state_in p reads (joint_code p reads s u) ≡ s
   pub read : (s u : List Value) → is_state p s ≡ true → are_inputs p u ≡ true → AgreeOn reads (read_inputs p reads (joint_code p reads s u)) u
@@ -28,8 +29,8 @@ AreAllRead p parts =
     (u v : List Value) → length u ≡ input_count p → length v ≡ input_count p → AgreeOn (reads_of p parts) u v →
     (r : Resolved) → Contains parts r → (s t : List Value) → outcome (slots_of p) s u t r ≡ outcome (slots_of p) s v t r
 
--- What follows of bit states and of steps between them. A step has the inputs that the state it leads from has, where they are read. In a
--- first state, and in that to which a step leads, inputs that are read have their types.
+-- What follows of bit states and of steps between them. A step has the inputs that the state it leads from has, where
+-- they are read. In an initial state, and in that to which a step leads, inputs that are read have their types.
 pub record FormulaAgrees (p : Program) (r : FormulaSystem) (parts : List Resolved) : Type 0 where
   pub first : (x : ℕ → Bool) → FirstBits r.system x ↔ (IsFirstState p (state_in p r.reads x) × IsTrue (are_inputs p (read_inputs p r.reads x)))
   pub step : (x y : ℕ → Bool) → StepBits r.system x y

@@ -1,5 +1,5 @@
--- A state together with the inputs that a formula reads, as bits: those of the slots, and then those of these inputs. A step has these
--- inputs from the state that it leads from. The others stand behind the bits of the next state.
+-- A state together with the inputs that a formula reads, as bits: those of the slots, and then those of these inputs. A
+-- step has these inputs from the state that it leads from. The others stand behind the bits of the next state.
 use Rattle.std.specs.Prelude.{ℕ, ◌+◌, ◌==◌, Bool, false, not, nat_lt, if◌then◌else◌, List, [], ◌∷◌, ◌++◌, filter, length, map, slice_index_or}
 use Rattle.std.specs.List.{flat_map, list_any, range_with_len}
 use Rattle.smv_tree.specs.declared.tree.Program.{Program}
@@ -37,8 +37,8 @@ start_in types (n ∷ numbers) k = if n == k then 0 else width_of (type_at types
 abbrev pub joined_width : List ValueType → ℕ → List ℕ → ℕ
 joined_width types width reads = width + width_at types reads
 
--- Where the bits of input k begin, where the bits of slots are so many. One that is read stands among those of the state, another
--- behind those of the next state.
+-- Where the bits of input k begin, where the bits of slots are so many. One that is read stands among those of the
+-- state, another behind those of the next state.
 abbrev pub start_by : List ValueType → ℕ → List ℕ → ℕ → ℕ
 start_by types width reads k =
     if is_in reads k then width + start_in types reads k

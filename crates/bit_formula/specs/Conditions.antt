@@ -31,7 +31,8 @@ AreGiven p parts =
 pub record TellsRead (g : List Node) (p : Program) (inputs : ToldInputs) (bits : (ℕ → Bool) → List Bool) : Type 0 where
   pub read : (v : ℕ → Bool) → Consistent v g → values_of v inputs.bits ≡ bits v
 
--- An edge for each of these nodes, that is true where the node is TRUE and `valid` is. What is told there is so, and is a value or a fault.
+-- An edge for each of these nodes, that is true where the node is TRUE and `valid` is. What is told there is so, and is
+-- a value or a fault.
 pub record TellsAtoms (g : List Node) (told : List Told) (valid : Edge) (atoms : List ℕ) (edges : List Edge) : Type 0 where
   pub tells : (v : ℕ → Bool) (os : List Outcome) → Consistent v g
       → (edge_value v valid ≡ true → TellsAll v told os × (list_all (λ (a : ℕ). is_given (outcome_at os a)) atoms ≡ true))

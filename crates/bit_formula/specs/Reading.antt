@@ -18,7 +18,8 @@ abbrev pub is_this_input : ℕ → Option Slot → Bool
 is_this_input k None = false
 is_this_input k (Some slot) = is_input slot.kind && slot.index == k
 
--- A slot that passes the test is read in the expression, where names stand for what they lead to. Under `next` there are no inputs.
+-- A slot that passes the test is read in the expression, where names stand for what they lead to. Under `next` there
+-- are no inputs.
 abbrev mutual
   pub reads_slot : (Option Slot → Bool) → List Slot → Resolved → Bool
   reads_slot test slots (Resolved.Constant place b) = false

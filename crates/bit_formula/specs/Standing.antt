@@ -20,8 +20,8 @@ use Rattle.bit_conditions.specs.Asked.{is_just_in, justices_of}
 use Rattle.bit_formula.specs.Coding.{inputs_in, joint_layout, joint_named, joint_width, next_in, read_inputs, read_next, state_in}
 use Rattle.bit_formula.specs.Reading.{reads_of}
 
--- What is built for an LTLSPEC: the inputs that its formula reads, where bits stand, and the system. Then the formula, and a literal
--- for each of its atoms.
+-- What is built for an LTLSPEC: the inputs that its formula reads, where bits stand, and the system. Then the formula,
+-- and a literal for each of its atoms.
 pub record FormulaSystem : Type 0 where
   pub reads : List ℕ
   pub layout : BitLayout

@@ -9,7 +9,8 @@ ghost use Rattle.bit_formula.specs.Agreeing.{AreAllRead, FormulaAgrees, IsJointC
 ghost use Rattle.bit_formula.specs.Reading.{reads_of};
 ghost use Rattle.bit_formula.specs.Standing.{FormulaSystem, StandsForFormula};
 
-/// The law of the coding: states with the inputs that some expressions read go to bits and back, where the types of a program are types.
+/// The law of the coding: states with the inputs that some expressions read go to bits and back, where the types of a
+/// program are types.
 pub fn is_joint_coding()
     ensures { (p : Program) (parts : List Resolved) → HasTypes p → IsJointCoding p (reads_of p parts) }
 {}

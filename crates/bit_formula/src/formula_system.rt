@@ -30,8 +30,9 @@ use std::alloc::{AllocError, Global};
 use std::marker::Model;
 use value_types::ValueType;
 
-/// What stands for an LTLSPEC over bits: a system, the formula, and a literal for each of its atoms. A state has a bit for each of its
-/// slots, and behind them one for each input that the formula reads. Contracts see these, and where the bits stand.
+/// What stands for an LTLSPEC over bits: a system, the formula, and a literal for each of its atoms. A state has a bit
+/// for each of its slots, and behind them one for each input that the formula reads. Contracts see these, and where the
+/// bits stand.
 #[derive(Drop)]
 pub struct FormulaSystem {
     reads: Vec<usize>,
@@ -98,7 +99,8 @@ impl FormulaSystem {
         &self.reads
     }
 
-    /// Where the bits of states and of the inputs of steps stand. The bits of inputs that the formula reads are among those of the state.
+    /// Where the bits of states and of the inputs of steps stand. The bits of inputs that the formula reads are among
+    /// those of the state.
     pub fn layout(&self) -> &Layout
         ensures { result.now ≡ self.now.layout }
     {
@@ -122,14 +124,16 @@ impl FormulaSystem {
 
 /// The system over bits for the formula of a specification.
 ///
-/// The first variables are the bits of a state: those of its slots, and then those of the inputs that the formula reads. Both are in
-/// the order of the slots. Those of the next state follow, those of the other inputs of the step, and then those that clauses need.
-/// Time and memory grow with the nodes of the program, and with the formula in which each name stands for what it leads to. Where
-/// the formula reads an input, the time grows with the nodes times the inputs.
+/// The first variables are the bits of a state: those of its slots, and then those of the inputs that the formula
+/// reads. Both are in the order of the slots. Those of the next state follow, those of the other inputs of the step,
+/// and then those that clauses need. Time and memory grow with the nodes of the program, and with the formula in which
+/// each name stands for what it leads to. Where the formula reads an input, the time grows with the nodes times the
+/// inputs.
 ///
 /// # Errors
 ///
-/// Only running out of memory. So counts what `formula_of` says, and a formula with more atoms than literals, which none has.
+/// Only running out of memory. So counts what `formula_of` says, and a formula with more atoms than literals, which
+/// none has.
 pub fn build_formula(alloc: Global, flat: &Flat, spec: &Item) -> Result<FormulaSystem, AllocError>
     requires narrow { bits_of flat.now.typed.scope.program ≤ bit_limit }
     requires among { Contains (specifications_of flat.now.typed.scope.program) (item_by flat.now.typed.nodes spec.now) }

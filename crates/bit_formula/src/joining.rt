@@ -50,7 +50,8 @@ fn joined(
     })
 }
 
-/// The system of a program with the inputs of these numbers in its states, and the literals of the atoms, which are numbers of nodes.
+/// The system of a program with the inputs of these numbers in its states, and the literals of the atoms, which are
+/// numbers of nodes.
 pub fn joint_system(
     alloc: Global,
     typed: &Typed,

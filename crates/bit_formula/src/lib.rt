@@ -1,5 +1,5 @@
-//! A model and the formula of an LTLSPEC as a system over bits, with a literal for each atom of the formula. A state has one bit more
-//! for each input that the formula reads (Biere and others 1999).
+//! A model and the formula of an LTLSPEC as a system over bits, with a literal for each atom of the formula. A state
+//! has one bit more for each input that the formula reads (Biere and others 1999).
 #![tactic(auto)]
 
 mod agreement_with_formulas;

@@ -111,8 +111,8 @@ struct InputPlaces {
     named: usize,
 }
 
-// Where the bits of inputs of these types stand, where the bits of slots are so many, and those of a state with the inputs that are
-// read.
+// Where the bits of inputs of these types stand, where the bits of slots are so many, and those of a state with the
+// inputs that are read.
 fn input_places(
     alloc: Global,
     types: &[ValueType],
@@ -144,8 +144,8 @@ fn input_places(
     })
 }
 
-/// Where the bits of a state stand whose slots have so many, and those of inputs, of which these are read. The types are those of both.
-/// Time and memory grow with the bits; the only error is running out of memory.
+/// Where the bits of a state stand whose slots have so many, and those of inputs, of which these are read. The types
+/// are those of both. Time and memory grow with the bits; the only error is running out of memory.
 pub fn joint_places(
     alloc: Global,
     slots: usize,

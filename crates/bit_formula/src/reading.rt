@@ -139,10 +139,11 @@ fn all_read(
     Ok(reads)
 }
 
-/// The numbers of the inputs, of which there are `given`, that the atoms read, in their order; atoms are numbers of nodes.
+/// The numbers of the inputs, of which there are `given`, that the atoms read, in their order; atoms are numbers of
+/// nodes.
 ///
-/// Time and memory grow with the nodes. Where some input is read, the time grows with the nodes times the inputs. The only error
-/// is running out of memory.
+/// Time and memory grow with the nodes. Where some input is read, the time grows with the nodes times the inputs. The
+/// only error is running out of memory.
 pub fn reads_of(
     alloc: Global,
     typed: &Typed,

@@ -78,8 +78,8 @@ fn read_edges(
     Ok(Items::from_vec(edges))
 }
 
-/// The inputs that are read in a state with inputs of so many bits, which begin at `start`. The places are those of all inputs. Each edge
-/// that was made earlier keeps its value, also where memory runs out, which is the only error.
+/// The inputs that are read in a state with inputs of so many bits, which begin at `start`. The places are those of all
+/// inputs. Each edge that was made earlier keeps its value, also where memory runs out, which is the only error.
 pub fn read_inputs(
     alloc: Global,
     graph: &mut Graph,
@@ -102,7 +102,8 @@ pub fn read_inputs(
     Ok(inputs)
 }
 
-// The edge that is true where the node of this number is TRUE. Out of memory is answered too where there is no such node.
+// The edge that is true where the node of this number is TRUE. Out of memory is answered too where there is no such
+// node.
 fn true_at(graph: &mut Graph, told: &[Told], k: usize) -> Result<Edge, AllocError>
     requires { AllTold graph.old told.now }
     ensures extends { Extends graph.old graph.new }
@@ -132,7 +133,8 @@ fn atom_edge(graph: &mut Graph, told: &[Told], valid: Edge, atom: usize) -> Resu
     Ok(edge)
 }
 
-// An edge for each atom, that is true where it is TRUE and `valid` is; atoms are numbers of nodes. There their outcomes are given.
+// An edge for each atom, that is true where it is TRUE and `valid` is; atoms are numbers of nodes. There their outcomes
+// are given.
 fn atom_edges(
     alloc: Global,
     graph: &mut Graph,
@@ -241,8 +243,8 @@ fn first_with_inputs(
     Ok(first)
 }
 
-/// What is asked of a state with the inputs of these numbers, and what is defined there: the formulas of JUSTICE and the atoms, which
-/// are numbers of nodes. A state has so many bits with these inputs.
+/// What is asked of a state with the inputs of these numbers, and what is defined there: the formulas of JUSTICE and
+/// the atoms, which are numbers of nodes. A state has so many bits with these inputs.
 pub fn state_conditions(
     alloc: Global,
     typed: &Typed,

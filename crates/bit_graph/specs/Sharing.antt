@@ -24,8 +24,8 @@ IsFalse g k = IsNode g k False
 abbrev pub IsConstant : List Node → Edge → Type 0
 IsConstant g e = IsFalse g e.node
 
--- the operands of the node are different nodes and no constants, and where their order does not matter, the one with the
--- lower number is the first
+-- the operands of the node are different nodes and no constants, and where their order does not matter, the one with
+-- the lower number is the first
 abbrev pub Folded : List Node → Node → Type 0
 Folded g False = Unit {0}
 Folded g Input = Unit {0}
@@ -37,7 +37,8 @@ Folded g (Choice c a b) =
 abbrev pub IsFolded : List Node → Type 0
 IsFolded g = (n : Node) (k : ℕ) → IsNode g k n → Folded g n
 
--- no node could be left out at sight: no two gates are the same, and none has an operand that decides it or stands twice
+-- no node could be left out at sight: no two gates are the same, and none has an operand that decides it or stands
+-- twice
 pub record IsReduced (g : List Node) : Type 0 where
   pub same : (n : Node) (j k : ℕ) → IsGate n → IsNode g j n → IsNode g k n → j ≡ k
   pub folded : IsFolded g

@@ -11,7 +11,8 @@ ghost use Rattle.bit_lassos.specs.Claims.{IsUnviolated, IsUnviolatedWithin, lass
 
 use bit_formula::{is_joint_coding, what_is_read, what_stands_agrees_with_formulas};
 
-/// Where rows of bits violate the formula of a specification, the lasso of the program that they are violates the specification.
+/// Where rows of bits violate the formula of a specification, the lasso of the program that they are violates the
+/// specification.
 pub fn what_violates_over_bits()
     ensures { (p : Program) (spec : ResolvedItem) (r : FormulaSystem) (rows : List (List Bool)) (start : ℕ) → StandsForFormula p spec r
         → AreViolating r.system (unfolded r.formula) r.atoms rows start → Violates p spec (lasso_in r rows start) }
@@ -21,8 +22,8 @@ pub fn what_violates_over_bits()
     what_stands_agrees_with_formulas();
 }
 
-/// Where no lasso over bits violates the formula of a specification, no lasso of the program violates the specification. The same holds
-/// of the lassos whose states, with so many passes more of the loop, are at most so many.
+/// Where no lasso over bits violates the formula of a specification, no lasso of the program violates the
+/// specification. The same holds of the lassos whose states, with so many passes more of the loop, are at most so many.
 pub fn what_is_never_violated()
     ensures all { (p : Program) (spec : ResolvedItem) (r : FormulaSystem) → StandsForFormula p spec r
         → NeverViolated r.system (unfolded r.formula) r.atoms → IsUnviolated p spec }

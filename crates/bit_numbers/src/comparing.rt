@@ -79,7 +79,8 @@ pub fn equal_integers(
     Ok(equal)
 }
 
-/// The edge that is true where the integer is from `low` to `high`, both among them. The only error is running out of memory.
+/// The edge that is true where the integer is from `low` to `high`, both among them. The only error is running out of
+/// memory.
 pub fn between(
     alloc: Global,
     graph: &mut Graph,

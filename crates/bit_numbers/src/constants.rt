@@ -16,7 +16,8 @@ use smv_value::Value;
 use sqlite_items::Items;
 use std::alloc::{AllocError, Global};
 
-/// The value that this is, whatever the nodes are, an integer in the bits that it needs. The only error is running out of memory.
+/// The value that this is, whatever the nodes are, an integer in the bits that it needs. The only error is running out
+/// of memory.
 pub fn constant(alloc: Global, graph: &Graph, value: Value) -> Result<Symbolic, AllocError>
     ensures stands { IfOk result (λ s. StandsIn graph.now s) }
     ensures value { IfOk result (λ s. (v : ℕ → Bool) → Consistent v graph.now → is_value value ≡ true → denoted v s ≡ Some value) }

@@ -21,7 +21,8 @@ use std::alloc::{AllocError, Global};
 
 /// `a / b` or `a mod b`, and the edge that is true where `b` is 0.
 ///
-/// It is `None` where the operands are neither two words of one type nor two discrete values. The only error is running out of memory.
+/// It is `None` where the operands are neither two words of one type nor two discrete values. The only error is running
+/// out of memory.
 pub fn divided(
     alloc: Global,
     graph: &mut Graph,

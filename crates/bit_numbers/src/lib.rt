@@ -1,5 +1,5 @@
-//! Integers and words as edges of a graph: constants, comparisons with constants, quotients, shifts, the greater and the
-//! lesser, counts, and parts of words.
+//! Integers and words as edges of a graph: constants, comparisons with constants, quotients, shifts, the greater and
+//! the lesser, counts, and parts of words.
 //!
 //! A comparison with a constant that the bits cannot reach is a constant, and has no gate.
 //!

@@ -20,7 +20,8 @@ use std::alloc::{AllocError, Global};
 
 /// `a << b` or `a >> b`, and the edge that is true where `b` is negative or past the width of `a`.
 ///
-/// It is `None` where `a` is no word, or `b` neither an unsigned word nor discrete. The only error is running out of memory.
+/// It is `None` where `a` is no word, or `b` neither an unsigned word nor discrete. The only error is running out of
+/// memory.
 pub fn shifted(
     alloc: Global,
     graph: &mut Graph,

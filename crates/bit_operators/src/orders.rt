@@ -19,7 +19,8 @@ use std::alloc::{AllocError, Global};
 
 /// The edge that is true where the values stand so to each other.
 ///
-/// It is `None` where they are neither two words of one type nor two discrete values. The only error is running out of memory.
+/// It is `None` where they are neither two words of one type nor two discrete values. The only error is running out of
+/// memory.
 pub fn ordered(
     alloc: Global,
     graph: &mut Graph,

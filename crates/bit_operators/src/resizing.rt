@@ -10,8 +10,8 @@ ghost use Rattle.bit_operators.specs.Resizing.{is_below_zero};
 use bit_graph::{Edge, Graph};
 use std::alloc::{AllocError, Global};
 
-/// The low bits of what a word counts, so many. An integer keeps its value in as many bits as it has, and in more. The only error is
-/// running out of memory.
+/// The low bits of what a word counts, so many. An integer keeps its value in as many bits as it has, and in more. The
+/// only error is running out of memory.
 pub fn resized(
     alloc: Global,
     graph: &Graph,

@@ -20,11 +20,11 @@ use bit_graph::{Edge, Graph};
 use bit_operators::Symbolic;
 use std::alloc::{AllocError, Global};
 
-/// The branch of the first condition that is TRUE, or a last branch that has none; without one a fault, by whichever rule. The only
-/// error is running out of memory.
+/// The branch of the first condition that is TRUE, or a last branch that has none; without one a fault, by whichever
+/// rule. The only error is running out of memory.
 ///
-/// It takes a gate for each condition without a branch behind it for the rest, and so many for a branch as its value has edges. Up to
-/// the last branch that is a set, a condition takes some gates, and each member of its branch one.
+/// It takes a gate for each condition without a branch behind it for the rest, and so many for a branch as its value
+/// has edges. Up to the last branch that is a set, a condition takes some gates, and each member of its branch one.
 pub fn choice(alloc: Global, graph: &mut Graph, operands: &[Told]) -> Result<Told, AllocError>
     requires { AllTold graph.old operands.now }
     ensures extends { Extends graph.old graph.new }

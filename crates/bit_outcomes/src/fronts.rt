@@ -19,8 +19,8 @@ use bit_operators::Symbolic;
 use sqlite_items::Items;
 use std::alloc::{AllocError, Global};
 
-/// What is told of the first conditions and branches. Where `undecided` is true, each of these conditions is FALSE; else a fault where the
-/// edge is true, and else the values of these members.
+/// What is told of the first conditions and branches. Where `undecided` is true, each of these conditions is FALSE;
+/// else a fault where the edge is true, and else the values of these members.
 #[derive(Debug, Drop)]
 pub struct Front {
     pub undecided: Edge,

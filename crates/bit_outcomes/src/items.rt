@@ -25,8 +25,8 @@ use std::alloc::{AllocError, Global};
 use value_sets::ValueSet;
 use value_types::ValueType;
 
-/// The edge that is true where the variable has a value of the expression. Out of memory is answered too where the variable has no
-/// one value, or nothing is told.
+/// The edge that is true where the variable has a value of the expression. Out of memory is answered too where the
+/// variable has no one value, or nothing is told.
 pub fn takes_edge(alloc: Global, graph: &mut Graph, x: &Told, e: &Told) -> Result<Edge, AllocError>
     requires x_stands { ToldStands graph.old x.now }
     requires e_stands { ToldStands graph.old e.now }
@@ -71,8 +71,8 @@ fn takes_value(
     }
 }
 
-/// The edge that is true where the outcome is TRUE, as no word, integer or symbol is. Out of memory is answered too where it is told as a
-/// set, or nothing is told.
+/// The edge that is true where the outcome is TRUE, as no word, integer or symbol is. Out of memory is answered too
+/// where it is told as a set, or nothing is told.
 pub fn true_edge(graph: &mut Graph, e: &Told) -> Result<Edge, AllocError>
     requires { ToldStands graph.old e.now }
     ensures extends { Extends graph.old graph.new }

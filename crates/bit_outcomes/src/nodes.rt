@@ -26,7 +26,8 @@ use smv_value::{Operator, Value, is_value};
 use sqlite_items::Items;
 use std::alloc::{AllocError, Global};
 
-/// What is told of each node where there is no state. The only error is running out of memory, or operands whose kinds do not fit.
+/// What is told of each node where there is no state. The only error is running out of memory, or operands whose kinds
+/// do not fit.
 pub fn nowhere(
     alloc: Global,
     graph: &mut Graph,
@@ -54,8 +55,8 @@ fn untold(alloc: Global, nodes: &[Node]) -> Result<Items<Told>, AllocError>
     Ok(made)
 }
 
-/// What is told of each node in a state of these values with inputs of these, where `later` tells of the nodes in the next state.
-/// The only error is running out of memory, or operands whose kinds do not fit.
+/// What is told of each node in a state of these values with inputs of these, where `later` tells of the nodes in the
+/// next state. The only error is running out of memory, or operands whose kinds do not fit.
 pub fn table(
     alloc: Global,
     graph: &mut Graph,

@@ -27,7 +27,8 @@ use smv_value::Operator;
 use sqlite_items::Items;
 use std::alloc::{AllocError, Global};
 
-/// What is told of an operator over operands, wherever it stands. Kinds that do not fit count as running out of memory, or nothing is told.
+/// What is told of an operator over operands, wherever it stands. Kinds that do not fit count as running out of memory,
+/// or nothing is told.
 pub fn applied(
     alloc: Global,
     graph: &mut Graph,

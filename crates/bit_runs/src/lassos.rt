@@ -24,7 +24,8 @@ use sqlite_items::Items;
 use std::alloc::{AllocError, Global};
 use value_types::ValueType;
 
-/// A lasso of a program: its states, the inputs of the step from each, and the number of the state at which it goes on after the last.
+/// A lasso of a program: its states, the inputs of the step from each, and the number of the state at which it goes on
+/// after the last.
 #[derive(Debug, Drop)]
 pub struct Lasso {
     pub states: Items<State>,
@@ -34,8 +35,8 @@ pub struct Lasso {
 
 /// The lasso of the program that a lasso over bits is.
 ///
-/// Where the lasso over bits violates the formula of a specification, that lasso violates the specification. Time and memory grow
-/// with the values of the states and inputs. The only error is running out of memory.
+/// Where the lasso over bits violates the formula of a specification, that lasso violates the specification. Time and
+/// memory grow with the values of the states and inputs. The only error is running out of memory.
 pub fn lasso_of(
     alloc: Global,
     system: &FormulaSystem,

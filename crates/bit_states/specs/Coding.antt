@@ -33,8 +33,8 @@ HoldsAt types bits x s = map x bits ≡ encoded_all types s
 abbrev pub AgreeAt : List ℕ → (ℕ → Bool) → (ℕ → Bool) → Type 0
 AgreeAt bits x y = map x bits ≡ map y bits
 
--- Each state is what its code decodes to, and of no other bits. Bits that are the same decode alike, and they are a state just where
--- the bits of each slot are those of a value. Next states and inputs are coded in the same way.
+-- Each state is what its code decodes to, and of no other bits. Bits that are the same decode alike, and they are a
+-- state just where the bits of each slot are those of a value. Next states and inputs are coded in the same way.
 pub record IsCoding (p : Program) : Type 0 where
   pub back : (s : List Value) → is_state p s ≡ true → state_of p (code_of p s) ≡ s
   pub one_code : (x y : ℕ → Bool) → is_state p (state_of p x) ≡ true → state_of p x ≡ state_of p y → (k : ℕ) → k < state_width p → x k ≡ y k

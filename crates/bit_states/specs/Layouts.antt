@@ -1,5 +1,5 @@
--- Where the bits of a program's states and inputs stand: those of the state, of the next one, and of the inputs, in the order of the
--- slots.
+-- Where the bits of a program's states and inputs stand: those of the state, of the next one, and of the inputs, in the
+-- order of the slots.
 use Rattle.std.specs.Prelude.{◌≡◌, ℕ, ◌+◌, ◌<◌, true, List, map, slice_get, unwrap_or}
 use Rattle.std.specs.List.{list_all, range_with_len}
 use Rattle.smv_tree.specs.declared.tree.Program.{Program}

@@ -16,7 +16,8 @@ use std::alloc::{AllocError, Global};
 use value_types::ValueType;
 
 impl Layout {
-    /// The bits of a state. Time and memory grow with them, and with the elements of enumerations; the only error is running out of memory.
+    /// The bits of a state. Time and memory grow with them, and with the elements of enumerations; the only error is
+    /// running out of memory.
     pub fn encode(&self, alloc: Global, s: &State) -> Result<Vec<bool>, AllocError>
         ensures { IfOk result (λ bits. bits.items ≡ encoded_all self.now.state_types s.now) }
     {
@@ -67,8 +68,8 @@ fn value_at(values: &[Value], i: usize) -> Option<Value>
     }
 }
 
-/// The values of these types that the bits at these places are, one of each; bits past the end of the list are false. The only error
-/// is running out of memory.
+/// The values of these types that the bits at these places are, one of each; bits past the end of the list are false.
+/// The only error is running out of memory.
 pub fn decoded(
     alloc: Global,
     types: &[ValueType],

@@ -14,8 +14,8 @@ use std::alloc::{AllocError, Global};
 use std::marker::Model;
 use value_types::ValueType;
 
-/// The numbers of the bits of a step: those of the state, of the next one and of the inputs, each in the order of its slots, the low
-/// bit of each value first. It has the types of their values too.
+/// The numbers of the bits of a step: those of the state, of the next one and of the inputs, each in the order of its
+/// slots, the low bit of each value first. It has the types of their values too.
 #[derive(Drop)]
 pub struct Layout {
     state: Items<usize>,
@@ -117,8 +117,9 @@ impl From<AllocError> for BuildStop {
 
 /// Where the bits of a program's states and inputs stand, if its types are types.
 ///
-/// Time and memory grow with the slots and their types, and with the bits. `TooManyBits` comes just where a state and the inputs of a
-/// step have more than 65536 bits together, and before any are laid out. The only other error is running out of memory.
+/// Time and memory grow with the slots and their types, and with the bits. `TooManyBits` comes just where a state and
+/// the inputs of a step have more than 65536 bits together, and before any are laid out. The only other error is
+/// running out of memory.
 pub fn layout_of(alloc: Global, typed: &Typed) -> Result<Layout, BuildStop>
     requires { HasTypes typed.now.scope.program }
     ensures layout { IfOk result (λ r. r ≡ layout_of typed.now.scope.program) }
@@ -136,8 +137,9 @@ pub fn layout_of(alloc: Global, typed: &Typed) -> Result<Layout, BuildStop>
     }
 }
 
-/// Whether a state and the inputs of a step have at most 65536 bits together. It is just then that `layout_of` does not answer
-/// `TooManyBits`; nothing is laid out here. Time and memory grow with the slots and their types; the only error is running out of memory.
+/// Whether a state and the inputs of a step have at most 65536 bits together. It is just then that `layout_of` does not
+/// answer `TooManyBits`; nothing is laid out here. Time and memory grow with the slots and their types; the only error
+/// is running out of memory.
 pub fn is_narrow(alloc: Global, typed: &Typed) -> Result<bool, AllocError>
     ensures { IfOk result (λ narrow. IsTrue narrow ↔ (bits_of typed.now.scope.program ≤ bit_limit)) }
 {

@@ -1,5 +1,5 @@
-//! States and inputs as bits: slot by slot the bits of its value. Where the bits stand, the law that states and their bits are each
-//! other's, and the values of bits as edges of a graph.
+//! States and inputs as bits: slot by slot the bits of its value. Where the bits stand, the law that states and their
+//! bits are each other's, and the values of bits as edges of a graph.
 #![tactic(auto)]
 
 mod coding;

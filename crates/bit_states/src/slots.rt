@@ -19,8 +19,9 @@ use value_types::ValueType;
 
 /// The values of these types that have the bits, one of each, where the bits of each are those of a value.
 ///
-/// There is no gate but for ranges that begin elsewhere than at 0, and for enumerations that have integers, which are not 0, 1 and so
-/// on. Each edge that was made earlier keeps its value, also where memory runs out, which is the only error.
+/// There is no gate but for ranges that begin elsewhere than at 0, and for enumerations that have integers, which are
+/// not 0, 1 and so on. Each edge that was made earlier keeps its value, also where memory runs out, which is the only
+/// error.
 pub fn slot_values(
     alloc: Global,
     graph: &mut Graph,
@@ -48,8 +49,8 @@ pub fn slot_values(
 
 /// The edge that is true exactly where the bits are those of values of these types, one of each.
 ///
-/// It is a constant where each list of so many bits is. Each edge that was made earlier keeps its value, also where memory runs out,
-/// which is the only error.
+/// It is a constant where each list of so many bits is. Each edge that was made earlier keeps its value, also where
+/// memory runs out, which is the only error.
 pub fn domain_edge(
     alloc: Global,
     graph: &mut Graph,

@@ -29,9 +29,9 @@ pub record IsLike (a b : TransitionSystem) : Type 0 where
   pub fair : a.fair ≡ b.fair
   pub defs : a.defs ≡ b.defs
 
--- The systems are those of the program: one for each specification, in their order. That of an invariant stands for the program and
--- the specification. In that of an LTLSPEC no state is bad: it is built without asking what the formula's value is. All are the same
--- but for their bad and good clauses.
+-- The systems are those of the program: one for each specification, in their order. That of an invariant stands for the
+-- program and the specification. In that of an LTLSPEC no state is bad: it is built without asking what the formula's
+-- value is. All are the same but for their bad and good clauses.
 pub record IsBuilt (p : Program) (b : BitProgram) : Type 0 where
   pub types : HasTypes p
   pub layout : b.layout ≡ layout_of p

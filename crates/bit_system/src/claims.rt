@@ -25,7 +25,8 @@ fn is_invariant(kind: ItemKind) -> bool
     }
 }
 
-// The edge that is true in the bad states of a specification. Of an LTLSPEC there are none, and nothing is asked of its formula.
+// The edge that is true in the bad states of a specification. Of an LTLSPEC there are none, and nothing is asked of its
+// formula.
 fn bad_edge(
     alloc: Global,
     graph: &mut Graph,
@@ -46,8 +47,8 @@ fn bad_edge(
     }
 }
 
-/// The edges that are true in the bad states of these specifications, one for each. Each edge that was made earlier keeps its value,
-/// also where memory runs out, which is the only error.
+/// The edges that are true in the bad states of these specifications, one for each. Each edge that was made earlier
+/// keeps its value, also where memory runs out, which is the only error.
 pub fn bad_edges(
     alloc: Global,
     graph: &mut Graph,

@@ -14,8 +14,8 @@ use smv_meaning::{Inputs, State};
 use std::alloc::{AllocError, Global};
 use std::marker::Model;
 
-/// The systems of a program, one for each of its specifications, and the coding of its states and inputs. Contracts see the
-/// systems and where the bits stand.
+/// The systems of a program, one for each of its specifications, and the coding of its states and inputs. Contracts see
+/// the systems and where the bits stand.
 #[derive(Drop)]
 pub struct Built {
     layout: Layout,

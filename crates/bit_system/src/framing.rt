@@ -26,8 +26,8 @@ pub fn edges_of(alloc: Global, bits: &[usize]) -> Result<Items<Edge>, AllocError
     Ok(Items::from_vec(edges))
 }
 
-/// The state whose bits are these inputs of the graph. Each edge that was made earlier keeps its value, also where memory runs out,
-/// which is the only error.
+/// The state whose bits are these inputs of the graph. Each edge that was made earlier keeps its value, also where
+/// memory runs out, which is the only error.
 pub fn framed_state(
     alloc: Global,
     graph: &mut Graph,
@@ -49,8 +49,8 @@ pub fn framed_state(
     Ok(state)
 }
 
-/// The inputs of a step whose bits are these inputs of the graph. Each edge that was made earlier keeps its value, also after running out
-/// of memory, which is the only error.
+/// The inputs of a step whose bits are these inputs of the graph. Each edge that was made earlier keeps its value, also
+/// after running out of memory, which is the only error.
 pub fn framed_inputs(
     alloc: Global,
     graph: &mut Graph,

@@ -170,8 +170,8 @@ fn clauses_of(
     Ok(decided)
 }
 
-/// The clauses of states in which the edge is true, and those of states in which it is not. The variables behind the inputs of the
-/// graph, which are so many, are moved up by `by`.
+/// The clauses of states in which the edge is true, and those of states in which it is not. The variables behind the
+/// inputs of the graph, which are so many, are moved up by `by`.
 pub fn claim_side(
     alloc: Global,
     graph: &Graph,

@@ -19,8 +19,8 @@ abbrev pub is_fault : Result (Option Value) FaultRule → Bool
 is_fault (Ok o) = false
 is_fault (Err f) = true
 
--- Where the operands stand for values, the edge tells whether the operator faults on them. The result stands for the value that it
--- gives of them.
+-- Where the operands stand for values, the edge tells whether the operator faults on them. The result stands for the
+-- value that it gives of them.
 pub record Computes (v : ℕ → Bool) (o : Operator) (operands : List Symbolic) (r : Symbolic) (fault : Edge) : Type 0 where
   pub faults : (xs : List Value) → AreDenoted v operands xs → list_all is_value xs ≡ true → edge_value v fault ≡ is_fault (result_of o xs)
   pub gives : (xs : List Value) (z : Value) → AreDenoted v operands xs → result_of o xs ≡ Ok (Some z) → denoted v r ≡ Some z

@@ -18,8 +18,9 @@ use std::alloc::{AllocError, Global};
 
 /// What an operator gives of the operands, and the edge that is true where it faults on them.
 ///
-/// The error is running out of memory. It is answered too where the kinds of the operands rule the operator out, and where it gives sets
-/// or is temporal. An operand that has to be a constant, and is none, has the same answer. Nothing is promised of these.
+/// The error is running out of memory. It is answered too where the kinds of the operands rule the operator out, and
+/// where it gives sets or is temporal. An operand that has to be a constant, and is none, has the same answer. Nothing
+/// is promised of these.
 pub fn apply(
     alloc: Global,
     graph: &mut Graph,

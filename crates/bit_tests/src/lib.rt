@@ -1,5 +1,5 @@
-//! Tests of the systems over bits of small models, through public calls alone: each assignment of the bits against what the model
-//! means, and how many clauses there are.
+//! Tests of the systems over bits of small models, through public calls alone: each assignment of the bits against what
+//! the model means, and how many clauses there are.
 #![tactic(auto)]
 
 #[cfg(test)]

@@ -27,8 +27,8 @@ pub fn constant_edges(alloc: Global, graph: &Graph, bits: &[bool]) -> Result<Vec
 
 /// The edge that is true exactly where the edges are the bits of a value of the type.
 ///
-/// It is a constant where each list of so many bits is. Each edge that was made earlier keeps its value, also after running out of
-/// memory, which is the only error.
+/// It is a constant where each list of so many bits is. Each edge that was made earlier keeps its value, also after
+/// running out of memory, which is the only error.
 pub fn domain(
     alloc: Global,
     graph: &mut Graph,

@@ -37,8 +37,8 @@ AllSay P budget over (asked.Spent drawn b) = IsSpent budget over drawn b
 abbrev pub KeptFollows : ℕ → List (List Lit) → List (List Lit) → List Lit → Type 0
 KeptFollows state_bits given learned c = Follows (given ++ learned ++ unit_clauses (negated_next state_bits c)) []
 
--- what was learned of the given clauses follows from them in turn, and shows of each clause that it is kept; or the purse
--- was spent
+-- what was learned of the given clauses follows from them in turn, and shows of each clause that it is kept; or the
+-- purse was spent
 abbrev pub LearnedSays : ℕ → ℕ → List (List Lit) → List (List Lit) → ℕ → Bool → Learned → Type 0
 LearnedSays vars state_bits given cs budget over (of_learned.Clauses log) =
     AllStepsBelow vars given log (length log) × EachBelow (λ j. KeptFollows state_bits given log (slice_index_or cs j [])) (length cs)

@@ -58,8 +58,8 @@ pub record IsOfPart (sys : TransitionSystem) (cs : List (List Lit)) (a : PartQue
 abbrev pub AllDiffer : List PartQuery → Type 0
 AllDiffer log = AllPairs (λ (p q : PartQuery). p.part ≢ q.part) log
 
--- the queries were asked for parts of a certificate of these clauses, at most one for each, and paid for; `known` are the learned clauses that
--- later queries may use
+-- the queries were asked for parts of a certificate of these clauses, at most one for each, and paid for; `known` are
+-- the learned clauses that later queries may use
 pub record PaysParts (sys : TransitionSystem) (cs known : List (List Lit)) (before after : List ℕ) (log : List PartQuery) : Type 0 where
   pub each : All (IsOfPart sys cs) log
   pub apart : AllDiffer log
@@ -97,8 +97,8 @@ pub record PaysBelow (sys : TransitionSystem) (cs : List (List Lit)) (place : �
   pub pays : PaysParts sys cs known before after log
   pub below : All (λ (a : PartQuery). place_of (length cs) a.part < place) log
 
--- from one place to another: where the parts before the first were paid for, those before the second are; or the purse was spent, and some part
--- was not answered
+-- from one place to another: where the parts before the first were paid for, those before the second are; or the purse
+-- was spent, and some part was not answered
 abbrev pub PaysOn : TransitionSystem → List (List Lit) → ℕ → ℕ → List (List Lit) → List (List Lit) → List ℕ → List ℕ → Asked → Type 0
 PaysOn sys cs from to old new before after asked.Refuted =
     (start : List ℕ) → PaysBelow sys cs from old start before → PaysBelow sys cs to new start after

@@ -248,7 +248,8 @@ fn trimmed_or_whole(
     }
 }
 
-/// Makes of clauses over state bits that are an invariant without bad states a certificate that certifies, judged by hints.
+/// Makes of clauses over state bits that are an invariant without bad states a certificate that certifies, judged by
+/// hints.
 ///
 /// A solver for all parts `first` is asked each clause, negated; one for all parts `kept` each clause, negated, at the
 /// next state; and one for the part `safe` its own question. What the second one learns follows from the clauses and

@@ -10,8 +10,8 @@ use Rattle.cert_core.specs.declared.form.Part.TheVariants.{Shared, First, Kept, 
 use Rattle.cert_core.specs.Blocks.{Block, with_clause, part_of, with_part, HasPlace, LogFits}
 use Rattle.cert_text.specs.Lines.{Step}
 
--- a certificate that is being read: the number of its specification from 0, what was read, the part whose steps are being
--- read, and these steps
+-- a certificate that is being read: the number of its specification from 0, what was read, the part whose steps are
+-- being read, and these steps
 pub record OpenBlock : Type 0 where
   pub spec : ℕ
   pub block : Block

@@ -19,8 +19,8 @@ pub struct Certificates {
     pub certificates: Vec<Option<Certificate>>,
 }
 
-/// The lines of a text, without the line feeds at which they end; what stands behind the last line feed is a line, too. The
-/// only error is out of memory. Its time and memory are linear in the text.
+/// The lines of a text, without the line feeds at which they end; what stands behind the last line feed is a line, too.
+/// The only error is out of memory. Its time and memory are linear in the text.
 pub fn lines(alloc: Global, text: &[u8]) -> Result<Vec<&[u8]>, AllocError>
     ensures { IfOk result (λ v. map (λ x. x.now) v.items ≡ lines_of text.now) }
 {
@@ -86,12 +86,12 @@ fn refused(line: usize) -> Refusal
     }
 }
 
-/// The certificates and the sound block in a text, of which a model with `specs` specifications and `items` items may be a
-/// part. Lines that begin with `--%` belong to them, wherever they stand; all others are not looked at.
+/// The certificates and the sound block in a text, of which a model with `specs` specifications and `items` items may
+/// be a part. Lines that begin with `--%` belong to them, wherever they stand; all others are not looked at.
 ///
-/// Refused by 701 at the first line that is not as it should be: out of form, out of order, given twice, of a specification
-/// or an item that does not exist; or at the last line of a block that does not end. The other error is out of memory.
-/// Its time and memory are linear in the text.
+/// Refused by 701 at the first line that is not as it should be: out of form, out of order, given twice, of a
+/// specification or an item that does not exist; or at the last line of a block that does not end. The other error is
+/// out of memory. Its time and memory are linear in the text.
 pub fn read(
     alloc: Global,
     text: &[u8],

@@ -6,8 +6,8 @@ use Rattle.cert_text.specs.Reading.{ReadSoFar, added, added_line, added_tokens, 
 use Rattle.cert_text_laws.specs.Readable.{LeadsTo, ended_lines}
 use Rattle.cert_text_laws.proofs.Lines.{Says, line_cut}
 
--- the text has this many lines, which lead from r to s, and `final` is the number of the last that is a certificate's, of those
--- that begin at line n
+-- the text has this many lines, which lead from r to s, and `final` is the number of the last that is a certificate's,
+-- of those that begin at line n
 pub record Leads (items : ℕ) (text : List ℕ) (r s : ReadSoFar) : Type 0 where
   pub count : ℕ
   pub final : ℕ → ℕ → ℕ

@@ -31,7 +31,8 @@ pub record AreReadable (items : List (Option HintedLog)) : Type 0 where
   pub few : length items ≤ greatest
   pub parts : All IsReadablePart items
 
--- no block is open; there is a specification with this number, counted from 0, that a text can say, and no certificate of it yet
+-- no block is open; there is a specification with this number, counted from 0, that a text can say, and no certificate
+-- of it yet
 pub record IsFree (r : ReadSoFar) (s : ℕ) : Type 0 where
   pub closed : r.block ≡ nothing
   pub within : s < length r.certificates

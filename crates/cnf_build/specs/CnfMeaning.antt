@@ -17,8 +17,8 @@ use Rattle.cnf_build.specs.Numbering.{HasVariable, Numbering, is_named, count_be
 abbrev pub Forces : (ℕ → ℕ) → (Lit → Bool) → ℕ → Bool → Lit → Lit → Type 0
 Forces name t k b l m = t l ≡ true → t m ≡ true → t (node_lit name k b) ≡ true
 
--- where the literals that t sets decide node k, which is n, t sets its literal too: a choice is decided by its condition and
--- the branch that this takes, or by two branches that are alike
+-- where the literals that t sets decide node k, which is n, t sets its literal too: a choice is decided by its
+-- condition and the branch that this takes, or by two branches that are alike
 abbrev pub NodeSet : (ℕ → ℕ) → (Lit → Bool) → ℕ → Node → Type 0
 NodeSet name t k False = t (node_lit name k false) ≡ true
 NodeSet name t k Input = Unit {0}

@@ -1,5 +1,5 @@
--- The command lines that the program takes: a table of commands, and of their options and flags. What words such a table
--- takes is the grammar of simple commands of `clap`.
+-- The command lines that the program takes: a table of commands, and of their options and flags. What words such a
+-- table takes is the grammar of simple commands of `clap`.
 use Rattle.std.specs.Prelude.{◌≡◌, ℕ, ◌≤◌, Bool, List, [], ◌∷◌, ◌++◌, map, fold, codes, Option, Some, None, true, false, Result, Ok}
 use Rattle.std.specs.Str.Parse.{ParsesUnsigned}
 use Rattle.clap.specs.Walk.{Row, Rule, Text, first_of, one_of}
@@ -20,8 +20,8 @@ pub record OptionRow : Type 0 where
   pub greatest : ℕ
   pub default : Text
 
--- a row of a number that stands in its place among the words after the command, without a word before it: what it is called, and the
--- least and the greatest number that it takes
+-- a row of a number that stands in its place among the words after the command, without a word before it: what it is
+-- called, and the least and the greatest number that it takes
 pub record PlaceRow : Type 0 where
   pub name : Text
   pub least : ℕ
@@ -144,8 +144,8 @@ program = program_with commands
 abbrev pub IsCommandLine : List Text → Type 0
 IsCommandLine words = fault_of program words ≡ []
 
--- The option of this word, or the number in its place that is called so, has this number in its range: what stands for it on the
--- command line, or else its default, is read as that.
+-- The option of this word, or the number in its place that is called so, has this number in its range: what stands for
+-- it on the command line, or else its default, is read as that.
 pub record HasNumber (rows : List Row) (word : Text) (least greatest n : ℕ) : Type 0 where
   pub text : Text
   pub given : first_of word rows ≡ Some text

@@ -8,13 +8,13 @@ ghost use Rattle.command_words.specs.Grammar.{default_effort};
 pub enum Command {
     /// A model is read, and each of its specifications is decided with this effort.
     Check(Effort),
-    /// A model is read with the lines of a report, and each of its specifications is judged by its trace or its certificate;
-    /// with `upgrade` the certificates are made anew in the form that is judged by hints.
+    /// A model is read with the lines of a report, and each of its specifications is judged by its trace or its
+    /// certificate; with `upgrade` the certificates are made anew in the form that is judged by hints.
     Recheck { upgrade: bool },
     /// A model is read, and its slots and items are listed.
     Flat,
-    /// The model of this ring is made. Each of its specifications is decided with the effort of a `check` without options, by
-    /// the ring's workers.
+    /// The model of this ring is made. Each of its specifications is decided with the effort of a `check` without
+    /// options, by the ring's workers.
     Ring(Ring),
 }
 

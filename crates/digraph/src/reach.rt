@@ -8,7 +8,8 @@ use crate::find::successors_of;
 use sqlite_items::Items;
 use std::alloc::{AllocError, Global};
 
-/// For each node whether the node `a` leads to it, by one edge or more. The graph has to be closed: all successors are nodes.
+/// For each node whether the node `a` leads to it, by one edge or more. The graph has to be closed: all successors are
+/// nodes.
 pub fn reached_from(alloc: Global, g: &[Items<usize>], a: usize) -> Result<Vec<bool>, AllocError>
     requires closed { Closed g.now }
     requires within { a < length g.now }

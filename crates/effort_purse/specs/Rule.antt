@@ -97,7 +97,8 @@ pub record Fits (limits : Limits) (a b c : ℕ) (v : View) : Type 0 where
   pub no_more : v.bounds.done ≡ true → limits.bounds ≤ b
   pub saw : v.saw ≡ true → c ≡ 1
 
--- the words a, b and c under all views: the shares add up, each number is held once, and the stop is set exactly where some view raised it
+-- the words a, b and c under all views: the shares add up, each number is held once, and the stop is set exactly where
+-- some view raised it
 pub record Kept (limits : Limits) (a b c : ℕ) (views : List View) : Type 0 where
   pub room : (limits.budget + limits.seats < 2 ^ 64) × (limits.bounds + limits.seats < 2 ^ 64)
   pub shares : total (λ (v : View). v.shares) views ≡ limits.seats
@@ -110,7 +111,8 @@ pub record Kept (limits : Limits) (a b c : ℕ) (views : List View) : Type 0 whe
 abbrev pub Holds : Limits → State ℕ View → Type 0
 Holds limits s = (a : ℕ) × (b : ℕ) × (c : ℕ) × (s.words ≡ a ∷ b ∷ c ∷ []) × Kept limits a b c s.views
 
--- one step on a lane: the number n, above each one that the view drew, or none from now on where n is not below the limit
+-- one step on a lane: the number n, above each one that the view drew, or none from now on where n is not below the
+-- limit
 abbrev pub Takes : (View → Lane) → (View → Lane → View) → ℕ → View → ℕ → View → Type 0
 Takes pick put limit v n w =
     MatchBool (nat_lt n limit)
@@ -129,8 +131,9 @@ numbers_to n = map (λ k. k + 1) (numbers_below n)
 abbrev pub lengths_in : View → List ℕ
 lengths_in v = map (λ k. k + 1) v.bounds.drawn
 
--- what a view with every share knows: its tickets are the numbers below their count, in some order, and all of the budget
--- where it is spent; its lengths are the numbers up to their count, and all bounds where it has no more; a stop that it saw it raised
+-- what a view with every share knows: its tickets are the numbers below their count, in some order, and all of the
+-- budget where it is spent; its lengths are the numbers up to their count, and all bounds where it has no more; a stop
+-- that it saw it raised
 pub record KnowsAll (limits : Limits) (v : View) : Type 0 where
   pub tickets : IsPermutation v.tickets.drawn (numbers_below (length v.tickets.drawn))
   pub tickets_within : length v.tickets.drawn ≤ limits.budget

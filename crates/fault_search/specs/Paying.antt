@@ -15,7 +15,8 @@ pub record ItemQuery : Type 0 where
 abbrev pub queries_of : List ItemQuery → List Query
 queries_of log = map (λ (a : ItemQuery). a.query) log
 
--- whether the clauses of a question can be met, with nothing assumed and nothing known from before; these clauses were learned
+-- whether the clauses of a question can be met, with nothing assumed and nothing known from before; these clauses were
+-- learned
 abbrev pub query_about : Decided → List (List Lit) → Query
 query_about d learned = record { vars = d.vars; own = d.clauses; earlier = []; assumptions = []; learned = learned }
 

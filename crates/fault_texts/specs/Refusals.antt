@@ -22,8 +22,8 @@ rule_of fault.IndexOutside = rule.IndexOutside
 rule_of fault.DivisorZero = rule.DivisorZero
 rule_of fault.ShiftTooFar = rule.ShiftTooFar
 
--- The refusal of an item that faults so in the state s, with the inputs u and the next state t: its detail tells the slots that occur in
--- the item, of an assignment in its right side.
+-- The refusal of an item that faults so in the state s, with the inputs u and the next state t: its detail tells the
+-- slots that occur in the item, of an assignment in its right side.
 abbrev pub refusal_of : Program → List Value → List Value → List Value → ResolvedItem → FaultRule × Place → Refusal
 refusal_of p s u t x f = record { rule = rule_of f.0; place = f.1; detail = valuation_text p s u t x.value }
 

@@ -1,5 +1,5 @@
--- The text of a valuation at which an item faults: the slots that occur in the item, each with its value. What is told, and how, is an
--- own choice of this project.
+-- The text of a valuation at which an item faults: the slots that occur in the item, each with its value. What is told,
+-- and how, is an own choice of this project.
 use Rattle.std.specs.Prelude.{ℕ, Bool, true, false, List, [], ◌∷◌, ◌++◌, filter, map, Option, None, Some, codes}
 use Rattle.std.specs.List.{flat_map}
 use Rattle.smv_tree.specs.declared.tree.Program.{Program}
@@ -10,8 +10,8 @@ use Rattle.smv_slots.specs.Slots.{item_of, slots_of}
 use Rattle.smv_resolve.specs.Resolved.{Resolved}
 use Rattle.smv_flat.specs.Assignments.{name_of_slot, occurs, slot_numbers}
 
--- The numbers of the slots that occur in an expression, in their order: outside of `next`, or where it looks ahead, under it. What names
--- stand for is looked at, and all branches are.
+-- The numbers of the slots that occur in an expression, in their order: outside of `next`, or where it looks ahead,
+-- under it. What names stand for is looked at, and all branches are.
 abbrev pub slots_in : Program → Bool → Resolved → List ℕ
 slots_in p ahead r = filter (λ n. occurs ahead n r) (slot_numbers p)
 
@@ -29,7 +29,8 @@ with_name true name value = codes "next(" ++ name ++ codes ") = " ++ value
 abbrev pub told : Program → Bool → List Value → List Value → ℕ → List ℕ
 told p ahead s u n = with_name ahead (name_of_slot p n) (shown p (item_of (slots_of p) s u n))
 
--- the slots that occur in an expression: first those of the state s and the inputs u, and then those of the next state t
+-- the slots that occur in an expression: first those of the state s and the inputs u, and then those of the next state
+-- t
 abbrev pub told_all : Program → List Value → List Value → List Value → Resolved → List (List ℕ)
 told_all p s u t r = map (told p false s u) (slots_in p false r) ++ map (told p true t []) (slots_in p true r)
 

@@ -11,14 +11,14 @@ use smv_tree::{Place, Refusal, Rule};
 use smv_value::FaultRule;
 use std::alloc::{AllocError, Global};
 
-/// How a program is refused for an item that faults in this state, or in the step with these inputs to the next state, of which the
-/// item speaks; `None` if it does not fault there.
+/// How a program is refused for an item that faults in this state, or in the step with these inputs to the next state,
+/// of which the item speaks; `None` if it does not fault there.
 ///
-/// The rule is that of the fault (601 CaseOpen, 602 OutOfRange, 603 IndexOutside, 604 DivisorZero, 605 ShiftTooFar), and the place is
-/// where it comes from. The detail lists the slots that occur in the item, of an assignment in its right side, with their values. NuSMV
-/// 2.6 lets some of these values pass and stops at others as it runs; that a model is refused for each of them, whether the state is
-/// reached or not, and what is told, are own choices of this project. The only error is running out of memory. It takes the time to evaluate
-/// the nodes of the program.
+/// The rule is that of the fault (601 CaseOpen, 602 OutOfRange, 603 IndexOutside, 604 DivisorZero, 605 ShiftTooFar),
+/// and the place is where it comes from. The detail lists the slots that occur in the item, of an assignment in its
+/// right side, with their values. NuSMV 2.6 lets some of these values pass and stops at others as it runs; that a model
+/// is refused for each of them, whether the state is reached or not, and what is told, are own choices of this project.
+/// The only error is running out of memory. It takes the time to evaluate the nodes of the program.
 pub fn fault_refusal(
     alloc: Global,
     typed: &Typed,

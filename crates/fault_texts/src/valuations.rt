@@ -16,8 +16,9 @@ use smv_value::Value;
 use std::alloc::{AllocError, Global};
 use value_texts::Symbols;
 
-/// The text of a valuation, as far as the expression of this node looks at it: the slots that occur in it, in their order, first those
-/// of the state and the inputs, as `x = V`, and then those of the next state, as `next(x) = V`. There is none where no slot occurs.
+/// The text of a valuation, as far as the expression of this node looks at it: the slots that occur in it, in their
+/// order, first those of the state and the inputs, as `x = V`, and then those of the next state, as `next(x) = V`.
+/// There is none where no slot occurs.
 #[tactic(auto, unfolding(crate::specs::Valuations::valuation_text))]
 pub fn valuation_text(
     alloc: Global,

@@ -62,7 +62,8 @@ AnswersPush v n level over (Step s) =
 AnswersPush v n level over (Spent d b) = over ≡ true
 AnswersPush v n level over o = ⊥
 
--- what a claim asks is there, as the solver has it: its system; a state that is no initial one; the clause of its lemma, one level below
+-- what a claim asks is there, as the solver has it: its system; a state that is no initial one; the clause of its
+-- lemma, one level below
 abbrev pub MayBeAsked : SolverView → ClaimView → Subject → Type 0
 MayBeAsked v c (Bad j) = j < length v.systems
 MayBeAsked v c (Block o) =

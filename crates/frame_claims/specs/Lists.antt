@@ -21,8 +21,8 @@ pub record IsOfWorkers (first : BookState) (history : List Entry) (from count : 
   pub least : from ≤ of.worker
   pub most : of.worker < from + count
 
--- the queries of one solver, one after another, each of which learned its clauses from conflicts; `known` are the learned clauses that later
--- ones may use
+-- the queries of one solver, one after another, each of which learned its clauses from conflicts; `known` are the
+-- learned clauses that later ones may use
 pub record IsPaidList (known : List (List Lit)) (log : List ClaimQuery) : Type 0 where
   pub mine : List ℕ
   pub paid : IsPaidLog [] known [] mine (queries_in log)
@@ -31,8 +31,8 @@ pub record IsPaidList (known : List (List Lit)) (log : List ClaimQuery) : Type 0
 abbrev pub IsPaidFor : List ClaimQuery → Type 0
 IsPaidFor log = (known : List (List Lit)) × IsPaidList known log
 
--- the list of a worker, and those of others: all are of claims of these workers, those of one claim are of different questions, and as many
--- tickets were drawn as they cost
+-- the list of a worker, and those of others: all are of claims of these workers, those of one claim are of different
+-- questions, and as many tickets were drawn as they cost
 pub record ArePaidLists (first : BookState) (history : List Entry) (from count : ℕ) (known : List (List Lit)) (drawn : ℕ) (own : List ClaimQuery)
     (others : List (List ClaimQuery)) : Type 0 where
   pub each : All (IsOfWorkers first history from count) (all_of others ++ own)
@@ -41,7 +41,8 @@ pub record ArePaidLists (first : BookState) (history : List Entry) (from count :
   pub others_paid : All IsPaidFor others
   pub tickets : tickets_in (queries_in (all_of others ++ own)) ≡ drawn
 
--- lists that were paid for: all queries are of claims of the history, no two have one key, and so many tickets were drawn for them
+-- lists that were paid for: all queries are of claims of the history, no two have one key, and so many tickets were
+-- drawn for them
 pub record ArePaid (first : BookState) (history : List Entry) (drawn : ℕ) (logs : List (List ClaimQuery)) : Type 0 where
   pub each : All (IsOfClaim first history) (all_of logs)
   pub apart : AllPairs (DifferInKey first history) (all_of logs)

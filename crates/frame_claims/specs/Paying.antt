@@ -12,13 +12,15 @@ use Rattle.frame_history.specs.History.{BookState, replay}
 use Rattle.frame_book.specs.Claims.{ClaimView}
 use Rattle.frame_solver.specs.Paying.{Question, Steps, Firsts, Bads, AskedQuery, IsQueryOf}
 
--- what a claim on bad states of system j may ask: for one in the frame of its level, and whether a state is an initial one
+-- what a claim on bad states of system j may ask: for one in the frame of its level, and whether a state is an initial
+-- one
 abbrev pub MayAskBad : ℕ → ℕ → Question → Type 0
 MayAskBad j level (Bads k i) = (k ≡ j) × (i ≡ level)
 MayAskBad j level (Steps i clause) = ⊥
 MayAskBad j level (Firsts clause) = ⊤
 
--- what a claim to block the state of these values may ask: for a step at its level into a clause that is false there, and for initial states
+-- what a claim to block the state of these values may ask: for a step at its level into a clause that is false there,
+-- and for initial states
 abbrev pub MayAskBlock : List Bool → ℕ → Question → Type 0
 MayAskBlock values level (Bads k i) = ⊥
 MayAskBlock values level (Steps i clause) = (i ≡ level) × (ClauseTrue (assignment_of values) clause → ⊥)
@@ -47,7 +49,8 @@ pub record ClaimQuery : Type 0 where
   pub claim : ℕ
   pub asked : AskedQuery
 
--- what tells it from other queries: what its claim asks at which level, how often a lemma had been added or raised, and the question
+-- what tells it from other queries: what its claim asks at which level, how often a lemma had been added or raised, and
+-- the question
 pub record Key : Type 0 where
   pub subject : Subject
   pub level : ℕ
@@ -81,8 +84,9 @@ DifferInKey first history p q = (k : Key) → HasKey first history p k → HasKe
 abbrev pub queries_in : List ClaimQuery → List Query
 queries_in log = map (λ (q : ClaimQuery). q.asked.query) log
 
--- the queries of this log were asked by claims of the history, no two have one key, each learned its clauses from conflicts, and as many
--- tickets were drawn as they cost, where `old` were drawn before; `known` are the learned clauses that later queries may use
+-- the queries of this log were asked by claims of the history, no two have one key, each learned its clauses from
+-- conflicts, and as many tickets were drawn as they cost, where `old` were drawn before; `known` are the learned
+-- clauses that later queries may use
 pub record IsPaidRun (first : BookState) (history : List Entry) (known : List (List Lit)) (old tickets : List ℕ) (log : List ClaimQuery) : Type 0 where
   pub each : All (IsOfClaim first history) log
   pub apart : AllPairs (DifferInKey first history) log

@@ -1,5 +1,5 @@
-//! Whether claims of a history may be equal: one that was given back, or settled by an outcome that was behind, may be made
-//! again, unless a lemma was added or raised since.
+//! Whether claims of a history may be equal: one that was given back, or settled by an outcome that was behind, may be
+//! made again, unless a lemma was added or raised since.
 
 ghost use Rattle.std.specs.Prelude.{◌≡◌, ◌∷◌, [], List, true, false, IfOk, IfSome, MatchBool};
 ghost use Rattle.clause_core.specs.Systems.{TransitionSystem};
@@ -12,7 +12,8 @@ ghost use Rattle.frame_claims.specs.Apart.{notes_spent as is_spent_note};
 use frame_history::{Change, Entry};
 use std::alloc::{AllocError, Global};
 
-/// Whether each claim of the history that came to nothing is older than the last lemma that was added or raised by then.
+/// Whether each claim of the history that came to nothing is older than the last lemma that was added or raised by
+/// then.
 ///
 /// Then no two claims of a lawful history are equal. It looks at each entry once, and keeps a number for each. The only
 /// error is out of memory.

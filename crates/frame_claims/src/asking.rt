@@ -71,8 +71,8 @@ pub(crate) fn ask_push<'a, Q: Purse>(
     }
 }
 
-// Asks whether the state of these values can be left out of the frame of this level: whether a step leads to it from the
-// frame below.
+// Asks whether the state of these values can be left out of the frame of this level: whether a step leads to it from
+// the frame below.
 #[tactic(auto, using(crate::proofs::Joining::nothing_paid))]
 pub(crate) fn ask_block<'a, Q: Purse>(
     alloc: Global,

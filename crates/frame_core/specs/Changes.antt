@@ -96,7 +96,8 @@ Opens before j c opening.Dropped after = IsOfSystem before j true c.system × Op
 Opens before j c (opening.Behind k level) after = IsOfSystem before j true c.system × OpensSame before j c (opening.Behind k level) after
 Opens before j c (opening.OtherSystem place) after = DifferAt true (system_at before.systems j) c.system place × (after ≡ before)
 
--- the state found may be an obligation of j with this parent: a bad state has none, and a step ends in the state of the parent, which is of j
+-- the state found may be an obligation of j with this parent: a bad state has none, and a step ends in the state of the
+-- parent, which is of j
 abbrev pub MayHaveParent : FrameState → ℕ → FoundState → Option ℕ → Type 0
 MayHaveParent before j f None = f.is_step ≡ false
 MayHaveParent before j f (Some p) =

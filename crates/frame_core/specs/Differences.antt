@@ -9,7 +9,8 @@ use Rattle.frame_core.specs.declared.comparing.Place.TheVariants.{Bits, Init, St
 abbrev pub DifferFirstAt : List (List Lit) → List (List Lit) → ℕ → Type 0
 DifferFirstAt cs ds k = (take k cs ≡ take k ds) × (slice_get cs k ≡ slice_get ds k → ⊥)
 
--- the systems have the same numbers of bits, init and step clauses, and where `with_bad` is true the same bad and good clauses
+-- the systems have the same numbers of bits, init and step clauses, and where `with_bad` is true the same bad and good
+-- clauses
 pub record IsSameSystem (with_bad : Bool) (a b : TransitionSystem) : Type 0 where
   pub state_bits : a.state_bits ≡ b.state_bits
   pub all_bits : a.all_bits ≡ b.all_bits

@@ -57,7 +57,8 @@ pub record IsFirstFlag (sys : TransitionSystem) (values : List Bool) (first : Bo
   pub is_first : first ≡ true → FirstBits sys (assignment_of values)
   pub not_first : first ≡ false → FirstBits sys (assignment_of values) → ⊥
 
--- a state that leads to a bad one: values of all bits, whether they are of a step, and whether the state is an initial one
+-- a state that leads to a bad one: values of all bits, whether they are of a step, and whether the state is an initial
+-- one
 pub record FoundState : Type 0 where
   pub system : TransitionSystem
   pub values : List Bool

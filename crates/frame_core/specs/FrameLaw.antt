@@ -60,7 +60,8 @@ no_obligation = record { system = 0; values = []; parent = None; first = false }
 abbrev pub obligation_at : List Obligation → ℕ → Obligation
 obligation_at obligations n = slice_index_or obligations n no_obligation
 
--- the state of these values leads to one that is bad for system j: it is bad, or a step leads to the state of an earlier obligation of j
+-- the state of these values leads to one that is bad for system j: it is bad, or a step leads to the state of an
+-- earlier obligation of j
 abbrev pub LeadsToBad : List TransitionSystem → List Obligation → ℕ → ℕ → List Bool → Option ℕ → Type 0
 LeadsToBad systems obligations n j values None = All (ClauseTrue (assignment_of values)) (system_at systems j).bad
 LeadsToBad systems obligations n j values (Some p) =

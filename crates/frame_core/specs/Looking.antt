@@ -51,7 +51,8 @@ abbrev pub CoversAt : List Lemma → List Lit → ℕ → ℕ → Type 0
 CoversAt lemmas clause level n =
     (n < length lemmas) × ((lemma_at lemmas n).live ≡ true) × ((lemma_at lemmas n).level ≤ level) × IsPart clause (lemma_at lemmas n).clause
 
--- the numbers are those of the lemmas below the bound that a lemma with this clause and level covers, from the lowest on
+-- the numbers are those of the lemmas below the bound that a lemma with this clause and level covers, from the lowest
+-- on
 pub record AreCoveredBy (lemmas : List Lemma) (clause : List Lit) (level bound : ℕ) (numbers : List ℕ) : Type 0 where
   pub each : All (CoversAt lemmas clause level) numbers
   pub whole : (n : ℕ) → n < bound → CoversAt lemmas clause level n → Contains numbers n

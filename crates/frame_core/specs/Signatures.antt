@@ -1,4 +1,5 @@
--- Signatures of clauses: words by which most clauses that are no part of another are told without a look at their literals.
+-- Signatures of clauses: words by which most clauses that are no part of another are told without a look at their
+-- literals.
 use Rattle.std.specs.Prelude.{◌≡◌, ◌↔◌, ℕ, ◌%◌, ◌<◌, List, length, slice_index}
 use Rattle.std.specs.Int.{bit_at}
 use Rattle.clause_core.specs.declared.literal.Lit.{Lit}

@@ -1,4 +1,5 @@
--- What every lawful history keeps beside the law of the frames: claims fit the frames, and those that are settled had their effect.
+-- What every lawful history keeps beside the law of the frames: claims fit the frames, and those that are settled had
+-- their effect.
 use Rattle.std.proofs.Common.{◌≡◌, ℕ, ◌+◌, ◌-◌, ◌<◌, ◌≤◌, ◌⊎◌, Bool, true, false, List, [], ◌∷◌, ◌++◌, length, set, refl, sym, subst, ap, ◌∙◌, inl, inr, arith, length-set, length-append, get_or-set_same, get_or-set_other}
 use Rattle.std.specs.Prelude.{Option, Some, None, slice_index_or, replicate}
 use Rattle.std.proofs.Math.ListN.{get_or-append}
@@ -50,8 +51,9 @@ HasObligation f j i =
     (o : ℕ) × (o < length f.obligations) × ((obligation_at f.obligations o).system ≡ j)
     × InFrame (system_at f.systems j) f.lemmas i (assignment_of (obligation_at f.obligations o).values)
 
--- what came of a claim: the purse is spent; or the top was opened, or a bad state of its frame is an obligation; or the obligation's
--- state is out of the frame, or one of the frame below leads to it; or the push failed, or the lemma needs it no more
+-- what came of a claim: the purse is spent; or the top was opened, or a bad state of its frame is an obligation; or the
+-- obligation's state is out of the frame, or one of the frame below leads to it; or the push failed, or the lemma needs
+-- it no more
 abbrev pub EffectOf : BookState → Subject → ℕ → Type 0
 EffectOf s (Bad j) level = (s.spent ≡ true) ⊎ ((level < top_at s.frames.tops j) ⊎ HasObligation s.frames j level)
 EffectOf s (Block o) level =

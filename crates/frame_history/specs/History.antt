@@ -1,5 +1,5 @@
--- The lawful history of the frames that workers share: the state that its entries lead to, what may be claimed, and what a
--- settlement may change (after Bradley 2011, sections 3 and 4; Een, Mishchenko, Brayton 2011).
+-- The lawful history of the frames that workers share: the state that its entries lead to, what may be claimed, and
+-- what a settlement may change (after Bradley 2011, sections 3 and 4; Een, Mishchenko, Brayton 2011).
 use Rattle.std.specs.Prelude.{◌≡◌, ◌≢◌, ◌⊎◌, ℕ, ◌+◌, ◌-◌, ◌<◌, ◌≤◌, Bool, true, false, List, [], ◌∷◌, ◌++◌, length, slice_index_or, slice_set, replicate, All, Option, Some, None}
 use Rattle.clause_core.specs.declared.literal.Lit.{Lit}
 use Rattle.clause_core.specs.Literals.{Within}
@@ -25,9 +25,9 @@ use Rattle.frame_history.specs.declared.entries.Entry.TheVariants.{Claim, Settle
 
 -- ---- The state
 
--- what a history leads to: the frames; for each entry the claim that it made, if it made one, and what became of it; how often
--- a lemma was added or raised; for each level up to the limit whether a push from it failed since; for each system whether its
--- limit was met; whether the purse was spent
+-- what a history leads to: the frames; for each entry the claim that it made, if it made one, and what became of it;
+-- how often a lemma was added or raised; for each level up to the limit whether a push from it failed since; for each
+-- system whether its limit was met; whether the purse was spent
 pub record BookState : Type 0 where
   pub frames : FrameState
   pub claims : List (Option Made)
@@ -125,8 +125,8 @@ IsClosed s = (s.spent ≡ true) ⊎ ((j : ℕ) → j < length s.frames.systems �
 abbrev pub IsLeastLevel : TransitionSystem → List Lemma → ℕ → (ℕ → Bool) → Type 0
 IsLeastLevel sys lemmas i x = (0 < i) × InFrame sys lemmas i x × ((k : ℕ) → 0 < k → k < i → InFrame sys lemmas k x → ⊥)
 
--- the subject fits the frames as they are, at this level: bad states at the top; an obligation at the least level of its frames, up to
--- the top; and a live lemma below some top, one level up
+-- the subject fits the frames as they are, at this level: bad states at the top; an obligation at the least level of
+-- its frames, up to the top; and a live lemma below some top, one level up
 abbrev pub IsOpenTask : Limits → BookState → Subject → ℕ → Type 0
 IsOpenTask limits s (Bad j) level =
     (j < length s.frames.systems) × (IsDecided s j → ⊥) × (level ≡ top_at s.frames.tops j) × (top_at s.frames.tops j ≤ limits.frames)
@@ -244,7 +244,8 @@ Accepts f c (Limit j) = ⊥
 -- that the purse was spent is no fact about frames: any claim may end so
 Accepts f c Spent = Unit {0}
 
--- the top of j is past the limit, and at each level up to the limit a push failed since a lemma was last added or raised
+-- the top of j is past the limit, and at each level up to the limit a push failed since a lemma was last added or
+-- raised
 abbrev pub MeetsLimit : Limits → BookState → ℕ → Type 0
 MeetsLimit limits s j =
     (top_at s.frames.tops j ≡ limits.frames + 1) × ((i : ℕ) → 0 < i → i ≤ limits.frames → slice_index_or s.failed i false ≡ true)

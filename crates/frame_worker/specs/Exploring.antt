@@ -10,8 +10,9 @@ use Rattle.frame_history.specs.Limits.{WasAtLimit, IsSafeWithin}
 use Rattle.frame_claims.specs.Paying.{ClaimQuery}
 use Rattle.frame_claims.specs.Lists.{ArePaid}
 
--- a lawful history, from these lemmas, led to the frames, which keep their law; so many tickets as were drawn since there were `old` were paid
--- for queries of its claims; and where the purse was not spent, which `over` says, each system without a verdict met the limit of its frames
+-- a lawful history, from these lemmas, led to the frames, which keep their law; so many tickets as were drawn since
+-- there were `old` were paid for queries of its claims; and where the purse was not spent, which `over` says, each
+-- system without a verdict met the limit of its frames
 pub record IsExplored (systems : List TransitionSystem) (limits : Limits) (carried : List Lemma) (history : List Entry) (f : FrameState)
     (old now : ℕ) (over : Bool) : Type 0 where
   pub lawful : IsLawful limits (start limits systems carried) history

@@ -18,7 +18,8 @@ pub record ArePlayed (first : BookState) (front : List Entry) (old now : ℕ) : 
   pub others : List (List ClaimQuery)
   pub lists : ArePaidLists first front 0 count [] drawn own others
 
--- no two claims of the book are equal, it is closed, and that the purse was spent it notes only where the seat knows of it
+-- no two claims of the book are equal, it is closed, and that the purse was spent it notes only where the seat knows of
+-- it
 pub record IsUsable (seat : Seat) (b : BookView) : Type 0 where
   pub apart : VoidsAreOld (start b.limits b.systems b.carried) b.history
   pub closed : IsClosed b.state

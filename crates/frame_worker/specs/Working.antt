@@ -18,8 +18,8 @@ use Rattle.frame_claims.specs.Lists.{ArePaidLists}
 use Rattle.frame_claims.specs.Outcomes.{IsUpToDate}
 use Rattle.frame_claims.specs.Paying.{ClaimQuery}
 
--- what some workers own: their seat, how many parts of the ledger, the history as far as it was seen, a solver where there is one; the
--- number of the first of them, and how many they are
+-- what some workers own: their seat, how many parts of the ledger, the history as far as it was seen, a solver where
+-- there is one; the number of the first of them, and how many they are
 pub record HandView : Type 0 where
   pub seat : Seat
   pub share : ℕ
@@ -56,7 +56,8 @@ pub record IsFresh (purse : SharedPurse) (h : HandView) : Type 0 where
   pub none : h.solver ≡ None
   pub unused : tickets_of h.seat ≡ []
 
--- the solver has the systems and the lemmas as they were, and what was drawn was paid for queries of claims of these workers
+-- the solver has the systems and the lemmas as they were, and what was drawn was paid for queries of claims of these
+-- workers
 pub record IsHeld (systems : List TransitionSystem) (first : BookState) (purse : SharedPurse) (h : HandView) : Type 0 where
   pub has : HasParts purse h
   pub follows : IfSome h.solver (Follows systems (replay first h.front))

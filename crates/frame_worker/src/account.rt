@@ -4,7 +4,8 @@ ghost use Rattle.std.specs.Prelude.{◌≡◌, ◌+◌, ◌-◌, ◌^◌, ◌<�
 
 use std::sync::ledger::{Ledger, Share};
 
-/// A share of the ledger of settlements, and how many settlements it counts. A count past 18446744073709551615 stays there.
+/// A share of the ledger of settlements, and how many settlements it counts. A count past 18446744073709551615 stays
+/// there.
 #[derive(Drop)]
 pub(crate) struct Account<L: Ledger> {
     pub(crate) share: Share<L>,

@@ -40,8 +40,8 @@ pub(crate) struct Desk<'a, L: Ledger, J: Naming + Begun> {
 }
 
 impl<'a, L: Ledger, J: Naming + Begun> Desk<'a, L, J> {
-    /// A task for this worker, who has seen all of the history, and then sees the entry of its claim too. Where there is no
-    /// memory for a claim, this worker gets no task any more.
+    /// A task for this worker, who has seen all of the history, and then sees the entry of its claim too. Where there
+    /// is no memory for a claim, this worker gets no task any more.
     pub(crate) fn claim(
         &mut self,
         line: &Line<Entry, J>,
@@ -89,8 +89,8 @@ impl<'a, L: Ledger, J: Naming + Begun> Desk<'a, L, J> {
         true
     }
 
-    /// Ends a claim with what came of it, which the account counts; false: there was no memory for that, and it was given
-    /// back.
+    /// Ends a claim with what came of it, which the account counts; false: there was no memory for that, and it was
+    /// given back.
     pub(crate) fn settle(
         &mut self,
         line: &Line<Entry, J>,
@@ -128,8 +128,8 @@ impl<'a, L: Ledger, J: Naming + Begun> Desk<'a, L, J> {
         }
     }
 
-    /// Lets a worker see the history as it is, and its solver take the lemmas that it lacks. False: there is no memory for
-    /// that, or no solver.
+    /// Lets a worker see the history as it is, and its solver take the lemmas that it lacks. False: there is no memory
+    /// for that, or no solver.
     pub(crate) fn show(
         &self,
         front: &mut Front<Entry, J>,

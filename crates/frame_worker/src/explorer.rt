@@ -22,9 +22,9 @@ use work_crew::{Craft, Taking};
 
 /// What the workers of some frames need of each other: the systems, the history that they share, and the purse.
 ///
-/// They take turns: one claim is out at a time. Claims that were asked side by side took two to four times the work of one
-/// worker, since lemmas that one was finding would have spared the others their queries. The next claim is left to the worker
-/// who had the last one, whose solver knows most of it; another takes it where that one does not come.
+/// They take turns: one claim is out at a time. Claims that were asked side by side took two to four times the work of
+/// one worker, since lemmas that one was finding would have spared the others their queries. The next claim is left to
+/// the worker who had the last one, whose solver knows most of it; another takes it where that one does not come.
 #[derive(Drop)]
 pub(crate) struct Explorer<'a, 'p, L: Ledger, J: Naming + Begun> {
     pub(crate) alloc: Global,

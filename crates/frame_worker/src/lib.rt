@@ -1,5 +1,5 @@
-//! Several workers explore frames (Bradley 2011): they share a book under a lock, and each asks for its claims by a solver
-//! of its own.
+//! Several workers explore frames (Bradley 2011): they share a book under a lock, and each asks for its claims by a
+//! solver of its own.
 #![tactic(auto)]
 
 mod account;

@@ -49,7 +49,8 @@ pub(crate) fn explored_of<'a, L: Ledger, J: Naming + Begun>(
     Ok(Some(close(book, account)))
 }
 
-// Whether the book is closed, has no two equal claims, and notes that the purse was spent only where the seat knows of it.
+// Whether the book is closed, has no two equal claims, and notes that the purse was spent only where the seat knows of
+// it.
 fn is_usable<'a, L: Ledger>(
     alloc: Global,
     book: &mut Book<'a, L>,
@@ -67,8 +68,8 @@ fn is_usable<'a, L: Ledger>(
     is_closed(book)
 }
 
-// Whether the book is closed. Where it is not, a claim is still out; or the caller was refused memory as it finished, which is
-// an error.
+// Whether the book is closed. Where it is not, a claim is still out; or the caller was refused memory as it finished,
+// which is an error.
 fn is_closed<'a, L: Ledger>(book: &mut Book<'a, L>) -> Result<bool, AllocError>
     ensures { IfOk result (λ yes. yes ≡ true → IsClosed book.new.state × (book.new ≡ book.old)) }
 {

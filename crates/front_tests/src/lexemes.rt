@@ -1,4 +1,5 @@
-//! Tokens and refusals of small texts; what stands here was written down from the rules and not from what the code answers.
+//! Tokens and refusals of small texts; what stands here was written down from the rules and not from what the code
+//! answers.
 
 use smv_text::tokens;
 use smv_tree::TokenKind::*;

@@ -1,7 +1,7 @@
-//! Tests of the crates that read a model, through their public calls alone: the tokens of small texts, and from the text of a
-//! source to its program: how operators group, where tokens are refused, how many levels may be opened, where declarations
-//! stand, and what operators give of values that were worked by hand. What is wanted was written down from the grammar, and not from
-//! what the code answers.
+//! Tests of the crates that read a model, through their public calls alone: the tokens of small texts, and from the
+//! text of a source to its program: how operators group, where tokens are refused, how many levels may be opened, where
+//! declarations stand, and what operators give of values that were worked by hand. What is wanted was written down from
+//! the grammar, and not from what the code answers.
 #![tactic(auto)]
 
 use smv_parse::parse;

@@ -1,4 +1,5 @@
-//! How operators group: the first formula or claim of a source, each node of it in parentheses; and what arrays are declared.
+//! How operators group: the first formula or claim of a source, each node of it in parentheses; and what arrays are
+//! declared.
 
 use crate::program_of;
 use smv_tree::{Dimension, Expr, Name, Place, Program, Section, Start, TypeExpr, Variable};
@@ -6,7 +7,8 @@ use smv_value::{Arithmetic, Bounded, Division, Logic, Operator, Order, Shift, Te
 use std::alloc::{AllocError, Global};
 use std::test::Fail;
 
-/// A source of one formula, and the formula with each node in parentheses; what stands in parentheses itself, in brackets.
+/// A source of one formula, and the formula with each node in parentheses; what stands in parentheses itself, in
+/// brackets.
 type Shape = (&'static str, &'static str);
 
 const SHAPES: [Shape; 23] = [

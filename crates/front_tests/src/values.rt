@@ -1,4 +1,5 @@
-//! What operators give of values that were worked by hand, of words with a sign most of all, and how values are printed.
+//! What operators give of values that were worked by hand, of words with a sign most of all, and how values are
+//! printed.
 use plain_text::Text;
 use smv_value::{
     Arithmetic, Division, FaultRule, Logic, Operator, Order, Shift, Shown, Value, apply, same,
@@ -248,7 +249,8 @@ fn is_printed(names: &[Text], alloc: Global, value: Value, text: &str) -> Result
     Ok(printed.as_str() == text)
 }
 
-// A value of a row: a boolean, an integer, a symbol by its number, or a word without a sign or with one by its width and its bits.
+// A value of a row: a boolean, an integer, a symbol by its number, or a word without a sign or with one by its width
+// and its bits.
 #[derive(Clone, Copy)]
 enum Given {
     Bool(bool),

@@ -278,7 +278,8 @@ const VERDICTS: [(&str, &str); 72] = [
     ),
 ];
 
-/// The head of a source, what opens and closes a level before and behind `x`, how often, and the line by which it is refused.
+/// The head of a source, what opens and closes a level before and behind `x`, how often, and the line by which it is
+/// refused.
 const LEVELS: [(&str, &str, &str, usize, &str); 25] = [
     ("MODULE main\nINIT ", "(", ")", 256, ""),
     (
@@ -393,7 +394,8 @@ const LEVELS: [(&str, &str, &str, usize, &str); 25] = [
     ),
 ];
 
-/// How many arrays stand one in another, the type of the innermost elements, and the line by which the declaration is refused.
+/// How many arrays stand one in another, the type of the innermost elements, and the line by which the declaration is
+/// refused.
 const ARRAYS: [(usize, &str, &str); 10] = [
     (256, "boolean;", ""),
     (257, "boolean;", "-- refused 202 TooDeep at 2:3593\n"),
@@ -407,8 +409,8 @@ const ARRAYS: [(usize, &str, &str); 10] = [
     (255, "signed word[4];", ""),
 ];
 
-/// A head, what opens each operand and what closes it, how many stand one in another, and whether that is out of memory. Each
-/// of these adds eight selections that stand over the operand, or one.
+/// A head, what opens each operand and what closes it, how many stand one in another, and whether that is out of
+/// memory. Each of these adds eight selections that stand over the operand, or one.
 const SELECTIONS: [(&str, &str, &str, usize, bool); 6] = [
     (
         "MODULE main INIT ",

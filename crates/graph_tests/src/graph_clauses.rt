@@ -88,8 +88,8 @@ fn first_wrong(alloc: Global, graph: &Graph, cnf: &Cnf) -> Result<Option<u32>, A
     Ok(None)
 }
 
-// Nodes 0 to 3 are inputs, 4 the constant, 5 a conjunction that no root reaches, 6 an exclusive or, 7 a conjunction, and 8
-// a choice.
+// Nodes 0 to 3 are inputs, 4 the constant, 5 a conjunction that no root reaches, 6 an exclusive or, 7 a conjunction,
+// and 8 a choice.
 fn grow(graph: &mut Graph) -> Result<Edge, AllocError>
     requires { 3 < length graph.old }
     ensures { IfOk result (Stands graph.new) }

@@ -1,5 +1,5 @@
-//! Operators on values as edges, for all operands of a few bits. The edges give what the operator gives of the values, and tell where
-//! it faults.
+//! Operators on values as edges, for all operands of a few bits. The edges give what the operator gives of the values,
+//! and tell where it faults.
 
 ghost use Rattle.std.specs.Prelude.{IfOk};
 ghost use Rattle.bit_graph.specs.Meaning.{Stands};

@@ -1,4 +1,5 @@
-//! Tests of the kinds of expressions, through the public calls of their crate: tables of cases that were worked by hand.
+//! Tests of the kinds of expressions, through the public calls of their crate: tables of cases that were worked by
+//! hand.
 #![tactic(auto)]
 
 #[cfg(test)]

@@ -1,6 +1,6 @@
 -- The clauses that ask for fair lassos: a copy of the system for each time, which all lengths share, with a copy of the
--- state bits for the state at which the loop begins; a length is asked for by literals alone (Biere, Heljanko, Junttila,
--- Latvala and Schuppan 2006).
+-- state bits for the state at which the loop begins; a length is asked for by literals alone (Biere, Heljanko,
+-- Junttila, Latvala and Schuppan 2006).
 --
 -- The first variables are those of that state, and those that only the clauses of an initial state have. Then come the
 -- variables of one time after another, as many for each: those of the state and of what is defined of it, those that

@@ -151,8 +151,8 @@ fn add_seeing(
     )
 }
 
-// The assumptions of a query for a lasso of so many states: the loop begins before its end, closes there, and meets each
-// set.
+// The assumptions of a query for a lasso of so many states: the loop begins before its end, closes there, and meets
+// each set.
 pub fn closing(alloc: Global, plan: &Plan, states: usize) -> Result<Vec<Lit>, AllocError>
     ensures { IfOk result (λ ls. ls.items ≡ closing_at plan.now states) }
 {

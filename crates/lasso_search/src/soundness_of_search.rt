@@ -30,8 +30,8 @@ pub fn own_lassos()
     ensures { (sys m : TransitionSystem) (f : Ltl) (atoms : List Lit) → IsMonitor sys f atoms m → Gives sys.state_bits sys.fair sys.defs → Gives m.state_bits m.fair m.defs → (n : ℕ) (r own : Lasso) → IsFairLasso m n r → IsOwnLasso sys m r own → KeepsSteps sys own × IsLasso sys (state own) n own.start }
 {}
 
-/// A fair lasso goes on round its loop, so where there is one of some length there is one of each greater length: a length that
-/// has none stands for all that are less.
+/// A fair lasso goes on round its loop, so where there is one of some length there is one of each greater length: a
+/// length that has none stands for all that are less.
 pub fn shorter_lassos()
     ensures { (m : TransitionSystem) (k n : ℕ) → k ≤ n → HasNoFairLasso m n → HasNoFairLasso m k }
 {}

@@ -28,7 +28,8 @@ pub data Lexed {Shape Place Token : Type 0} (words : Lexicon Shape Place Token) 
       → Lexed words (words.behind place (take n bytes)) (drop n bytes) tokens end rest
       → Lexed words place bytes (words.tokens_of shape place (take n bytes) ++ tokens) end rest
 
--- From a place on, the bytes are these tokens up to a place where no lexeme begins: the end, or a byte that begins none.
+-- From a place on, the bytes are these tokens up to a place where no lexeme begins: the end, or a byte that begins
+-- none.
 pub record IsCut {Shape Place Token : Type 0} (words : Lexicon Shape Place Token) (place : Place) (bytes : List ℕ) (tokens : List Token) (end : Place) (rest : List ℕ) : Type 0 where
   pub lexed : Lexed words place bytes tokens end rest
   pub stuck : IsNone words.shape_of rest

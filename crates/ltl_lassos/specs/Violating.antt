@@ -39,8 +39,8 @@ row_at rows i = assignment_of (slice_index_or rows i [])
 abbrev pub row_after : List (List Bool) → ℕ → ℕ → ℕ
 row_after rows start i = if nat_lt (i + 1) (length rows) then i + 1 else start
 
--- rows of values for all bits, one for each state of a lasso, each of which meets the step clauses with the state of the row after it,
--- and which violate the formula
+-- rows of values for all bits, one for each state of a lasso, each of which meets the step clauses with the state of
+-- the row after it, and which violate the formula
 pub record AreViolating (sys : TransitionSystem) (f : Ltl) (atoms : List Lit) (rows : List (List Bool)) (start : ℕ) : Type 0 where
   pub inside : start < length rows
   pub full : All (λ (row : List Bool). length row ≡ sys.all_bits) rows

@@ -1,4 +1,5 @@
--- A lasso of a system violates a formula exactly where its stretch has bits that make a fair lasso of the monitored one.
+-- A lasso of a system violates a formula exactly where its stretch has bits that make a fair lasso of the monitored
+-- one.
 use Rattle.std.proofs.Common.{inl, inr, ◌≡◌, ℕ, zero, suc, ◌+◌, ◌-◌, ◌*◌, ◌<◌, ◌≤◌, Bool, true, List, [], ◌∷◌, map, get_or, refl, sym, ap, ◌∙◌, subst, arith}
 use Rattle.std.specs.Prelude.{◌↔◌, nat_lt, if◌then◌else◌, All}
 use Rattle.std.proofs.lemmas.Bool.{cases_lt}

@@ -23,11 +23,11 @@ use std::alloc::{AllocError, Global};
 
 /// The system with the monitor of a formula beside it, where the formula is false at first.
 ///
-/// `atoms` are the literals of the formula's atoms. A state has, after the system's bits, one bit for
-/// each temporal operator (Lichtenstein, Pnueli and Zuck 1985), where one with bounds counts as many as its
-/// upper bound says; each Boolean operator has a gate (Tseitin 1968). The formula is taken without bounds. Time and memory are linear in the formula's size and the system's. The stack grows
-/// with the nesting of nodes, which callers keep to 2000; a chain takes none of it. The only error is
-/// out of memory, which a number of variables past `usize::MAX` counts as.
+/// `atoms` are the literals of the formula's atoms. A state has, after the system's bits, one bit for each temporal
+/// operator (Lichtenstein, Pnueli and Zuck 1985), where one with bounds counts as many as its upper bound says; each
+/// Boolean operator has a gate (Tseitin 1968). The formula is taken without bounds. Time and memory are linear in the
+/// formula's size and the system's. The stack grows with the nesting of nodes, which callers keep to 2000; a chain
+/// takes none of it. The only error is out of memory, which a number of variables past `usize::MAX` counts as.
 pub fn monitored(
     alloc: Global,
     system: &System,

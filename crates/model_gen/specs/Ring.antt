@@ -1,4 +1,5 @@
--- A ring of cells, of which one begins with the token and each takes it from the one before: an own choice of this project.
+-- A ring of cells, of which one begins with the token and each takes it from the one before: an own choice of this
+-- project.
 use Rattle.std.specs.Prelude.{ℕ, ◌-◌, ◌==◌, Bool, true, false, if◌then◌else◌, List, ◌++◌, codes}
 use Rattle.std.specs.Fmt.{decimal}
 use Rattle.std.specs.List.{flat_map, range_with_len}

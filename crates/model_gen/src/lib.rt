@@ -10,8 +10,8 @@ use std::alloc::{AllocError, Global};
 use std::fmt;
 
 /// The source of a ring of `cells` cells, each of which takes the token from the one before it; cell `seed % cells`
-/// begins with it. It claims that the first two cells never have it together, and that the first has it again and again.
-/// The only error is that memory is refused.
+/// begins with it. It claims that the first two cells never have it together, and that the first has it again and
+/// again. The only error is that memory is refused.
 pub fn ring(alloc: Global, cells: usize, seed: u64) -> Result<String, AllocError>
     requires { 2 ≤ cells }
     ensures { IfOk result (λ text. string_bytes text ≡ ring_text cells (seed % cells)) }

@@ -5,7 +5,8 @@ use Rattle.outside.specs.declared.Stop.{Stop}
 use Rattle.outside.specs.declared.Stop.TheVariants.{Failed, NoMemory}
 use Rattle.outside.specs.Causes.{next_count}
 
--- a source: the bytes still to come, the most that a read takes, the calls so far, the calls that fail, and how many failed
+-- a source: the bytes still to come, the most that a read takes, the calls so far, the calls that fail, and how many
+-- failed
 pub record Input : Type 0 where
   pub left : List ℕ
   pub chunk : ℕ
@@ -13,7 +14,8 @@ pub record Input : Type 0 where
   pub failing : List ℕ
   pub faults : ℕ
 
--- a sink: the bytes taken so far, the most that a write takes, the calls so far, the calls that fail, and how many failed
+-- a sink: the bytes taken so far, the most that a write takes, the calls so far, the calls that fail, and how many
+-- failed
 pub record Output : Type 0 where
   pub taken : List ℕ
   pub chunk : ℕ

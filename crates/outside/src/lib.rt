@@ -40,15 +40,16 @@ pub trait Source {
     /// The bytes still to come, where the source tells them.
     ghost left: { Self → Option (List ℕ) };
 
-    /// How often a read has failed. It rises where a read fails and nowhere else, and stands still at the greatest `u64`.
+    /// How often a read has failed. It rises where a read fails and nowhere else, and stands still at the greatest
+    /// `u64`.
     ghost faults: { Self → ℕ };
 
     /// Takes the next bytes into the front of `buf`.
     ///
-    /// `Ok(n)` took the first `n` bytes that were left, at most as many as `buf` has room for.
-    /// `Ok(0)` into a buffer that is not empty is the end: nothing is left.
-    /// `Err(Failed)` takes nothing, and comes only where the count of faults rose in this call. `Ok` leaves the count as it was.
-    /// What `buf` holds past `n`, and after an error, is left open.
+    /// `Ok(n)` took the first `n` bytes that were left, at most as many as `buf` has room for. `Ok(0)` into a buffer
+    /// that is not empty is the end: nothing is left. `Err(Failed)` takes nothing, and comes only where the count of
+    /// faults rose in this call. `Ok` leaves the count as it was. What `buf` holds past `n`, and after an error, is
+    /// left open.
     fn read(&mut self, buf: &mut [u8]) -> Result<usize, Failed>
         ensures bound { ReadsAtMost result buf.new }
         ensures bytes { ReadConsumes (left self.old) (left self.new) result buf.new }

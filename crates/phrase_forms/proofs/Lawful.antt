@@ -1,4 +1,5 @@
--- What a form keeps: it reads what it yields and nothing else, and a fault is at the first token that cannot stand there.
+-- What a form keeps: it reads what it yields and nothing else, and a fault is at the first token that cannot stand
+-- there.
 use Rattle.std.proofs.Common.{◌≡◌, ℕ, ◌<◌, ◌≤◌, length, true, false, List, [], ◌∷◌, ◌++◌, Ok, Err}
 use Rattle.std.specs.Prelude.{◌⊎◌}
 use Rattle.phrase_forms.specs.declared.fault.Fault.{Fault}

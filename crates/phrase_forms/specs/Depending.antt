@@ -6,8 +6,8 @@ use Rattle.std.specs.Prelude.{◌≡◌, Bool, true, false, ◌&&◌, ◌||◌, 
 abbrev pub pure : {T A : Type 0} → A → Form T A
 pure x = record { yields = λ k ts a rest. (a ≡ x) × (ts ≡ rest); parse = λ ts. Ok (x, ts); first = λ t. false; more = λ t. false; nullable = true }
 
--- a, and then the form that its value asks for: each of these begins with f at most, is gone on by m at most, and may be
--- empty where n says
+-- a, and then the form that its value asks for: each of these begins with f at most, is gone on by m at most, and may
+-- be empty where n says
 abbrev pub after : {T A B : Type 0} → Form T A → (T → Bool) → (T → Bool) → Bool → (A → Form T B) → Form T (A × B)
 after {T} {A} {B} a f m n b = record {
   yields = λ k ts x rest. (mid : List T) × a.yields k ts x.0 mid × (b x.0).yields k mid x.1 rest;

@@ -1,17 +1,17 @@
 -- Forms: what a phrase spells, and how it is read from the front of the tokens.
 --
--- A form is one phrase of a language, seen twice: `yields` says what tokens spell, `parse` reads them. A worked line, of a
--- number of `!`, a name, and an index or none, where `room` more levels may be opened:
+-- A form is one phrase of a language, seen twice: `yields` says what tokens spell, `parse` reads them. A worked line,
+-- of a number of `!`, a name, and an index or none, where `room` more levels may be opened:
 --
 --     named_by room = many bang ⨾ name ⨾ maybe (token (is_zero room) is_left ▹ number ◃ right)
 --
--- - firsts (`first`): the tokens that a phrase may begin with, here `!` and a name. `or`, `maybe` and `many` read on where
---   the next token is among them, and need no look further.
--- - followers (`more`): the tokens that may go on a phrase that could end where they stand, here `[` alone, behind the name.
---   `many bang` has the follower `!`; it may be followed by a name, since no name is among its followers.
--- - `closed`, the first argument of `token`: the token opens a level, and no room is left for one. `parse` refuses it there
---   as too deep. `yields k` lets it stand in the last k tokens alone, so that one can say where the first level too many is
---   opened; with as many as there are tokens, and so where any depth will do, it is an ordinary token.
+-- - firsts (`first`): the tokens that a phrase may begin with, here `!` and a name. `or`, `maybe` and `many` read on
+--   where the next token is among them, and need no look further.
+-- - followers (`more`): the tokens that may go on a phrase that could end where they stand, here `[` alone, behind the
+--   name. `many bang` has the follower `!`; it may be followed by a name, since no name is among its followers.
+-- - `closed`, the first argument of `token`: the token opens a level, and no room is left for one. `parse` refuses it
+--   there as too deep. `yields k` lets it stand in the last k tokens alone, so that one can say where the first level
+--   too many is opened; with as many as there are tokens, and so where any depth will do, it is an ordinary token.
 --
 -- None of the three changes what is spelled. They are how `parse` chooses, and where they are wrong for a language, its
 -- laws (`Lawful`: what is read is spelled, what is spelled is read, and so on) have no proof.

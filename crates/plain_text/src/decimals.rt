@@ -12,9 +12,9 @@ fn are_digits(bytes: &[u8]) -> bool
     bytes.iter().all(|byte| byte.is_ascii_digit())
 }
 
-/// The number that the bytes write in decimal digits, if it is at most `limit`. `None` where there are none, or anything
-/// but digits, a sign too, or where the number is greater. Leading zeros are allowed. The time is linear in the bytes, and
-/// no memory is taken.
+/// The number that the bytes write in decimal digits, if it is at most `limit`. `None` where there are none, or
+/// anything but digits, a sign too, or where the number is greater. Leading zeros are allowed. The time is linear in
+/// the bytes, and no memory is taken.
 pub fn number_up_to(limit: u64, bytes: &[u8]) -> Option<u64>
     ensures value { result ≡ number_up_to limit bytes.now }
     ensures small { IfSome result (λ number. number ≤ limit) }

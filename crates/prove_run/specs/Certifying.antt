@@ -35,13 +35,15 @@ pub record IsOfCertificate (f : FrameState) (q : CertQuery) : Type 0 where
 abbrev pub DifferInPart : CertQuery → CertQuery → Type 0
 DifferInPart p q = p.system ≡ q.system → p.asked.part ≢ q.asked.part
 
--- the queries were asked for certificates of the systems of these frames, no two for one part, and as many tickets were drawn as they cost
+-- the queries were asked for certificates of the systems of these frames, no two for one part, and as many tickets were
+-- drawn as they cost
 pub record PaysCertificates (f : FrameState) (before after : List ℕ) (log : List CertQuery) : Type 0 where
   pub each : All (IsOfCertificate f) log
   pub apart : AllPairs DifferInPart log
   pub paid : IsPaidLog [] [] before after (queries_of log)
 
--- the frames tell an invariant of system j, but some part of its certificate was not answered: no query is of it but, maybe, the last one
+-- the frames tell an invariant of system j, but some part of its certificate was not answered: no query is of it but,
+-- maybe, the last one
 pub record LacksPart (f : FrameState) (log : List CertQuery) (j : ℕ) : Type 0 where
   pub level : ℕ
   pub verdict : VerdictSays f j (Some (Invariant level))

@@ -35,8 +35,8 @@ fn clauses_of(alloc: Global, lemmas: &Lemmas, level: u32) -> Result<Clauses, All
     Ok(clauses)
 }
 
-// A certificate of an invariant that names this counter, and which the check accepts; none where the purse was spent before it
-// was made.
+// A certificate of an invariant that names this counter, and which the check accepts; none where the purse was spent
+// before it was made.
 fn certify<Q: Purse>(
     alloc: Global,
     system: &System,
@@ -65,10 +65,11 @@ fn certify<Q: Purse>(
     }
 }
 
-/// A certificate of system `j`, of which the frames tell an invariant: of the live lemmas above its level, with this counter.
+/// A certificate of system `j`, of which the frames tell an invariant: of the live lemmas above its level, with this
+/// counter.
 ///
-/// The check of certificates accepted it. There is none where the purse was spent before it was made. What was asked was
-/// paid for. The only error is out of memory.
+/// The check of certificates accepted it. There is none where the purse was spent before it was made. What was asked
+/// was paid for. The only error is out of memory.
 pub fn certificate_of<Q: Purse>(
     alloc: Global,
     frames: &Frames,
@@ -100,7 +101,8 @@ fn spent_by(effort: &Effort) -> Cause
     }
 }
 
-// What is answered of system `j`, of which the frames tell an invariant; `spent` is whether the purse is known to be spent.
+// What is answered of system `j`, of which the frames tell an invariant; `spent` is whether the purse is known to be
+// spent.
 fn shown<Q: Purse>(
     alloc: Global,
     frames: &Frames,

@@ -1,5 +1,5 @@
-//! IC3 (Bradley 2011) for one system or for several that share their lemmas, by one worker or by several: proves that no bad
-//! state is reached, finds a run to one, or says why neither is known.
+//! IC3 (Bradley 2011) for one system or for several that share their lemmas, by one worker or by several: proves that
+//! no bad state is reached, finds a run to one, or says why neither is known.
 //!
 //! The only error of a call is running out of memory.
 #![tactic(auto)]

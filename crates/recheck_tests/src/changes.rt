@@ -29,8 +29,8 @@ enum Change {
     Swapped,
 }
 
-// A letter for each line that is changed so: the text is refused, the certificate is rejected, or it is shown true. A step that is
-// given twice follows twice.
+// A letter for each line that is changed so: the text is refused, the certificate is rejected, or it is shown true. A
+// step that is given twice follows twice.
 const TABLE: [(Change, &[u8]); 3] = [
     (Change::Deleted, b"RRRPPPPPR"),
     (Change::Doubled, b"RPRTRTRTR"),
@@ -147,8 +147,9 @@ const FIXED_LINES: [&str; 31] = [
 
 const UNSAFE: &str = "-- spec 1 INVARSPEC is rejected: part safe 0\n";
 
-// The number of a line, the line with one literal negated in its place, and what is said. With a clause of two literals gone from
-// either pair, no step follows by units alone. The last change is sound: from bit 3 the fourth one follows and its negation.
+// The number of a line, the line with one literal negated in its place, and what is said. With a clause of two literals
+// gone from either pair, no step follows by units alone. The last change is sound: from bit 3 the fourth one follows
+// and its negation.
 const NEGATED: [(usize, &str, &str); 13] = [
     (0, "--% cert 1 spec 1 counter none\n", TRUE),
     (1, "--% clause -1 2 0\n", UNSAFE),
@@ -210,7 +211,8 @@ const SOUND: &str = "--% sound\n--% part item 0\n--% step 0\n--% end\n";
 const PLAIN: &str =
     "--% cert 1 spec 1 counter none\n--% clause -1 0\n--% part first 1\n--% step 0\n--% part kept 1\n--% step 0\n--% part safe 0\n--% step 0\n--% end\n";
 
-// What is printed again of the text of a model with these lines behind it; and what is said of that behind the bare model.
+// What is printed again of the text of a model with these lines behind it; and what is said of that behind the bare
+// model.
 fn again(alloc: Global, lines: &str) -> Result<(Vec<u8>, Vec<u8>), Fail> {
     let text = both(alloc, MODEL, lines)?;
     let first = said(alloc, &text, true)?;
@@ -253,7 +255,8 @@ const RANGED: &str =
 const RANGED_SOUND: &str =
     "--% sound\n--% part item 0\n--% step 1 2 0\n--% step 1 -2 0\n--% step 1 0\n--% step -1 2 0\n--% step 0\n--% end\n";
 
-// What is said of a model whose items are asked about, with these lines behind it, where accepted blocks are printed again.
+// What is said of a model whose items are asked about, with these lines behind it, where accepted blocks are printed
+// again.
 fn ranged_again(alloc: Global, lines: &str) -> Result<Vec<u8>, Fail> {
     let text = both(alloc, RANGED, lines)?;
     let found = said(alloc, &text, true)?;

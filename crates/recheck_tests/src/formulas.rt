@@ -229,8 +229,8 @@ const BOUNDED: [Row; 4] = [
     (FREE, "G O [1,2] x", HELD, FALSE, 0),
 ];
 
-// The clauses of a certificate of `G !x` where x stands: bit 1 is x, bit 2 the operator's, bit 3 the mark of its fairness set. Neither
-// is ever set, so that there is no signal.
+// The clauses of a certificate of `G !x` where x stands: bit 1 is x, bit 2 the operator's, bit 3 the mark of its
+// fairness set. Neither is ever set, so that there is no signal.
 const CLAUSES: &str = "--% clause -1 0\n--% clause -2 0\n--% clause -3 0\n";
 
 const PARTS: &str =

@@ -1,4 +1,5 @@
-//! Arrays and bounds of temporal operators through the top call: refusals, listings, reports, and what is said of reports again.
+//! Arrays and bounds of temporal operators through the top call: refusals, listings, reports, and what is said of
+//! reports again.
 use crate::reports::{Case, Round, first_wrong, first_wrong_round};
 use std::alloc::Global;
 use std::test::Fail;

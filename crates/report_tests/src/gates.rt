@@ -1,4 +1,5 @@
-//! Two workers behind gates: they run beside each other, and in whatever order they are let in, the verdicts are the same.
+//! Two workers behind gates: they run beside each other, and in whatever order they are let in, the verdicts are the
+//! same.
 use outside::{Gate, SureSink, SureSource};
 use smv_cli::run;
 use std::alloc::{AllocError, Global};
@@ -101,7 +102,8 @@ fn two_enter(rt: HostRuntime) -> Result<(), Fail> {
     Ok(())
 }
 
-// Lets two workers in in this order, and then as they come. A worker that the order forgets waits for so many turns at most.
+// Lets two workers in in this order, and then as they come. A worker that the order forgets waits for so many turns at
+// most.
 #[derive(Drop)]
 struct Ordered {
     order: [u32; 4],

@@ -1,5 +1,6 @@
-//! Refusals through the top call, with the examples of docs/LANGUAGE.md: of declared types, of operands and of arrays, at the edges
-//! of what is refused, and in the order of the rules. Also each beginning of a source, and the first line of a certificate.
+//! Refusals through the top call, with the examples of docs/LANGUAGE.md: of declared types, of operands and of arrays,
+//! at the edges of what is refused, and in the order of the rules. Also each beginning of a source, and the first line
+//! of a certificate.
 use crate::reports::{Case, first_wrong};
 use crate::sources::{definitions, repeated, variables};
 use smv_cli::run_over_bytes;

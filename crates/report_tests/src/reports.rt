@@ -1139,8 +1139,8 @@ fn untold_read<R: Threads + Wait + Sync>(
     Ok(None)
 }
 
-// The first write whose failing is not told, or before which another text is printed: each byte of the report is written
-// by one.
+// The first write whose failing is not told, or before which another text is printed: each byte of the report is
+// written by one.
 fn untold_write<R: Threads + Wait + Sync>(
     rt: &R,
     alloc: Global,

@@ -171,8 +171,8 @@ fn push_all(text: &mut String, pieces: &[&str]) -> Result<(), AllocError> {
     Ok(())
 }
 
-/// A text with as many definitions behind it, in each of which the next one stands between these pieces; then what the last one is,
-/// and what stands behind.
+/// A text with as many definitions behind it, in each of which the next one stands between these pieces; then what the
+/// last one is, and what stands behind.
 pub fn definitions(
     alloc: Global,
     count: usize,

@@ -1,5 +1,5 @@
-//! Integers, enumerations, sets, `case` and words through the top call: verdicts, refusals of items that fault, listings, and what is
-//! said of reports again.
+//! Integers, enumerations, sets, `case` and words through the top call: verdicts, refusals of items that fault,
+//! listings, and what is said of reports again.
 use crate::reports::{Case, Round, first_wrong, first_wrong_round};
 use std::alloc::Global;
 use std::test::Fail;
@@ -167,7 +167,8 @@ fn values(rt: HostRuntime) -> Result<(), Fail> {
     Ok(())
 }
 
-// A construct a row: a specification that is true just where it means what docs/LANGUAGE.md says, and one that is false.
+// A construct a row: a specification that is true just where it means what docs/LANGUAGE.md says, and one that is
+// false.
 const CONSTRUCTS: [Case; 15] = [
     // The examples of its table of operators.
     (

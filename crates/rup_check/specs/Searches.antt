@@ -48,7 +48,8 @@ pub record Keeps (log : List (List Lit)) (k : ℕ) (h : HintedLog) : Type 0 wher
   pub covered : All (λ c. Contains h.steps c ⊎ IsTaut c) (take k log)
   pub last : (j : ℕ) → k ≡ suc j → slice_index_or log j [] ≡ [] → EndsEmpty h.steps
 
--- Found: each step of the log follows, and these are the steps with their hints; No: this is the first that does not follow
+-- Found: each step of the log follows, and these are the steps with their hints; No: this is the first that does not
+-- follow
 abbrev pub AllHintsSay : ℕ → List (List Lit) → List (List Lit) → Hints → Type 0
 AllHintsSay vars cs log (Found h) = AllStepsBelow vars cs log (length log) × IsHinted vars cs h × Keeps log (length log) h
 AllHintsSay vars cs log (No step) = AllStepsBelow vars cs log step × (step < length log) × (StepHolds vars cs log step → ⊥)

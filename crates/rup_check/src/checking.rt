@@ -132,8 +132,8 @@ impl Checker {
         found
     }
 
-    /// Hints for the steps of a log that follow one after another from the clauses, whatever the last one is. Steps with a
-    /// literal and its negation are left out. More clauses than the greatest `usize` count as out of memory.
+    /// Hints for the steps of a log that follow one after another from the clauses, whatever the last one is. Steps
+    /// with a literal and its negation are left out. More clauses than the greatest `usize` count as out of memory.
     pub fn hint_steps(
         &mut self,
         alloc: Global,
@@ -177,8 +177,8 @@ impl Checker {
         }
     }
 
-    /// The same as `check_hinted` from the clauses with a clause of one literal for each of the units behind them, numbered
-    /// through.
+    /// The same as `check_hinted` from the clauses with a clause of one literal for each of the units behind them,
+    /// numbered through.
     pub fn check_hinted_with(&mut self, clauses: &Clauses, units: &[Lit], log: &Hinted) -> Verdict
         requires clauses { All (Within self.old) clauses.now }
         requires units { Within self.old units.now }

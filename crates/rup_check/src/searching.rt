@@ -151,8 +151,8 @@ fn hint_next(
     Ok(true)
 }
 
-// Adds the steps of the log with their hints to an empty log. The first that does not follow, if any; `found` is room to
-// work in.
+// Adds the steps of the log with their hints to an empty log. The first that does not follow, if any; `found` is room
+// to work in.
 fn push_hinted(
     values: &mut [u8],
     finder: &mut Finder,

@@ -14,8 +14,8 @@ verdict_of (Sat model) = Satisfiable
 verdict_of (Unsat core) = Unsatisfiable
 verdict_of (Spent drawn budget) = Unknown
 
--- the verdict is right: some assignment makes the clauses true; or none does; or each ticket of the budget was drawn, the
--- query's and those of so many conflicts
+-- the verdict is right: some assignment makes the clauses true; or none does; or each ticket of the budget was drawn,
+-- the query's and those of so many conflicts
 abbrev pub VerdictSays : List (List Lit) → ℕ → ℕ → Verdict → Type 0
 VerdictSays cs budget conflicts Satisfiable = (a : ℕ → Bool) × All (ClauseTrue a) cs
 VerdictSays cs budget conflicts Unsatisfiable = (a : ℕ → Bool) → All (ClauseTrue a) cs → ⊥

@@ -1,7 +1,7 @@
 //! Solves a DIMACS formula from standard input, and prints the answer and the count of conflicts.
 //!
-//! The first word on the command line, if there is one, is the budget of tickets. A second one is a number of queries: so
-//! many are asked of one solver that is kept, each under some assumptions, and their answers are counted.
+//! The first word on the command line, if there is one, is the budget of tickets. A second one is a number of queries:
+//! so many are asked of one solver that is kept, each under some assumptions, and their answers are counted.
 #![tactic(auto)]
 
 ghost use Rattle.std.specs.Prelude.{All};

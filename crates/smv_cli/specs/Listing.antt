@@ -1,5 +1,5 @@
--- The lines of the command `flat`, the slots and the items of a model; and the line of `self` with how many these are. An own choice
--- of this project.
+-- The lines of the command `flat`, the slots and the items of a model; and the line of `self` with how many these are.
+-- An own choice of this project.
 use Rattle.std.specs.Prelude.{ℕ, ◌+◌, List, [], ◌∷◌, ◌++◌, filter, length, codes, not, Option, None, Some, slice_get}
 use Rattle.std.specs.Fmt.{decimal}
 use Rattle.smv_tree.specs.declared.tree.Program.{Program}

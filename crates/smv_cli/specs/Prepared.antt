@@ -1,4 +1,5 @@
--- What is known of the items of a model before its specifications are decided, and what is printed of it in front of the records.
+-- What is known of the items of a model before its specifications are decided, and what is printed of it in front of
+-- the records.
 use Rattle.std.specs.Prelude.{◌⊎◌, ℕ, ◌&&◌, nat_lt, Bool, true, if◌then◌else◌, List, [], length, Option}
 use Rattle.std.specs.List.{list_any}
 use Rattle.std.specs.Option.{is_some}
@@ -18,8 +19,8 @@ use Rattle.smv_cli.specs.declared.preparing.Preparation.TheVariants.{Sound, Spen
 use Rattle.smv_cli.specs.declared.record.Record.{Record}
 use Rattle.smv_cli.specs.Records.{OpenOf, RecordsFrom, RightOf, status_of}
 
--- So it is, with all tickets of this effort: no item ever faults, and the steps show that; or all tickets were drawn for queries of
--- items, and some item was not judged.
+-- So it is, with all tickets of this effort: no item ever faults, and the steps show that; or all tickets were drawn
+-- for queries of items, and some item was not judged.
 abbrev pub IsPreparedWith : Program → Effort → Preparation → Type 0
 IsPreparedWith p effort (Sound parts) = IsShownSound p parts
 IsPreparedWith p effort (Spent drawn budget) = IsSpentPreparing p effort.conflicts true (numbers_below 0) (numbers_below effort.conflicts) drawn budget
@@ -44,7 +45,8 @@ abbrev pub IsCheckStop : List ℕ → TextStop → Type 0
 IsCheckStop bytes (Refused r) = IsRefusedOrFaulty bytes r
 IsCheckStop bytes NoMemory = Unit {0}
 
--- the steps of items are printed: with `--cert`, where there is a specification, so many in all, and steps for some item
+-- the steps of items are printed: with `--cert`, where there is a specification, so many in all, and steps for some
+-- item
 abbrev pub is_printed : Effort → ℕ → List (Option HintedLog) → Bool
 is_printed effort count parts = effort.cert && nat_lt 0 count && list_any is_some parts
 
@@ -57,8 +59,8 @@ abbrev pub block_text : Effort → Program → Preparation → List ℕ
 block_text effort p (Sound parts) = sound_block effort (length (specifications_of p)) parts
 block_text effort p (Spent drawn budget) = []
 
--- The records of the first specifications are right: of a model of which no item faults, by runs and lassos; where preparing spent the
--- effort, each says so.
+-- The records of the first specifications are right: of a model of which no item faults, by runs and lassos; where
+-- preparing spent the effort, each says so.
 abbrev pub AreRight : Program → Effort → Preparation → List Record → Type 0
 AreRight p effort (Sound parts) records = RecordsFrom (RightOf p effort) 1 (specifications_of p) records
 AreRight p effort (Spent drawn budget) records = RecordsFrom (OpenOf drawn budget) 1 (specifications_of p) records

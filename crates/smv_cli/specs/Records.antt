@@ -65,8 +65,9 @@ abbrev pub SaysOfRuns : Program → ResolvedItem → Cause → Type 0
 SaysOfRuns p spec (Conflicts drawn budget) = ⊤
 SaysOfRuns p spec (Frames frames) = IsUnbrokenWithin p spec frames
 
--- Why a specification is unknown. There are systems that stand for the program and the specifications that are asked with
--- it, and a lawful history of theirs within the effort. It leaves the system of this specification open for this cause.
+-- Why a specification is unknown. There are systems that stand for the program and the specifications that are asked
+-- with it, and a lawful history of theirs within the effort. It leaves the system of this specification open for this
+-- cause.
 pub record IsLeftOpen (p : Program) (effort : Effort) (spec : ResolvedItem) (why : Cause) : Type 0 where
   pub systems : List TransitionSystem
   pub history : List Entry

@@ -42,7 +42,8 @@ input_of (Recheck upgrade) bytes = bytes
 input_of Flat bytes = bytes
 input_of (Ring ring) bytes = ring_model ring
 
--- the effort with which the specifications of a ring are decided: that of a `check` without options, with as many workers as it says
+-- the effort with which the specifications of a ring are decided: that of a `check` without options, with as many
+-- workers as it says
 abbrev pub ring_effort : RingOf → Effort
 ring_effort ring = record default_effort { workers = ring.workers }
 
@@ -60,16 +61,16 @@ heading (Recheck upgrade) p = []
 heading Flat p = []
 heading (Ring ring) p = summary_text p
 
--- Right records of the first specifications of the model that the bytes are. Where preparing left nothing open, no item of the model
--- faults, and only then is one true or false.
+-- Right records of the first specifications of the model that the bytes are. Where preparing left nothing open, no item
+-- of the model faults, and only then is one true or false.
 pub record IsJudged (bytes : List ℕ) (p : Program) (effort : Effort) (how : Preparation) (records : List Record) : Type 0 where
   pub model : IsModel bytes p
   pub prepared : IsPreparedWith p effort how
   pub right : AreRight p effort how records
 
--- What is shown of the specifications of a program holds. Where one is shown true, no item of the program ever faults, and no run breaks,
--- or no fair lasso violates it. What is shown false some run breaks, or some fair lasso violates, and nothing faults
--- that is asked along it.
+-- What is shown of the specifications of a program holds. Where one is shown true, no item of the program ever faults,
+-- and no run breaks, or no fair lasso violates it. What is shown false some run breaks, or some fair lasso violates,
+-- and nothing faults that is asked along it.
 abbrev pub ShownHolds : Program → List JudgedAgain → Type 0
 ShownHolds p records = (j : ℕ) (spec : ResolvedItem) (r : JudgedAgain) → slice_get (specifications_of p) j ≡ Some spec → slice_get records j ≡ Some r
     → (is_shown_true r.judgement ≡ true → IsFaultFree p × IsUpheld spec.kind p spec) × (is_shown_false r.judgement ≡ true → IsRefuted spec.kind p spec)
@@ -80,17 +81,17 @@ pub record IsJudgedAgain (bytes : List ℕ) (upgrade : Bool) (c : Checked) : Typ
   pub checked : IsChecked program bytes upgrade c
   pub holds : ShownHolds program c.records
 
--- By which rule a command refuses bytes: by one of a model; `recheck` also by the lines of traces and certificates beside the model;
--- `check` and `self` also where an item of the model faults.
+-- By which rule a command refuses bytes: by one of a model; `recheck` also by the lines of traces and certificates
+-- beside the model; `check` and `self` also where an item of the model faults.
 abbrev pub IsRefusedIn : Command → List ℕ → Refusal → Type 0
 IsRefusedIn (Check effort) bytes r = IsRefusedOrFaulty bytes r
 IsRefusedIn (Recheck upgrade) bytes r = IsRefused bytes r
 IsRefusedIn Flat bytes r = IsRefusedBy bytes r
 IsRefusedIn (Ring ring) bytes r = IsRefusedOrFaulty bytes r
 
--- The text of the first parts of what a command reports on these bytes, and the status of the report once it is whole. A part
--- is a line of refusal; a record, where the command is `check` or `self`, with what stands in front of the first; what is said of a
--- report, where it is `recheck`; or the listing of slots and items, where it is `flat`.
+-- The text of the first parts of what a command reports on these bytes, and the status of the report once it is whole.
+-- A part is a line of refusal; a record, where the command is `check` or `self`, with what stands in front of the
+-- first; what is said of a report, where it is `recheck`; or the listing of slots and items, where it is `flat`.
 pub data CommandStage (command : Command) (bytes text : List ℕ) (status : Option ℕ) : Type 0 where
   nothing : text ≡ [] → status ≡ None → CommandStage command bytes text status
   refused : (r : Refusal) → IsRefusedIn command bytes r → text ≡ refusal_text r → status ≡ Some 3 → CommandStage command bytes text status
@@ -118,7 +119,8 @@ pub data Stage (words : List (List ℕ)) (bytes text : List ℕ) (status : Optio
 abbrev pub Held : Option (List ℕ) → List ℕ → Type 0
 Held left bytes = IfSome left (λ all. bytes ≡ all)
 
--- what the sink took in this call is a whole report, by this relation of bytes, text and status, on what the source held
+-- what the sink took in this call is a whole report, by this relation of bytes, text and status, on what the source
+-- held
 pub record Answered (stage : List ℕ → List ℕ → Option ℕ → Type 0) (left before now : Option (List ℕ)) (status : ℕ) : Type 0 where
   pub bytes : List ℕ
   pub held : Held left bytes
@@ -152,9 +154,9 @@ pub record IsReport (bytes : List ℕ) : Type 0 where
   pub certificates : List (Option Block)
   pub held : Holdings program bytes traces sound certificates
 
--- The bytes are such as the command does not refuse: a model; for `recheck`, one with lines beside it that are as they should be; for
--- `check` and `self`, one of which no item faults. Where some item faults, the status is 3, or 2 where that was not found out with this
--- effort. That the text of each ring's model is a model is shown by runs alone.
+-- The bytes are such as the command does not refuse: a model; for `recheck`, one with lines beside it that are as they
+-- should be; for `check` and `self`, one of which no item faults. Where some item faults, the status is 3, or 2 where
+-- that was not found out with this effort. That the text of each ring's model is a model is shown by runs alone.
 abbrev pub IsTaken : Command → List ℕ → Type 0
 IsTaken (Check effort) bytes = IsFaultFreeModel bytes
 IsTaken (Recheck upgrade) bytes = IsReport bytes

@@ -58,7 +58,8 @@ abbrev pub either : Bool → Type 0 → Type 0 → Type 0
 either true A B = A
 either false A B = B
 
--- these are the answers for the INVARSPECs among these specifications, whose systems these are, in their order; each is right
+-- these are the answers for the INVARSPECs among these specifications, whose systems these are, in their order; each is
+-- right
 abbrev pub AreAnswersOf : Program → Effort → List ResolvedItem → List TransitionSystem → List Answer → Type 0
 AreAnswersOf p effort [] systems answers = ⊤
 AreAnswersOf p effort (x ∷ xs) [] answers = ⊥
@@ -66,7 +67,8 @@ AreAnswersOf p effort (x ∷ xs) (sys ∷ systems) [] = (is_invariant x.kind ≡
 AreAnswersOf p effort (x ∷ xs) (sys ∷ systems) (a ∷ answers) =
     either (is_invariant x.kind) (IsAnswered p effort sys x a × AreAnswersOf p effort xs systems answers) (AreAnswersOf p effort xs systems (a ∷ answers))
 
--- where the effort says so, these answers are left for the INVARSPECs from specification i on, counted from 0; the next one is the last
+-- where the effort says so, these answers are left for the INVARSPECs from specification i on, counted from 0; the next
+-- one is the last
 abbrev pub IsPool : Program → List TransitionSystem → Effort → ℕ → List Answer → Type 0
 IsPool p systems effort i answers =
     effort.together ≡ true → AreAnswersOf p effort (drop i (specifications_of p)) (drop i systems) (reverse answers)

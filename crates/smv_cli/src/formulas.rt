@@ -147,7 +147,8 @@ fn shown(
     replayed_lasso(alloc, typed, number, spec, &lasso)
 }
 
-// The trace of a lasso that violates a specification. It is replayed before it is printed, and the replay accepts it: no item faults.
+// The trace of a lasso that violates a specification. It is replayed before it is printed, and the replay accepts it:
+// no item faults.
 fn replayed_lasso(
     alloc: Global,
     typed: &Typed,

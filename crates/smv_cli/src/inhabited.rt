@@ -26,8 +26,8 @@ fn all_have_values(types: &[ValueType]) -> bool
     types.iter().all(|declared| has_values(declared))
 }
 
-/// That each input slot is of a type with values. Running out of memory is answered too where one is not: that is an enumeration with no
-/// element, which no source can write.
+/// That each input slot is of a type with values. Running out of memory is answered too where one is not: that is an
+/// enumeration with no element, which no source can write.
 pub fn some_inputs(alloc: Global, typed: &Typed) -> Result<(), AllocError>
     ensures { OnOk result (all_have_values (input_types typed.now.scope.program) ≡ true) }
 {

@@ -103,7 +103,8 @@ pub fn ask_together<R: Threads + Wait + Sync, G: Gate + Sync>(
     Ok(pool)
 }
 
-/// The record of the specification of this number, by the next of the answers of all at once, or else by an answer of its own.
+/// The record of the specification of this number, by the next of the answers of all at once, or else by an answer of
+/// its own.
 pub fn judge<R: Threads + Wait + Sync, G: Gate + Sync>(
     rt: &R,
     alloc: Global,
@@ -278,7 +279,8 @@ fn verdict_of(
     }
 }
 
-// The trace of a run that breaks a specification. It is replayed before it is printed, and the replay accepts it: no item faults.
+// The trace of a run that breaks a specification. It is replayed before it is printed, and the replay accepts it: no
+// item faults.
 fn replayed(
     alloc: Global,
     typed: &Typed,

@@ -62,8 +62,8 @@ fn status_with(status: u8, verdict: &Verdict) -> u8
     }
 }
 
-/// Writes the record of each specification of a program, one by one, each when it is made: by what was answered of all at once,
-/// or else by an answer of its own. The answer is 1 where one is false, else 2 where one is unknown, else 0.
+/// Writes the record of each specification of a program, one by one, each when it is made: by what was answered of all
+/// at once, or else by an answer of its own. The answer is 1 where one is false, else 2 where one is unknown, else 0.
 pub fn put_records<R: Threads + Wait + Sync, K: Sink, G: Gate + Sync>(
     rt: &R,
     alloc: Global,

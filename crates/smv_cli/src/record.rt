@@ -1,5 +1,5 @@
-//! The records of a report: what is said of each specification, with the trace of a run that breaks it, or the certificate of
-//! what is true.
+//! The records of a report: what is said of each specification, with the trace of a run that breaks it, or the
+//! certificate of what is true.
 
 ghost use Rattle.std.specs.Prelude.{◌≡◌, ◌++◌, IfOk, OnOk, string_bytes};
 ghost use Rattle.smv_cli.specs.Texts.{cause_text, ltl_cause_text, reason_text, record_text, shown_text, verdict_text};

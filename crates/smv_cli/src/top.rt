@@ -49,7 +49,8 @@ fn refuse<K: Sink>(alloc: Global, sink: &mut K, refusal: &Refusal) -> Result<u8,
     Ok(3)
 }
 
-// Writes the records of a model of which no item faults, and in front of them the steps that show that, where these are to be printed.
+// Writes the records of a model of which no item faults, and in front of them the steps that show that, where these are
+// to be printed.
 fn report_sound<R: Threads + Wait + Sync, K: Sink, G: Gate + Sync>(
     rt: &R,
     alloc: Global,
@@ -333,25 +334,26 @@ fn perform<'a, R: Threads + Wait + Sync, S: Source, K: Sink, G: Gate + Sync>(
 
 /// Does what the words of the command line say, and answers the status.
 ///
-/// `check` first asks of each item whether it ever faults (`smv_prepare`); a model of which one does is refused. It decides
-/// each INVARSPEC by IC3 (Bradley 2011; Een, Mishchenko and Brayton 2011): by lemmas that are an inductive invariant, or
-/// by a run. It decides each LTLSPEC by lassos and by counted signals (Claessen and Sörensson 2012). A run or a lasso is
-/// replayed before it is printed. Each specification has the whole effort of the words to itself, and its record is
-/// written as soon as it is made. With `--together` all INVARSPECs share one pool of lemmas and one effort, and are decided
-/// before the first record. The time is that of as many solver queries and learned clauses as the effort has tickets, and
-/// of the small tries that an LTLSPEC has before.
+/// `check` first asks of each item whether it ever faults (`smv_prepare`); a model of which one does is refused. It
+/// decides each INVARSPEC by IC3 (Bradley 2011; Een, Mishchenko and Brayton 2011): by lemmas that are an inductive
+/// invariant, or by a run. It decides each LTLSPEC by lassos and by counted signals (Claessen and Sörensson 2012). A
+/// run or a lasso is replayed before it is printed. Each specification has the whole effort of the words to itself, and
+/// its record is written as soon as it is made. With `--together` all INVARSPECs share one pool of lemmas and one
+/// effort, and are decided before the first record. The time is that of as many solver queries and learned clauses as
+/// the effort has tickets, and of the small tries that an LTLSPEC has before.
 ///
 /// `flat` lists the slots of the model, and its items but for specifications.
 ///
 /// `recheck` judges a report that stands beside its model, by its traces and certificates alone, and asks no solver
-/// (`smv_recheck::recheck`); with `--upgrade` it prints each certificate anew in the form that is judged by hints. What it shows holds.
+/// (`smv_recheck::recheck`); with `--upgrade` it prints each certificate anew in the form that is judged by hints. What
+/// it shows holds.
 ///
 /// `self` makes the model of a ring (`model_gen::ring`), and writes how many slots and items it has. It decides its
 /// specifications as `check` without options does, by as many workers as its words say. It reads no source.
 ///
-/// So many workers as the words say explore the frames of a specification together (`prove_run`, `prove_ltl`). Each passes
-/// the gate before each of its tasks: one alone is the caller, with number 0; several have the numbers from 1 on, and the
-/// caller takes what they leave.
+/// So many workers as the words say explore the frames of a specification together (`prove_run`, `prove_ltl`). Each
+/// passes the gate before each of its tasks: one alone is the caller, with number 0; several have the numbers from 1
+/// on, and the caller takes what they leave.
 pub fn run<'a, R: Threads + Wait + Sync, S: Source, K: Sink, G: Gate + Sync>(
     rt: &R,
     alloc: Global,
@@ -367,7 +369,8 @@ pub fn run<'a, R: Threads + Wait + Sync, S: Source, K: Sink, G: Gate + Sync>(
     ensures begun { 4 < result → Begun (Stage (map (λ w. w.now) words.now)) (S.left source.old)
         (K.taken sink.old) (K.taken sink.new) }
     ensures named { result ≤ 7 }
-    // The words are judged first: 4 comes just where they are outside the grammar, and then nothing is read; nor where they ask for a ring.
+    // The words are judged first: 4 comes just where they are outside the grammar, and then nothing is read; nor where
+    // they ask for a ring.
     ensures usage { result ≡ 4 → IsCommandLine (map (λ w. w.now) words.now) → ⊥ }
     ensures outside { (IsCommandLine (map (λ w. w.now) words.now) → ⊥) → (result ≡ 4) ⊎ (5 < result) }
     ensures unread { (IsCommandLine (map (λ w. w.now) words.now) → ⊥) → source.new ≡ source.old }

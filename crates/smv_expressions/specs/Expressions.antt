@@ -1,5 +1,5 @@
--- The expressions of the language (NuSMV 2.6 User Manual, 2.2), and the limits of its types. The levels of precedence are an own
--- choice of this project.
+-- The expressions of the language (NuSMV 2.6 User Manual, 2.2), and the limits of its types. The levels of precedence
+-- are an own choice of this project.
 use Rattle.std.specs.Prelude.{ℕ, zero, suc, Bool, true, false, List, [], ◌∷◌, Option, None, Some, unwrap_or}
 use Rattle.std.specs.List.{flat_map}
 use Rattle.phrase_forms.specs.Forms.{Form, token, or, maybe, many, to, named, ◌⨾◌, ◌▹◌, ◌◃◌}
@@ -309,8 +309,8 @@ abbrev pub tails : Bool → Phrases → Denied → Form Token Expr
 tails closed under (true, e) = pure e
 tails closed under (false, e) = to (chained e) (beside (links rank.Concatenation (inverted closed under)) (compared closed under))
 
--- An operand of temporal operators: a relation, or an operator over such an operand. "!" is over a temporal operator as a whole,
--- and over the first operand of a relation.
+-- An operand of temporal operators: a relation, or an operator over such an operand. "!" is over a temporal operator as
+-- a whole, and over the first operand of a relation.
 unfoldable pub temporal : Bool → Phrases → Form Token Expr
 temporal closed under =
     or (to (λ x. chained x.0 x.1) (negated closed under ⨾ compared closed under))

@@ -1,5 +1,5 @@
--- The operators and functions of the language (NuSMV 2.6 User Manual, 2.2.3 and 2.4.3), and the levels of precedence whose
--- operators stand between any number of operands. The levels are an own choice of this project.
+-- The operators and functions of the language (NuSMV 2.6 User Manual, 2.2.3 and 2.4.3), and the levels of precedence
+-- whose operators stand between any number of operands. The levels are an own choice of this project.
 use Rattle.std.specs.Prelude.{Bool, false, Option, None, Some, is_some, unwrap_or}
 use Rattle.phrase_forms.specs.Forms.{Form, token, to}
 use Rattle.smv_tree.specs.declared.place.Place.{Place}

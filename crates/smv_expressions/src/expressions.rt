@@ -403,7 +403,8 @@ fn selected_part<'a>(
     Ok((selected, tokens))
 }
 
-// So many selections may stand in a row, as `w[7:4][1:0]` has two; of more the nodes would stand too deep one in another.
+// So many selections may stand in a row, as `w[7:4][1:0]` has two; of more the nodes would stand too deep one in
+// another.
 const MOST_SELECTIONS: usize = 2000;
 
 /// A primary expression, and what is selected of it. More than 2000 selections in a row are answered as out of memory.
@@ -573,7 +574,8 @@ fn compared<'a>(
     linked(alloc, Rank::Relation, room, membership, tokens)
 }
 
-/// An operand of temporal operators: `!` is over a temporal operator as a whole, and over the first operand of a relation.
+/// An operand of temporal operators: `!` is over a temporal operator as a whole, and over the first operand of a
+/// relation.
 #[cycle(expressions)]
 #[tactic(auto, using(crate::proofs::Temporals::temporal_reads))]
 fn temporal<'a>(
@@ -872,9 +874,10 @@ fn implied<'a>(
     Ok((whole, tokens))
 }
 
-/// The expression at the front of the tokens, and the tokens behind it (NuSMV 2.6 User Manual, 2.2, Expressions). At most
-/// `room` levels are open at one place in it: each `(`, `[`, `{`, `case`, `!` and unary `-`, each temporal operator with one
-/// operand, what stands behind each `?` and the right side of each `->` opens one, so `? :` and `->` associate to the right.
+/// The expression at the front of the tokens, and the tokens behind it (NuSMV 2.6 User Manual, 2.2, Expressions). At
+/// most `room` levels are open at one place in it: each `(`, `[`, `{`, `case`, `!` and unary `-`, each temporal
+/// operator with one operand, what stands behind each `?` and the right side of each `->` opens one, so `? :` and `->`
+/// associate to the right.
 ///
 /// It is refused as unexpected from the first token with which the tokens no longer begin an expression, or from their
 /// end; as too deep from the first token that opens a level too many. Memory may be refused at any time.
@@ -942,8 +945,8 @@ fn limit_group<'a>(
     Ok(((parenthesis.place, group), tokens))
 }
 
-/// The first operand of a limit that begins with no name of the module's own, and its place: `-` and what it negates, an
-/// integer, `(` limit `)`, or a name that begins with `self`. At most `room` levels are open at one place in it.
+/// The first operand of a limit that begins with no name of the module's own, and its place: `-` and what it negates,
+/// an integer, `(` limit `)`, or a name that begins with `self`. At most `room` levels are open at one place in it.
 #[cycle(expressions)]
 #[tactic(auto, unfolding(crate::specs::Expressions::limit_start, crate::specs::Expressions::limit_start_within))]
 pub fn limit_start<'a>(
@@ -988,8 +991,8 @@ fn limit_negation<'a>(
     }
 }
 
-/// The limit of a type at the front of the tokens, an end of a range or a width, and the tokens behind it: sums of products of
-/// integers and names, with `-` and parentheses. At most `room` levels are open at one place in it.
+/// The limit of a type at the front of the tokens, an end of a range or a width, and the tokens behind it: sums of
+/// products of integers and names, with `-` and parentheses. At most `room` levels are open at one place in it.
 #[cycle(expressions)]
 #[tactic(auto, using(crate::proofs::Levels::limit_reads))]
 pub fn limit<'a>(
@@ -1031,8 +1034,8 @@ fn index<'a>(
     Ok(((bracket, index), tokens))
 }
 
-/// The part of an array at an index: `[` expression `]` behind what is read already. At most `room` levels are open at one place,
-/// that of the bracket among them.
+/// The part of an array at an index: `[` expression `]` behind what is read already. At most `room` levels are open at
+/// one place, that of the bracket among them.
 #[tactic(auto, unfolding(crate::specs::Expressions::index_within))]
 pub fn indexed<'a>(
     alloc: Global,

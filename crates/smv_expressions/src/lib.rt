@@ -1,4 +1,5 @@
-//! Expressions, and the limits of types and of temporal operators: from tokens to their trees (NuSMV 2.6 User Manual, 2.2).
+//! Expressions, and the limits of types and of temporal operators: from tokens to their trees (NuSMV 2.6 User Manual,
+//! 2.2).
 //!
 //! A call refuses tokens at the first that is out of place, or that opens a level too many. The other error is running
 //! out of memory.

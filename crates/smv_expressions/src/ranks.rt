@@ -73,8 +73,8 @@ impl Rank {
         }
     }
 
-    /// An operator of this rank and its place, and the tokens behind it. Where another token stands at the front, or none, it is
-    /// refused there as unexpected.
+    /// An operator of this rank and its place, and the tokens behind it. Where another token stands at the front, or
+    /// none, it is refused there as unexpected.
     pub fn operator(self, tokens: &[Token]) -> Result<((Place, Operator), &[Token]), Stop<'_>>
         ensures { Gives (λ x. ((x.0.0, x.0.1), x.1.now)) result ((operator_form self).parse tokens.now) }
     {

@@ -1,4 +1,5 @@
-//! Temporal operators with one operand, and what they are with bounds (NuSMV 2.6 User Manual, 2.4.3, LTL Specifications).
+//! Temporal operators with one operand, and what they are with bounds (NuSMV 2.6 User Manual, 2.4.3, LTL
+//! Specifications).
 
 ghost use Rattle.std.specs.Prelude.{◌≡◌, [], ◌∷◌, IfOk};
 ghost use Rattle.phrase_forms.specs.Forms.{token};

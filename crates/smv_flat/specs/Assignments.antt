@@ -31,7 +31,8 @@ pub record SlotAssignment : Type 0 where
   pub place : Place
   pub value : Resolved
 
--- the slot that an expression is: itself, as what a parameter was given, or as an element of an array; there are so many slots
+-- the slot that an expression is: itself, as what a parameter was given, or as an element of an array; there are so
+-- many slots
 abbrev pub assigned_slot : ℕ → Resolved → Option ℕ
 assigned_slot slots (Resolved.Constant place b) = None
 assigned_slot slots (Resolved.Slot place n) = if nat_lt n slots then Some n else None

@@ -1,5 +1,6 @@
--- Slots and nodes as one graph: a slot leads to the nodes that it is assigned, a node to those of its parts that it reads, and
--- one that is a slot to that slot. So a slot leads to those that its value depends on, however often a definition is used.
+-- Slots and nodes as one graph: a slot leads to the nodes that it is assigned, a node to those of its parts that it
+-- reads, and one that is a slot to that slot. So a slot leads to those that its value depends on, however often a
+-- definition is used.
 use Rattle.std.specs.Prelude.{◌≡◌, ◌<◌, ℕ, ◌+◌, ◌-◌, ◌==◌, nat_lt, Bool, true, false, not, ◌&&◌, if◌then◌else◌, List, [], ◌∷◌, ◌++◌, length, map, filter, Option, None, Some, slice_get}
 use Rattle.std.specs.List.{flat_map, range_with_len}
 use Rattle.smv_resolve.specs.declared.node.Naming.TheVariants as naming
@@ -25,13 +26,15 @@ found_in slots k (node.Named place (naming.Array name first) a) = if nat_lt a k 
 found_in slots k (node.Operand a) = if nat_lt a k then found.Below a else found.Nothing
 found_in slots k other = found.Nothing
 
--- what is said of a node is so of what it is: the slot that it is, that it is none, or that it is what a node below it is
+-- what is said of a node is so of what it is: the slot that it is, that it is none, or that it is what a node below it
+-- is
 abbrev pub SlotFound : ℕ → List Node → ℕ → Found → Type 0
 SlotFound slots nodes k (found.Slot n) = assigned_slot slots (part_of nodes k) ≡ Some n
 SlotFound slots nodes k found.Nothing = assigned_slot slots (part_of nodes k) ≡ None
 SlotFound slots nodes k (found.Below a) = (a < k) × (assigned_slot slots (part_of nodes k) ≡ assigned_slot slots (part_of nodes a))
 
--- Where a node stands: behind the slots those that are read in the present state, and behind these those that look ahead.
+-- Where a node stands: behind the slots those that are read in the present state, and behind these those that look
+-- ahead.
 abbrev pub stand : ℕ → ℕ → Bool → ℕ → ℕ
 stand slots nodes false k = slots + k
 stand slots nodes true k = (slots + nodes) + k

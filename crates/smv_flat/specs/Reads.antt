@@ -36,6 +36,7 @@ abbrev pub reads_by : Bool → Reads → Bool
 reads_by true x = x.ahead
 reads_by false x = x.present
 
--- the assignment gives no value of this time, or one that reads no slot of this time; the table has what each node reads
+-- the assignment gives no value of this time, or one that reads no slot of this time; the table has what each node
+-- reads
 abbrev pub is_quiet : Time → List Reads → Assigned → Bool
 is_quiet time table a = not (speaks_of time a.kind && reads_by (looks_ahead a.kind) (slice_index_or table a.value no_reads))

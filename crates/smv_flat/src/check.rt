@@ -13,8 +13,8 @@ use smv_meaning::Typed;
 use smv_tree::TextStop;
 use std::alloc::Global;
 
-/// A program whose assignments give each variable at most one value at a time, and none in a cycle. Its items stand flat, for
-/// all instances; their nodes hold each definition of each instance once.
+/// A program whose assignments give each variable at most one value at a time, and none in a cycle. Its items stand
+/// flat, for all instances; their nodes hold each definition of each instance once.
 #[derive(Debug, Drop)]
 pub struct Flat {
     /// The program with its instances, its slots and its items.
@@ -22,8 +22,9 @@ pub struct Flat {
     pub ghost assignable: { AreAssignable typed.scope.program } by { Prim.hlevel props },
 }
 
-/// A program that is assignable (NuSMV 2.6 User Manual, 2.3.8, ASSIGN Constraint; the order of the rules is an own choice of
-/// this project). Each element of an array counts as a variable; an index that is no constant reads all of them.
+/// A program that is assignable (NuSMV 2.6 User Manual, 2.3.8, ASSIGN Constraint; the order of the rules is an own
+/// choice of this project). Each element of an array counts as a variable; an index that is no constant reads all of
+/// them.
 ///
 /// # Errors
 ///

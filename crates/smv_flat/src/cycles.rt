@@ -22,8 +22,8 @@ use std::alloc::{AllocError, Global};
 // More slots, or more nodes, are not numbered in one graph.
 const MOST: usize = 0x4000_0000;
 
-/// Refuses a cycle among the values of this time, where it is known what each node reads. No graph is made where no value reads
-/// another of its own time.
+/// Refuses a cycle among the values of this time, where it is known what each node reads. No graph is made where no
+/// value reads another of its own time.
 pub fn judge_cycle(
     alloc: Global,
     typed: &Typed,

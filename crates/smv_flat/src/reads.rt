@@ -1,4 +1,5 @@
-//! Which nodes read slots, found in one pass. Where no assigned value reads a slot of its own time, none depends on itself.
+//! Which nodes read slots, found in one pass. Where no assigned value reads a slot of its own time, none depends on
+//! itself.
 
 ghost use Rattle.std.specs.Prelude.{◌≡◌, List, map, IfOk, slice_index_or};
 ghost use Rattle.std.specs.List.{list_all, list_any};

@@ -21,8 +21,8 @@ formed_over (form.Within o low high) n operands = n == 1 && operands
 formed_over (form.Two o) n operands = n == 2 && operands
 formed_over form.Neither n operands = true
 
--- Propositions and temporal operators, down to what is neither, have as many operands as they take. No name stands for what has a
--- temporal operator.
+-- Propositions and temporal operators, down to what is neither, have as many operands as they take. No name stands for
+-- what has a temporal operator.
 abbrev mutual
   pub is_formed : Resolved → Bool
   is_formed (Resolved.Constant place v) = true

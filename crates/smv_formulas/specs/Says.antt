@@ -1,5 +1,5 @@
--- What the formula of a specification says: the same as the specification, where each of its atoms is a part of the program's
--- expressions (NuSMV 2.6 User Manual, 2.4.3, LTL Specifications).
+-- What the formula of a specification says: the same as the specification, where each of its atoms is a part of the
+-- program's expressions (NuSMV 2.6 User Manual, 2.4.3, LTL Specifications).
 use Rattle.std.specs.Prelude.{ℕ, ◌↔◌, List, map}
 use Rattle.smv_tree.specs.declared.tree.Program.{Program}
 use Rattle.smv_resolve.specs.declared.node.Node.{Node}
@@ -12,7 +12,8 @@ use Rattle.ltl_meaning.specs.Truth.{Moment, IsTrueAt}
 abbrev pub atom_parts : List Node → List ℕ → List Resolved
 atom_parts nodes atoms = map (part_of nodes) atoms
 
--- an atom is true on a lasso where its part is TRUE, with the inputs of the step from the state there; one that there is not is false
+-- an atom is true on a lasso where its part is TRUE, with the inputs of the step from the state there; one that there
+-- is not is false
 abbrev pub atoms_on : Program → Lasso → List Resolved → ℕ → Moment
 atoms_on p w parts a = IsTrueIn p w (part_at parts a)
 

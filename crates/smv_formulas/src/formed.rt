@@ -9,8 +9,8 @@ use crate::marks::{mark_at, mark_by};
 use smv_resolve::{Node, last};
 use std::alloc::{AllocError, Global};
 
-/// Whether the propositions and the temporal operators in the part of each node have as many operands as they take. It is false, too,
-/// where a name stands for what has a temporal operator.
+/// Whether the propositions and the temporal operators in the part of each node have as many operands as they take. It
+/// is false, too, where a name stands for what has a temporal operator.
 pub fn formed_of(alloc: Global, nodes: &[Node]) -> Result<Vec<bool>, AllocError>
     ensures { IfOk result (λ formed. formed.items ≡ formed_of nodes.now) }
 {

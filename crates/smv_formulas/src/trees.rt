@@ -25,11 +25,11 @@ pub struct Joint {
     pub right: usize,
 }
 
-/// The tree of a part that is one of the first so many. The nodes of its atoms are in `atoms`, where those are added that were not
-/// there yet.
+/// The tree of a part that is one of the first so many. The nodes of its atoms are in `atoms`, where those are added
+/// that were not there yet.
 ///
-/// It calls itself a few times for each level of nesting, which texts keep to 2000; a chain takes no more of the stack than its
-/// operands, however long it is.
+/// It calls itself a few times for each level of nesting, which texts keep to 2000; a chain takes no more of the stack
+/// than its operands, however long it is.
 #[cycle(trees)]
 pub fn tree(
     alloc: Global,

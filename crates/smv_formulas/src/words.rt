@@ -13,8 +13,8 @@ use smv_meaning::{Inputs, Outcome, State, Typed, outcome_at, outcomes, slots};
 use sqlite_items::Items;
 use std::alloc::{AllocError, Global};
 
-/// The word of a lasso: the states, each with the inputs of the step from it, and the number of the state at which the last step
-/// goes on. The atoms are numbers of nodes of the program's list.
+/// The word of a lasso: the states, each with the inputs of the step from it, and the number of the state at which the
+/// last step goes on. The atoms are numbers of nodes of the program's list.
 ///
 /// The error is running out of memory. The time is that of evaluating the nodes in each state.
 pub fn word_of(

@@ -29,9 +29,9 @@ pub record IsModel (bytes : List ℕ) (p : Program) : Type 0 where
 abbrev pub too_many_bits : Refusal
 too_many_bits = record { rule = TooManyBits; place = record { line = 1; column = 1 }; detail = None }
 
--- The bytes are refused so, by the first rule that they break, at its first place: a rule of tokens; where they have tokens, a
--- rule of the grammar; where the tokens spell a program, a rule of names and kinds; where it breaks none, one of assignments;
--- and where it breaks none of these either, the rule on how many bits there may be.
+-- The bytes are refused so, by the first rule that they break, at its first place: a rule of tokens; where they have
+-- tokens, a rule of the grammar; where the tokens spell a program, a rule of names and kinds; where it breaks none, one
+-- of assignments; and where it breaks none of these either, the rule on how many bits there may be.
 pub data IsRefusedBy (bytes : List ℕ) (r : Refusal) : Type 0 where
   in_text : IsRefusedText bytes r → IsRefusedBy bytes r
   in_grammar : (tokens : Tokens) → IsText bytes tokens → IsRefusedTokens tokens r → IsRefusedBy bytes r
@@ -39,7 +39,8 @@ pub data IsRefusedBy (bytes : List ℕ) (r : Refusal) : Type 0 where
   in_assignments : (tokens : Tokens) (p : Program) → Spells bytes tokens p → types_verdict p None → IsRefusedByAssignments p r → IsRefusedBy bytes r
   in_bits : (tokens : Tokens) (p : Program) → Spells bytes tokens p → types_verdict p None → AreAssignable p → bit_limit < bits_of p → r ≡ too_many_bits → IsRefusedBy bytes r
 
--- two refusals that are equal, or of which each tells a cycle of assignments (502): of several cycles either may be told
+-- two refusals that are equal, or of which each tells a cycle of assignments (502): of several cycles either may be
+-- told
 abbrev pub AreAlike : Refusal → Refusal → Type 0
 AreAlike a b = (a ≡ b) ⊎ ((a.rule ≡ AssignCycle) × (b.rule ≡ AssignCycle))
 

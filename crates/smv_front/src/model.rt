@@ -28,14 +28,15 @@ fn narrow(alloc: Global, flat: Flat) -> Result<Flat, TextStop>
     }))
 }
 
-/// The model that the bytes of a source are (NuSMV 2.6 User Manual, chapter 2, without real time and CTL; what is refused, by which rule,
-/// and in which order, is an own choice of this project).
+/// The model that the bytes of a source are (NuSMV 2.6 User Manual, chapter 2, without real time and CTL; what is
+/// refused, by which rule, and in which order, is an own choice of this project).
 ///
 /// Bytes that are none are refused by the first rule that they break, at that rule's first place, in this order:
 /// - the rules of tokens: 105, then 101 to 104;
 /// - the rules of the grammar: 203, then 201 and 202;
 /// - the rules of names: 303, 301, 302, 305, 306, 308, 307, 311, 304 and 309, and then 310, of depth;
-/// - the rules of declarations: 401, 404, 403, 402, 410 and 409, declaration by declaration, and then 312, of how many slots there are;
+/// - the rules of declarations: 401, 404, 403, 402, 410 and 409, declaration by declaration, and then 312, of how many
+///   slots there are;
 /// - the rules of expressions: 406, 407, 408, 405, 401, 402, 404, 412, 413, 411 and 409, item by item;
 /// - the rules of assignments: 501, then 502;
 /// - 511, of how many bits there are.

@@ -15,14 +15,14 @@ ghost use Rattle.smv_kinds.specs.Constants.{constant_given, constant_of};
 ghost use Rattle.smv_kinds.specs.Kinds.{kind_given, kind_of_value, next_kind, takes};
 ghost use Rattle.smv_kind_laws.specs.Values.{AreOperands, Gives, HasAll, branches, gives_value, is_like, is_of_kind};
 
-/// Where the table gives a kind, the operator gives a value of this kind or a fault, of any values of the operands' kinds. So an
-/// integer that it gives is within the kind's interval. It does nothing: its contract is the law.
+/// Where the table gives a kind, the operator gives a value of this kind or a fault, of any values of the operands'
+/// kinds. So an integer that it gives is within the kind's interval. It does nothing: its contract is the law.
 pub fn kinds_have_values()
     ensures { (o : Operator) (xs : List Operand) (vs : List Value) (k : Kind) → IsTrue (gives_value o) → AreOperands xs vs → kind_given o xs ≡ Ok k → Gives k (result_of o vs) }
 {}
 
-/// A set's kind has the values of each operand, a range's those between its ends, and a choice's those of each branch. It does
-/// nothing: its contract is the law.
+/// A set's kind has the values of each operand, a range's those between its ends, and a choice's those of each branch.
+/// It does nothing: its contract is the law.
 pub fn kinds_have_members()
     ensures members { (xs : List Operand) (k : Kind) → kind_given operator.Members xs ≡ Ok k → HasAll k xs }
     ensures union { (xs : List Operand) (k : Kind) → kind_given operator.Union xs ≡ Ok k → HasAll k xs }
@@ -40,8 +40,8 @@ pub fn kinds_of_formulas()
     ensures next { (j k : Kind) → next_kind j ≡ Ok k → j ≡ k }
 {}
 
-/// A value that may be assigned is a boolean, a word of the target's type, or discrete as the target is. It does nothing: its
-/// contract is the law.
+/// A value that may be assigned is a boolean, a word of the target's type, or discrete as the target is. It does
+/// nothing: its contract is the law.
 pub fn what_is_taken_is_alike()
     ensures { (x y : Kind) (v : Value) → IsTrue (takes x y) → IsTrue (is_of_kind y v) → IsTrue (is_like x v) }
 {}

@@ -1,4 +1,5 @@
--- Constants: integers of literals by `-`, `+`, `*`, `/` and `mod`, without a fault, also as an index. An own choice of this project.
+-- Constants: integers of literals by `-`, `+`, `*`, `/` and `mod`, without a fault, also as an index. An own choice of
+-- this project.
 use Rattle.std.specs.Prelude.{Bool, true, false, ◌&&◌, if◌then◌else◌, List, [], ◌∷◌, Option, None, Some, Result, Ok, Err, ℤ}
 use Rattle.smv_value.specs.declared.operator.Operator.{Operator}
 use Rattle.smv_value.specs.declared.operator.Operator.TheVariants as operator

@@ -13,7 +13,8 @@ makes_set operator.Union = true
 makes_set operator.Range = true
 makes_set other = false
 
--- Whether a set may stand as the operand of this number, where one may around the operator or not: on the right of `in` always.
+-- Whether a set may stand as the operand of this number, where one may around the operator or not: on the right of `in`
+-- always.
 abbrev pub takes_sets : Operator → ℕ → Bool → Bool
 takes_sets operator.In k sets = sets || (k == 1)
 takes_sets other k sets = sets

@@ -1,4 +1,5 @@
--- The kind that each operator gives of its operands' kinds, or the first rule that they break (NuSMV 2.6 User Manual, 2.1 and 2.2).
+-- The kind that each operator gives of its operands' kinds, or the first rule that they break (NuSMV 2.6 User Manual,
+-- 2.1 and 2.2).
 use Rattle.std.specs.Prelude.{ℕ, ◌+◌, ◌-◌, ◌^◌, ◌==◌, nat_le, Bool, true, false, not, ◌&&◌, ◌||◌, if◌then◌else◌, List, [], ◌∷◌, length, Option, None, Some, is_some, Result, Ok, Err, ℤ, pos, neg_ℤ, int_le, int_lt}
 use Rattle.std.specs.Int.{int_max, int_min}
 use Rattle.std.specs.List.{list_all, fold}
@@ -89,7 +90,8 @@ members_of kind.BooleanSet = kind.Boolean
 members_of (kind.DiscreteSet d) = kind.Discrete d
 members_of k = k
 
--- Whether what has the second kind may be assigned to what has the first, or sought in it: a value or a set of the same kind.
+-- Whether what has the second kind may be assigned to what has the first, or sought in it: a value or a set of the same
+-- kind.
 abbrev pub takes : Kind → Kind → Bool
 takes a b = fit a (members_of b)
 

@@ -6,8 +6,8 @@ ghost use Rattle.smv_kinds.specs.Constants.{are_integers, constant_given, consta
 use crate::Operand;
 use smv_value::{Operator, Value, apply};
 
-/// The constant that an operator gives of these constants: of integers, by `-`, `+`, `*`, `/` and `mod`, and of one as an index.
-/// There is none where it faults or passes 32 bits.
+/// The constant that an operator gives of these constants: of integers, by `-`, `+`, `*`, `/` and `mod`, and of one as
+/// an index. There is none where it faults or passes 32 bits.
 pub fn constant_of(operator: Operator, operands: &[Value]) -> Option<Value>
     ensures { result ≡ constant_of operator operands.now }
 {

@@ -6,8 +6,8 @@ ghost use Rattle.smv_kinds.specs.Contexts.{kind_in_context, makes_set, takes_set
 use crate::{Kind, KindRule, Operand, kind_given};
 use smv_value::Operator;
 
-/// The kind that an operator gives of operands of these kinds, where a set may stand or not. The error is the first rule that is
-/// broken: that a set stands where none may, or what `kind_given` says.
+/// The kind that an operator gives of operands of these kinds, where a set may stand or not. The error is the first
+/// rule that is broken: that a set stands where none may, or what `kind_given` says.
 pub fn kind_in_context(
     sets: bool,
     operator: Operator,
@@ -22,8 +22,8 @@ pub fn kind_in_context(
     }
 }
 
-/// Whether a set may stand as an operator's operand of this number, counted from 0. `sets` says whether one may stand around the
-/// operator. On the right of `in` it always may.
+/// Whether a set may stand as an operator's operand of this number, counted from 0. `sets` says whether one may stand
+/// around the operator. On the right of `in` it always may.
 pub fn takes_sets(operator: Operator, operand: usize, sets: bool) -> bool
     ensures { result ≡ takes_sets operator operand sets }
 {

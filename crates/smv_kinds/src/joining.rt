@@ -7,8 +7,8 @@ ghost use Rattle.smv_kinds.specs.Kinds.{boolean_if, both, fit, given, integers_o
 use crate::intervals::hull_of;
 use crate::{Discrete, Interval, Kind, KindRule};
 
-/// Whether what has the second kind may be assigned to what has the first, or sought in it by `in`: both are boolean, words of
-/// one type, or discrete, the second perhaps a set.
+/// Whether what has the second kind may be assigned to what has the first, or sought in it by `in`: both are boolean,
+/// words of one type, or discrete, the second perhaps a set.
 pub fn takes(a: Kind, b: Kind) -> bool
     ensures { result ≡ takes a b }
 {

@@ -1,5 +1,5 @@
-//! Kinds of expressions: what each operator asks of its operands' kinds, and the kind that it gives (NuSMV 2.6 User Manual,
-//! 2.1, Types Overview, and 2.2, Expressions). Intervals of integers are an own choice of this project.
+//! Kinds of expressions: what each operator asks of its operands' kinds, and the kind that it gives (NuSMV 2.6 User
+//! Manual, 2.1, Types Overview, and 2.2, Expressions). Intervals of integers are an own choice of this project.
 #![tactic(auto)]
 
 mod constants;

@@ -19,8 +19,8 @@ use smv_value::Operator;
 /// The bounds of a temporal operator are no greater.
 const GREATEST_BOUND: u32 = 255;
 
-/// The kind that an operator gives of operands of these kinds. The error is the first rule that the operands break. Linear in the
-/// number of operands.
+/// The kind that an operator gives of operands of these kinds. The error is the first rule that the operands break.
+/// Linear in the number of operands.
 pub fn kind_given(operator: Operator, operands: &[Operand]) -> Result<Kind, KindRule>
     ensures { result ≡ kind_given operator operands.now }
 {

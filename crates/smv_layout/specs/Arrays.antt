@@ -1,5 +1,5 @@
--- Elements of arrays as expressions over slots (NuSMV 2.6 User Manual, 2.1.6, Array Types; 2.2.3, Index Subscript Operator). The
--- elements of an array have slots one behind the other, the last index fastest.
+-- Elements of arrays as expressions over slots (NuSMV 2.6 User Manual, 2.1.6, Array Types; 2.2.3, Index Subscript
+-- Operator). The elements of an array have slots one behind the other, the last index fastest.
 use Rattle.std.specs.Prelude.{ℕ, zero, suc, ◌+◌, ◌*◌, nat_lt, Bool, ◌&&◌, if◌then◌else◌, false, List, [], ◌∷◌, ◌++◌, Option, None, Some, ℤ, pos, ◌+ℤ◌, ◌-ℤ◌, int_le, map}
 use Rattle.std.specs.List.{flat_map}
 use Rattle.std.specs.Option.{is_some}
@@ -66,8 +66,8 @@ spanning (type.Enumeration elements) = map element_value elements
 abbrev pub never : Place → List Value → List Resolved
 never place vs = flat_map (λ v. Resolved.Constant place (value.Bool false) ∷ Resolved.Constant place v ∷ []) vs
 
--- What an index outside its dimension leads to, where these dimensions and indices are left: it has the kind of an element of this
--- type, and no value. Each index that is left has to be an integer.
+-- What an index outside its dimension leads to, where these dimensions and indices are left: it has the kind of an
+-- element of this type, and no value. Each index that is left has to be an integer.
 abbrev pub nowhere : ValueType → Place → List Bounds → List Subscript → Resolved
 nowhere t place (d ∷ ds) (x ∷ xs) =
     if is_inside (Some d) x.constant
@@ -80,13 +80,14 @@ abbrev pub at_position : Subscript → (ℕ → Resolved) → Resolved → Optio
 at_position x inside outside (Some k) = Resolved.Named x.place naming.Element (inside k)
 at_position x inside outside None = outside
 
--- An index of a dimension: a constant takes what stands at its position, and any other index chooses among what stands at each.
+-- An index of a dimension: a constant takes what stands at its position, and any other index chooses among what stands
+-- at each.
 abbrev pub at_index : Subscript → Bounds → (ℕ → Resolved) → Resolved → Option ℤ → Resolved
 at_index x d inside outside (Some z) = at_position x inside outside (position_in d z)
 at_index x d inside outside None = choice x.place (turns x d inside)
 
--- The element with these indices of an array of these dimensions, whose first element has the slot `first`. The array's name stands
--- at `place`, and its elements have the type t.
+-- The element with these indices of an array of these dimensions, whose first element has the slot `first`. The array's
+-- name stands at `place`, and its elements have the type t.
 abbrev pub element : ValueType → Place → List Bounds → List Subscript → ℕ → Resolved
 element t place (d ∷ ds) (x ∷ xs) first =
     at_index x d (λ k. element t place ds xs (first + k * size_of ds)) (nowhere t place (d ∷ ds) (x ∷ xs)) x.constant

@@ -1,6 +1,6 @@
--- Expressions over slots: in the place of each variable stands its slot, in the place of an element of an array its own, or a choice
--- among the elements where the index is no constant; and constants stand in the bounds of `F G O H` (NuSMV 2.6 User Manual, 2.1.6,
--- Array Types; 2.2.3, Index Subscript Operator; 2.4.3, LTL Specifications).
+-- Expressions over slots: in the place of each variable stands its slot, in the place of an element of an array its
+-- own, or a choice among the elements where the index is no constant; and constants stand in the bounds of `F G O H`
+-- (NuSMV 2.6 User Manual, 2.1.6, Array Types; 2.2.3, Index Subscript Operator; 2.4.3, LTL Specifications).
 use Rattle.std.specs.Prelude.{ℕ, ◌==◌, Bool, ◌&&◌, if◌then◌else◌, List, [], ◌∷◌, ◌++◌, drop, length, map, Option, None, Some, ℤ, pos, int_le, slice_get, slice_index_or}
 use Rattle.smv_value.specs.declared.operator.Bounded.{Bounded}
 use Rattle.smv_value.specs.declared.operator.Operator.{Operator}
@@ -22,8 +22,8 @@ use Rattle.smv_slots.specs.Slots.{first_slot}
 use Rattle.smv_layout.specs.Arrays.{Subscript, element, is_inside}
 use Rattle.smv_layout.specs.Indices.{indices_of}
 
--- An array without all its indices: the number of the variable, the place of its name, the indices that it has, and what stands for
--- it where no element is meant.
+-- An array without all its indices: the number of the variable, the place of its name, the indices that it has, and
+-- what stands for it where no element is meant.
 pub record Subarray : Type 0 where
   pub variable : ℕ
   pub place : Place
@@ -116,7 +116,8 @@ abbrev pub indexed : List VariableType → Place → Subarray → Subscript → 
 indexed vs place a x =
     element_laid vs place (subscripted place (dimension_at (slice_get vs a.variable) (length a.subscripts)) a x) (slice_get vs a.variable)
 
--- An index of an array, where `constant` is the integer that it is. What is no array has no index, and is refused with one.
+-- An index of an array, where `constant` is the integer that it is. What is no array has no index, and is refused with
+-- one.
 abbrev pub index_laid : List VariableType → Place → Option ℤ → List Laid → Laid
 index_laid vs place constant (Laid.Array a ∷ i ∷ []) = indexed vs place a (record { place = place; index = value_of i; constant = constant })
 index_laid vs place constant xs = Laid.Value (Resolved.Apply place operator.Index (values_of xs))
@@ -164,7 +165,8 @@ abbrev mutual
   all_laid vs Operands.End = []
   all_laid vs (Operands.With r rs) = laid vs r ∷ all_laid vs rs
 
--- What stands for an expression over variables of these types. An array without all its indices has no value, and is refused.
+-- What stands for an expression over variables of these types. An array without all its indices has no value, and is
+-- refused.
 unfoldable pub laid_value : List VariableType → Resolved → Resolved
 laid_value vs r = value_of (laid vs r)
 

@@ -21,8 +21,8 @@ use sqlite_items::Items;
 use std::alloc::{AllocError, Global};
 use value_types::ValueType;
 
-/// The element with these indices of an array of these dimensions, whose first element has the slot `first`. An index that is no
-/// constant takes some five nodes for each element that it reaches.
+/// The element with these indices of an array of these dimensions, whose first element has the slot `first`. An index
+/// that is no constant takes some five nodes for each element that it reaches.
 #[cycle(elements)]
 pub fn push_element(
     alloc: Global,

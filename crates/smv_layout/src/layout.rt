@@ -16,10 +16,10 @@ use smv_resolve::{Item, Resolution, Single};
 use sqlite_items::Items;
 use std::alloc::{AllocError, Global};
 
-/// The same items over slots, where the variables have these types: elements of arrays have slots of their own, an index that is no
-/// constant chooses among the elements, and bounds of `F G O H` are integers (NuSMV 2.6 User Manual, 2.1.6, Array Types; 2.2.3, Index
-/// Subscript Operator; 2.4.3, LTL Specifications). A number of a slot is that of a variable before, and of a slot afterwards. What is
-/// no element and no bounds stays as it is written, and has no kind.
+/// The same items over slots, where the variables have these types: elements of arrays have slots of their own, an
+/// index that is no constant chooses among the elements, and bounds of `F G O H` are integers (NuSMV 2.6 User Manual,
+/// 2.1.6, Array Types; 2.2.3, Index Subscript Operator; 2.4.3, LTL Specifications). A number of a slot is that of a
+/// variable before, and of a slot afterwards. What is no element and no bounds stays as it is written, and has no kind.
 ///
 /// Linear in the nodes, and in the elements that indices reach which are no constants: some five nodes each.
 ///

@@ -37,8 +37,8 @@ fn sum(a: usize, b: usize) -> Result<usize, AllocError>
     }
 }
 
-/// The slot at which what stands at this position begins, where each position has so many slots. Memory is refused where no memory
-/// holds as many slots.
+/// The slot at which what stands at this position begins, where each position has so many slots. Memory is refused
+/// where no memory holds as many slots.
 pub fn slot_at(first: usize, position: usize, size: usize) -> Result<usize, AllocError>
     ensures { IfOk result (λ n. n ≡ first + position * size) }
 {

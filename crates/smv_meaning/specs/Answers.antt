@@ -28,8 +28,8 @@ Evaluates p at e s u t (Err stop.NoMemory) = Unit {0}
 abbrev pub looked_at : ItemKind → List Value → List Value
 looked_at kind values = if speaks_of_step kind then values else []
 
--- Where the expression is the value of an item of the program, and no temporal formula, its outcome is values or a fault.
--- That holds in each state of the declared types, and in each step between two of them with such inputs.
+-- Where the expression is the value of an item of the program, and no temporal formula, its outcome is values or a
+-- fault. That holds in each state of the declared types, and in each step between two of them with such inputs.
 abbrev pub GivesWhereTyped : Program → ℕ → Expr → List Value → List Value → List Value → Outcome → Type 0
 GivesWhereTyped p at e s u t o = (x : ResolvedItem) (v w : List Value) → Contains (items_of p) x → x.value ≡ laid_expression p (resolved p at e) → speaks_of_paths x.kind ≡ false →
     is_state p s ≡ true → are_inputs p v ≡ true → is_state p w ≡ true → u ≡ looked_at x.kind v → t ≡ looked_at x.kind w → is_given o ≡ true

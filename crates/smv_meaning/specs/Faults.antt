@@ -1,5 +1,5 @@
--- Faults of items: an evaluation that stops, or a value that is assigned and is none of the variable's type (an own choice of this
--- project).
+-- Faults of items: an evaluation that stops, or a value that is assigned and is none of the variable's type (an own
+-- choice of this project).
 use Rattle.std.specs.Prelude.{◌≡◌, ℕ, Bool, true, false, not, List, Option, None, Some, option_and_then, slice_get, if◌then◌else◌}
 use Rattle.std.specs.List.{list_all}
 use Rattle.std.specs.Option.{is_none}
@@ -38,8 +38,8 @@ abbrev pub is_outside : Option ValueType → Outcome → Bool
 is_outside (Some t) (Values vs) = not (list_all (λ v. is_of_type v t) vs)
 is_outside declared e = false
 
--- The fault of a value that is assigned to a variable of this type, or of what is asked for. A value is out of range where the right
--- side begins.
+-- The fault of a value that is assigned to a variable of this type, or of what is asked for. A value is out of range
+-- where the right side begins.
 abbrev pub fault_of_value : Option ValueType → Place → Outcome → Option (FaultRule × Place)
 fault_of_value declared begins e = if is_outside declared e then Some (fault.OutOfRange, begins) else fault_in e
 
@@ -48,8 +48,8 @@ abbrev pub speaks_of_paths : ItemKind → Bool
 speaks_of_paths (item.Specification claim.Temporal) = true
 speaks_of_paths other = false
 
--- The fault of an item at a valuation: in the state s, or in the step from it with the inputs u to the state t, of which the item
--- speaks. Of a temporal formula it is the first of its parts'.
+-- The fault of an item at a valuation: in the state s, or in the step from it with the inputs u to the state t, of
+-- which the item speaks. Of a temporal formula it is the first of its parts'.
 abbrev pub item_fault : List ValueType → List Slot → List Value → List Value → List Value → ResolvedItem → Option (FaultRule × Place)
 item_fault types slots s u t x =
     if speaks_of_paths x.kind then formula_fault slots s u x.value

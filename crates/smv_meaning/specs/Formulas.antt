@@ -1,5 +1,5 @@
--- Temporal formulas: where a temporal operator stands in an expression, and what there is of its parts, which stand under temporal
--- operators and propositions (NuSMV 2.6 User Manual, 2.4.3, LTL Specifications).
+-- Temporal formulas: where a temporal operator stands in an expression, and what there is of its parts, which stand
+-- under temporal operators and propositions (NuSMV 2.6 User Manual, 2.4.3, LTL Specifications).
 use Rattle.std.specs.Prelude.{Bool, true, false, ◌&&◌, ◌||◌, if◌then◌else◌, List, [], Option, None, Some}
 use Rattle.std.specs.Option.{is_some, option_or}
 use Rattle.smv_value.specs.declared.operator.Operator.{Operator}
@@ -56,8 +56,8 @@ abbrev pub fault_in : Outcome → Option (FaultRule × Place)
 fault_in (Fault rule place) = Some (rule, place)
 fault_in o = None
 
--- In the state s with the inputs u each operand of temporal operators and propositions is TRUE or FALSE or faults, down to what is
--- neither.
+-- In the state s with the inputs u each operand of temporal operators and propositions is TRUE or FALSE or faults, down
+-- to what is neither.
 abbrev mutual
   pub is_known_formula : List Slot → List Value → List Value → Resolved → Bool
   is_known_formula slots s u (Resolved.Constant place v) = is_known (outcome slots s u [] (Resolved.Constant place v))

@@ -104,7 +104,8 @@ abbrev pub either : Bool → Moment → Moment → Moment
 either true P Q = P
 either false P Q = Q
 
--- An expression holds at a time: where a temporal operator stands in it, by its operator over its operands; else where it is TRUE.
+-- An expression holds at a time: where a temporal operator stands in it, by its operator over its operands; else where
+-- it is TRUE.
 abbrev mutual
   pub Holds : Program → Lasso → Resolved → Moment
   Holds p w (Resolved.Constant place b) = IsTrueIn p w (Resolved.Constant place b)

@@ -89,8 +89,8 @@ taken (Some true) c a b = a
 taken (Some false) c a b = b
 taken None c a b = failed c
 
--- Conditions and branches by turns, and perhaps a last branch without a condition; none of the rest is looked at. Where no condition
--- is TRUE it is a fault by this rule (manual 2.2.3, Case expressions).
+-- Conditions and branches by turns, and perhaps a last branch without a condition; none of the rest is looked at. Where
+-- no condition is TRUE it is a fault by this rule (manual 2.2.3, Case expressions).
 abbrev pub choice : FaultRule → Place → List Outcome → Outcome
 choice rule place [] = Fault rule place
 choice rule place (a ∷ []) = a

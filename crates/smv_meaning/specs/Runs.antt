@@ -178,12 +178,13 @@ speaks_of_step (item.Assignment side.Next) = true
 speaks_of_step (item.Constraint asked.Trans) = true
 speaks_of_step other = false
 
--- the outcome of the value of an item of this kind: in the state s, or in the step from it with the inputs u to the state t
+-- the outcome of the value of an item of this kind: in the state s, or in the step from it with the inputs u to the
+-- state t
 abbrev pub item_outcome : List Slot → List Value → List Value → List Value → Resolved → ItemKind → Outcome
 item_outcome slots s u t e kind = if speaks_of_step kind then outcome slots s u t e else outcome_in slots s e
 
--- The variable that an item assigns has one value in a state, and its right side has values or faults. What is asked for or
--- claimed is TRUE or FALSE or faults; so are the parts of a temporal formula.
+-- The variable that an item assigns has one value in a state, and its right side has values or faults. What is asked
+-- for or claimed is TRUE or FALSE or faults; so are the parts of a temporal formula.
 abbrev pub is_known_by : List Slot → List Value → List Value → List Value → Option Resolved → Resolved → ItemKind → Bool
 is_known_by slots s u t target e (item.Assignment which) =
     is_single (outcome_of_target slots s target) && is_given (item_outcome slots s u t e (item.Assignment which))

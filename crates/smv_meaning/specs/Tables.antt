@@ -70,7 +70,8 @@ abbrev pub first_fault : List (Option (FaultRule × Place)) → Option (FaultRul
 first_fault [] = None
 first_fault (f ∷ fs) = option_or f (first_fault fs)
 
--- the first fault of the parts of a node, where these are those of the nodes before it, and `mine` is that of its own outcome
+-- the first fault of the parts of a node, where these are those of the nodes before it, and `mine` is that of its own
+-- outcome
 abbrev pub fault_by_node : Option (FaultRule × Place) → List (Option (FaultRule × Place)) → Node → Option (FaultRule × Place)
 fault_by_node mine faults (node.Constant place v) = None
 fault_by_node mine faults (node.Slot place n) = None

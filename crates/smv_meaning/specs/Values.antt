@@ -1,4 +1,5 @@
--- The values of an expression in a state, with the inputs of the step from it and the next state (manual 2.2, Expressions).
+-- The values of an expression in a state, with the inputs of the step from it and the next state (manual 2.2,
+-- Expressions).
 use Rattle.std.specs.Prelude.{List, [], ◌∷◌}
 use Rattle.smv_value.specs.declared.value.Value.{Value}
 use Rattle.smv_slots.specs.declared.slot.Slot.{Slot}
@@ -8,8 +9,8 @@ use Rattle.smv_meaning.specs.declared.outcome.Outcome.{Outcome}
 use Rattle.smv_meaning.specs.declared.outcome.Outcome.TheVariants.{Nothing}
 use Rattle.smv_meaning.specs.Outcomes.{applied, one, valued}
 
--- The outcome of an expression in the state s, with the inputs u and the next state t. Under `next` there are no inputs and there
--- is no next state.
+-- The outcome of an expression in the state s, with the inputs u and the next state t. Under `next` there are no inputs
+-- and there is no next state.
 abbrev mutual
   pub outcome : List Slot → List Value → List Value → List Value → Resolved → Outcome
   outcome slots s u t (Resolved.Constant place v) = one v

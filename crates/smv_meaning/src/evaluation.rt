@@ -24,9 +24,9 @@ use smv_value::{Operator, Value};
 use sqlite_items::at;
 use std::alloc::{AllocError, Global};
 
-/// The outcome of an expression that stands in the instance of this path, in a state with inputs and the next state; each of
-/// these is empty where there is none. Where it is what an item of the program assigns, asks for or claims of states or steps, it is
-/// values or a fault in those of the declared types.
+/// The outcome of an expression that stands in the instance of this path, in a state with inputs and the next state;
+/// each of these is empty where there is none. Where it is what an item of the program assigns, asks for or claims of
+/// states or steps, it is values or a fault in those of the declared types.
 ///
 /// The error is that a part of the expression is stuck, at the place of the first such part, or that memory ran out.
 pub fn eval(

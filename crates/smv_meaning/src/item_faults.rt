@@ -23,9 +23,10 @@ use sqlite_items::at;
 use std::alloc::{AllocError, Global};
 use value_types::ValueType;
 
-/// The fault of an item in the state, or the step with these inputs to the next state, of which the item speaks. A value that is
-/// assigned and is none of the variable's type is out of range where the right side begins. Of a temporal formula it is the first
-/// fault of its parts. The error is running out of memory. It takes the time of evaluating the nodes of the program.
+/// The fault of an item in the state, or the step with these inputs to the next state, of which the item speaks. A
+/// value that is assigned and is none of the variable's type is out of range where the right side begins. Of a temporal
+/// formula it is the first fault of its parts. The error is running out of memory. It takes the time of evaluating the
+/// nodes of the program.
 pub fn faults(
     alloc: Global,
     typed: &Typed,

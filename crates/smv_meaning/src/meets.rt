@@ -30,8 +30,8 @@ pub fn meets_init(alloc: Global, typed: &Typed, s: &State) -> Result<bool, Alloc
     Ok(is_state && allowed)
 }
 
-/// Whether the values have what the invariants of the program ask of each state. Whether they are of the types of the slots
-/// is not asked here.
+/// Whether the values have what the invariants of the program ask of each state. Whether they are of the types of the
+/// slots is not asked here.
 pub fn meets_inv(alloc: Global, typed: &Typed, s: &State) -> Result<bool, AllocError>
     ensures { IfOk result (λ met. met ≡ meets_invariants typed.now.scope.program s.now) }
 {

@@ -11,8 +11,8 @@ use value_sets::ValueSet;
 /// What an expression gives in a state.
 #[derive(Debug, Drop)]
 pub enum Outcome {
-    /// An operand is of another kind, or inputs or a next state are looked at that are not there. In a typed program this does
-    /// not come.
+    /// An operand is of another kind, or inputs or a next state are looked at that are not there. In a typed program
+    /// this does not come.
     Nothing,
     /// One value, or the members of a set.
     Values(ValueSet),

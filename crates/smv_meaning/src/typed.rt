@@ -18,9 +18,10 @@ use smv_slots::Slot;
 use sqlite_items::Items;
 use value_types::ValueType;
 
-/// A program with its instances, its slots and their types, and its items in the order of the source, whose expressions are nodes
-/// of one list. A variable has one slot, and an array one for each element. What its items assign has values or faults in each
-/// state and step of the declared types; what they ask for and claim is TRUE or FALSE or faults there.
+/// A program with its instances, its slots and their types, and its items in the order of the source, whose expressions
+/// are nodes of one list. A variable has one slot, and an array one for each element. What its items assign has values
+/// or faults in each state and step of the declared types; what they ask for and claim is TRUE or FALSE or faults
+/// there.
 #[derive(Debug, Drop)]
 pub struct Typed {
     pub scope: Scope,

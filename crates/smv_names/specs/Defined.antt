@@ -16,8 +16,8 @@ use Rattle.smv_verdicts.specs.Verdicts.{Verdict, Claim, Then, detailed}
 use Rattle.smv_names.specs.Reached.{some_only}
 use Rattle.smv_tree.specs.Occurring.{names_in}
 
--- A word for an expression: what a parameter of an instance was given, in the instance that gives it; or a definition of an
--- instance. Each has its number there.
+-- A word for an expression: what a parameter of an instance was given, in the instance that gives it; or a definition
+-- of an instance. Each has its number there.
 pub data Entry : Type 0 where
   Given : (at k owner : ℕ) → Expr → Entry
   Defined : (at k : ℕ) → Definition → Entry

@@ -60,7 +60,8 @@ unknown_in_expression p at e = first_of (λ name. unknown_identifier (unknown_in
 abbrev pub unknown_in_all : Program → ℕ → List Expr → Option Refusal
 unknown_in_all p at es = first_of (unknown_in_expression p at) es
 
--- in the width of a word, in the bounds of a range, and in what an instance is given; the elements of an enumeration are no names
+-- in the width of a word, in the bounds of a range, and in what an instance is given; the elements of an enumeration
+-- are no names
 abbrev pub unknown_in_type : Program → ℕ → TypeExpr → Option Refusal
 unknown_in_type p at (written.Boolean place) = None
 unknown_in_type p at (written.Word place signed width) = unknown_in_expression p at width

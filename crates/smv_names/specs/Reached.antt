@@ -63,9 +63,9 @@ abbrev pub Miscounted : Program → List Expr → Option ℕ → Type 0
 Miscounted p given None = ⊥
 Miscounted p given (Some m) = length given ≢ length (parameters_of p m)
 
--- What is judged of a variable of a module that is reached, where its type, or that of its elements, is a name: it names a
--- module; the module of an instance does not reach the one that declares the variable; it has as many parameters as it is given
--- expressions (manual 2.3.11, Module Instantiations).
+-- What is judged of a variable of a module that is reached, where its type, or that of its elements, is a name: it
+-- names a module; the module of an instance does not reach the one that declares the variable; it has as many
+-- parameters as it is given expressions (manual 2.3.11, Module Instantiations).
 abbrev pub named_type : UseRule → Program → ℕ → Variable → Place → List ℕ → List Expr → Verdict
 named_type asked.Unknown p n v place name given = Claim (FromMain p n × (module_named p.modules name ≡ None)) (detailed rule.UnknownModule place name)
 named_type asked.Cyclic p n v place name given = Claim (FromMain p n × (is_array v ≡ false) × ReachesFrom (module_graph p) (module_named p.modules name) n) (detailed rule.ModuleCycle v.place v.name)

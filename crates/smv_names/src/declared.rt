@@ -1,5 +1,5 @@
-//! The rules of what modules declare: each module has a name of its own, there is a module `main` without parameters, and a module
-//! declares each name once.
+//! The rules of what modules declare: each module has a name of its own, there is a module `main` without parameters,
+//! and a module declares each name once.
 
 ghost use Rattle.std.specs.Prelude.{◌≡◌, ◌++◌, [], map, IfOk, OnOk};
 ghost use Rattle.std.specs.List.{flat_map};

@@ -15,7 +15,8 @@ use std::alloc::{AllocError, Global};
 /// A word for an expression.
 #[derive(Clone, Copy, Debug)]
 pub(crate) enum Entry<'a> {
-    /// What the parameter of this number of the instance `at` was given, an expression that stands in the instance `owner`.
+    /// What the parameter of this number of the instance `at` was given, an expression that stands in the instance
+    /// `owner`.
     Given {
         at: usize,
         parameter: usize,

@@ -1,5 +1,5 @@
-//! The rules of names: a program whose modules, declarations and names all lead somewhere, or the first rule that it breaks. The
-//! definitions are in `specs/`.
+//! The rules of names: a program whose modules, declarations and names all lead somewhere, or the first rule that it
+//! breaks. The definitions are in `specs/`.
 #![tactic(auto)]
 
 mod declared;

@@ -33,7 +33,8 @@ pub(crate) fn unknown_names(alloc: Global, scope: &Scope) -> Result<(), TextStop
     Ok(())
 }
 
-// Each name of this instance of the module of this number. There is nothing to do where it is noted that none stands there.
+// Each name of this instance of the module of this number. There is nothing to do where it is noted that none stands
+// there.
 fn unknown_in_instance(
     alloc: Global,
     scope: &Scope,

@@ -21,31 +21,32 @@ use std::alloc::Global;
 /// The program with its instances, where it breaks no rule of names; else the first rule that it breaks, at that
 /// rule's first place.
 ///
-/// The rules, in the order in which they are judged, which is an own choice of this project as their numbers and places are
-/// (NuSMV 2.6 User Manual, chapter 2, says what is asked, and not in which order). Of each module of the text:
+/// The rules, in the order in which they are judged, which is an own choice of this project as their numbers and places
+/// are (NuSMV 2.6 User Manual, chapter 2, says what is asked, and not in which order). Of each module of the text:
 ///
 /// - `DuplicateModule`: two modules have one name. At the keyword of the second; the detail is the name.
 /// - `NoMain`: there is no module `main` (manual 2.3.12). At the first byte, with no detail.
 /// - `MainHasParameters`: the module `main` has parameters (2.3.12). At the first of them, with no detail.
-/// - `DuplicateName`: a module declares a name twice, as parameter, variable or definition. At the second declaration; the detail
-///   is the name.
+/// - `DuplicateName`: a module declares a name twice, as parameter, variable or definition. At the second declaration;
+///   the detail is the name.
 ///
 /// Of the modules that `main` reaches, in the order of the text:
 ///
-/// - `UnknownModule`: the type of a variable, or of the elements of an array, is a name, and no module's (2.3.11). At the name; it
-///   is the detail.
-/// - `ModuleCycle`: a module is an instance of itself (2.3.11). At the variable that leads back; the detail is its name.
-/// - `ArgumentCount`: an instance, or the instances of an array, are given more or fewer expressions than their module has
-///   parameters (2.3.11). At the module's name; it is the detail.
+/// - `UnknownModule`: the type of a variable, or of the elements of an array, is a name, and no module's (2.3.11). At
+///   the name; it is the detail.
+/// - `ModuleCycle`: a module is an instance of itself (2.3.11). At the variable that leads back; the detail is its
+///   name.
+/// - `ArgumentCount`: an instance, or the instances of an array, are given more or fewer expressions than their module
+///   has parameters (2.3.11). At the module's name; it is the detail.
 ///
 /// Of the instances, in preorder, and in each in the order of the text:
 ///
 /// - `TooManyInstances`: there are more than 100000. At the name of `main`, with no detail.
-/// - `UnknownName`: an identifier of a name leads nowhere, or one before others to no instance (2.3.13). At the identifier; it is
-///   the detail. Names stand in expressions, in what instances are given, and in the bounds and widths of types, those of arrays
-///   before the types of their elements. The elements of an enumeration are no names.
-/// - `DefineCycle`: a definition leads to itself, by definitions and by what parameters were given (2.3.2). At the definition;
-///   the detail is its name.
+/// - `UnknownName`: an identifier of a name leads nowhere, or one before others to no instance (2.3.13). At the
+///   identifier; it is the detail. Names stand in expressions, in what instances are given, and in the bounds and
+///   widths of types, those of arrays before the types of their elements. The elements of an enumeration are no names.
+/// - `DefineCycle`: a definition leads to itself, by definitions and by what parameters were given (2.3.2). At the
+///   definition; the detail is its name.
 ///
 /// `NoMemory` comes where memory was refused, which may be at any time.
 pub fn check_names(alloc: Global, program: Program) -> Result<Scope, TextStop>
@@ -80,7 +81,8 @@ fn uses(alloc: Global, program: &Program, numbers: &ModuleNumbers) -> Result<(),
     judge_uses(alloc, &uses, UseRule::Miscounted)
 }
 
-// The program laid out, where it has not too many instances and each name leads somewhere; the place is that of the name of `main`.
+// The program laid out, where it has not too many instances and each name leads somewhere; the place is that of the
+// name of `main`.
 fn named(alloc: Global, program: Program, place: Place) -> Result<Scope, TextStop>
     requires { place ≡ place_of_main program (main_number program) }
     ensures same { IfOk result (λ scope. scope.program ≡ program) }

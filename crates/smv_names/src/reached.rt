@@ -1,5 +1,5 @@
-//! The rules of instances: a type that is a name names a module, no module is an instance of itself, and an instance is given what
-//! its module asks for.
+//! The rules of instances: a type that is a name names a module, no module is an instance of itself, and an instance is
+//! given what its module asks for.
 
 ghost use Rattle.std.specs.Prelude.{◌≡◌, ◌<◌, List, length, IfOk, IfSome, MatchBool};
 ghost use Rattle.digraph.specs.Cycles.{Closed};

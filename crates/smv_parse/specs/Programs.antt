@@ -1,5 +1,5 @@
--- Modules and their sections (NuSMV 2.6 User Manual, 2.3). Tables tell what keywords mean; they are asked of keywords alone, so
--- that `unwrap_or` never gives its last argument.
+-- Modules and their sections (NuSMV 2.6 User Manual, 2.3). Tables tell what keywords mean; they are asked of keywords
+-- alone, so that `unwrap_or` never gives its last argument.
 use Rattle.std.specs.Prelude.{ℕ, Bool, false, Option, None, Some, is_some, unwrap_or}
 use Rattle.phrase_forms.specs.Forms.{Form, token, or, maybe, many, to, ◌⨾◌, ◌▹◌, ◌◃◌}
 use Rattle.smv_tree.specs.declared.place.Place.{Place}

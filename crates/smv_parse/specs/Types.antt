@@ -1,5 +1,5 @@
--- Types as they are written (NuSMV 2.6 User Manual, 2.1 and 2.3.1). Each form is told how many levels past the limit may be
--- opened in it, and before that how many within the limit.
+-- Types as they are written (NuSMV 2.6 User Manual, 2.1 and 2.3.1). Each form is told how many levels past the limit
+-- may be opened in it, and before that how many within the limit.
 use Rattle.std.specs.Prelude.{ℕ, zero, suc, ◌-◌, Bool, true, false, ◌||◌, List, [], ◌∷◌, ◌++◌, None, Some, unwrap_or, pos, neg_ℤ}
 use Rattle.phrase_forms.specs.Forms.{Form, token, or, maybe, many, to, named, ◌⨾◌, ◌▹◌, ◌◃◌}
 use Rattle.phrase_forms.specs.Depending.{after}
@@ -59,7 +59,8 @@ enumeration room = to (λ x. type.Enumeration x.0.place x.1) (opening (is_zero r
 abbrev pub upper : ℕ → ℕ → Form Token Expr
 upper past room = just kind.DotDot ▹ limit_within past room
 
--- An identifier that is the whole of a type, or stands before "(" there, is the name of a module; else a limit begins with it.
+-- An identifier that is the whole of a type, or stands before "(" there, is the name of a module; else a limit begins
+-- with it.
 
 abbrev pub instance_of : Token → List Expr → TypeExpr
 instance_of t given = type.Instance t.place t.text given
@@ -68,8 +69,8 @@ instance_of t given = type.Instance t.place t.text given
 abbrev pub given : ℕ → ℕ → Form Token (List Expr)
 given past room = opening (is_zero room) kind.LeftParen ▹ maybe_listed (under past room).expression ◃ just kind.RightParen
 
--- what follows the identifier that a range begins with: the members of the name, what stands behind it in the limit, and the
--- other limit
+-- what follows the identifier that a range begins with: the members of the name, what stands behind it in the limit,
+-- and the other limit
 abbrev pub NamedRange : Type 0
 NamedRange = List Identifier × (List (List Link) × Expr)
 
@@ -136,7 +137,8 @@ known_type written = named begins_type goes_on_identifier written
 abbrev pub type_over : ℕ → ℕ → Form Token Written → Form Token Written
 type_over past room elements = or (to array_of (array_head past room ⨾ known_type elements)) (to (λ t. ([], t)) (plain_type past room))
 
--- types that stand past the limit already, and open at most so many levels more; under the last of all only "boolean" is asked for
+-- types that stand past the limit already, and open at most so many levels more; under the last of all only "boolean"
+-- is asked for
 unfoldable pub types_beyond : ℕ → Form Token Written
 types_beyond zero = to (λ t. ([], type.Boolean t.place)) (just kind.Boolean)
 types_beyond (suc past) = type_over past 0 (types_beyond past)

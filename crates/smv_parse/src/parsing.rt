@@ -86,8 +86,8 @@ fn unsupported_refusal(alloc: Global, token: &Token) -> Result<Refusal, AllocErr
 /// most 256 levels that are open at one place are own choices of this project).
 ///
 /// Tokens that spell no program are refused at one place:
-/// - `Unsupported`: the first token that is a word of NuSMV without a place in the language, whatever stands before it. Its
-///   text is the detail.
+/// - `Unsupported`: the first token that is a word of NuSMV without a place in the language, whatever stands before it.
+///   Its text is the detail.
 /// - `Unexpected`, where none does: the first token with which the tokens no longer begin a program of any depth; its
 ///   text is the detail. Where they begin one and end too early, the end, with the detail `end`.
 /// - `TooDeep`, where none does: the first token that opens a 257th level, if the tokens up to it begin a program of

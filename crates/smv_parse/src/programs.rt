@@ -572,7 +572,8 @@ impl Over {
             || is_kind(TokenKind::Case, token)
     }
 
-    // What stands over the tokens before one that closes, where it ends a row of so many. What stands over its opening is kept.
+    // What stands over the tokens before one that closes, where it ends a row of so many. What stands over its opening
+    // is kept.
     fn inside(self, row: usize, closed: &mut Vec<Over>) -> Result<Over, AllocError> {
         closed.push(Over {
             selections: self.selections,

@@ -1,5 +1,5 @@
-//! Types as they are written, read from the front of tokens (NuSMV 2.6 User Manual, 2.1). Of each phrase `room` says how many
-//! levels may be opened in it.
+//! Types as they are written, read from the front of tokens (NuSMV 2.6 User Manual, 2.1). Of each phrase `room` says
+//! how many levels may be opened in it.
 
 ghost use Rattle.std.specs.Prelude.{◌≡◌, ◌<◌, ◌++◌, false, IfOk};
 ghost use Rattle.phrase_forms.specs.Forms.{token, to, head, ◌⨾◌};

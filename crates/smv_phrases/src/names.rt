@@ -110,9 +110,9 @@ pub fn members<'a>(
     Ok((all, rest))
 }
 
-/// The name at the front of the tokens, and the tokens behind it: a first token, and members behind dots. It is refused as
-/// unexpected at the first token that is out of place, or at the end. Memory may be refused at any time. The time is linear in
-/// the tokens of the name and their texts.
+/// The name at the front of the tokens, and the tokens behind it: a first token, and members behind dots. It is refused
+/// as unexpected at the first token that is out of place, or at the end. Memory may be refused at any time. The time is
+/// linear in the tokens of the name and their texts.
 #[tactic(auto, unfolding(crate::specs::Names::name_from))]
 pub fn name_from<'a>(
     alloc: Global,

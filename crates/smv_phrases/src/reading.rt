@@ -57,8 +57,8 @@ pub fn begins(kind: TokenKind, tokens: &[Token]) -> bool
     }
 }
 
-/// A token of this kind, and the tokens behind it. Where another token stands at the front, or none, it is refused there as
-/// unexpected. No memory is taken.
+/// A token of this kind, and the tokens behind it. Where another token stands at the front, or none, it is refused
+/// there as unexpected. No memory is taken.
 pub fn just(kind: TokenKind, tokens: &[Token]) -> Result<(&Token, &[Token]), Stop<'_>>
     ensures { Gives (λ x. (x.0.now, x.1.now)) result ((just kind).parse tokens.now) }
 {
@@ -68,8 +68,8 @@ pub fn just(kind: TokenKind, tokens: &[Token]) -> Result<(&Token, &[Token]), Sto
     }
 }
 
-/// A token of this kind, which opens a level, and the tokens behind it. Where `closed` is true, none may be opened, and a
-/// token of this kind is refused as too deep. Any other is refused as unexpected. No memory is taken.
+/// A token of this kind, which opens a level, and the tokens behind it. Where `closed` is true, none may be opened, and
+/// a token of this kind is refused as too deep. Any other is refused as unexpected. No memory is taken.
 pub fn opening(
     closed: bool,
     kind: TokenKind,

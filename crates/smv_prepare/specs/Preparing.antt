@@ -13,8 +13,8 @@ use Rattle.fault_search.specs.Paying.{PaysOpen, PaysSome}
 use Rattle.smv_prepare.specs.declared.preparing.Prepared.{Prepared}
 use Rattle.smv_prepare.specs.declared.preparing.Prepared.TheVariants as prepared
 
--- How a program is refused where an item faults: for the first item that does, specifications after all others. The refusal tells a state
--- or a step of the declared types at which it does, and no item before it ever faults.
+-- How a program is refused where an item faults: for the first item that does, specifications after all others. The
+-- refusal tells a state or a step of the declared types at which it does, and no item before it ever faults.
 pub record IsRefusedByFaults (p : Program) (r : Refusal) : Type 0 where
   pub number : ℕ
   pub item : ResolvedItem
@@ -22,28 +22,31 @@ pub record IsRefusedByFaults (p : Program) (r : Refusal) : Type 0 where
   pub before : (j : ℕ) (x : ResolvedItem) → j < number → slice_get (judged_items p) j ≡ Some x → NeverFaults p x
   pub told : TellsFault p item r
 
--- No item ever faults, and the steps show that of each item of which something is asked: its clauses are met where it faults, and the
--- empty clause follows from them.
+-- No item ever faults, and the steps show that of each item of which something is asked: its clauses are met where it
+-- faults, and the empty clause follows from them.
 pub record IsShownSound (p : Program) (parts : List (Option HintedLog)) : Type 0 where
   pub fault_free : IsFaultFree p
   pub questions : List (Option Decided)
   pub asked : AreFaultQuestions p questions
   pub free : AreFree questions parts
 
--- at most one query was asked of each item, and the tickets between these were drawn for the queries and what they learned
+-- at most one query was asked of each item, and the tickets between these were drawn for the queries and what they
+-- learned
 pub record IsPaidPreparing (p : Program) (before after : List ℕ) : Type 0 where
   pub questions : List (Option Decided)
   pub asked : AreFaultQuestions p questions
   pub paid : PaysSome questions before after
 
--- All tickets of the budget were drawn, those between these for queries of items, and the query of some item was not answered.
+-- All tickets of the budget were drawn, those between these for queries of items, and the query of some item was not
+-- answered.
 pub record IsSpentPreparing (p : Program) (budget : ℕ) (over : Bool) (before after : List ℕ) (drawn of_budget : ℕ) : Type 0 where
   pub questions : List (Option Decided)
   pub asked : AreFaultQuestions p questions
   pub paid : PaysOpen questions before after
   pub spent : IsSpent budget over drawn of_budget
 
--- what came of preparing is so; `before` and `after` are the tickets that were drawn, and `over` says whether none is left
+-- what came of preparing is so; `before` and `after` are the tickets that were drawn, and `over` says whether none is
+-- left
 abbrev pub IsPrepared : Program → ℕ → Bool → List ℕ → List ℕ → Prepared → Type 0
 IsPrepared p budget over before after (prepared.Sound parts) = IsShownSound p parts × IsPaidPreparing p before after
 IsPrepared p budget over before after (prepared.Faulty r) = IsRefusedByFaults p r × IsPaidPreparing p before after

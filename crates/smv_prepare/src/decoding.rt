@@ -25,8 +25,9 @@ pub struct Valuation {
     pub next: State,
 }
 
-/// The refusal of the item of this number, whose question the model meets, where none before it is ever met. In slots of which the
-/// question does not speak the model's bits may be those of no value: there it tells the first value of the type.
+/// The refusal of the item of this number, whose question the model meets, where none before it is ever met. In slots
+/// of which the question does not speak the model's bits may be those of no value: there it tells the first value of
+/// the type.
 pub fn refusal_of(
     alloc: Global,
     typed: &Typed,

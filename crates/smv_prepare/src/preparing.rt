@@ -29,16 +29,16 @@ pub enum Prepared {
     Spent { drawn: u64, budget: u64 },
 }
 
-/// Whether some item of a model faults in a state, or in a step, of the declared types, reached or not. Items are assignments,
-/// constraints and, after these, specifications; a definition is judged where it is used.
+/// Whether some item of a model faults in a state, or in a step, of the declared types, reached or not. Items are
+/// assignments, constraints and, after these, specifications; a definition is judged where it is used.
 ///
 /// - `Sound`: none ever does, with the steps that show it. An item without a gate that tells a fault asks no query.
-/// - `Faulty`: the refusal of the first item that does, by 601 CaseOpen, 602 OutOfRange, 603 IndexOutside, 604 DivisorZero or 605
-///   ShiftTooFar, with a valuation at which it does.
+/// - `Faulty`: the refusal of the first item that does, by 601 CaseOpen, 602 OutOfRange, 603 IndexOutside, 604
+///   DivisorZero or 605 ShiftTooFar, with a valuation at which it does.
 /// - `Spent`: the purse had no ticket left. A query costs one, and each clause that it learns another.
 ///
-/// That all these are refused before anything is decided is an own choice of this project (NuSMV 2.6 User Manual, 2.2.3 and 2.3.8, has
-/// them stop as it runs, or pass). The only error is out of memory.
+/// That all these are refused before anything is decided is an own choice of this project (NuSMV 2.6 User Manual, 2.2.3
+/// and 2.3.8, has them stop as it runs, or pass). The only error is out of memory.
 pub fn prepare<Q: Purse>(alloc: Global, flat: &Flat, purse: &mut Q) -> Result<Prepared, AllocError>
     requires small { bits_of flat.now.typed.scope.program ≤ bit_limit }
     requires ready { Q.ready purse.old }

@@ -87,7 +87,8 @@ stuck-append : (xs ys : List ResolvedItem) (place : Place) → first_stuck xs �
 stuck-append [] ys place h = absurd cc
 stuck-append (x ∷ xs) ys place h = stuck_cases (is_stuck_item x) x.place place (first_stuck xs) (first_stuck (xs ++ ys)) (λ e. stuck-append xs ys place e) h
 
--- What is left of the whole: it stands behind the items so far as the whole behind those before, and nothing done is stuck.
+-- What is left of the whole: it stands behind the items so far as the whole behind those before, and nothing done is
+-- stuck.
 pub record Rests (old now : List Node) (before after : List Item) (whole rest : List ResolvedItem) : Type 0 where
   pub items : map (item_by now) after ++ rest ≡ map (item_by old) before ++ whole
   pub clear : first_stuck rest ≡ first_stuck whole

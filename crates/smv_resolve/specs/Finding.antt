@@ -16,8 +16,8 @@ use Rattle.smv_scope.specs.Lookup.{Target, body_target, given_by, parent_at}
 use Rattle.smv_scope.specs.Targets.{shared_eq}
 use Rattle.smv_resolve.specs.Resolved.{Resolved, Levelled, opened, followed, is_stuck, part_of}
 
--- f, which says what is there by the number of names that are followed one in another, and by that of levels that may be
--- opened, is r where h levels or more may be opened, and stuck where fewer may
+-- f, which says what is there by the number of names that are followed one in another, and by that of levels that may
+-- be opened, is r where h levels or more may be opened, and stuck where fewer may
 pub record Settles (f : ℕ → Levelled) (h : ℕ) (r : Resolved) : Type 0 where
   pub value : (n d : ℕ) → d ≤ n → h ≤ d → f n d ≡ r
   pub stuck : (n d : ℕ) → d ≤ n → is_stuck (f n d) ≡ nat_lt d h

@@ -9,7 +9,8 @@ abbrev pub first_or : Place → List Place → Place
 first_or place [] = place
 first_or place (x ∷ xs) = x
 
--- A node, over where its parts begin. A chain begins with its first operand, and an operator with the first that stands beside it.
+-- A node, over where its parts begin. A chain begins with its first operand, and an operator with the first that stands
+-- beside it.
 abbrev pub first_place_in : Expr-F Place → Place
 first_place_in (Expr-F.Constant place v) = place
 first_place_in (Expr-F.Name name) = place_of_start name.start

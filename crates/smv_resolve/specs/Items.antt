@@ -1,4 +1,5 @@
--- The items of a program: its assignments, constraints and specifications, instance by instance, in the order of the source.
+-- The items of a program: its assignments, constraints and specifications, instance by instance, in the order of the
+-- source.
 use Rattle.std.specs.Prelude.{ℕ, ◌+◌, ◌-◌, Bool, false, ◌||◌, if◌then◌else◌, List, [], ◌∷◌, ◌++◌, map, Option, None, Some}
 use Rattle.std.specs.List.{flat_map}
 use Rattle.smv_tree.specs.declared.place.Place.{Place}
@@ -22,8 +23,8 @@ use Rattle.smv_scope.specs.Lookup.{depth_limit}
 use Rattle.smv_resolve.specs.FirstPlaces.{first_place}
 use Rattle.smv_resolve.specs.Resolved.{Resolved, resolved, levelled, part_of, is_stuck}
 
--- An item with its expressions resolved: the instance that it stands in, what it is, its place, where its value begins, what it
--- assigns, if it assigns something, and the value that is assigned, asked for or claimed.
+-- An item with its expressions resolved: the instance that it stands in, what it is, its place, where its value begins,
+-- what it assigns, if it assigns something, and the value that is assigned, asked for or claimed.
 pub record ResolvedItem : Type 0 where
   pub at : ℕ
   pub kind : ItemKind

@@ -7,8 +7,8 @@ use Rattle.smv_tree.specs.declared.tree.Start.{Start}
 use Rattle.smv_tree.specs.declared.tree.Expr.{Expr, Expr-F, out-Expr}
 use Rattle.smv_scope.specs.Lookup.{Target, depth_limit, start_target}
 
--- The levels that are opened where parameters are followed from a target on: one for what each was given, and one for each
--- parenthesis there; `levels` gives those from an expression on.
+-- The levels that are opened where parameters are followed from a target on: one for what each was given, and one for
+-- each parenthesis there; `levels` gives those from an expression on.
 abbrev pub levels_of_target : (ℕ → Expr → ℕ) → Target → ℕ
 levels_of_target levels (Target.Given at k owner e) = levels owner e
 levels_of_target levels other = 0

@@ -1,5 +1,5 @@
--- Resolved expressions: in the place of each name stands what it leads to, since a definition is a word for its body, and a
--- parameter for what was given (manual 2.3.2, DEFINE declarations; 2.3.11, Module Instantiations).
+-- Resolved expressions: in the place of each name stands what it leads to, since a definition is a word for its body,
+-- and a parameter for what was given (manual 2.3.2, DEFINE declarations; 2.3.11, Module Instantiations).
 use Rattle.std.specs.Prelude.{ℕ, zero, suc, ◌-◌, Bool, true, false, ◌||◌, List, [], ◌∷◌, ◌++◌, fold, map, drop, length, slice_index_or}
 use Rattle.smv_tree.specs.declared.place.Place.{Place}
 use Rattle.smv_tree.specs.declared.tree.Program.{Program}
@@ -25,8 +25,8 @@ mutual
     Slot : Place → (n : ℕ) → Resolved
     -- the instance of this number, which has no value
     Whole : Place → (at : ℕ) → Resolved
-    -- what a parameter was given, or the body of a definition; where slots are laid out, also an array, an element of one, and an
-    -- index with which a parameter was given one
+    -- what a parameter was given, or the body of a definition; where slots are laid out, also an array, an element of
+    -- one, and an index with which a parameter was given one
     Named : Place → Naming → Resolved → Resolved
     Next : Place → Resolved → Resolved
     Apply : Place → Operator → Operands → Resolved
@@ -84,8 +84,9 @@ resolved_operands operand beside below levels = map (λ e. operand e levels) bes
 abbrev pub resolved_name : Program → (ℕ → Expr → Levelled) → ℕ → Name → Levelled
 resolved_name p follow at name levels = resolved_target (λ owner e. opened (follow owner e) levels) (place_of_start name.start) (name_target p at name)
 
--- A node in the instance of this number, over its parts. A level is opened by `(`, by `next`, by each operand that stands a
--- level below, and by each name that is followed, before a dot or behind it, where `follow` resolves what it stands for.
+-- A node in the instance of this number, over its parts. A level is opened by `(`, by `next`, by each operand that
+-- stands a level below, and by each name that is followed, before a dot or behind it, where `follow` resolves what it
+-- stands for.
 abbrev pub resolved_node : Program → (ℕ → Expr → Levelled) → ℕ → Expr-F Levelled → Levelled
 resolved_node p follow at (Expr-F.Constant place v) levels = Resolved.Constant place v
 resolved_node p follow at (Expr-F.Name name) levels = lowered (levels_before p at name) (resolved_name p follow at name) levels
@@ -107,8 +108,8 @@ followed p (suc names) at e = resolved_over p (followed p names) at e
 abbrev pub levelled : Program → ℕ → ℕ → Expr → Levelled
 levelled p names at e = resolved_over p (followed p names) at e
 
--- An expression in the instance of this number: at most so many levels may be open at one place, and so no more names are
--- followed one in another.
+-- An expression in the instance of this number: at most so many levels may be open at one place, and so no more names
+-- are followed one in another.
 abbrev pub resolved : Program → ℕ → Expr → Resolved
 resolved p at e = levelled p depth_limit at e depth_limit
 
@@ -143,8 +144,8 @@ part_at parts k = slice_index_or parts k Resolved.Stuck
 abbrev pub last_of : {A : Type 0} → ℕ → List A → List A
 last_of count xs = drop (length xs - count) xs
 
--- What a node is, where these are the nodes before it. The operands of an operator are the nodes right before it; a link of a
--- chain names its two.
+-- What a node is, where these are the nodes before it. The operands of an operator are the nodes right before it; a
+-- link of a chain names its two.
 abbrev pub resolved_by : List Resolved → Node → Resolved
 resolved_by parts (node.Constant place v) = Resolved.Constant place v
 resolved_by parts (node.Slot place n) = Resolved.Slot place n

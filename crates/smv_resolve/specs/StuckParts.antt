@@ -1,4 +1,5 @@
--- Where an expression is stuck: at the first of its parts, in the order of the text, that leads nowhere or nests too deep.
+-- Where an expression is stuck: at the first of its parts, in the order of the text, that leads nowhere or nests too
+-- deep.
 use Rattle.std.specs.Prelude.{◌≡◌, ℕ, zero, suc, ◌≤◌, true, List, [], ◌∷◌, ◌++◌, map, Option, None, Some, Result, Ok, Err, if◌then◌else◌}
 use Rattle.std.specs.Option.{option_or}
 use Rattle.smv_tree.specs.declared.place.Place.{Place}
@@ -56,7 +57,8 @@ stuck_node p follow at (Expr-F.Apply place o beside below) levels = stuck_operan
 unfoldable pub stuck_over : Program → (ℕ → Expr → Levelled) → ℕ → Expr → ℕ → Option Place
 stuck_over p follow at e = fold-Expr (ℕ → Option Place) (stuck_node p follow at) e
 
--- the place of the first stuck part, where at most so many names are followed one in another, by how many levels may be opened
+-- the place of the first stuck part, where at most so many names are followed one in another, by how many levels may be
+-- opened
 abbrev pub stuck_part : Program → ℕ → ℕ → Expr → ℕ → Option Place
 stuck_part p names at e = stuck_over p (followed p names) at e
 
@@ -68,8 +70,8 @@ first_stuck_part p at e = stuck_part p depth_limit at e depth_limit
 abbrev pub first_part_wholly_stuck : Program → ℕ → Expr → Option Place
 first_part_wholly_stuck p at e = stuck_part p all_levels at e all_levels
 
--- No part is stuck, or the place of the first that is, where so many levels may be opened. `part` gives it by the number of names that
--- may be followed, and by that of levels.
+-- No part is stuck, or the place of the first that is, where so many levels may be opened. `part` gives it by the
+-- number of names that may be followed, and by that of levels.
 abbrev pub TellsPart : ℕ → (ℕ → ℕ → Option Place) → Result Found ResolveError → Type 0
 TellsPart most part (Ok x) = (n : ℕ) → most ≤ n → part n most ≡ None
 TellsPart most part (Err (error.Stuck place)) = (n : ℕ) → most ≤ n → part n most ≡ Some place

@@ -9,8 +9,8 @@ ghost use Rattle.smv_resolve.specs.Levels.{levels_before, levels_by_node, levels
 use smv_scope::{DEPTH_LIMIT, NameTarget, Scope, start_target};
 use smv_tree::{Expr, Name};
 
-/// The levels that are opened before the dots of a name that stands in the instance of this number: one for each parameter that is
-/// followed there, and one for each parenthesis around what it was given.
+/// The levels that are opened before the dots of a name that stands in the instance of this number: one for each
+/// parameter that is followed there, and one for each parenthesis around what it was given.
 #[tactic(auto, unfolding(crate::specs::Levels::levels_before))]
 #[inline(never)]
 pub fn levels_before(scope: &Scope, instance: usize, name: &Name) -> usize

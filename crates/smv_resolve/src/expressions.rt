@@ -15,8 +15,8 @@ use smv_scope::{NameTarget, Scope, Shared, name_target};
 use smv_tree::{Expr, Name, Place, Start};
 use smv_value::{Operator, Value};
 
-/// The node of an expression that stands in the instance of this number, where `depth` levels may be opened. Memory is refused
-/// where more than `room` nodes stand one in another, as the stack would not hold the way to them.
+/// The node of an expression that stands in the instance of this number, where `depth` levels may be opened. Memory is
+/// refused where more than `room` nodes stand one in another, as the stack would not hold the way to them.
 #[cycle(expressions)]
 pub fn find(
     scope: &Scope,
@@ -58,7 +58,8 @@ pub fn find(
     }
 }
 
-// One level down, which what stands at this place opens: an expression there is found in itself, and as what a name stands for.
+// One level down, which what stands at this place opens: an expression there is found in itself, and as what a name
+// stands for.
 #[cycle(expressions)]
 fn find_below(
     scope: &Scope,

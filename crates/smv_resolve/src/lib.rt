@@ -1,5 +1,5 @@
-//! Expressions without names: in the place of each name stands what it leads to, and all expressions of a program are nodes of
-//! one list (NuSMV 2.6 User Manual, 2.3). The definitions are in `specs/`.
+//! Expressions without names: in the place of each name stands what it leads to, and all expressions of a program are
+//! nodes of one list (NuSMV 2.6 User Manual, 2.3). The definitions are in `specs/`.
 //!
 //! A call fails where a part of an expression is stuck, which it tells by its place, or where memory runs out.
 #![tactic(auto)]

@@ -22,8 +22,8 @@ use sqlite_items::Items;
 // So many levels may be open at one place of an expression, those of what names stand for among them.
 const LEVELS: usize = 2000;
 
-// More nodes than stand one in another in an expression that is parsed, where what it names was found before. It is four nodes for
-// each level, so that what leads to itself is told as too deep, unless its expressions are larger.
+// More nodes than stand one in another in an expression that is parsed, where what it names was found before. It is
+// four nodes for each level, so that what leads to itself is told as too deep, unless its expressions are larger.
 const ROOM: usize = 4 * (LEVELS + 1);
 
 /// The node of an expression. Where it is stuck, its first stuck part is told.

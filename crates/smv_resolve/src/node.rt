@@ -10,18 +10,18 @@ pub enum Naming {
     Given,
     /// A definition, for its body.
     Defined,
-    /// An element of an array with a constant index, for its slot. No name is resolved to one: it comes where slots are laid out,
-    /// as the next two do.
+    /// An element of an array with a constant index, for its slot. No name is resolved to one: it comes where slots are
+    /// laid out, as the next two do.
     Element,
-    /// An array, for what stands for it, or an element of one by all its indices. The name of the array stands at this place, and
-    /// its first element has the slot of this number.
+    /// An array, for what stands for it, or an element of one by all its indices. The name of the array stands at this
+    /// place, and its first element has the slot of this number.
     Array(Place, usize),
     /// An index with which a parameter was given an array, for that index.
     Passed,
 }
 
-/// A node of an expression without names. Its parts are nodes before it in the same list, by their numbers, so that what
-/// several expressions name stands there once.
+/// A node of an expression without names. Its parts are nodes before it in the same list, by their numbers, so that
+/// what several expressions name stands there once.
 #[derive(Clone, Copy, Debug)]
 pub enum Node {
     Constant(Place, Value),

@@ -1,5 +1,5 @@
-//! What names share is found before the expressions that name it, by a list of what is pending, so that no way from name to name
-//! lies on the stack.
+//! What names share is found before the expressions that name it, by a list of what is pending, so that no way from
+//! name to name lies on the stack.
 
 ghost use Rattle.std.specs.Prelude.{◌≡◌, true, IfOk, OnOk};
 ghost use Rattle.smv_tree.specs.declared.tree.Program.{Program};
@@ -14,9 +14,10 @@ use smv_tree::{Expr, Name, names_in};
 use sqlite_items::Items;
 use std::alloc::AllocError;
 
-// So many nodes stand one in another in an expression that is parsed, names aside: up to 256 levels of it are open, and between
-// two of them there are at most fifteen nodes, one for each level of precedence that opens none, and what opens the next level.
-// Selections come on top: of more than 250 one over another some names may find no room, which is answered as out of memory.
+// So many nodes stand one in another in an expression that is parsed, names aside: up to 256 levels of it are open, and
+// between two of them there are at most fifteen nodes, one for each level of precedence that opens none, and what opens
+// the next level. Selections come on top: of more than 250 one over another some names may find no room, which is
+// answered as out of memory.
 const ROOM: usize = 16 * 257;
 
 // What names share is found however deep it lies.
@@ -32,8 +33,8 @@ pub struct Pending<'a> {
     pub is_begun: bool,
 }
 
-/// Finds what an expression names, and what is named there in turn, each after those that it names. Where a name leads nowhere,
-/// too far or to itself, some may be left.
+/// Finds what an expression names, and what is named there in turn, each after those that it names. Where a name leads
+/// nowhere, too far or to itself, some may be left.
 pub fn find_named(scope: &Scope, memo: &mut Memo, at: usize, e: &Expr) -> Result<(), AllocError>
     requires { AllKnown scope.now.program memo.old }
     ensures known { OnOk result (AllKnown scope.now.program memo.new) }
@@ -97,7 +98,8 @@ fn take_up<'a>(
     Ok(goes_on)
 }
 
-// All that it names is known, and then it is. The answer is whether there is more to do, as there is unless it is stuck.
+// All that it names is known, and then it is. The answer is whether there is more to do, as there is unless it is
+// stuck.
 fn find_next(scope: &Scope, memo: &mut Memo, next: Pending) -> Result<bool, AllocError>
     requires known { AllKnown scope.now.program memo.old }
     requires leads { Leads scope.now.program next }
@@ -122,8 +124,8 @@ fn find_next(scope: &Scope, memo: &mut Memo, next: Pending) -> Result<bool, Allo
     }
 }
 
-// Puts on the list what the names of an expression stand for, as far as it is not known. The answer is whether each of them leads
-// somewhere, and to nothing that was begun.
+// Puts on the list what the names of an expression stand for, as far as it is not known. The answer is whether each of
+// them leads somewhere, and to nothing that was begun.
 fn push_names<'a>(
     scope: &'a Scope,
     memo: &Memo,

@@ -58,8 +58,8 @@ pub fn resolve_items(alloc: Global, scope: &Scope) -> Result<Resolution, Resolve
     })
 }
 
-/// An expression that stands in the instance of this number. Stuck names the place of its first part, in the order of the text, that
-/// leads nowhere or nests too deep: a name, or what opens one level too many.
+/// An expression that stands in the instance of this number. Stuck names the place of its first part, in the order of
+/// the text, that leads nowhere or nests too deep: a name, or what opens one level too many.
 pub fn resolve_expression(
     alloc: Global,
     scope: &Scope,

@@ -1,5 +1,5 @@
--- The symbols of a program: the names among the elements of its enumerations and of `CONSTANTS` (manual 2.1.4, Enumeration Types;
--- 2.3.4, CONSTANTS declarations), in the modules of which there is an instance.
+-- The symbols of a program: the names among the elements of its enumerations and of `CONSTANTS` (manual 2.1.4,
+-- Enumeration Types; 2.3.4, CONSTANTS declarations), in the modules of which there is an instance.
 use Rattle.std.specs.Prelude.{ℕ, ℤ, ◌+◌, ◌==◌, List, [], ◌∷◌, ◌++◌, map, Option, None, Some, position, bytes_eq}
 use Rattle.std.specs.List.{flat_map}
 use Rattle.smv_tree.specs.declared.tree.Program.{Program}

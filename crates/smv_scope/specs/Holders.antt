@@ -1,5 +1,5 @@
--- The variables that have values: all but those that are instances. They are numbered instance by instance, in the order of the
--- source.
+-- The variables that have values: all but those that are instances. They are numbered instance by instance, in the
+-- order of the source.
 use Rattle.std.specs.Prelude.{ℕ, ◌+◌, Bool, true, false, ◌||◌, not, List, Option, None, Some, take, count_by, sum_by}
 use Rattle.smv_tree.specs.declared.tree.Program.{Program}
 use Rattle.smv_tree.specs.declared.tree.Variable.{Variable}

@@ -1,5 +1,5 @@
--- The instances of a program in preorder: `main`, and each variable whose type is a module and that is no array (manual 2.3.11,
--- Module Instantiations).
+-- The instances of a program in preorder: `main`, and each variable whose type is a module and that is no array (manual
+-- 2.3.11, Module Instantiations).
 use Rattle.std.specs.Prelude.{ℕ, zero, suc, ◌+◌, ◌==◌, Bool, false, ◌&&◌, if◌then◌else◌, List, [], ◌∷◌, ◌++◌, length, Option, None, Some, position, slice_get}
 use Rattle.smv_tree.specs.declared.tree.Program.{Program}
 use Rattle.smv_tree.specs.declared.tree.Module.{Module}

@@ -1,4 +1,5 @@
--- Where names lead. A name is looked up in the instance that it stands in (manual 2.3.13, References to Module Components).
+-- Where names lead. A name is looked up in the instance that it stands in (manual 2.3.13, References to Module
+-- Components).
 use Rattle.std.specs.Prelude.{ℕ, zero, suc, if◌then◌else◌, List, [], ◌∷◌, Option, None, Some, position, slice_get, bytes_eq}
 use Rattle.smv_tree.specs.declared.tree.Program.{Program}
 use Rattle.smv_tree.specs.declared.tree.Parameter.{Parameter}
@@ -119,7 +120,8 @@ abbrev pub start_target : Program → ℕ → Start → Target
 start_target p at (start.Own x) = own_target p at x.name
 start_target p at (start.Itself place) = Target.Whole at
 
--- The target of the first members behind an instance, where `go` is that of the others behind the instance they lead to.
+-- The target of the first members behind an instance, where `go` is that of the others behind the instance they lead
+-- to.
 abbrev pub behind_instance : (ℕ → Target) → Target → Target
 behind_instance go (Target.Whole i) = go i
 behind_instance go other = Target.Unknown

@@ -86,8 +86,8 @@ abbrev pub holders_by : Option SymbolTable → ℕ
 holders_by None = 0
 holders_by (Some table) = table.holders
 
--- the number of each parameter, variable and definition that bears a name first, the spots of variables and definitions, and how
--- many variables have values
+-- the number of each parameter, variable and definition that bears a name first, the spots of variables and
+-- definitions, and how many variables have values
 abbrev pub IsTableOf : List Parameter → List Section → Option SymbolTable → Type 0
 IsTableOf parameters sections table =
     ((name : List ℕ) → parameter_by table name ≡ position (λ (x : Parameter). bytes_eq name x.name) parameters)

@@ -1,5 +1,5 @@
-//! The symbols of a program: the names among the elements of its enumerations and of `CONSTANTS`, in the modules of which there
-//! is an instance.
+//! The symbols of a program: the names among the elements of its enumerations and of `CONSTANTS`, in the modules of
+//! which there is an instance.
 
 ghost use Rattle.std.specs.Prelude.{◌≡◌, ◌==◌, ◌++◌, ℕ, List, IfOk, OnOk, map, position, bytes_eq};
 ghost use Rattle.std.specs.List.{flat_map};
@@ -18,8 +18,8 @@ use sqlite_items::Items;
 use std::alloc::{AllocError, Global};
 use std::collections::HashMap;
 
-/// The symbols of a program with these modules and instances, as often as they are named, and the number of each: where it is named
-/// first.
+/// The symbols of a program with these modules and instances, as often as they are named, and the number of each: where
+/// it is named first.
 pub fn numbered_symbols(
     alloc: Global,
     modules: &[Module],

@@ -1,5 +1,5 @@
-//! The variables that have values, counted: those of a module before each of its variables, and those of all instances before
-//! each one.
+//! The variables that have values, counted: those of a module before each of its variables, and those of all instances
+//! before each one.
 
 ghost use Rattle.std.specs.Prelude.{◌≡◌, ◌≤◌, ◌++◌, ℕ, List, map, slice_get, IfOk, OnOk};
 ghost use Rattle.std.specs.Borrow.{Bor};
@@ -74,8 +74,8 @@ pub(crate) fn rank_of(scope: &Scope, m: usize, v: usize) -> usize
     }
 }
 
-/// For each instance how many variables have values in those before it. Memory is refused where there are more than can be
-/// counted.
+/// For each instance how many variables have values in those before it. Memory is refused where there are more than can
+/// be counted.
 pub(crate) fn first_holders(
     alloc: Global,
     program: &Program,

@@ -51,8 +51,8 @@ impl From<AllocError> for LayoutStop {
     }
 }
 
-/// The instances of a program. More than 100000 are refused; the other error is running out of memory. It costs what the
-/// instances and the modules do, and not the instances times their variables.
+/// The instances of a program. More than 100000 are refused; the other error is running out of memory. It costs what
+/// the instances and the modules do, and not the instances times their variables.
 pub fn lay_out(alloc: Global, program: Program) -> Result<Scope, LayoutStop>
     ensures { LaysOut program result }
 {

@@ -1,5 +1,5 @@
-//! Where names lead: the modules of a program, their instances, the variables that have values, and what a name stands for in an
-//! instance (NuSMV 2.6 User Manual, 2.3). The definitions are in `specs/`.
+//! Where names lead: the modules of a program, their instances, the variables that have values, and what a name stands
+//! for in an instance (NuSMV 2.6 User Manual, 2.3). The definitions are in `specs/`.
 //!
 //! The only error of a call but `lay_out` is running out of memory.
 #![tactic(auto)]

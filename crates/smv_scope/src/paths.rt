@@ -10,7 +10,8 @@ use crate::modules::variable_at;
 use plain_text::Text;
 use std::alloc::{AllocError, Global};
 
-/// The names of the variables that lead from `main` to the instance of this number, with dots between; empty for `main`.
+/// The names of the variables that lead from `main` to the instance of this number, with dots between; empty for
+/// `main`.
 pub fn path_of(alloc: Global, scope: &Scope, at: usize) -> Result<Text, AllocError>
     ensures { IfOk result (λ path. path ≡ path_of scope.now.program at) }
 {

@@ -34,8 +34,8 @@ pub struct Spot {
     pub index: usize,
 }
 
-/// For each name of a module the number of the first parameter, variable and definition that bears it; where each variable and
-/// each definition stands; and which variables have values.
+/// For each name of a module the number of the first parameter, variable and definition that bears it; where each
+/// variable and each definition stands; and which variables have values.
 #[derive(Debug, Drop)]
 pub struct SymbolTable {
     pub parameters: IndexMap<String, usize>,

@@ -9,7 +9,8 @@ pub enum NameTarget<'a> {
     Variable(usize),
     /// The instance of this number.
     Whole(usize),
-    /// What the parameter of this number of the instance `at` was given, an expression that stands in the instance `owner`.
+    /// What the parameter of this number of the instance `at` was given, an expression that stands in the instance
+    /// `owner`.
     Given {
         at: usize,
         parameter: usize,

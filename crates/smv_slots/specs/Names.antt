@@ -14,8 +14,8 @@ use Rattle.smv_slots.specs.declared.slot.Slot.{Slot}
 abbrev pub bracketed : ℤ → List ℕ
 bracketed z = codes "[" ++ signed_decimal z ++ codes "]"
 
--- The indices of the element of number k of an array of these dimensions. The elements with one first index stand together, as
--- many as an array of the other dimensions has.
+-- The indices of the element of number k of an array of these dimensions. The elements with one first index stand
+-- together, as many as an array of the other dimensions has.
 abbrev pub indices_of : List Bounds → ℕ → List ℕ
 indices_of [] k = []
 indices_of (b ∷ bs) k = bracketed (b.low +ℤ pos (k / size_of bs)) ++ indices_of bs (k % size_of bs)

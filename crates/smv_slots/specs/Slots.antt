@@ -1,5 +1,5 @@
--- The slots of a program: one for each variable that has a value, and one for each element of an array, instance by instance, in
--- the order of the source (NuSMV 2.6 User Manual, 2.1.6, Array Types; 2.3.1, Variable Declarations).
+-- The slots of a program: one for each variable that has a value, and one for each element of an array, instance by
+-- instance, in the order of the source (NuSMV 2.6 User Manual, 2.1.6, Array Types; 2.3.1, Variable Declarations).
 use Rattle.std.specs.Prelude.{ℕ, ◌+◌, Bool, true, false, if◌then◌else◌, List, [], ◌∷◌, ◌++◌, map, replicate, take, Option, None, Some, slice_get}
 use Rattle.std.specs.List.{flat_map, range_with_len, zip}
 use Rattle.smv_tree.specs.declared.tree.Program.{Program}
@@ -46,8 +46,8 @@ element_at x k = record { instance = x.instance; variable = x.variable; kind = x
 abbrev pub elements_of : Holder × VariableType → List Slot
 elements_of x = map (element_at x.0) (range_with_len 0 (size_of x.1.dimensions))
 
--- Each slot with its own number, and its index: its number among the inputs, or among the slots of the state. So many of the
--- state, and so many inputs, stand before these.
+-- Each slot with its own number, and its index: its number among the inputs, or among the slots of the state. So many
+-- of the state, and so many inputs, stand before these.
 abbrev pub indexed : ℕ → ℕ → List Slot → List Slot
 indexed held inputs [] = []
 indexed held inputs (x ∷ xs) =

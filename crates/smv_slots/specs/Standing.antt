@@ -15,8 +15,8 @@ use Rattle.smv_slots.specs.Slots.{first_slot, slots_of, types_of}
 abbrev pub IsElementOf : Holder → ℕ → Slot → Type 0
 IsElementOf x k slot = (slot.instance ≡ x.instance) × (slot.variable ≡ x.variable) × (slot.kind ≡ x.kind) × (slot.element ≡ k)
 
--- The slot so many places behind the first slot of the n-th variable that has a value is its element of that number, and of the type
--- of its elements. The variable of number v of an instance is the n-th of all that have values.
+-- The slot so many places behind the first slot of the n-th variable that has a value is its element of that number,
+-- and of the type of its elements. The variable of number v of an instance is the n-th of all that have values.
 abbrev pub StandsAt : Program → (at v n k : ℕ) → VariableKind × Variable → Type 0
 StandsAt p at v n k x =
     IsSomeAnd (slice_get (slots_of p) (first_slot (variable_types_of p) n + k)) (IsElementOf (record { instance = at; variable = v; kind = x.0 }) k)

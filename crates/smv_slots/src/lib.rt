@@ -1,5 +1,5 @@
-//! The slots of a program: its values one by one, those of arrays element by element (NuSMV 2.6 User Manual, 2.1.6, Array Types;
-//! 2.3.1, Variable Declarations). The definitions are in `specs/`.
+//! The slots of a program: its values one by one, those of arrays element by element (NuSMV 2.6 User Manual, 2.1.6,
+//! Array Types; 2.3.1, Variable Declarations). The definitions are in `specs/`.
 #![tactic(auto)]
 
 mod names;

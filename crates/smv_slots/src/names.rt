@@ -12,11 +12,11 @@ use smv_declared::{Bounds, VariableType};
 use smv_scope::{Scope, holder_number, path_of, variable_name};
 use std::alloc::{AllocError, Global};
 
-/// The name of a slot behind the path of its instance, as `m.x`; that of an element with its indices, as `m.a[2][-1]`. The
-/// variables that have values are of these types, in their order.
+/// The name of a slot behind the path of its instance, as `m.x`; that of an element with its indices, as `m.a[2][-1]`.
+/// The variables that have values are of these types, in their order.
 ///
-/// Linear in the name, and quadratic in the dimensions of an array. Memory is also refused where an array has more elements, or an
-/// index is greater, than can be counted.
+/// Linear in the name, and quadratic in the dimensions of an array. Memory is also refused where an array has more
+/// elements, or an index is greater, than can be counted.
 pub fn slot_name(
     alloc: Global,
     scope: &Scope,

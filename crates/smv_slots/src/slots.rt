@@ -14,11 +14,11 @@ use smv_tree::{Section, Variable, VariableKind};
 use sqlite_items::Items;
 use std::alloc::{AllocError, Global};
 
-/// The slots of a program, instance by instance in the order of the source, those of an array with its last index fastest (NuSMV
-/// 2.6 User Manual, 2.1.6 and 2.3.1). The variables that have values are of these types, in their order.
+/// The slots of a program, instance by instance in the order of the source, those of an array with its last index
+/// fastest (NuSMV 2.6 User Manual, 2.1.6 and 2.3.1). The variables that have values are of these types, in their order.
 ///
-/// Linear in the declarations of all instances and in the slots. Memory is also refused where there are more slots than can be
-/// counted.
+/// Linear in the declarations of all instances and in the slots. Memory is also refused where there are more slots than
+/// can be counted.
 #[tactic(auto, unfolding(crate::specs::Slots::slots_of))]
 pub fn slots_of(
     alloc: Global,

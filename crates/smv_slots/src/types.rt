@@ -11,10 +11,11 @@ use sqlite_items::Items;
 use std::alloc::{AllocError, Global};
 use value_types::ValueType;
 
-/// The type of each slot of a program, whose variables that have values are of these types: that of an element, once for each.
+/// The type of each slot of a program, whose variables that have values are of these types: that of an element, once
+/// for each.
 ///
-/// Linear in the slots and in the elements of their enumerations. Memory is also refused where there are more slots than can be
-/// counted.
+/// Linear in the slots and in the elements of their enumerations. Memory is also refused where there are more slots
+/// than can be counted.
 #[tactic(auto, unfolding(crate::specs::Slots::types_of))]
 pub fn types_of(alloc: Global, variables: &[VariableType]) -> Result<Items<ValueType>, AllocError>
     ensures { IfOk result (λ types. (p : Program) → variables.now ≡ variable_types_of p → types ≡ types_of p) }

@@ -1,4 +1,5 @@
--- Comments (NuSMV 2.6 User Manual, 2.1, Comments). They do not nest, and may hold any byte: both are own choices of this project.
+-- Comments (NuSMV 2.6 User Manual, 2.1, Comments). They do not nest, and may hold any byte: both are own choices of
+-- this project.
 use Rattle.std.specs.Prelude.{ℕ, suc, ◌==◌, Bool, true, false, ◌&&◌, if◌then◌else◌, List, [], ◌∷◌, Option, None, Some}
 
 -- "--" begins a comment ..

@@ -1,5 +1,6 @@
 -- Which words of bytes are lexemes of the language, and what each is (NuSMV 2.6 User Manual, 2.1, Lexical Structure).
--- White space is space, tab, line feed, vertical tab, form feed and carriage return: the set is an own choice of this project.
+-- White space is space, tab, line feed, vertical tab, form feed and carriage return: the set is an own choice of this
+-- project.
 use Rattle.std.specs.Prelude.{ℕ, ◌==◌, nat_le, Bool, ◌&&◌, ◌||◌, if◌then◌else◌, List, [], ◌∷◌, length, drop, Option, None, Some}
 use Rattle.std.specs.Char.{is_ascii_alphabetic, is_ascii_alphanumeric, is_ascii_digit}
 use Rattle.std.specs.List.{list_all}

@@ -1,4 +1,5 @@
--- Integers and word constants (NuSMV 2.6 User Manual, 2.1, Integer Numbers and Word Constants; limits are own choices of this project).
+-- Integers and word constants (NuSMV 2.6 User Manual, 2.1, Integer Numbers and Word Constants; limits are own choices
+-- of this project).
 use Rattle.std.specs.Prelude.{ℕ, ◌+◌, ◌*◌, ◌^◌, ◌==◌, nat_lt, nat_le, Bool, false, ◌&&◌, ◌||◌, if◌then◌else◌, List, [], ◌∷◌, length, take, drop, count_by, not}
 use Rattle.std.specs.Char.{is_ascii_digit, is_ascii_alphanumeric, digit_value, is_digit}
 use Rattle.std.specs.List.{list_all, prefix_len}

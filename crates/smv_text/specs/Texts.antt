@@ -49,7 +49,8 @@ IsText bytes tokens = (length bytes ≤ source_limit) × AreTokens bytes tokens.
 abbrev pub IsTooLarge : List ℕ → Rule → Place → Type 0
 IsTooLarge bytes rule place = (source_limit < length bytes) × (rule ≡ SourceTooLarge) × (place ≡ places.start)
 
--- The rule is the first that is broken, and this is its first place: the source is too large; or it is not, and has a flaw.
+-- The rule is the first that is broken, and this is its first place: the source is too large; or it is not, and has a
+-- flaw.
 abbrev pub IsBrokenAt : List ℕ → Rule → Place → Type 0
 IsBrokenAt bytes rule place = IsTooLarge bytes rule place ⊎ ((length bytes ≤ source_limit) × IsBrokenFirst bytes rule place)
 

@@ -4,7 +4,8 @@ use Rattle.smv_value.specs.declared.value.Value.{Value}
 use Rattle.smv_value.specs.declared.value.Value.TheVariants as value
 use Rattle.smv_text.specs.Numbers.{number_in, base_of, behind_sign, width_of, fits_width, width_len}
 
--- the word of these digits and so many bits, where they fit: the digits write its bits as a number, of a signed word too
+-- the word of these digits and so many bits, where they fit: the digits write its bits as a number, of a signed word
+-- too
 abbrev pub word_of : Bool → ℕ → ℕ → List ℕ → Option Value
 word_of signed letter bits digits = if fits_width letter bits digits then Some (value.Word signed bits (number_in (base_of letter) digits)) else None
 

@@ -10,8 +10,8 @@ use smv_tree::TokenKind;
 /// The first letter of the first row of words.
 const FIRST_LETTER: u8 = b'A';
 
-/// The words with a meaning: the reserved words, the names of functions, and the words of NuSMV that the language does without.
-/// Each row has those that begin with one letter, from `A` on to `x`.
+/// The words with a meaning: the reserved words, the names of functions, and the words of NuSMV that the language does
+/// without. Each row has those that begin with one letter, from `A` on to `x`.
 static WORDS: [&[(&[u8], TokenKind)]; 56] = [
     &[
         (b"ASSIGN", TokenKind::Assign),

@@ -65,9 +65,9 @@ fn is_signed(text: &[u8]) -> bool
     }
 }
 
-/// The word that a word constant in form writes: its sign, its width and its bits (NuSMV 2.6 User Manual, 2.1, Word Constants).
-/// `None` where the digits do not fit the width, or the width is none from 1 to 128. The time is linear in the text, and no
-/// memory is taken.
+/// The word that a word constant in form writes: its sign, its width and its bits (NuSMV 2.6 User Manual, 2.1, Word
+/// Constants). `None` where the digits do not fit the width, or the width is none from 1 to 128. The time is linear in
+/// the text, and no memory is taken.
 #[tactic(auto, unfolding(crate::specs::Written::word_written))]
 pub fn word_written(text: &[u8]) -> Option<Value>
     ensures { result ≡ word_written text.now }

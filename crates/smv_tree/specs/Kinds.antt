@@ -4,7 +4,8 @@ use Rattle.smv_tree.specs.declared.token.Token.{Token}
 use Rattle.smv_tree.specs.declared.token.TokenKind.{TokenKind}
 use Rattle.smv_tree.specs.declared.token.TokenKind.TheVariants as kind
 
--- A number for each kind, by which kinds are told apart. No two kinds have the same: `kinds_are_told_apart` of smv_phrases says it.
+-- A number for each kind, by which kinds are told apart. No two kinds have the same: `kinds_are_told_apart` of
+-- smv_phrases says it.
 abbrev pub number_of : TokenKind → ℕ
 number_of kind.Module = 0
 number_of kind.Var = 1

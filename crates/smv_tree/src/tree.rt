@@ -63,8 +63,8 @@ pub enum VariableKind {
     Frozen,
 }
 
-/// The indices of an array as they are written: the integers from the first bound to the second, both among them (manual
-/// 2.1.6, Array Types).
+/// The indices of an array as they are written: the integers from the first bound to the second, both among them
+/// (manual 2.1.6, Array Types).
 #[derive(Debug, Drop)]
 pub struct Dimension {
     pub low: Expr,
@@ -213,6 +213,7 @@ pub enum Expr {
     Next(Place, Boxed<Expr>),
     /// A first operand and then, from left to right, operators of one precedence level and their operands.
     Chain(Boxed<Expr>, Items<(Place, Operator, Expr)>),
-    /// An operator with its operands: those that stand beside it, on its own level, and then those that stand a level below.
+    /// An operator with its operands: those that stand beside it, on its own level, and then those that stand a level
+    /// below.
     Apply(Place, Operator, Items<Expr>, Items<Expr>),
 }

@@ -438,7 +438,8 @@ array_unset operator.Index xs e = not_constant operator.Index xs refl
 array_unset operator.WholeArray xs e = not_constant operator.WholeArray xs refl
 array_unset other xs e = absurd (false≢true e)
 
--- An operator over operands of kinds that it takes gives values of the kind that is told, or faults, where that is no array.
+-- An operator over operands of kinds that it takes gives values of the kind that is told, or faults, where that is no
+-- array.
 pub applied_fits : (o : Operator) (place : Place) (xs : List Operand) (os : List Outcome) (k : Kind) → is_temporal o ≡ false → makes_array o ≡ false → AllKnown xs os → kind_given o xs ≡ Ok k →
     Fits k (applied o place os)
 applied_fits (operator.Choice rule) place xs os k t n h e = turns_fit k rule place xs os h (chosen_turns xs k e) (all_branches xs k e)

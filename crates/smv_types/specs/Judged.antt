@@ -42,8 +42,8 @@ timed (Some v) = Some (record { violation = v; bounds = None })
 abbrev pub of_name : Bool → Context
 of_name set = under_name (of_step set)
 
--- What is noted is the first refusal in each context: where a step is spoken of, in what a name stands for there, where a state is,
--- each without sets and with them, and where a path is.
+-- What is noted is the first refusal in each context: where a step is spoken of, in what a name stands for there, where
+-- a state is, each without sets and with them, and where a path is.
 pub record AreNotes (refusal : Context → Option Refusal) (n : Notes) : Type 0 where
   pub step : as_refusal n.step ≡ refusal (of_step false)
   pub step_set : as_refusal n.step_set ≡ refusal (of_step true)

@@ -96,8 +96,8 @@ under_element c = record c { temporal = false }
 abbrev pub under_next : Context → Context
 under_next c = of_state c.set
 
--- Under the operand of this number: temporal operators stand under propositions and temporal operators alone, and sets on the
--- right of `in`, too.
+-- Under the operand of this number: temporal operators stand under propositions and temporal operators alone, and sets
+-- on the right of `in`, too.
 abbrev pub under_operand : Operator → ℕ → Context → Context
 under_operand o k c = record c { temporal = c.temporal && is_over_formulas o; set = takes_sets o k c.set }
 
@@ -206,8 +206,8 @@ abbrev pub is_some_constant : Constant → Bool
 is_some_constant NotConstant = false
 is_some_constant other = true
 
--- Bounds that stay as they are written are none: they are no constants, or constants that lie outside. As constants they are whole
--- numbers, whatever their parts are; those of more than 128 bits are not told.
+-- Bounds that stay as they are written are none: they are no constants, or constants that lie outside. As constants
+-- they are whole numbers, whatever their parts are; those of more than 128 bits are not told.
 abbrev pub window_refusal : Place → List Constant → Refusal
 window_refusal place (low ∷ high ∷ cs) =
     if is_some_constant low && is_some_constant high then with_bounds place (both low high) else plain rule.NotConstant place
@@ -252,9 +252,10 @@ place_of (Resolved.Next place r) = place
 place_of (Resolved.Apply place o rs) = place
 place_of Resolved.Stuck = start
 
--- The first refusal in an expression: operands before their operator, from left to right; at an operator contexts before kinds.
--- What a definition stands for has to have values, and is refused at its own place where it is an instance. The name of an array
--- comes before the indices: where no input may stand, that of an array of inputs is refused, whatever the indices are.
+-- The first refusal in an expression: operands before their operator, from left to right; at an operator contexts
+-- before kinds. What a definition stands for has to have values, and is refused at its own place where it is an
+-- instance. The name of an array comes before the indices: where no input may stand, that of an array of inputs is
+-- refused, whatever the indices are.
 abbrev mutual
   pub kind_refusal : List Slot → List ValueType → Context → Resolved → Option Refusal
   kind_refusal slots types c (Resolved.Constant place v) = constant_here place v
@@ -292,8 +293,8 @@ abbrev pub slot_takes : AssignmentKind → Option Slot → Bool
 slot_takes which None = false
 slot_takes which (Some slot) = takes_assignment which slot.kind
 
--- What is assigned is a variable, by its name or as a parameter was given it, or an element of an array, by an index that is a
--- constant. An instance and a whole array are told as ones of another kind.
+-- What is assigned is a variable, by its name or as a parameter was given it, or an element of an array, by an index
+-- that is a constant. An instance and a whole array are told as ones of another kind.
 abbrev pub is_assignable : List Slot → AssignmentKind → Resolved → Bool
 is_assignable slots which (Resolved.Slot place n) = slot_takes which (slice_get slots n)
 is_assignable slots which (Resolved.Whole place i) = true
@@ -339,7 +340,8 @@ index_rule true = rule.BadSelection
 abbrev pub not_within : Place → Bool → Bool → Option Refusal
 not_within place within constant = if within then None else Some (plain (index_rule constant) place)
 
--- What may stand in what a parameter was given and in an index, on a left side: no `next`. A left side is in no context else.
+-- What may stand in what a parameter was given and in an index, on a left side: no `next`. A left side is in no context
+-- else.
 abbrev pub on_the_left : Bool → Context
 on_the_left set = under_name (of_step set)
 
@@ -348,16 +350,16 @@ abbrev pub defined_refusal : List Slot → List ValueType → Resolved → Optio
 defined_refusal slots types (Resolved.Named place naming.Defined r) = kind_refusal slots types (on_the_left false) (Resolved.Named place naming.Defined r)
 defined_refusal slots types other = None
 
--- An index of an array that waits for more: where the array is broken by none, the index is judged, then the two by their kinds;
--- and it is a constant, and one of the array.
+-- An index of an array that waits for more: where the array is broken by none, the index is judged, then the two by
+-- their kinds; and it is a constant, and one of the array.
 abbrev pub waiting_refusal : List Slot → List ValueType → Place → Resolved → Resolved → Option Refusal
 waiting_refusal slots types place a i =
     or_else (kind_refusal slots types (on_the_left false) i)
     (or_else (kinds_broken place operator.Index [] (kind_in_context false operator.Index (told slots types a ∷ told slots types i ∷ [])))
     (not_within place (is_within i) (is_some (told slots types i).constant)))
 
--- An index by which an element is chosen: where a parameter was given it, it is judged as what it was given, and then those that
--- follow are; any other is refused, since it is no constant, or none of the array.
+-- An index by which an element is chosen: where a parameter was given it, it is judged as what it was given, and then
+-- those that follow are; any other is refused, since it is no constant, or none of the array.
 abbrev pub chosen_refusal : List Slot → List ValueType → Place → Resolved → Option Refusal → Option Refusal
 chosen_refusal slots types place condition inner =
     if is_passed condition then or_else (kind_refusal slots types (on_the_left true) condition) inner
@@ -430,7 +432,8 @@ at_root window place k (Some r) = Some (first_at_root (window || is_boolean k) p
 abbrev pub formula_refusal : List Slot → List ValueType → Context → Resolved → Option Refusal
 formula_refusal slots types c r = at_root (is_window r) (place_of r) (told slots types r).kind (kind_refusal slots types c r)
 
--- The left side of an assignment: what a parameter was given there and the indices, what may be assigned, and that it has values.
+-- The left side of an assignment: what a parameter was given there and the indices, what may be assigned, and that it
+-- has values.
 abbrev pub left_refusal : List Slot → List ValueType → Place → AssignmentKind → Resolved → Option Refusal
 left_refusal slots types place which target =
     or_else (inner_refusal slots types target) (or_else (target_refusal slots place which target) (no_value place (told slots types target).kind))

@@ -28,8 +28,8 @@ pub struct TimedViolation {
     pub bounds: Option<(i128, i128)>,
 }
 
-/// The first rule that an expression breaks, by where it stands: where a step is spoken of, in what a name stands for there, where
-/// a state is spoken of, each without sets and with them; and where a path is spoken of.
+/// The first rule that an expression breaks, by where it stands: where a step is spoken of, in what a name stands for
+/// there, where a state is spoken of, each without sets and with them; and where a path is spoken of.
 #[derive(Clone, Copy, Debug)]
 pub struct Notes {
     pub step: Option<Violation>,

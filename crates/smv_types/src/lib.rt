@@ -1,6 +1,6 @@
-//! The rules of names, types and kinds: a program whose names all lead to what they may, or the first rule that it breaks. The rules
-//! of names are those of `smv_names`, those of declared types of `smv_declared`; those of depth, kinds and contexts are here. The
-//! definitions are in `specs/`.
+//! The rules of names, types and kinds: a program whose names all lead to what they may, or the first rule that it
+//! breaks. The rules of names are those of `smv_names`, those of declared types of `smv_declared`; those of depth,
+//! kinds and contexts are here. The definitions are in `specs/`.
 #![tactic(auto)]
 
 mod items;

@@ -22,38 +22,42 @@ use smv_verdicts::refused;
 use std::alloc::Global;
 use value_types::ValueType;
 
-/// The program with its instances, its slots, their types and its items, where it breaks no rule of names, types and kinds; else
-/// the first rule that it breaks, at that rule's first place.
+/// The program with its instances, its slots, their types and its items, where it breaks no rule of names, types and
+/// kinds; else the first rule that it breaks, at that rule's first place.
 ///
-/// First the rules of names are judged, as `smv_names::check_names` says; then these, of the items of all instances, in preorder
-/// and in the order of the text. Their order is an own choice of this project, as their numbers and places are (NuSMV 2.6 User
-/// Manual, chapter 2, says what is asked, and not in which order).
+/// First the rules of names are judged, as `smv_names::check_names` says; then these, of the items of all instances, in
+/// preorder and in the order of the text. Their order is an own choice of this project, as their numbers and places are
+/// (NuSMV 2.6 User Manual, chapter 2, says what is asked, and not in which order).
 ///
-/// - `UnfoldedDepth`: more than 2000 levels are open in an expression, where names are followed. At the item that it stands in,
-///   with no detail.
+/// - `UnfoldedDepth`: more than 2000 levels are open in an expression, where names are followed. At the item that it
+///   stands in, with no detail.
 /// - The rules of declared types, as `smv_declared::declared_types` says.
 /// - `TooManySlots`: there are more than 65536 variables and elements of arrays. At the first byte, with no detail.
 ///
-/// And then item by item, operands before their operator, and at one place in this order, with no detail but for the last:
+/// And then item by item, operands before their operator, and at one place in this order, with no detail but for the
+/// last:
 ///
-/// - `NextHere`: `next` stands elsewhere than in the right side of `next(x) := e` and in TRANS, or it stands under `next` or in
-///   what a name stands for (2.3.5, 2.3.7, 2.3.8). At the `next`.
+/// - `NextHere`: `next` stands elsewhere than in the right side of `next(x) := e` and in TRANS, or it stands under
+///   `next` or in what a name stands for (2.3.5, 2.3.7, 2.3.8). At the `next`.
 /// - `InputHere`: an input stands where no step and no path is spoken of (2.3.5, 2.3.6). At its name.
-/// - `TemporalHere`: a temporal operator stands elsewhere than in LTLSPEC, or there under what is neither a proposition nor a
-///   temporal operator, or in what a name stands for (2.4.3). At the operator.
-/// - `SetHere`: a set stands elsewhere than in what is assigned and on the right of `in` (2.3.8). At the operator that makes it.
-/// - `TypeMismatch`: the operands of an operator are of other kinds, or there are more or fewer of them, as `smv_kinds` says; what
-///   is assigned and its value are not both boolean, of one word type, or both discrete; what is asked for or claimed is no
-///   boolean; an instance or an array stands where a value is wanted. At the operator, the assignment or the whole expression.
-/// - `WordWidth`: an operator gives a word wider than 128 bits, `resize` takes bits from a signed word, or a word constant is not
-///   in the range of its type. At the operator.
-/// - `NotConstant`: what is no constant stands where one is asked. At the operator that asks for it, of an element that is
-///   assigned at the `[` of its index.
-/// - `BadSelection`: bits are taken that a word does not have, or an element is assigned that its array does not have. At the
-///   operator.
+/// - `TemporalHere`: a temporal operator stands elsewhere than in LTLSPEC, or there under what is neither a proposition
+///   nor a temporal operator, or in what a name stands for (2.4.3). At the operator.
+/// - `SetHere`: a set stands elsewhere than in what is assigned and on the right of `in` (2.3.8). At the operator that
+///   makes it.
+/// - `TypeMismatch`: the operands of an operator are of other kinds, or there are more or fewer of them, as `smv_kinds`
+///   says; what is assigned and its value are not both boolean, of one word type, or both discrete; what is asked for
+///   or claimed is no boolean; an instance or an array stands where a value is wanted. At the operator, the assignment
+///   or the whole expression.
+/// - `WordWidth`: an operator gives a word wider than 128 bits, `resize` takes bits from a signed word, or a word
+///   constant is not in the range of its type. At the operator.
+/// - `NotConstant`: what is no constant stands where one is asked. At the operator that asks for it, of an element that
+///   is assigned at the `[` of its index.
+/// - `BadSelection`: bits are taken that a word does not have, or an element is assigned that its array does not have.
+///   At the operator.
 /// - `NotAssignable`: what is assigned is no variable that may be assigned so (2.3.8). At the assignment.
 /// - `IntWidth`: an operator may give integers of more than 32 bits. At the operator.
-/// - `BadBound`: the bounds of a temporal operator are out of order, or greater than 255. At the operator, with the bounds.
+/// - `BadBound`: the bounds of a temporal operator are out of order, or greater than 255. At the operator, with the
+///   bounds.
 ///
 /// Linear in the nodes of all expressions, where what several items name counts once.
 ///

@@ -228,7 +228,8 @@ abbrev pub three : (Value → Value → Value → Option Value) → List Value �
 three f (a ∷ b ∷ c ∷ []) = f a b c
 three f other = None
 
--- The table: what an operator gives of one value of each operand; nothing where the kinds do not fit, or where it gives sets.
+-- The table: what an operator gives of one value of each operand; nothing where the kinds do not fit, or where it gives
+-- sets.
 abbrev pub value_of : Operator → List Value → Option Value
 value_of operator.Not = one inverted
 value_of (operator.Logic o) = two (logical o)

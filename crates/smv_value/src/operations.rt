@@ -12,8 +12,8 @@ use crate::values::{
 };
 use crate::{FaultRule, Operator, Value, integers};
 
-/// What an operator gives of one value of each operand: a value, or nothing where their kinds do not fit or it gives sets. The
-/// error is a fault.
+/// What an operator gives of one value of each operand: a value, or nothing where their kinds do not fit or it gives
+/// sets. The error is a fault.
 pub fn apply(operator: Operator, operands: &[Value]) -> Result<Option<Value>, FaultRule>
     ensures { result ≡ result_of operator operands.now }
 {

@@ -103,8 +103,8 @@ pub enum Operator {
     /// `a..b`
     Range,
     In,
-    /// Conditions and branches by turns, and perhaps a last branch without a condition: `case`, `? :`, and an element of an array by
-    /// its index. Where no condition is TRUE it faults by this rule.
+    /// Conditions and branches by turns, and perhaps a last branch without a condition: `case`, `? :`, and an element
+    /// of an array by its index. Where no condition is TRUE it faults by this rule.
     Choice(FaultRule),
     /// `word1`
     ToWord,

@@ -48,9 +48,9 @@ fn show<K: Sink>(alloc: Global, sink: &mut K, command: Command, report: &[u8]) -
 
 /// Does what the words behind the program's name say, and answers the status.
 ///
-/// The words are judged first: where they are no command line, the line of usage is written and nothing is read. Else the
-/// report is read to its end, and what shows its traces is written at once. 5 comes just where a read failed, 6 just where
-/// a write failed, and 7 where memory was refused.
+/// The words are judged first: where they are no command line, the line of usage is written and nothing is read. Else
+/// the report is read to its end, and what shows its traces is written at once. 5 comes just where a read failed, 6
+/// just where a write failed, and 7 where memory was refused.
 pub fn run<S: Source, K: Sink>(alloc: Global, words: &[&str], source: &mut S, sink: &mut K) -> u8
     // What was taken is all that is to be written for the words and the report, with its status.
     ensures answered { result ≤ 4 → Answered (map (λ w. w.now) words.now) (S.left source.old) (K.taken sink.old) (K.taken sink.new) result }

@@ -113,8 +113,8 @@ fn put(alloc: Global, cert: &mut Certificate, part: Part, hints: &[u8]) -> Resul
     }
 }
 
-// The form; the one clause, in letters of which `a` is the state bit and `b` that of the next state; the hints of the empty step of its parts `first` and `kept` and of `safe`; and what is said
-// of the certificate.
+// The form; the one clause, in letters of which `a` is the state bit and `b` that of the next state; the hints of the
+// empty step of its parts `first` and `kept` and of `safe`; and what is said of the certificate.
 struct Row(
     Form,
     &'static [u8],

@@ -1,5 +1,5 @@
-//! Tests of clauses, derivations, certificates, propagation, solvers and purses, through the public calls of their crates:
-//! what no clause says, tables of worked cases, and each call once with ample memory.
+//! Tests of clauses, derivations, certificates, propagation, solvers and purses, through the public calls of their
+//! crates: what no clause says, tables of worked cases, and each call once with ample memory.
 #![tactic(auto)]
 
 #[cfg(test)]

@@ -10,9 +10,9 @@ use sat_prop::{Propagator, Scan, Trail, Watched};
 use std::alloc::{AllocError, Global};
 use std::test::Fail;
 
-// Clauses over c, a, b, in this order, a decision, and the values after propagation of the clauses; then, if the decision
-// was unset, those after it, and those after it is taken back. A small letter is a variable, a capital one its negation,
-// and a dot ends a clause; 0 stands for unset, 1 for true, 2 for false, and 9 for a conflict.
+// Clauses over c, a, b, in this order, a decision, and the values after propagation of the clauses; then, if the
+// decision was unset, those after it, and those after it is taken back. A small letter is a variable, a capital one its
+// negation, and a dot ends a clause; 0 stands for unset, 1 for true, 2 for false, and 9 for a conflict.
 struct Row(&'static str, u8, &'static str);
 
 const ROWS: [Row; 10] = [

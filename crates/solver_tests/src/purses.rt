@@ -230,8 +230,8 @@ fn join_three(purse: &SharedPurse, a: Seat, b: Seat, c: Seat, order: u8) -> Seat
     }
 }
 
-// The budget and the bounds, and what six questions of three seats get: the numbers and the lengths as bits, and whether
-// the purse is spent then.
+// The budget and the bounds, and what six questions of three seats get: the numbers and the lengths as bits, and
+// whether the purse is spent then.
 struct Asked {
     budget: u32,
     bounds: u32,

@@ -10,8 +10,8 @@ use sat_prop::{Propagator, Scan, Watched};
 use std::alloc::{AllocError, Global};
 use std::test::Fail;
 
-// Clauses, assumptions, a budget; what is answered: `s` for a model, `u` for a core, `x` for a spent purse; and the size
-// of the core. A small letter is a variable, a capital one its negation, and a dot ends a clause.
+// Clauses, assumptions, a budget; what is answered: `s` for a model, `u` for a core, `x` for a spent purse; and the
+// size of the core. A small letter is a variable, a capital one its negation, and a dot ends a clause.
 struct Row(&'static str, &'static str, u64, char, usize);
 
 const SMALL: [Row; 15] = [

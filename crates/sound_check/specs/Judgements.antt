@@ -17,7 +17,8 @@ parts_of (Some parts) = parts
 abbrev pub part_of : List (Option HintedLog) → ℕ → Option HintedLog
 part_of parts item = slice_index_or parts item None
 
--- The part is there, and derives the empty clause from the question's clauses. Where nothing is asked no part is looked at.
+-- The part is there, and derives the empty clause from the question's clauses. Where nothing is asked no part is looked
+-- at.
 abbrev pub PartShows : Option Decided → Option HintedLog → Type 0
 PartShows None part = ⊤
 PartShows (Some d) part = Shows Plain d.vars d.clauses part

@@ -1,4 +1,5 @@
--- What is asked about items: of each, clauses that can be met where it faults, and only if it does somewhere, or nothing where it never does.
+-- What is asked about items: of each, clauses that can be met where it faults, and only if it does somewhere, or
+-- nothing where it never does.
 use Rattle.std.specs.Prelude.{◌≡◌, ℕ, ◌<◌, Bool, List, All, Option, None, Some, IfSome, slice_get, slice_index_or}
 use Rattle.clause_core.specs.declared.literal.Lit.{Lit}
 use Rattle.clause_core.specs.Assignments.{ClauseTrue}

@@ -1,5 +1,5 @@
-//! Tests of temporal formulas, their tables and monitors, and of the search for lassos, through the public calls of their
-//! crates: tables of worked cases, and each call once with ample memory.
+//! Tests of temporal formulas, their tables and monitors, and of the search for lassos, through the public calls of
+//! their crates: tables of worked cases, and each call once with ample memory.
 #![tactic(auto)]
 
 #[cfg(test)]

@@ -22,8 +22,8 @@ use Rattle.smv_value.specs.declared.operator.Bounded.TheVariants as bounded
 use Rattle.smv_expressions.specs.declared.ranks.Rank.{Rank}
 use Rattle.smv_expressions.specs.declared.ranks.Rank.TheVariants as rank
 
--- An operator of a rank; the name of a function, always or only before "("; a temporal operator, without bounds or with some if wanted;
--- or the word that begins a declaration, a constraint or a specification. `Other` is none of these.
+-- An operator of a rank; the name of a function, always or only before "("; a temporal operator, without bounds or with
+-- some if wanted; or the word that begins a declaration, a constraint or a specification. `Other` is none of these.
 pub data Role : Type 0 where
   Between : Rank → Operator → Role
   Reserved : Operator → Role

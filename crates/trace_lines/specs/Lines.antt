@@ -1,5 +1,6 @@
--- What the lines of traces say, those of a report that begin with `--@`: `--@ spec N`, `--@ state N: NAME = VALUE, NAME = VALUE`,
--- `--@ input N:` with the same behind it, and `--@ loop N`. Without names the line ends at the colon.
+-- What the lines of traces say, those of a report that begin with `--@`: `--@ spec N`,
+-- `--@ state N: NAME = VALUE, NAME = VALUE`, `--@ input N:` with the same behind it, and `--@ loop N`. Without names
+-- the line ends at the colon.
 use Rattle.std.specs.Prelude.{ℕ, ◌==◌, nat_lt, nat_le, Bool, false, ◌&&◌, ◌||◌, if◌then◌else◌, List, [], ◌∷◌, length, take, codes, bytes_eq, slice_index, Option, None, Some}
 use Rattle.std.specs.Char.{is_ascii_alphabetic, is_ascii_alphanumeric}
 use Rattle.std.specs.List.{list_all, slice_split}

@@ -32,8 +32,8 @@ abbrev pub is_open : Option ℕ → Bool
 is_open None = true
 is_open (Some n) = false
 
--- A trace with one more line. States are numbered from 0 on, and so are inputs, each behind the state of its number. A loop begins at a
--- state of the trace, and nothing comes behind it.
+-- A trace with one more line. States are numbered from 0 on, and so are inputs, each behind the state of its number. A
+-- loop begins at a state of the trace, and nothing comes behind it.
 abbrev pub with_state : ℕ → List Binding → Trace → Option Trace
 with_state i row t = if is_open t.start && i == length t.states && may_follow t.states row then Some (record t { states = t.states ++ row ∷ [] }) else None
 
@@ -89,7 +89,8 @@ with_line r line = if is_trace_line line then followed_by r (entry_read line) el
 abbrev pub nothing_read : Reading
 nothing_read = record { done = []; current = None }
 
--- What these lines add, which begin behind line n: all traces, or the number of the first line that is not as it should be, counted from 1.
+-- What these lines add, which begin behind line n: all traces, or the number of the first line that is not as it should
+-- be, counted from 1.
 abbrev pub and_then : ℕ → Option Reading → (Reading → Result (List Trace) ℕ) → Result (List Trace) ℕ
 and_then n None more = Err n
 and_then n (Some r) more = more r

@@ -276,10 +276,10 @@ fn lines_read(alloc: Global, lines: &[&[u8]]) -> Result<Items<Trace>, ReadStop>
 
 /// The traces of a report, by its lines that begin with `--@`; all others are passed over.
 ///
-/// `Line`: the first of these lines that is not as it should be. It is out of form, or stands where it may not: a state or
-/// an input out of its order or with other names than the first, a loop that begins at no state, a second trace of a
-/// specification. `NoMemory` may come at any time. The time is that of reading each line once, and of comparing the numbers
-/// of each two traces.
+/// `Line`: the first of these lines that is not as it should be. It is out of form, or stands where it may not: a state
+/// or an input out of its order or with other names than the first, a loop that begins at no state, a second trace of a
+/// specification. `NoMemory` may come at any time. The time is that of reading each line once, and of comparing the
+/// numbers of each two traces.
 #[tactic(auto, unfolding(crate::specs::Reading::report_read))]
 pub fn report_read(alloc: Global, report: &[u8]) -> Result<Items<Trace>, ReadStop>
     ensures read { IfOk result (λ ts. report_read report.now ≡ Ok ts) }

@@ -81,8 +81,8 @@ well_stepped p s u t h =
     let both = and_parts (is_step p s u t) (all_faultless Step p s u t && ends) h in
     (both.0, (and_parts (all_faultless Step p s u t) ends both.1).0)
 
--- whether the inputs of a number are told as they should be, by the columns, where so many are due: beside the states of a run, and
--- beside those of a lasso
+-- whether the inputs of a number are told as they should be, by the columns, where so many are due: beside the states
+-- of a run, and beside those of a lasso
 abbrev pub fits_due : Terms → List Column → List (List Binding) → ℕ → ℕ → Bool
 fits_due terms cs rows m i = cond (ltb i m) (is_some (line_read terms cs (slice_get rows i))) (cond (eqb i m) (leb (length rows) i) true)
 

@@ -1,5 +1,5 @@
--- What is evaluated without a fault: the items that ask something of a state or of a step, and a formula at the times of a lasso. What
--- faults is neither TRUE nor FALSE.
+-- What is evaluated without a fault: the items that ask something of a state or of a step, and a formula at the times
+-- of a lasso. What faults is neither TRUE nor FALSE.
 use Rattle.std.specs.Prelude.{◌≡◌, ℕ, ◌+◌, ◌-◌, ◌<◌, nat_lt, Bool, true, not, ◌&&◌, ◌||◌, List, [], length}
 use Rattle.std.specs.List.{list_all}
 use Rattle.std.specs.Option.{is_none}

@@ -1,5 +1,5 @@
--- What may stand in a trace as a name and as a value: finite automata over bytes. An own choice of this project, after the language's
--- identifiers, integers and word constants (NuSMV 2.6 User Manual, 2.1, Lexical Structure).
+-- What may stand in a trace as a name and as a value: finite automata over bytes. An own choice of this project, after
+-- the language's identifiers, integers and word constants (NuSMV 2.6 User Manual, 2.1, Lexical Structure).
 use Rattle.std.specs.Prelude.{ℕ, ◌==◌, nat_le, Bool, true, false, ◌&&◌, ◌||◌, if◌then◌else◌, List, fold}
 use Rattle.std.specs.Char.{is_ascii_alphabetic, is_ascii_alphanumeric, is_ascii_digit}
 use Rattle.trace_replay.specs.declared.forms.NameState.{NameState}
@@ -42,7 +42,8 @@ ends_name other = false
 abbrev pub is_name : List ℕ → Bool
 is_name text = ends_name (fold name_after name.Start text)
 
--- A value: an identifier, as TRUE, FALSE and the symbols are; an integer without leading zeros; or a word constant as 0ud8_255 and 0sd8_255.
+-- A value: an identifier, as TRUE, FALSE and the symbols are; an integer without leading zeros; or a word constant as
+-- 0ud8_255 and 0sd8_255.
 
 -- a number without leading zeros
 abbrev pub number_from : ValueState → ValueState → ℕ → ValueState

@@ -1,5 +1,5 @@
--- The replay of a trace of a temporal specification: its tests, in their order, with the number of each. A test whose evaluation faults
--- fails; of a JUSTICE it is enough that it is TRUE in some state.
+-- The replay of a trace of a temporal specification: its tests, in their order, with the number of each. A test whose
+-- evaluation faults fails; of a JUSTICE it is enough that it is TRUE in some state.
 use Rattle.std.specs.Prelude.{◌≡◌, ◌↔◌, ℕ, ◌-◌, ◌==◌, nat_le, nat_lt, Bool, true, false, not, ◌&&◌, ◌||◌, if◌then◌else◌, List, [], ◌∷◌, drop, filter, length, map, Option, None, Some, slice_get, unwrap_or}
 use Rattle.std.specs.List.{list_any, range_with_len}
 use Rattle.std.specs.Option.{is_some}
@@ -123,8 +123,8 @@ pub record ShowsViolated (p : Program) (spec : ResolvedItem) (t : Trace) : Type 
   pub violates : Violates p spec lasso
   pub faultless : IsFaultlessLasso p spec lasso
 
--- What is accepted shows that the specification does not hold. A trace is accepted just where it is that of a run that breaks the
--- invariant, or of a lasso that violates the temporal specification, evaluated without a fault.
+-- What is accepted shows that the specification does not hold. A trace is accepted just where it is that of a run that
+-- breaks the invariant, or of a lasso that violates the temporal specification, evaluated without a fault.
 abbrev pub Shows : ItemKind → Program → ResolvedItem → Trace → Replayed → Type 0
 Shows (item.Specification claim.Temporal) p spec t r = (r ≡ Accepted) ↔ ShowsViolated p spec t
 Shows other p spec t r = (r ≡ Accepted) ↔ ShowsBroken p spec t

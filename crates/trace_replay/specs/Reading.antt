@@ -30,8 +30,8 @@ in_form (entry.State i bs) = is_small i && list_all is_binding bs
 in_form (entry.Input i bs) = is_small i && list_all is_binding bs
 in_form (entry.Loop n) = is_small n
 
--- What may follow what. The traces that are read so far are listed by the numbers of their specifications, each of which has one at most;
--- the last one is open.
+-- What may follow what. The traces that are read so far are listed by the numbers of their specifications, each of
+-- which has one at most; the last one is open.
 
 abbrev pub no_trace : Trace
 no_trace = record { states = []; inputs = []; start = None }
@@ -61,7 +61,8 @@ abbrev pub is_unlooped : Option ℕ → Bool
 is_unlooped None = true
 is_unlooped (Some n) = false
 
--- A trace with one more line: states are numbered from 0 in their order, and so are inputs; nothing comes behind `loop`.
+-- A trace with one more line: states are numbered from 0 in their order, and so are inputs; nothing comes behind
+-- `loop`.
 abbrev pub with_state : ℕ → List Binding → Trace → Option Trace
 with_state i bs t = if is_unlooped t.start && i == length t.states then Some (record t { states = t.states ++ bs ∷ [] }) else None
 
@@ -110,7 +111,8 @@ texts lines = map (λ (l : Line). l.text) lines
 abbrev pub refusal_at : ℕ → Refusal
 refusal_at line = record { rule = BadTrace; place = record { line = line; column = 1 }; detail = None }
 
--- The lines are refused so: this is the first that is not as it should be. Those before it hold traces, and with it they hold none.
+-- The lines are refused so: this is the first that is not as it should be. Those before it hold traces, and with it
+-- they hold none.
 pub record IsRefusedAt (specs : ℕ) (lines : List Line) (r : Refusal) : Type 0 where
   pub before : ℕ
   pub line : Line

@@ -1,4 +1,5 @@
--- The replay of a trace of an invariant: its tests, in their order, with the number of each. A test whose evaluation faults fails.
+-- The replay of a trace of an invariant: its tests, in their order, with the number of each. A test whose evaluation
+-- faults fails.
 use Rattle.std.specs.Prelude.{◌≡◌, ◌⊎◌, ℕ, ◌+◌, ◌-◌, ◌<◌, ◌==◌, nat_le, nat_lt, max, Bool, true, false, not, ◌&&◌, ◌||◌, if◌then◌else◌, List, [], ◌∷◌, length, codes, Option, None, Some, slice_get, unwrap_or}
 use Rattle.std.specs.Option.{is_some}
 use Rattle.smv_tree.specs.declared.tree.Program.{Program}

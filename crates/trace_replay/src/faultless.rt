@@ -1,4 +1,5 @@
-//! Whether what a test evaluates faults: the items that ask something of a state or of a step, and a formula at the times of a lasso.
+//! Whether what a test evaluates faults: the items that ask something of a state or of a step, and a formula at the
+//! times of a lasso.
 
 ghost use Rattle.std.specs.Prelude.{◌≡◌, [], List, map, option_and_then, slice_get, IfOk};
 ghost use Rattle.std.specs.Option.{is_none, option_copied};
@@ -46,7 +47,8 @@ pub fn stays_well(alloc: Global, typed: &Typed, s: &State) -> Result<bool, Alloc
     Ok(met && faultless)
 }
 
-/// Whether there is a step with these inputs from the first state to the second, and nothing faults that is asked of it and of its ends.
+/// Whether there is a step with these inputs from the first state to the second, and nothing faults that is asked of it
+/// and of its ends.
 pub fn steps_well(
     alloc: Global,
     typed: &Typed,

@@ -1,5 +1,5 @@
-//! The replay of the trace of a temporal specification. A test whose evaluation faults fails, but that of a JUSTICE: it asks for one state
-//! in which the JUSTICE is TRUE.
+//! The replay of the trace of a temporal specification. A test whose evaluation faults fails, but that of a JUSTICE: it
+//! asks for one state in which the JUSTICE is TRUE.
 
 ghost use Rattle.std.specs.Prelude.{◌≡◌, ◌↔◌, ◌<◌, List, map, length, IfOk, IsTrue};
 ghost use Rattle.std.specs.List.{list_any};

@@ -11,12 +11,12 @@ use smv_tree::{Place, Refusal, Rule, TextStop};
 use sqlite_items::Items;
 use std::alloc::{AllocError, Global};
 
-/// The traces that lines hold, of each of so many specifications in their order. The lines are those of a source that begin with
-/// `--@`, each with its number.
+/// The traces that lines hold, of each of so many specifications in their order. The lines are those of a source that
+/// begin with `--@`, each with its number.
 ///
-/// They are refused by 702 at the first line that is not as it should be, in column 1: that is out of form, stands where it may
-/// not, tells a state or inputs out of order, or begins a second trace of a specification or one of none. Memory may be refused
-/// at any time. The time is that of reading each line once.
+/// They are refused by 702 at the first line that is not as it should be, in column 1: that is out of form, stands
+/// where it may not, tells a state or inputs out of order, or begins a second trace of a specification or one of none.
+/// Memory may be refused at any time. The time is that of reading each line once.
 pub fn read(alloc: Global, lines: &[Line], specs: usize) -> Result<Items<Option<Trace>>, TextStop>
     ensures held { IfOk result (Holds specs (texts lines.now)) }
     ensures refused { IfErr result (IsLinesStop specs lines.now) }

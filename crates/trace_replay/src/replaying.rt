@@ -1,5 +1,5 @@
-//! The replay of a trace: its states and steps are judged by the meaning of the program, as `smv_meaning` computes it. A test whose
-//! evaluation faults fails.
+//! The replay of a trace: its states and steps are judged by the meaning of the program, as `smv_meaning` computes it.
+//! A test whose evaluation faults fails.
 
 ghost use Rattle.std.specs.Prelude.{◌≡◌, ◌+◌, ◌<◌, ◌≤◌, ◌↔◌, length, IfOk, IfSome};
 ghost use Rattle.smv_resolve.specs.Items.{item_by};
@@ -20,12 +20,13 @@ use smv_resolve::{Item, ItemKind};
 use smv_tree::SpecificationKind;
 use std::alloc::{AllocError, Global};
 
-/// What comes of the tests of a trace of the specification of this number, counted from 1: it is accepted, or rejected by the
-/// first test that fails. The trace of an invariant is accepted just where it is that of a run that breaks it. The trace of a temporal
-/// specification is accepted just where it is that of a lasso that violates it. Nothing that a test asks of an accepted trace faults.
+/// What comes of the tests of a trace of the specification of this number, counted from 1: it is accepted, or rejected
+/// by the first test that fails. The trace of an invariant is accepted just where it is that of a run that breaks it.
+/// The trace of a temporal specification is accepted just where it is that of a lasso that violates it. Nothing that a
+/// test asks of an accepted trace faults.
 ///
-/// Memory may be refused. The time is that of the tests, each of them in the size of the model; that of a temporal specification is
-/// that of its formula's table.
+/// Memory may be refused. The time is that of the tests, each of them in the size of the model; that of a temporal
+/// specification is that of its formula's table.
 pub fn replay(
     alloc: Global,
     typed: &Typed,
@@ -42,8 +43,8 @@ pub fn replay(
     judge(alloc, typed, &item, trace)
 }
 
-/// The same of the trace of a run, where the specification of this number is taken as an invariant: it is accepted just where it is
-/// that of a run in whose last state the specification is FALSE, and nothing that is asked along it faults.
+/// The same of the trace of a run, where the specification of this number is taken as an invariant: it is accepted just
+/// where it is that of a run in whose last state the specification is FALSE, and nothing that is asked along it faults.
 pub fn replay_run(
     alloc: Global,
     typed: &Typed,

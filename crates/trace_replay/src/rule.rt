@@ -16,8 +16,8 @@ pub enum ReplayRule {
     Inv,
     /// There is a step from a state to the next.
     Step,
-    /// The trace of an invariant has no loop; that of a temporal specification has one, and there is a step from the last state to the
-    /// one where it begins.
+    /// The trace of an invariant has no loop; that of a temporal specification has one, and there is a step from the
+    /// last state to the one where it begins.
     Loop,
     /// A JUSTICE is TRUE in some state of the loop.
     Fair,

@@ -14,8 +14,8 @@ use std::alloc::{AllocError, Global};
 use value_texts::told;
 
 impl Trace {
-    /// The trace of a run: the names of the slots, with the values of each state and of the inputs of each step. Without
-    /// input slots no inputs are told. Memory may be refused.
+    /// The trace of a run: the names of the slots, with the values of each state and of the inputs of each step.
+    /// Without input slots no inputs are told. Memory may be refused.
     pub fn of_run(
         alloc: Global,
         typed: &Typed,
@@ -35,8 +35,8 @@ impl Trace {
         })
     }
 
-    /// The trace of a lasso: that of its states and of the inputs of the step from each, with the number of the state at which the
-    /// last step goes on. Without input slots no inputs are told. Memory may be refused.
+    /// The trace of a lasso: that of its states and of the inputs of the step from each, with the number of the state
+    /// at which the last step goes on. Without input slots no inputs are told. Memory may be refused.
     pub fn of_lasso(
         alloc: Global,
         typed: &Typed,

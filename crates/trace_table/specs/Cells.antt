@@ -1,4 +1,5 @@
--- The values of a trace: a row is the bindings of a state, or of the inputs of a step, and a column the values of one name.
+-- The values of a trace: a row is the bindings of a state, or of the inputs of a step, and a column the values of one
+-- name.
 use Rattle.std.specs.Prelude.{ℕ, ◌-◌, ◌==◌, Bool, false, not, if◌then◌else◌, List, bytes_eq, codes, Option, None, Some, slice_get}
 use Rattle.trace_lines.specs.declared.entry.Binding.{Binding}
 

@@ -28,7 +28,8 @@ abbrev pub digits_from : ℕ → List ℕ → Option ℕ
 digits_from n [] = Some n
 digits_from n (d ∷ ds) = and_digits (with_digit n d) (λ m. digits_from m ds)
 
--- A word is written as 0ud8_255, or 0sd8_255: its width, which is at most 128, and its bits as a number, which have this width.
+-- A word is written as 0ud8_255, or 0sd8_255: its width, which is at most 128, and its bits as a number, which have
+-- this width.
 abbrev pub width_of : List ℕ → Option ℕ
 width_of [] = None
 width_of (a ∷ []) = None

@@ -217,7 +217,8 @@ fn write_with(
 }
 
 /// Writes the table of a trace: a row for each name, a column for each time, `*` before what has changed since the time
-/// before, and brackets round the times of the loop. Memory may be refused. The time is linear in the values and the text.
+/// before, and brackets round the times of the loop. Memory may be refused. The time is linear in the values and the
+/// text.
 #[tactic(auto, unfolding(crate::specs::Table::table_text))]
 pub fn write_table(alloc: Global, out: &mut String, trace: &Trace) -> Result<(), AllocError>
     ensures { OnOk result (string_bytes out.new ≡ string_bytes out.old ++ table.table_text trace.now) }

@@ -1,5 +1,5 @@
-//! Tests of traces, from the bytes of a model and the text of a trace: what is read, what is refused, and what a replay answers. What
-//! is wanted was written down from the rules, and not from what the code answers.
+//! Tests of traces, from the bytes of a model and the text of a trace: what is read, what is refused, and what a replay
+//! answers. What is wanted was written down from the rules, and not from what the code answers.
 #![tactic(auto)]
 
 use plain_text::Text;

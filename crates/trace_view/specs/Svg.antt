@@ -1,5 +1,6 @@
--- A trace as a picture (SVG 1.1): a row for each name, with a line for TRUE and FALSE and a bus with its values for all others. The times
--- of the loop are shaded. An own choice of this project. Texts are escaped, and each element is closed where it is opened.
+-- A trace as a picture (SVG 1.1): a row for each name, with a line for TRUE and FALSE and a bus with its values for all
+-- others. The times of the loop are shaded. An own choice of this project. Texts are escaped, and each element is
+-- closed where it is opened.
 use Rattle.std.specs.Prelude.{ℕ, ◌+◌, ◌-◌, ◌*◌, ◌==◌, Bool, not, ◌||◌, if◌then◌else◌, List, [], ◌∷◌, ◌++◌, length, max, min, codes, bytes_eq, encode_utf8, Option, None, Some}
 use Rattle.std.specs.Fmt.{decimal}
 use Rattle.std.specs.Str.{chars}

@@ -1,5 +1,5 @@
--- A trace as a value change dump (IEEE 1364-2005, 18, Value change dump files), with strings as GTKWave reads them. A step takes 1 ns. A
--- loop is gone through twice; `loop` is 0 before it, 1 in the first round and 2 in the second.
+-- A trace as a value change dump (IEEE 1364-2005, 18, Value change dump files), with strings as GTKWave reads them. A
+-- step takes 1 ns. A loop is gone through twice; `loop` is 0 before it, 1 in the first round and 2 in the second.
 use Rattle.std.specs.Prelude.{ℕ, ◌+◌, ◌-◌, ◌==◌, Bool, false, if◌then◌else◌, List, [], ◌∷◌, ◌++◌, length, drop, codes, bytes_eq, Option, None, Some}
 use Rattle.std.specs.Fmt.{decimal}
 use Rattle.trace_lines.specs.declared.entry.Binding.{Binding}
@@ -82,7 +82,8 @@ moment_text t ks time before i =
 abbrev pub before_at : Option ℕ → ℕ → ℕ → Option ℕ
 before_at first k i = if k == 0 then first else Some (i - 1)
 
--- these states, which are numbered from start on, at the times from `time` on; the first is shown behind this one; k are shown
+-- these states, which are numbered from start on, at the times from `time` on; the first is shown behind this one; k
+-- are shown
 abbrev pub round_text : Trace → Kinds → ℕ → Option ℕ → ℕ → ℕ → List (List Binding) → List ℕ
 round_text t ks time first start k [] = []
 round_text t ks time first start k (row ∷ rows) = moment_text t ks (time + k) (before_at first k (start + k)) (start + k) ++ round_text t ks time first start (k + 1) rows

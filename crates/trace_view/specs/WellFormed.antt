@@ -1,5 +1,5 @@
--- When a text is well-formed as XML (Extensible Markup Language 1.0, 2.1 and 3.1), as far as elements go: each is closed, in the order in
--- which they are open, by its own name; and the values of attributes stand in single quotes.
+-- When a text is well-formed as XML (Extensible Markup Language 1.0, 2.1 and 3.1), as far as elements go: each is
+-- closed, in the order in which they are open, by its own name; and the values of attributes stand in single quotes.
 use Rattle.std.specs.Prelude.{◌≡◌, ℕ, ◌==◌, if◌then◌else◌, List, [], ◌∷◌, ◌++◌, bytes_eq, fold}
 
 -- How far a text has been read. The names of the elements that are open stand with each, the last one first.

@@ -137,8 +137,9 @@ fn shown_of(
 
 /// What is written for a report, and the status.
 ///
-/// `table` shows each trace; `vcd` and `svg` show one, so that the specification has to be named where there are several.
-/// A report with a line of a trace that is not as it should be is refused, by its first such line. Memory may be refused.
+/// `table` shows each trace; `vcd` and `svg` show one, so that the specification has to be named where there are
+/// several. A report with a line of a trace that is not as it should be is refused, by its first such line. Memory may
+/// be refused.
 #[tactic(auto, unfolding(crate::specs::Answers::answer_of))]
 pub fn answer_of(alloc: Global, command: Command, report: &[u8]) -> Result<Answer, AllocError>
     ensures is { IfOk result (λ a. a ≡ answers.answer_of command report.now) }

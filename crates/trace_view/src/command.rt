@@ -54,8 +54,8 @@ fn numbered_command(form: Option<Form>, spec: Option<usize>) -> Option<Command>
     }
 }
 
-/// What the words behind the program's name ask for: `table`, `vcd` or `svg`, and perhaps a number behind it. `None`: they
-/// are not so.
+/// What the words behind the program's name ask for: `table`, `vcd` or `svg`, and perhaps a number behind it. `None`:
+/// they are not so.
 pub fn command_of(words: &[&str]) -> Option<Command>
     ensures { result ≡ answers.command_of (map (λ w. w.now) words.now) }
 {

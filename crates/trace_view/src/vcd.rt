@@ -343,9 +343,9 @@ fn kinds_of(alloc: Global, trace: &Trace) -> Result<Kinds, AllocError>
     })
 }
 
-/// Writes the value change dump of a trace. A step takes 1 ns. Booleans and words are vectors, integers are reals, and all
-/// other values are strings. A loop is gone through twice; `loop` is 0 before it, 1 in the first round, 2 in the second.
-/// Memory may be refused. The time is linear in the values and the text.
+/// Writes the value change dump of a trace. A step takes 1 ns. Booleans and words are vectors, integers are reals, and
+/// all other values are strings. A loop is gone through twice; `loop` is 0 before it, 1 in the first round, 2 in the
+/// second. Memory may be refused. The time is linear in the values and the text.
 #[tactic(auto, unfolding(crate::specs::Vcd::vcd_text))]
 pub fn write_vcd(alloc: Global, out: &mut String, trace: &Trace) -> Result<(), AllocError>
     ensures { OnOk result (string_bytes out.new ≡ string_bytes out.old ++ vcd.vcd_text trace.now) }

@@ -13,7 +13,8 @@ use std::alloc::{AllocError, Global};
 use std::marker::Model;
 use value_types::ValueType;
 
-/// The members of a set, in order. One value takes no memory of its own, and a run of integers is one span, however long.
+/// The members of a set, in order. One value takes no memory of its own, and a run of integers is one span, however
+/// long.
 #[derive(Debug, Drop)]
 pub struct ValueSet {
     members: Kept,
@@ -114,8 +115,8 @@ impl ValueSet {
         }
     }
 
-    /// Whether each member is a value of the type. In an enumeration of n elements it takes at most n + 1 times n steps for a run of
-    /// integers, however long, and else one for a run.
+    /// Whether each member is a value of the type. In an enumeration of n elements it takes at most n + 1 times n steps
+    /// for a run of integers, however long, and else one for a run.
     pub fn is_of(&self, t: &ValueType) -> bool
         ensures { result ≡ list_all (λ v. is_of_type v t.now) self.now }
     {

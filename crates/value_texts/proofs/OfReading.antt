@@ -28,7 +28,8 @@ not_printed text printed show x y p e is differ =
     let yes : bytes_eq printed text ≡ true = (bytes_eq-Decides printed text).1 same in
     let never : ⊥ = cc in never
 
--- an integer between two is one of the range; one that is not between them is none, and where no integer is read, none is either
+-- an integer between two is one of the range; one that is not between them is none, and where no integer is read, none
+-- is either
 pub no_integer : (names : List (List ℕ)) (low high : ℤ) (text : List ℕ) → is_type (type.Range low high) ≡ true → IsIntRead text None → IsRead names (type.Range low high) text None
 no_integer names low high text typed none v h told =
     let is = range_shape low high v typed h in

@@ -1,5 +1,5 @@
--- Values as they are told in texts that are read back: by texts that tell the values of a type apart, whatever symbols are named. An
--- own choice of this project.
+-- Values as they are told in texts that are read back: by texts that tell the values of a type apart, whatever symbols
+-- are named. An own choice of this project.
 use Rattle.std.specs.Prelude.{ℕ, ◌+◌, ◌==◌, Bool, false, ◌&&◌, ◌||◌, if◌then◌else◌, List, [], ◌∷◌, Option, None, Some, position, bytes_eq, replicate}
 use Rattle.std.specs.Char.{is_ascii_alphabetic}
 use Rattle.smv_value.specs.declared.value.Value.{Value}

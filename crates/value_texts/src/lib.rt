@@ -1,5 +1,5 @@
-//! Values as they are told in texts that are read back: their texts, and values read from them by their types. The definitions are in
-//! `specs/`.
+//! Values as they are told in texts that are read back: their texts, and values read from them by their types. The
+//! definitions are in `specs/`.
 //!
 //! The only error of a call is running out of memory.
 #![tactic(auto)]

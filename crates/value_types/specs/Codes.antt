@@ -34,7 +34,8 @@ abbrev pub range_code : ℤ → ℤ → Value → Option ℕ
 range_code low high (value.Int z) = if int_le low z && int_le z high then Some (natural (z -ℤ low)) else None
 range_code low high v = None
 
--- the code of a value: its position in the range or the enumeration, of a word its bits; none where it is not of the type
+-- the code of a value: its position in the range or the enumeration, of a word its bits; none where it is not of the
+-- type
 abbrev pub code_of : ValueType → Value → Option ℕ
 code_of type.Boolean v = boolean_code v
 code_of (type.Word signed width) v = word_code signed width v

@@ -1,5 +1,5 @@
-//! The types of variables: which values are in each, how many, and by which code each is known (NuSMV 2.6 User Manual, 2.1,
-//! Types Overview).
+//! The types of variables: which values are in each, how many, and by which code each is known (NuSMV 2.6 User Manual,
+//! 2.1, Types Overview).
 //!
 //! The only error of a call is running out of memory.
 #![tactic(auto)]

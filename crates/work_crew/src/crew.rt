@@ -24,8 +24,8 @@ pub struct Crew<C: Craft> {
 
 /// Works until the craft says that this worker does nothing more.
 ///
-/// It passes the gate before each time that it asks for a task, and holds no lock while it does one. A worker without a task
-/// waits. Whoever puts something back wakes one that waits, and who ends wakes all.
+/// It passes the gate before each time that it asks for a task, and holds no lock while it does one. A worker without a
+/// task waits. Whoever puts something back wakes one that waits, and who ends wakes all.
 pub fn work<C: Craft, R: Wait, G: Gate>(
     rt: &R,
     crew: &Crew<C>,

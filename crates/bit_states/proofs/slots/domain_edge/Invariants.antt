@@ -1,4 +1,5 @@
--- The edge is true where the bits so far are those of values, and as many bits are left as the types that are left have.
+-- The edge is true where the bits so far are those of values, and as many bits are left as the types that are left
+-- have.
 use Rattle.std.proofs.Common.{◌≡◌, ◌&&◌, ℕ, Bool, length, drop}
 use Rattle.bit_graph.specs.Growth.{Extends}
 use Rattle.bit_graph.specs.Meaning.{Consistent, Stands, edge_value}

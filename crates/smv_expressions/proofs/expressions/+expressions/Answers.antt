@@ -1,4 +1,5 @@
--- What is read between two tokens is what its form reads; each loop keeps that what it read and what it still reads is all.
+-- What is read between two tokens is what its form reads; each loop keeps that what it read and what it still reads is
+-- all.
 use Rattle.std.proofs.Common.{◌-◌, List, sym, ◌∙◌}
 use Rattle.std.proofs.lemmas.Result.{err_from_is_err_and}
 use Rattle.smv_tree.specs.declared.token.Token.{Token}

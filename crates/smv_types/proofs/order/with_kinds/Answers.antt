@@ -1,4 +1,5 @@
--- What breaks no rule of kinds is known everywhere; the types of slots are right, and the items are those of the program.
+-- What breaks no rule of kinds is known everywhere; the types of slots are right, and the items are those of the
+-- program.
 use Rattle.std.proofs.Common.{◌∙◌, map}
 use Rattle.smv_resolve.specs.Items.{item_by}
 use Rattle.smv_slots.proofs.Kept.{types_kept}
