@@ -7,9 +7,9 @@ use Rattle.cert_core.specs.declared.form.Part.TheVariants as part
 use Rattle.cert_core.specs.declared.form.Part.{Part}
 use Rattle.cert_core.specs.declared.form.TheConstants.{MAX_VARS, MAX_COUNTER}
 use Rattle.cert_text.specs.declared.token.Token.{Token}
-use Rattle.cert_text.specs.declared.token.Token.TheVariants.{Spec, Counter, NoCounter, Item, Shared, First, Kept, Safe, Number, Negative}
+use Rattle.cert_text.specs.declared.token.Token.TheVariants.{Spec, Counter, NoCounter, Item, Shared, First, Kept, Safe, Number, Past, Negative}
 use Rattle.cert_text.specs.declared.line.Head.{Head}
-use Rattle.cert_text.specs.Tokens.{and_then}
+use Rattle.cert_text.specs.Tokens.{and_then, greatest}
 
 -- the number that the word is
 abbrev pub number_in : Token → Option ℕ
@@ -49,9 +49,10 @@ abbrev pub alone : Option Literals → Option (List Lit)
 alone None = None
 alone (Some l) = if length l.rest == 0 then Some l.lits else None
 
--- the hint with this number, which counts from 1
+-- the hint with this number, which counts from 1; one past 64 bits counts as the greatest
 abbrev pub hint_of : Token → Option ℕ
 hint_of (Number n) = Some (n - 1)
+hint_of Past = Some greatest
 hint_of other = None
 
 -- hints, and a zero with nothing behind it

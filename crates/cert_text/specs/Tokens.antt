@@ -1,17 +1,21 @@
 -- The words of a line: keywords and numbers.
-use Rattle.std.specs.Prelude.{ℕ, ◌+◌, ◌-◌, ◌*◌, ◌==◌, Bool, not, ◌&&◌, ◌||◌, if◌then◌else◌, List, [], ◌∷◌, length, nat_lt, min, Option, None, Some, codes, bytes_eq, slice_index}
+use Rattle.std.specs.Prelude.{ℕ, ◌+◌, ◌-◌, ◌*◌, ◌==◌, Bool, not, ◌&&◌, ◌||◌, if◌then◌else◌, List, [], ◌∷◌, length, nat_le, nat_lt, min, Option, None, Some, codes, bytes_eq, slice_index}
 use Rattle.std.specs.List.{slice_split, list_all}
 use Rattle.std.specs.Char.{is_ascii_digit}
 use Rattle.cert_text.specs.declared.token.Token.{Token}
-use Rattle.cert_text.specs.declared.token.Token.TheVariants.{Mark, Cert, Spec, Counter, NoCounter, Sound, Clause, Part, Item, Shared, First, Kept, Safe, Step, End, Number, Negative}
+use Rattle.cert_text.specs.declared.token.Token.TheVariants.{Mark, Cert, Spec, Counter, NoCounter, Sound, Clause, Part, Item, Shared, First, Kept, Safe, Step, End, Number, Past, Negative}
 
--- the greatest number that counts
+-- the greatest number of 64 bits
 abbrev pub greatest : ℕ
 greatest = 18446744073709551615
 
--- the number, or the greatest one that counts
+-- the greatest number of 128 bits
+abbrev pub ceiling : ℕ
+ceiling = 340282366920938463463374607431768211455
+
+-- the number, or the greatest one of 128 bits
 abbrev pub capped : ℕ → ℕ
-capped n = min n greatest
+capped n = min n ceiling
 
 -- the number that these digits write behind those of n
 abbrev pub number_after : ℕ → List ℕ → ℕ
@@ -25,10 +29,14 @@ is_number word = list_all is_ascii_digit word && (length word == 1 || (nat_lt 1 
 abbrev pub number_of : List ℕ → Option ℕ
 number_of word = if is_number word then Some (number_after 0 word) else None
 
--- a number behind a minus sign
+-- a number of 64 bits, or one past them
+abbrev pub counted : ℕ → Token
+counted n = if nat_le n greatest then Number n else Past
+
+-- a number of 64 bits behind a minus sign
 abbrev pub negative_of : Option ℕ → Option Token
 negative_of None = None
-negative_of (Some n) = if n == 0 then None else Some (Negative n)
+negative_of (Some n) = if n == 0 then None else if nat_le n greatest then Some (Negative n) else None
 
 -- the keywords that tell what a line is
 abbrev pub kind_of : List ℕ → Option Token
@@ -70,7 +78,7 @@ keyword_of word = either (kind_of word) (either (part_word word) (head_word word
 
 -- a number, a number behind a minus sign, or else a keyword
 abbrev pub number_or : Option ℕ → Option Token → Option Token
-number_or (Some n) other = Some (Number n)
+number_or (Some n) other = Some (counted n)
 number_or None other = other
 
 abbrev pub signed_or : List ℕ → Option Token → Option Token

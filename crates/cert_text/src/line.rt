@@ -65,6 +65,7 @@ pub(crate) fn hint_of(t: Token) -> Option<usize>
 {
     match t {
         Token::Number(n) => Some(n.saturating_sub(1)),
+        Token::Past => Some(usize::MAX),
         _ => None,
     }
 }

@@ -33,8 +33,10 @@ pub enum Token {
     Step,
     /// `end`
     End,
-    /// A number; one that is greater than any `usize` counts as the greatest.
+    /// A number of 64 bits.
     Number(usize),
-    /// A number other than 0 behind a minus sign.
+    /// A number past 64 bits.
+    Past,
+    /// A number of 64 bits other than 0 behind a minus sign.
     Negative(usize),
 }

@@ -3,7 +3,7 @@
 ghost use Rattle.std.specs.Prelude.{◌≡◌, true, bytes_eq};
 ghost use Rattle.std.specs.List.{list_all};
 ghost use Rattle.std.specs.Char.{is_ascii_digit};
-ghost use Rattle.cert_text.specs.Tokens.{number_after, number_of, kind_of, part_word, head_word, keyword_of, signed_or, token_of};
+ghost use Rattle.cert_text.specs.Tokens.{counted, number_after, number_of, negative_of, kind_of, part_word, head_word, keyword_of, signed_or, token_of};
 
 use crate::token::Token;
 
@@ -13,21 +13,21 @@ fn all_digits(word: &[u8]) -> bool
     word.iter().all(|b| b.is_ascii_digit())
 }
 
-// The number that these digits write; one that is greater than any `usize` counts as the greatest.
-fn value_of(digits: &[u8]) -> usize
+// The number that these digits write; one past 128 bits counts as the greatest of these.
+fn value_of(digits: &[u8]) -> u128
     ensures { result ≡ number_after 0 digits.now }
 {
-    let mut value: usize = 0;
+    let mut value: u128 = 0;
     for b in digits {
         value = value
             .saturating_mul(10)
-            .saturating_add(usize::from(b.saturating_sub(48)));
+            .saturating_add(u128::from(b.saturating_sub(48)));
     }
     value
 }
 
 // The number that the word is, if it is one.
-fn number(word: &[u8]) -> Option<usize>
+fn number(word: &[u8]) -> Option<u128>
     ensures { result ≡ number_of word.now }
 {
     let several = word.len() > 1 && word[0] != 48;
@@ -110,15 +110,37 @@ fn keyword(word: &[u8]) -> Option<Token>
     head(word)
 }
 
+// The greatest number of 64 bits.
+const GREATEST: u128 = 18446744073709551615;
+
+fn counted(n: u128) -> Token
+    ensures { result ≡ counted n }
+{
+    if n <= GREATEST {
+        Token::Number(n as usize)
+    } else {
+        Token::Past
+    }
+}
+
+fn negative(n: Option<u128>) -> Option<Token>
+    ensures { result ≡ negative_of n }
+{
+    let n = n?;
+    if n == 0 || n > GREATEST {
+        None
+    } else {
+        Some(Token::Negative(n as usize))
+    }
+}
+
 // The number behind a minus sign that the word is, if it is one, or else the keyword.
 fn signed(word: &[u8]) -> Option<Token>
     ensures { result ≡ signed_or word.now (keyword_of word.now) }
 {
     if let [45, rest @ ..] = word {
-        if let Some(n) = number(rest) {
-            if n != 0 {
-                return Some(Token::Negative(n));
-            }
+        if let Some(t) = negative(number(rest)) {
+            return Some(t);
         }
     }
     keyword(word)
@@ -129,7 +151,7 @@ pub(crate) fn token(word: &[u8]) -> Option<Token>
     ensures { result ≡ token_of word.now }
 {
     match number(word) {
-        Some(n) => Some(Token::Number(n)),
+        Some(n) => Some(counted(n)),
         None => signed(word),
     }
 }

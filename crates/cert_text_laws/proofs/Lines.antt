@@ -1,9 +1,9 @@
 -- Words, and lines of words.
-use Rattle.std.proofs.Common.{◌≡◌, ℕ, ◌+◌, ◌-◌, ◌<◌, ◌≤◌, Bool, true, false, cond, not, List, [], ◌∷◌, ◌++◌, length, Option, None, Some, codes, refl, sym, subst, ap, ◌∙◌, arith, eqb, leb, append_assoc}
+use Rattle.std.proofs.Common.{◌≡◌, ℕ, ◌+◌, ◌-◌, ◌<◌, ◌≤◌, inl, inr, Bool, true, false, cond, not, List, [], ◌∷◌, ◌++◌, length, Option, None, Some, codes, refl, sym, subst, ap, ◌∙◌, arith, eqb, leb, ltb, append_assoc}
 use Rattle.std.specs.Char.{is_ascii_digit}
 use Rattle.std.specs.Fmt.{decimal}
 use Rattle.std.specs.List.{All, list_all}
-use Rattle.std.proofs.lemmas.Bool.{and_from, and_parts, cond-false, cond-true, leb-true, ne_eqb, not-true, not_from_false, le-leb}
+use Rattle.std.proofs.lemmas.Bool.{and_from, and_parts, cases_lt, cond-false, cond-true, leb-true, le-leb, le-ltb, lt-leb, lt-ltb, ne_eqb, not-true, not_from_false}
 use Rattle.std.proofs.lemmas.List.Elements.{All-cons, All-head, All-nil, All-tail}
 use Rattle.std.proofs.lemmas.List.Folds.{list_all-append}
 use Rattle.std.proofs.lemmas.List.Splits.{slice_split_at, slice_split_none}
@@ -11,8 +11,8 @@ use Rattle.clause_core.specs.declared.literal.Lit.{Lit}
 use Rattle.clause_core.specs.Literals.{Within}
 use Rattle.cert_core.specs.declared.form.TheConstants.{MAX_VARS}
 use Rattle.cert_text.specs.declared.token.Token.{Token}
-use Rattle.cert_text.specs.declared.token.Token.TheVariants.{Number, Negative}
-use Rattle.cert_text.specs.Tokens.{and_then, either, greatest, keyword_of, negative_of, number_or, signed_or, token_of, tokens_of, words_of}
+use Rattle.cert_text.specs.declared.token.Token.TheVariants.{Number, Past, Negative}
+use Rattle.cert_text.specs.Tokens.{and_then, ceiling, counted, either, greatest, keyword_of, negative_of, number_or, signed_or, token_of, tokens_of, words_of}
 use Rattle.cert_text.specs.Lines.{Literals, hint_of, hints_of, is_zero, literal_before, literal_of, literals_of}
 use Rattle.cert_text.specs.Reading.{lines_of}
 use Rattle.cert_text.specs.Printed.{line_end, hints_text, literals_text, sign_text}
@@ -71,24 +71,38 @@ spaced_word w rest t ts h s = subst (λ (l : List ℕ). Says l (t ∷ ts)) (sym 
 
 -- Numbers.
 
-pub number_word : (n : ℕ) → n ≤ greatest → IsWord (decimal n) (Number n)
-number_word n h = record {
+counted_word : (n : ℕ) → n ≤ ceiling → IsWord (decimal n) (counted n)
+counted_word n h = record {
   token = ap (λ (o : Option ℕ). number_or o (signed_or (decimal n) (keyword_of (decimal n)))) (number_read n h);
   no_space = digits_lack 32 (decimal n) (omega arith) (decimal_digits n h);
   no_feed = digits_lack 10 (decimal n) (omega arith) (decimal_digits n h);
 }
 
+pub number_word : (n : ℕ) → n ≤ greatest → IsWord (decimal n) (Number n)
+number_word n h =
+    subst (λ (t : Token). IsWord (decimal n) t) (cond-true (leb n greatest) (Number n) Past (le-leb n greatest h))
+    (counted_word n (omega (arith, h)))
+
+past_word : (n : ℕ) → greatest < n → n ≤ ceiling → IsWord (decimal n) Past
+past_word n past h =
+    subst (λ (t : Token). IsWord (decimal n) t) (cond-false (leb n greatest) (Number n) Past (lt-leb n greatest past))
+    (counted_word n h)
+
 pub zero_word : IsWord (codes "0") (Number 0)
 zero_word = record { token = refl; no_space = refl; no_feed = refl }
 
 negative_word : (n : ℕ) → 0 < n → n ≤ greatest → IsWord (45 ∷ decimal n) (Negative n)
-negative_word n some h = record {
-  token =
-      ap (λ (o : Option ℕ). either (negative_of o) (keyword_of (45 ∷ decimal n))) (number_read n h)
-      ∙ ap (λ (o : Option Token). either o (keyword_of (45 ∷ decimal n))) (cond-false (eqb n 0) None (Some (Negative n)) (ne_eqb n 0 (λ e. let never : ⊥ = omega (arith, some, e) in never)));
-  no_space = digits_lack 32 (decimal n) (omega arith) (decimal_digits n h);
-  no_feed = digits_lack 10 (decimal n) (omega arith) (decimal_digits n h);
-}
+negative_word n some h =
+    let few : n ≤ ceiling = omega (arith, h) in
+    record {
+      token =
+          ap (λ (o : Option ℕ). either (negative_of o) (keyword_of (45 ∷ decimal n))) (number_read n few)
+          ∙ ap (λ (o : Option Token). either o (keyword_of (45 ∷ decimal n)))
+          (cond-false (eqb n 0) None (cond (leb n greatest) (Some (Negative n)) None) (ne_eqb n 0 (λ e. let never : ⊥ = omega (arith, some, e) in never))
+          ∙ cond-true (leb n greatest) (Some (Negative n)) None (le-leb n greatest h));
+      no_space = digits_lack 32 (decimal n) (omega arith) (decimal_digits n few);
+      no_feed = digits_lack 10 (decimal n) (omega arith) (decimal_digits n few);
+    }
 
 -- Literals.
 
@@ -150,23 +164,60 @@ literals_read (l ∷ ls) ts h =
 
 -- Hints.
 
+-- a hint counts from 1 in the text, so that the greatest one is past 64 bits there
+abbrev hint_token : ℕ → Token
+hint_token h = cond (ltb h greatest) (Number (h + 1)) Past
+
+-- a hint of 64 bits as a token: its word, and what is read of it
+record IsHint (h : ℕ) (t : Token) : Type 0 where
+  word : IsWord (decimal (h + 1)) t
+  not_end : is_zero t ≡ false
+  read : hint_of t ≡ Some h
+
+numbered_hint : (h : ℕ) → h < greatest → IsHint h (Number (h + 1))
+numbered_hint h few = record {
+  word = number_word (h + 1) (omega (arith, few));
+  not_end = ne_eqb (h + 1) 0 (λ e. let never : ⊥ = omega (arith, e) in never);
+  read = ap (λ (n : ℕ). Some n) (let back : h + 1 - 1 ≡ h = omega arith in back);
+}
+
+greatest_hint : (h : ℕ) → h ≡ greatest → IsHint h Past
+greatest_hint h is = record {
+  word = past_word (h + 1) (omega (arith, is)) (omega (arith, is));
+  not_end = refl;
+  read = ap (λ (n : ℕ). Some n) (sym is);
+}
+
+few_token : (h : ℕ) → h < greatest → Number (h + 1) ≡ hint_token h
+few_token h few = sym (cond-true (ltb h greatest) (Number (h + 1)) Past (lt-ltb h greatest few))
+
+many_token : (h : ℕ) → greatest ≤ h → Past ≡ hint_token h
+many_token h many = sym (cond-false (ltb h greatest) (Number (h + 1)) Past (le-ltb h greatest many))
+
+is_hint : (h : ℕ) → h ≤ greatest → IsHint h (hint_token h)
+is_hint h within = elim (cases_lt h greatest) [
+  | inl few ↦ subst (λ (t : Token). IsHint h t) (few_token h few) (numbered_hint h few)
+  | inr many ↦ subst (λ (t : Token). IsHint h t) (many_token h many) (greatest_hint h (omega (arith, within, many)))
+]
+
 abbrev pub tokens_of_hints : List ℕ → List Token
 tokens_of_hints [] = Number 0 ∷ []
-tokens_of_hints (h ∷ hs) = Number (h + 1) ∷ tokens_of_hints hs
+tokens_of_hints (h ∷ hs) = hint_token h ∷ tokens_of_hints hs
 
-pub hints_said : (hs : List ℕ) → All (λ h. h < greatest) hs → Says (hints_text hs) (tokens_of_hints hs)
+pub hints_said : (hs : List ℕ) → All (λ h. h ≤ greatest) hs → Says (hints_text hs) (tokens_of_hints hs)
 hints_said [] all = last_word (codes "0") (Number 0) zero_word
 hints_said (h ∷ hs) all =
-    let within : h < greatest = All-head (λ k. k < greatest) h hs all in
-    spaced_word (decimal (h + 1)) (hints_text hs) (Number (h + 1)) (tokens_of_hints hs) (number_word (h + 1) (omega (arith, within))) (hints_said hs (All-tail (λ k. k < greatest) h hs all))
+    let hint = is_hint h (All-head (λ k. k ≤ greatest) h hs all) in
+    spaced_word (decimal (h + 1)) (hints_text hs) (hint_token h) (tokens_of_hints hs) hint.word (hints_said hs (All-tail (λ k. k ≤ greatest) h hs all))
 
-pub hints_read : (hs : List ℕ) → hints_of (tokens_of_hints hs) ≡ Some hs
-hints_read [] = refl
-hints_read (h ∷ hs) =
-    let back : h + 1 - 1 ≡ h = omega arith in
-    cond-false (eqb (h + 1) 0) (cond (eqb (length (tokens_of_hints hs)) 0) (Some []) None) (and_then (hint_of (Number (h + 1))) (hints_of (tokens_of_hints hs))) (ne_eqb (h + 1) 0 (λ e. let never : ⊥ = omega (arith, e) in never))
-    ∙ ap (λ (n : ℕ). and_then (Some n) (hints_of (tokens_of_hints hs))) back
-    ∙ ap (λ (o : Option (List ℕ)). and_then (Some h) o) (hints_read hs)
+pub hints_read : (hs : List ℕ) → All (λ h. h ≤ greatest) hs → hints_of (tokens_of_hints hs) ≡ Some hs
+hints_read [] all = refl
+hints_read (h ∷ hs) all =
+    let hint = is_hint h (All-head (λ k. k ≤ greatest) h hs all) in
+    let t = hint_token h in
+    cond-false (is_zero t) (cond (eqb (length (tokens_of_hints hs)) 0) (Some []) None) (and_then (hint_of t) (hints_of (tokens_of_hints hs))) hint.not_end
+    ∙ ap (λ (o : Option ℕ). and_then o (hints_of (tokens_of_hints hs))) hint.read
+    ∙ ap (λ (o : Option (List ℕ)). and_then (Some h) o) (hints_read hs (All-tail (λ k. k ≤ greatest) h hs all))
 
 -- A line in front of others.
 

@@ -1,5 +1,5 @@
 -- The printed steps of a part.
-use Rattle.std.proofs.Common.{◌≡◌, ℕ, ◌<◌, List, [], ◌∷◌, ◌++◌, length, Some, refl, sym, subst, ap₂, arith, append_assoc, append-nil}
+use Rattle.std.proofs.Common.{◌≡◌, ℕ, ◌≤◌, List, [], ◌∷◌, ◌++◌, length, Some, refl, sym, subst, ap₂, arith, append_assoc, append-nil}
 use Rattle.std.specs.List.{All}
 use Rattle.std.proofs.lemmas.List.Elements.{All-head, All-tail}
 use Rattle.clause_core.specs.declared.literal.Lit.{Lit}
@@ -26,7 +26,7 @@ plain_hints Hinted hs h = λ k d within e. absurd (let never : ⊥ = cc in never
 
 -- `state` is what was read with these steps of a part that is open, and a line with a step adds it
 module _ (items : ℕ) (form : Form) (state : HintedLog → ReadSoFar) (adds : (log : HintedLog) (ts : List Token) (s : Step) → step_of form ts ≡ Some s → added items (state log) (Mark ∷ StepWord ∷ ts) ≡ Some (state (with_step log s))) where
-  more_lead : (ss : List (List Lit)) (hs : List (List ℕ)) (done : HintedLog) → length hs ≡ length ss → All (Within MAX_VARS) ss → All (NoneIfPlain form) hs → All (λ l. All (λ h. h < greatest) l) hs
+  more_lead : (ss : List (List Lit)) (hs : List (List ℕ)) (done : HintedLog) → length hs ≡ length ss → All (Within MAX_VARS) ss → All (NoneIfPlain form) hs → All (λ l. All (λ h. h ≤ greatest) l) hs
       → Leads items (steps_text form ss hs) (state done) (state record { steps = done.steps ++ ss; hints = done.hints ++ hs })
   more_lead [] [] done same within fits small =
       subst (λ (log : HintedLog). Leads items [] (state done) (state log))
@@ -39,12 +39,12 @@ module _ (items : ℕ) (form : Form) (state : HintedLog → ReadSoFar) (adds : (
       let more : HintedLog = with_step done step in
       let first : Within MAX_VARS x = All-head (Within MAX_VARS) x ss within in
       let fit : NoneIfPlain form h = All-head (NoneIfPlain form) h hs fits in
-      let few = All-head (λ l. All (λ k. k < greatest) l) h hs small in
-      let rest = more_lead ss hs more (omega (arith, same)) (All-tail (Within MAX_VARS) x ss within) (All-tail (NoneIfPlain form) h hs fits) (All-tail (λ l. All (λ k. k < greatest) l) h hs small) in
+      let few = All-head (λ l. All (λ k. k ≤ greatest) l) h hs small in
+      let rest = more_lead ss hs more (omega (arith, same)) (All-tail (Within MAX_VARS) x ss within) (All-tail (NoneIfPlain form) h hs fits) (All-tail (λ l. All (λ k. k ≤ greatest) l) h hs small) in
       subst (λ (log : HintedLog). Leads items (steps_text form (x ∷ ss) (h ∷ hs)) (state done) (state log))
       (ap₂ (λ (y : List (List Lit)) (z : List (List ℕ)). record { steps = y; hints = z }) (append_assoc done.steps (x ∷ []) ss) (append_assoc done.hints (h ∷ []) hs))
       (leads_then items _ (steps_text form ss hs) (state done) (state more) (state record { steps = more.steps ++ ss; hints = more.hints ++ hs })
-      (leads_line items _ (Mark ∷ StepWord ∷ tokens_of_step form x h) (state done) (state more) (step_said form x h first few) refl (adds done (tokens_of_step form x h) step (step_read form x h first fit)))
+      (leads_line items _ (Mark ∷ StepWord ∷ tokens_of_step form x h) (state done) (state more) (step_said form x h first few) refl (adds done (tokens_of_step form x h) step (step_read form x h first fit few)))
       rest)
 
   pub steps_lead : (log : HintedLog) → LogFits form log → AreReadableHints log → Leads items (steps_text form log.steps log.hints) (state no_steps) (state log)

@@ -4,9 +4,9 @@ use Rattle.std.specs.Char.{is_ascii_digit}
 use Rattle.std.specs.Fmt.{decimal}
 use Rattle.std.specs.List.{list_all}
 use Rattle.std.proofs.lemmas.Bool.{and_from, cases_lt, cond-true, le-leb, lt-ltb, ne_eqb, not_from_false, or_right}
-use Rattle.std.proofs.lemmas.Fmt.{decimal_by_steps}
+use Rattle.std.proofs.lemmas.Fmt.{decimal_by_steps_wide}
 use Rattle.std.proofs.lemmas.List.Folds.{list_all-append}
-use Rattle.cert_text.specs.Tokens.{capped, greatest, is_number, number_after, number_of}
+use Rattle.cert_text.specs.Tokens.{capped, ceiling, is_number, number_after, number_of}
 
 -- Digits.
 
@@ -25,7 +25,7 @@ record IsDecimal (n : ℕ) (ds : List ℕ) : Type 0 where
   digits : list_all is_ascii_digit ds ≡ true
   leading : 0 < n → eqb head 48 ≡ false
   short : n < 10 → rest ≡ []
-  value : n ≤ greatest → number_after 0 ds ≡ n
+  value : n ≤ ceiling → number_after 0 ds ≡ n
 
 one_digit : (n : ℕ) → n < 10 → IsDecimal n ((48 + n) ∷ [])
 one_digit n h = record {
@@ -35,7 +35,7 @@ one_digit n h = record {
   digits = and_from (is_ascii_digit (48 + n)) true (digit n h) refl;
   leading = λ some. ne_eqb (48 + n) 48 (λ e. let never : ⊥ = omega (arith, some, e) in never);
   short = λ k. refl;
-  value = λ k. let is : min (0 * 10 + (48 + n - 48)) greatest ≡ n = omega (arith, k) in is;
+  value = λ k. let is : min (0 * 10 + (48 + n - 48)) ceiling ≡ n = omega (arith, k) in is;
 }
 
 digit_more : (n : ℕ) (ds : List ℕ) → 10 ≤ n → IsDecimal (n / 10) ds → IsDecimal n (ds ++ ((48 + n % 10) ∷ []))
@@ -50,11 +50,11 @@ digit_more n ds h p = record {
       let front : number_after 0 ds ≡ n / 10 = p.value (omega (arith, k)) in
       number_after-append 0 ds (48 + n % 10)
       ∙ ap (λ m. capped (m * 10 + (48 + n % 10 - 48))) front
-      ∙ (let is : min (n / 10 * 10 + (48 + n % 10 - 48)) greatest ≡ n = omega (arith, k) in is);
+      ∙ (let is : min (n / 10 * 10 + (48 + n % 10 - 48)) ceiling ≡ n = omega (arith, k) in is);
 }
 
-decimal_is : (n : ℕ) → n < 2 ^ 64 → IsDecimal n (decimal n)
-decimal_is = decimal_by_steps IsDecimal one_digit digit_more
+decimal_is : (n : ℕ) → n < 10 ^ 64 → IsDecimal n (decimal n)
+decimal_is = decimal_by_steps_wide IsDecimal one_digit digit_more
 
 formed : (head : ℕ) (rest : List ℕ) → list_all is_ascii_digit (head ∷ rest) ≡ true → (rest ≡ []) ⊎ (eqb head 48 ≡ false) → is_number (head ∷ rest) ≡ true
 formed head [] digits how = and_from (list_all is_ascii_digit (head ∷ [])) true digits refl
@@ -70,17 +70,17 @@ leads n ds p = elim (cases_lt n 10) [
   | inr many ↦ inr (p.leading (omega (arith, many)))
 ]
 
-read_back : (n : ℕ) (ds : List ℕ) → IsDecimal n ds → n ≤ greatest → number_of ds ≡ Some n
+read_back : (n : ℕ) (ds : List ℕ) → IsDecimal n ds → n ≤ ceiling → number_of ds ≡ Some n
 read_back n ds p h =
     let shape : is_number ds ≡ true = subst (λ (l : List ℕ). is_number l ≡ true) (sym p.is) (formed p.head p.rest (subst (λ (l : List ℕ). list_all is_ascii_digit l ≡ true) p.is p.digits) (leads n ds p)) in
     cond-true (is_number ds) (Some (number_after 0 ds)) None shape ∙ ap (λ m. Some m) (p.value h)
 
-below : (n : ℕ) → n ≤ greatest → n < 2 ^ 64
+below : (n : ℕ) → n ≤ ceiling → n < 10 ^ 64
 below n h = omega (arith, h)
 
--- a number that counts is read back
-pub number_read : (n : ℕ) → n ≤ greatest → number_of (decimal n) ≡ Some n
+-- a number of 128 bits is read back
+pub number_read : (n : ℕ) → n ≤ ceiling → number_of (decimal n) ≡ Some n
 number_read n h = read_back n (decimal n) (decimal_is n (below n h)) h
 
-pub decimal_digits : (n : ℕ) → n ≤ greatest → list_all is_ascii_digit (decimal n) ≡ true
+pub decimal_digits : (n : ℕ) → n ≤ ceiling → list_all is_ascii_digit (decimal n) ≡ true
 decimal_digits n h = (decimal_is n (below n h)).digits

@@ -1,5 +1,5 @@
 -- What the printed lines of steps and parts say.
-use Rattle.std.proofs.Common.{◌≡◌, ℕ, ◌<◌, ◌≤◌, List, [], ◌∷◌, ◌++◌, Some, codes, refl, sym, subst, ap, ◌∙◌, append_assoc, append-nil}
+use Rattle.std.proofs.Common.{◌≡◌, ℕ, ◌≤◌, List, [], ◌∷◌, ◌++◌, Some, codes, refl, sym, subst, ap, ◌∙◌, append_assoc, append-nil}
 use Rattle.std.specs.Fmt.{decimal}
 use Rattle.std.specs.List.{All}
 use Rattle.clause_core.specs.declared.literal.Lit.{Lit}
@@ -41,7 +41,7 @@ tokens_of_step Hinted s hs = tokens_of_literals s ++ tokens_of_hints hs
 step_word : IsWord (codes "step") StepWord
 step_word = record { token = refl; no_space = refl; no_feed = refl }
 
-pub step_said : (form : Form) (s : List Lit) (hs : List ℕ) → Within MAX_VARS s → All (λ h. h < greatest) hs
+pub step_said : (form : Form) (s : List Lit) (hs : List ℕ) → Within MAX_VARS s → All (λ h. h ≤ greatest) hs
     → Says (codes "--% step " ++ literals_text s ++ hints_behind form hs) (Mark ∷ StepWord ∷ tokens_of_step form s hs)
 step_said Plain s hs h small =
     subst (λ (l : List ℕ). Says l (Mark ∷ StepWord ∷ tokens_of_literals s)) (sym (append-nil (codes "--% step " ++ literals_text s)))
@@ -54,11 +54,11 @@ step_said Hinted s hs h small =
 abbrev pub NoneIfPlain : Form → List ℕ → Type 0
 NoneIfPlain form hs = form ≡ Plain → hs ≡ []
 
-pub step_read : (form : Form) (s : List Lit) (hs : List ℕ) → Within MAX_VARS s → NoneIfPlain form hs → step_of form (tokens_of_step form s hs) ≡ Some record { lits = s; hints = hs }
-step_read Plain s hs h none =
+pub step_read : (form : Form) (s : List Lit) (hs : List ℕ) → Within MAX_VARS s → NoneIfPlain form hs → All (λ h. h ≤ greatest) hs → step_of form (tokens_of_step form s hs) ≡ Some record { lits = s; hints = hs }
+step_read Plain s hs h none small =
     ap (step_from Plain) (only_literals s h) ∙ ap (λ (l : List ℕ). Some record { lits = s; hints = l }) (sym (none refl))
-step_read Hinted s hs h none =
-    ap (step_from Hinted) (literals_read s (tokens_of_hints hs) h) ∙ ap (hinted s) (hints_read hs)
+step_read Hinted s hs h none small =
+    ap (step_from Hinted) (literals_read s (tokens_of_hints hs) h) ∙ ap (hinted s) (hints_read hs small)
 
 -- Parts.
 

@@ -8,10 +8,10 @@ use Rattle.cert_text.specs.Printed.{certificate_text, sound_text}
 use Rattle.cert_text.specs.Reading.{ReadSoFar, is_certificate_line, lines_of, nothing, read_from}
 use Rattle.cert_text.specs.Tokens.{greatest}
 
--- as many hints as steps, as the type of derivations keeps it, and none is so great that no text can number it
+-- as many hints as steps, as the type of derivations keeps it, and each is a number of 64 bits
 pub record AreReadableHints (log : HintedLog) : Type 0 where
   pub count : length log.hints ≡ length log.steps
-  pub small : All (λ hs. All (λ h. h < greatest) hs) log.hints
+  pub small : All (λ hs. All (λ h. h ≤ greatest) hs) log.hints
 
 abbrev pub IsReadablePart : Option HintedLog → Type 0
 IsReadablePart part = ForSome part AreReadableHints
