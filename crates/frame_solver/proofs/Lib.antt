@@ -6,6 +6,7 @@ pub mod Framed
 pub mod Guarding
 pub mod Joined
 pub mod Loaded
+pub mod Marked
 pub mod Negated
 pub mod Paid
 pub mod Recalled

@@ -1,5 +1,5 @@
 -- What a query about steps finds.
-use Rattle.std.specs.Prelude.{◌≡◌, ℕ, ◌+◌, ◌-◌, ◌<◌, not, Bool, true, List, ◌∷◌, map, take, length, All, Contains}
+use Rattle.std.specs.Prelude.{◌≡◌, ℕ, ◌+◌, ◌-◌, ◌<◌, not, Bool, true, false, List, ◌∷◌, map, take, length, slice_index_or, All, Contains}
 use Rattle.clause_core.specs.declared.literal.Lit.{Lit}
 use Rattle.clause_core.specs.Assignments.{ClauseTrue, assignment_of}
 use Rattle.clause_core.specs.Systems.{TransitionSystem, FirstBits, StepBits}
@@ -51,6 +51,10 @@ pub record AreParents (first : ℕ) (lemmas : List Lemma) (core : List Lit) (par
 pub record IsCut (f : Lit → Lit) (core clause part : List Lit) : Type 0 where
   pub enough : (l : Lit) → Contains clause l → Contains core (f l) → Contains part l
   pub only : IsPart part clause
+
+-- each of these literals whose variable is in the range of the marks, which begins at `from`, has its mark
+abbrev pub AreMarked : ℕ → List Lit → List Bool → Type 0
+AreMarked from literals marks = (l : Lit) → Contains literals l → (v : ℕ) → v < length marks → l.var ≡ from + v → slice_index_or marks v false ≡ true
 
 -- what a solver's answer says of steps
 abbrev pub Reads : TransitionSystem → ℕ → List Lemma → List Lit → Answer → Stepping → Type 0

@@ -12,7 +12,8 @@ ghost use Rattle.frame_solver.specs.Paying.{Firsts as AskFirsts, PaysOne};
 
 use crate::asking::ask;
 use crate::loading::{Engine, system_of};
-use crate::stepping::{first_values, has};
+use crate::marking::{is_marked, marks_of};
+use crate::stepping::first_values;
 use clause_core::{Bits, Clause, Lit, System};
 use effort_purse::Purse;
 use frame_core::Lemma;
@@ -41,13 +42,15 @@ fn negated(alloc: Global, clause: &[Lit]) -> Result<Vec<Lit>, AllocError>
     Ok(literals)
 }
 
-// The literals of the clause whose negations are in the core.
-fn part_of(alloc: Global, core: &[Lit], clause: &[Lit]) -> Result<Vec<Lit>, AllocError>
+// The literals of the clause whose variables are in the core.
+fn part_of(alloc: Global, bits: usize, core: &[Lit], clause: &[Lit]) -> Result<Vec<Lit>, AllocError>
+    requires within { Within bits clause.now }
     ensures { IfOk result (λ v. IsCut negate core.now clause.now v.items) }
 {
+    let marks = marks_of(alloc, 0, bits, core)?;
     let mut part = Vec::new(alloc);
     'literals: for l in clause {
-        if has(core, l.negated()) {
+        if is_marked(&marks, l.var) {
             part.push(*l)?;
         }
     }
@@ -61,12 +64,13 @@ fn read(
     clause: &[Lit],
     answer: Answer,
 ) -> Result<Firsts, AllocError>
+    requires { Within system.now.state_bits clause.now }
     ensures { IfOk result (ReadsFirsts system.now clause.now answer) }
 {
     match answer {
         Answer::Sat(model) => Ok(Firsts::First(first_values(model, system.state_bits()))),
         Answer::Unsat { core } => {
-            let part = part_of(alloc, &core, clause)?;
+            let part = part_of(alloc, system.state_bits(), &core, clause)?;
             Ok(Firsts::Meet(Clause::from_vec(part)))
         }
         Answer::Spent { drawn, budget } => Ok(Firsts::Spent { drawn, budget }),

@@ -7,6 +7,7 @@ pub mod bad_states;
 pub mod first_states;
 mod known_steps;
 pub mod loading;
+mod marking;
 mod negating;
 pub mod querying;
 pub mod recalling;

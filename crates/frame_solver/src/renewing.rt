@@ -22,9 +22,9 @@ use std::alloc::{AllocError, Global};
 // How many queries with a clause of their own a new solver has room for.
 const ROOM: usize = 300;
 
-// How many clauses a solver may have learned before it is made anew, beside one for each eight clauses of a step: what was
-// learned long ago costs each query more than it saves.
-const LEARNED: usize = 300;
+// How many clauses a solver may have learned before it is made anew, beside one for each eight clauses of a step. What was
+// learned long ago costs each query a little. Where queries are hard, as those about sums, it saves most of their conflicts.
+const LEARNED: usize = 1000;
 
 // Whether the solver has learned few enough clauses to be kept.
 fn is_light(systems: &[System], engine: &Engine) -> bool

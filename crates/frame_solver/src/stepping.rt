@@ -15,6 +15,7 @@ ghost use Rattle.frame_solver.specs.Paying.{Steps, PaysOne};
 
 use crate::asking::ask;
 use crate::loading::{Engine, push_guarded, system_of};
+use crate::marking::{is_marked, marks_of};
 use clause_core::{Bits, Clause, Lit, System};
 use effort_purse::Purse;
 use frame_core::{Lemma, Parent};
@@ -70,19 +71,16 @@ pub fn has(literals: &[Lit], l: Lit) -> bool
     literals.contains(&l)
 }
 
-// The literals of the clause that the core says are false in the next state.
+// The literals of the clause whose variables the core has in the next state.
 fn part_of(alloc: Global, bits: usize, core: &[Lit], clause: &[Lit]) -> Result<Vec<Lit>, AllocError>
     requires within { Within bits clause.now }
     requires small { 2 * bits < 2 ^ 64 }
     ensures { IfOk result (λ v. IsCut (left bits) core.now clause.now v.items) }
 {
+    let marks = marks_of(alloc, bits, bits, core)?;
     let mut part = Vec::new(alloc);
     'literals: for l in clause {
-        let next = Lit {
-            var: bits + l.var,
-            positive: !l.positive,
-        };
-        if has(core, next) {
+        if is_marked(&marks, l.var) {
             part.push(*l)?;
         }
     }

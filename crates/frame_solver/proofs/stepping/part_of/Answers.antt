@@ -1,27 +1,36 @@
-use Rattle.std.proofs.Common.{◌≡◌, ◌++◌, ◌∷◌, [], List, take, get_or, length, subst, sym, ◌<◌}
+use Rattle.std.proofs.Common.{◌≡◌, ◌++◌, ◌∷◌, [], List, Bool, false, take, get_or, length, subst, refl, sym, ◌<◌}
+use Rattle.std.specs.Prelude.{Contains, slice_index_or}
 use Rattle.std.proofs.lemmas.List.{take_more}
+use Rattle.std.proofs.lemmas.List.Elements.{All-get_or}
 use Rattle.clause_core.specs.declared.literal.Lit.{Lit}
 use Rattle.clause_core.specs.Literals.{none_lit}
 use Rattle.frame_solver.specs.Stepping.{left, IsCut}
 use Rattle.frame_solver.proofs.Cutting.{cut_push, cut_skip}
+use Rattle.frame_solver.proofs.Marked.{unmarked_in}
 use Rattle.frame_solver.proofs.stepping.part_of.Goals as goal
-use Rattle.frame_solver.proofs.stepping.part_of.Goals.{then-has+in_ok-push, else-has}
+use Rattle.frame_solver.proofs.stepping.part_of.Goals.{then-is_marked+in_ok-push, else-is_marked}
 
 pub literals-preserved : goal.literals-preserved
 literals-preserved c =
     let clause = c.args.clause.now in
+    let core = c.args.core.now in
+    let bits = c.args.bits in
+    let marks = c.in_ok-marks.marks.items in
     let i = c.literals.l-index in
     let part = c.literals.part.items in
     let lt : i < length clause = c.literals-test.true in
     let l : Lit = get_or clause i none_lit in
     let more = take_more clause i none_lit lt in
-    let P : List Lit → Type 0 = λ xs. IsCut (left c.args.bits) c.args.core.now xs c.if-has.part.items in
-    let Q : List Lit → Type 0 = λ ps. IsCut (left c.args.bits) c.args.core.now (take i clause ++ l ∷ []) ps in
-    elim c.if-has.branch [
-      | then-has+in_ok-push w ↦
-          let e : c.if-has.part.items ≡ part ++ l ∷ [] = cc (w.part-is, w.in_ok-push.ensures.items) in
-          subst P (sym more) (subst Q (sym e) (cut_push (left c.args.bits) c.args.core.now (take i clause) part l c.literals.invariant))
-      | else-has w ↦
-          let e : c.if-has.part.items ≡ part = cc w.part-is in
-          subst P (sym more) (subst Q (sym e) (cut_skip (left c.args.bits) c.args.core.now (take i clause) part l c.literals.invariant w.if-has.ensures))
+    let P : List Lit → Type 0 = λ xs. IsCut (left bits) core xs c.if-is_marked.part.items in
+    let Q : List Lit → Type 0 = λ ps. IsCut (left bits) core (take i clause ++ l ∷ []) ps in
+    let in_range : l.var < length marks = subst (λ n. l.var < n) (sym c.in_ok-marks.ensures.len) (All-get_or (λ (m : Lit). m.var < bits) clause i none_lit lt c.requires.within) in
+    elim c.if-is_marked.branch [
+      | then-is_marked+in_ok-push w ↦
+          let e : c.if-is_marked.part.items ≡ part ++ l ∷ [] = cc (w.part-is, w.in_ok-push.ensures.items) in
+          subst P (sym more) (subst Q (sym e) (cut_push (left bits) core (take i clause) part l c.literals.invariant))
+      | else-is_marked w ↦
+          let e : c.if-is_marked.part.items ≡ part = cc w.part-is in
+          let off : slice_index_or marks l.var false ≡ false = subst (λ (ms : List Bool). slice_index_or ms l.var false ≡ false) c.deref.ensures.value (sym w.if-is_marked.ensures) in
+          let none : Contains core (left bits l) → ⊥ = unmarked_in bits core marks c.in_ok-marks.ensures.marked (left bits l) l.var in_range refl off in
+          subst P (sym more) (subst Q (sym e) (cut_skip (left bits) core (take i clause) part l c.literals.invariant none))
     ]
