@@ -1,4 +1,5 @@
 pub mod Counts
+pub mod Deciding
 pub mod Finals
 pub mod Learns
 pub mod Levels

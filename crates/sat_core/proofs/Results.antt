@@ -1,9 +1,9 @@
 -- What the search found, for the clauses that were given and those that were learned.
-use Rattle.std.proofs.Common.{◌≡◌, ℕ, ◌<◌, ◌≤◌, ◌+◌, ◌-◌, Bool, true, false, List, [], ◌∷◌, ◌++◌, length, take, get_or, refl, sym, subst, ap, ◌∙◌, inl, inr, arith, length-append, append_assoc, append-nil, map, eqb, eqb-true}
+use Rattle.std.proofs.Common.{◌≡◌, ℕ, ◌<◌, ◌≤◌, ◌+◌, ◌-◌, Bool, true, false, not, List, [], ◌∷◌, ◌++◌, length, take, get_or, refl, sym, subst, ap, ◌∙◌, inl, inr, arith, length-append, append_assoc, append-nil, map, eqb, eqb-true}
 use Rattle.std.specs.List.{All, Contains}
 use Rattle.std.proofs.Math.Seq.{get_or-append_seam, take-append_seam, take-append-add, get_or-append-add}
 use Rattle.std.proofs.Math.ListN.{get_or-map}
-use Rattle.std.proofs.lemmas.Bool.{cases_lt}
+use Rattle.std.proofs.lemmas.Bool.{cases_Bool, cases_lt}
 use Rattle.std.proofs.lemmas.List.{get_or_append_left, take-append-le, length-map}
 use Rattle.std.proofs.lemmas.List.Elements.{All-contains, All-append, All-weaker, All-contains_itself, All-nil, All-cons, Contains-get_or, Contains-append_left, Contains-append_right}
 use Rattle.clause_core.specs.declared.literal.Lit.{Lit}
@@ -13,11 +13,11 @@ use Rattle.clause_core.specs.Assignments.{ClauseTrue, assignment_of}
 use Rattle.clause_core.specs.Derivations.{AllStepsBelow, Derives}
 use Rattle.clause_core.specs.Learning.{Asserting}
 use Rattle.clause_core.specs.Values.{holds, code}
-use Rattle.clause_core.proofs.Sound.{clause_cases, agrees_from, agrees_not_both}
+use Rattle.clause_core.proofs.Sound.{clause_cases, agrees_from, agrees_true, agrees_not_both}
 use Rattle.sat_prop.specs.declared.trail.Trail.{Trail}
 use Rattle.sat_prop.specs.Trails.{among, AtRest}
 use Rattle.sat_core.specs.Queries.{State, given_of, learned_of, state_of, AssumptionsFirst, IsLearned, Learns, IsModel, units, Draws}
-use Rattle.sat_core.specs.Searching.{GrowsByLearning, Refutes, AllSet, PaidFor, Keeps, SameMarks}
+use Rattle.sat_core.specs.Searching.{GrowsByLearning, Refutes, PositivesSet, PaidFor, Keeps, SameMarks}
 use Rattle.sat_core.proofs.Origins.{given_append, learned_append, given_push, learned_push, both_in, covered}
 use Rattle.sat_core.proofs.Learns.{contains_map}
 
@@ -250,17 +250,23 @@ refutation vars given learned cs assumptions core steps cover parts refuted =
     ] in
     (parts, (each, (length learned, omega (arith, length-append learned ([] ∷ [])), get_or-append_seam learned [] [] [])))
 
-pub model_meets : (vars : ℕ) (cs : List (List Lit)) (literals : List Lit) (a : ℕ → Bool) → AtRest cs literals → AllSet vars literals → All (Within vars) cs →
-    ((l : Lit) → among literals l ≡ true → a l.var ≡ l.positive) → All (ClauseTrue a) cs
-model_meets vars cs literals a rest set within is k d lt =
+-- a literal that is not set is negative, and its variable false
+pub model_meets : (cs : List (List Lit)) (literals : List Lit) (a : ℕ → Bool) → AtRest cs literals → PositivesSet cs literals →
+    ((l : Lit) → l.positive ≡ true → a l.var ≡ among literals l) → ((l : Lit) → among literals l ≡ true → a l.var ≡ l.positive) → All (ClauseTrue a) cs
+model_meets cs literals a rest set reads is k d lt =
     let c = get_or cs k d in
     elim (clause_cases a c) [
       | inl hit ↦ hit
       | inr miss ↦ absurd ((rest k d lt).0 (λ j e lj.
           let m = get_or c j e in
-          elim (set m (within k d lt j e lj)) [
-            | inl on ↦ absurd (agrees_not_both (a m.var) m.positive (agrees_from (a m.var) m.positive (is m on)) (miss j e lj))
-            | inr off ↦ off
+          elim (cases_Bool m.positive) [
+            | inl plain ↦ elim (set k d lt j e lj plain) [
+              | inl on ↦ absurd (agrees_not_both (a m.var) m.positive (agrees_from (a m.var) m.positive (is m on)) (miss j e lj))
+              | inr off ↦ off
+            ]
+            | inr negative ↦
+                let flipped : not m.positive ≡ true = ap not negative in
+                sym (reads (negate m) flipped) ∙ agrees_true (a m.var) (not m.positive) (miss j e lj) ∙ flipped
           ]))
     ]
 
@@ -275,15 +281,24 @@ read_model v literals l ok on =
     let f : get_or (map (λ x. eqb x 1) v) l.var (eqb 0 1) ≡ eqb (get_or v l.var 0) 1 = get_or-map (λ x. eqb x 1) v l.var 0 in
     f ∙ ap (λ x. eqb x 1) e ∙ code_one l.positive
 
+pub read_positive : (v : List ℕ) (literals : List Lit) (l : Lit) → ((m : Lit) → among literals m ≡ holds v m) → l.positive ≡ true →
+    assignment_of (map (λ x. eqb x 1) v) l.var ≡ among literals l
+read_positive v literals l ok p =
+    let f : get_or (map (λ x. eqb x 1) v) l.var (eqb 0 1) ≡ eqb (get_or v l.var 0) 1 = get_or-map (λ x. eqb x 1) v l.var 0 in
+    f ∙ ap (λ b. eqb (get_or v l.var 0) (code b)) (sym p) ∙ sym (ok l)
+
 pub sat_says : (t : Trail) (cs given : List (List Lit)) (assumptions : List Lit) (model : List Bool) →
-    AtRest cs t.literals.items → All (λ a. among t.literals.items a ≡ true) assumptions → AllSet (length t.values.items) t.literals.items →
-    All (Within (length t.values.items)) cs → All (Contains cs) given → model ≡ map (λ x. eqb x 1) t.values.items →
+    AtRest cs t.literals.items → All (λ a. among t.literals.items a ≡ true) assumptions → PositivesSet cs t.literals.items →
+    All (Contains cs) given → model ≡ map (λ x. eqb x 1) t.values.items →
     (length model ≡ length t.values.items) × IsModel given assumptions model
-sat_says t cs given assumptions model rest on set within part e =
+sat_says t cs given assumptions model rest on set part e =
     let is : (l : Lit) → among t.literals.items l ≡ true → assignment_of model l.var ≡ l.positive = λ l i.
     let P : List Bool → Type 0 = λ m. assignment_of m l.var ≡ l.positive in
     subst P (sym e) (read_model t.values.items t.literals.items l t.values_ok i) in
-    let all = model_meets (length t.values.items) cs t.literals.items (assignment_of model) rest set within is in (
+    let reads : (l : Lit) → l.positive ≡ true → assignment_of model l.var ≡ among t.literals.items l = λ l p.
+    let P : List Bool → Type 0 = λ m. assignment_of m l.var ≡ among t.literals.items l in
+    subst P (sym e) (read_positive t.values.items t.literals.items l t.values_ok p) in
+    let all = model_meets cs t.literals.items (assignment_of model) rest set reads is in (
       ap length e ∙ length-map t.values.items (λ x. eqb x 1),
       (λ k d lt. All-contains (ClauseTrue (assignment_of model)) cs (get_or given k d) all (part k d lt), λ k d lk. is (get_or assumptions k d) (on k d lk)),
     )

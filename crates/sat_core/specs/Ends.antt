@@ -8,7 +8,7 @@ use Rattle.sat_core.specs.declared.search.Next.TheVariants.{AllTrue, Decide, Fai
 use Rattle.sat_core.specs.declared.search.Seen.{Seen}
 use Rattle.sat_core.specs.declared.search.Outcome.{Outcome}
 use Rattle.sat_core.specs.declared.search.Outcome.TheVariants.{Sat, Unsat, Spent}
-use Rattle.sat_core.specs.Searching.{Refutes, AllSet}
+use Rattle.sat_core.specs.Searching.{Refutes, PositivesSet}
 
 -- what is to be decided next: all assumptions are true; or this one is unset; or this one is false
 abbrev pub NextSays : List Lit → List Lit → Next → Type 0
@@ -21,11 +21,13 @@ abbrev pub IsSeen : List Lit → List Lit → Seen → Type 0
 IsSeen literals assumptions seen =
     (seen.until ≤ length literals) × All (λ a. among (take seen.until literals) a ≡ true) (take seen.count assumptions)
 
--- how a search ended: with all set and nothing left to do; with a core of the assumptions; or with a spent purse
-abbrev pub OutcomeSays : ℕ → List Lit → ℕ → Bool → List (List Lit) → List Lit → Outcome → Type 0
-OutcomeSays vars assumptions budget over cs literals Sat = AtRest cs literals × All (λ a. among literals a ≡ true) assumptions × AllSet vars literals
-OutcomeSays vars assumptions budget over cs literals (Unsat core) = All (Contains assumptions) core.items × Refutes cs core.items
-OutcomeSays vars assumptions budget over cs literals (Spent d b) = (d ≡ budget) × (b ≡ budget) × (over ≡ true)
+-- how a search ended: with nothing left to do, and each assumption and each positive literal set; with a core of the
+-- assumptions; or with a spent purse
+abbrev pub OutcomeSays : List Lit → ℕ → Bool → List (List Lit) → List Lit → Outcome → Type 0
+OutcomeSays assumptions budget over cs literals Sat =
+    AtRest cs literals × All (λ a. among literals a ≡ true) assumptions × PositivesSet cs literals
+OutcomeSays assumptions budget over cs literals (Unsat core) = All (Contains assumptions) core.items × Refutes cs core.items
+OutcomeSays assumptions budget over cs literals (Spent d b) = (d ≡ budget) × (b ≡ budget) × (over ≡ true)
 
 -- the search ended with a core
 abbrev pub HasCore : Outcome → Type 0

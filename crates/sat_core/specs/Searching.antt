@@ -121,9 +121,25 @@ WatchBelow literals level_starts n c w =
     × (among (take (slice_index level_starts i) literals) (negate (at c 0)) ≡ false)
     × (among (take (slice_index level_starts i) literals) (negate (at c w)) ≡ false)
 
--- each variable has a value
-abbrev pub AllSet : ℕ → List Lit → Type 0
-AllSet vars literals = (l : Lit) → l.var < vars → among literals l ≡ true ⊎ among literals (negate l) ≡ true
+-- the variable of each positive literal of the clause is marked
+abbrev pub MarksPositives : List Bool → List Lit → Type 0
+MarksPositives positives c = All (λ l. l.positive ≡ true → Marked positives l.var) c
+
+-- each variable has a mark, which is on where a clause has the variable as a positive literal
+abbrev pub KnowsPositives : ℕ → List Bool → List (List Lit) → Type 0
+KnowsPositives vars positives cs = (length positives ≡ vars) × All (MarksPositives positives) cs
+
+-- the literal or its negation is true
+abbrev pub HasValue : List Lit → Lit → Type 0
+HasValue literals l = among literals l ≡ true ⊎ among literals (negate l) ≡ true
+
+-- each marked variable has a value
+abbrev pub MarkedSet : List Bool → List Lit → Type 0
+MarkedSet positives literals = (l : Lit) → Marked positives l.var → HasValue literals l
+
+-- each positive literal of the clauses has a value
+abbrev pub PositivesSet : List (List Lit) → List Lit → Type 0
+PositivesSet cs literals = All (All (λ l. l.positive ≡ true → HasValue literals l)) cs
 
 -- a ticket was drawn for each clause that was learned
 abbrev pub PaidFor : List ℕ → List ℕ → List (List Lit) → List (List Lit) → Type 0

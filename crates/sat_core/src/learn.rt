@@ -4,13 +4,14 @@
 ghost use Rattle.std.specs.Prelude.{◌+◌, ◌-◌, ◌≡◌, ◌<◌, ◌≤◌, ◌^◌, [], ℕ, IfOk, OnErr, OnOk, length, take, All, slice_index, slice_index_or};
 ghost use Rattle.clause_core.specs.Literals.{Within};
 ghost use Rattle.clause_core.specs.Propagation.{AllFalse};
-ghost use Rattle.sat_prop.specs.Trails.{among, AtRest};
+ghost use Rattle.sat_prop.specs.Trails.{among, AtRest, StartsRise};
 ghost use Rattle.sat_prop.specs.Moves.{FalseClause};
 ghost use Rattle.sat_core.specs.Positions.{Marked};
-ghost use Rattle.sat_core.specs.Searching.{learned_clause, PlacesFalse, LearnedFrom, decided, SettledBelow, WatchBelow, PerLevel, LearnSays};
+ghost use Rattle.sat_core.specs.Searching.{learned_clause, PlacesFalse, LearnedFrom, decided, SettledBelow, WatchBelow, PerLevel, LearnSays, KnowsPositives};
 
 use crate::marks::resolve;
 use crate::order::Order;
+use crate::positives::mark_positives;
 use crate::shorten::shorten;
 use clause_core::Lit;
 use sat_prop::{Propagator, Trail};
@@ -77,19 +78,19 @@ fn greatest(low: &[usize]) -> usize
 
 // The number of levels that start at or before the position.
 fn jump_level(level_starts: &[usize], low: &[usize], best: usize, stay: bool) -> usize
-    requires { 0 < length level_starts.now }
+    requires some { 0 < length level_starts.now }
+    requires rising { StartsRise level_starts.now }
     ensures below { result < length level_starts.now }
     ensures seen { (i : ℕ) → i < result → (best < length low.now) × (slice_index level_starts.now i ≤ slice_index low.now best) }
 {
     if !stay || best >= low.len() {
         return 0;
     }
-    for i in 0..level_starts.len() - 1 {
-        if level_starts[i] > low[best] {
-            return i;
-        }
+    let mut i = level_starts.len() - 1;
+    while i > 0 && level_starts[i - 1] > low[best] {
+        i -= 1;
     }
-    level_starts.len() - 1
+    i
 }
 
 // Where the literals of a learned clause stand in the trail: that of the first unique implication point, and the others.
@@ -202,20 +203,24 @@ pub fn analyze<P: Propagator>(
 // Jumps back to the backjump level and adds its learned clause.
 pub fn follow<P: Propagator>(
     inner: &mut P,
+    positives: &mut [bool],
     order: &mut Order,
     learned: &LearnedClause,
 ) -> Result<(), AllocError>
+    requires positives { KnowsPositives (length (P.trail inner.old).values.items) positives.old (P.clauses inner.old) }
     requires within { Within (length (P.trail inner.old).values.items) learned.now.clause.items }
     requires learned { LearnedFrom (P.clauses inner.old) (decided (P.trail inner.old).literals.items (P.trail inner.old).level_starts.items) learned.now.clause.items }
     requires level_in { learned.now.backjump_level < length (P.trail inner.old).level_starts.items }
     requires watch { WatchBelow (P.trail inner.old).literals.items (P.trail inner.old).level_starts.items learned.now.backjump_level learned.now.clause.items learned.now.second_watch }
     requires settled { SettledBelow (P.trail inner.old).literals.items (P.trail inner.old).level_starts.items learned.now.backjump_level learned.now.clause.items }
     requires rest { PerLevel (λ low _. AtRest (P.clauses inner.old) low) (P.trail inner.old).literals.items (P.trail inner.old).level_starts.items }
+    ensures positives { KnowsPositives (length (P.trail inner.new).values.items) positives.new (P.clauses inner.new) }
     ensures done { OnOk result (LearnSays (length (P.trail inner.old).values.items) (P.clauses inner.old) (P.trail inner.old).literals.items (P.trail inner.old).level_starts.items (P.clauses inner.new) (P.trail inner.new).literals.items (P.trail inner.new).level_starts.items) }
     ensures failed { OnErr result (P.clauses inner.new ≡ P.clauses inner.old) }
     ensures vars { length (P.trail inner.new).values.items ≡ length (P.trail inner.old).values.items }
 {
-    order.keep(inner.assignment(), learned.backjump_level)?;
+    mark_positives(&learned.clause, positives, order)?;
+    order.keep(inner.assignment(), learned.backjump_level, positives)?;
     inner.undo(learned.backjump_level);
     inner.learn(&learned.clause, learned.second_watch)?;
     order.decay();

@@ -6,6 +6,7 @@ mod answer;
 mod learn;
 mod marks;
 mod order;
+mod positives;
 mod query;
 mod refute;
 mod search;

@@ -15,10 +15,6 @@ pub struct Order {
     slot: Vec<usize>,
     activity: Vec<u64>,
     phase: Vec<bool>,
-    // Which variables are decided only once all others are set; the list of these, and how many of it are set for now.
-    is_last: Vec<bool>,
-    last: Vec<usize>,
-    passed: usize,
     // What a variable's activity gains.
     step: u64,
     // Which restart comes next, and after how many conflicts.
@@ -144,15 +140,11 @@ impl Order {
         let slot = numbers_from(alloc, 1, vars)?;
         let activity = vec![in alloc; 0; vars]?;
         let phase = vec![in alloc; false; vars]?;
-        let is_last = vec![in alloc; false; vars]?;
         Ok(Order {
             heap,
             slot,
             activity,
             phase,
-            is_last,
-            last: Vec::new(alloc),
-            passed: 0,
             step: 1,
             round: 1,
             left: 64,
@@ -160,8 +152,8 @@ impl Order {
         })
     }
 
-    // Takes the most active variable out of the heap.
-    fn pop(&mut self) -> Option<usize> {
+    // Takes the most active variable out of the heap: the one to be decided next.
+    pub fn next(&mut self) -> Option<usize> {
         let top = entry(&self.heap, 0);
         match self.heap.pop() {
             None => None,
@@ -175,43 +167,6 @@ impl Order {
                 Some(top)
             }
         }
-    }
-
-    // The next variable of those that are decided last, as long as each before it is set.
-    fn pop_last(&mut self) -> Option<usize> {
-        if self.passed < self.last.len() {
-            let v = self.last[self.passed];
-            self.passed += 1;
-            Some(v)
-        } else {
-            None
-        }
-    }
-
-    // The variable to be decided next: the most active one, and those that come last once there is no other.
-    pub fn next(&mut self) -> Option<usize> {
-        let n = self.heap.len();
-        for _ in 0..n {
-            match self.pop() {
-                None => break,
-                Some(v) => {
-                    if !is_on(&self.is_last, v) {
-                        return Some(v);
-                    }
-                }
-            }
-        }
-        self.pop_last()
-    }
-
-    // From now on this variable is decided once all others are set, and made false.
-    pub fn put_last(&mut self, v: usize) -> Result<(), AllocError> {
-        if v < self.is_last.len() && v < self.phase.len() && !self.is_last[v] {
-            self.last.push(v)?;
-            self.is_last[v] = true;
-            self.phase[v] = false;
-        }
-        Ok(())
     }
 
     // The sign that a variable gets when it is decided next.
@@ -297,33 +252,37 @@ impl Order {
         }
     }
 
-    // Puts a variable into the heap.
-    fn insert(&mut self, v: usize) -> Result<(), AllocError> {
-        let n = self.heap.len();
-        self.heap.push(v)?;
-        put(&mut self.slot, v, n.wrapping_add(1));
-        sift_up(&mut self.heap, &mut self.slot, &self.activity, n);
+    // Puts a variable into the heap, if it is not there.
+    pub fn insert(&mut self, v: usize) -> Result<(), AllocError> {
+        if v < self.slot.len() && self.slot[v] == 0 {
+            let n = self.heap.len();
+            self.heap.push(v)?;
+            self.slot[v] = n.wrapping_add(1);
+            sift_up(&mut self.heap, &mut self.slot, &self.activity, n);
+        }
         Ok(())
     }
 
-    // Notes the sign of a literal that is about to be unset, and puts its variable back into the heap.
-    fn keep_sign(&mut self, l: Lit) -> Result<(), AllocError> {
-        if l.var < self.phase.len() && !is_on(&self.is_last, l.var) {
-            self.phase[l.var] = l.positive;
-            if entry(&self.slot, l.var) == 0 {
-                return self.insert(l.var);
+    // Puts all marked variables into the heap.
+    pub fn fill(&mut self, marks: &[bool]) -> Result<(), AllocError> {
+        for v in 0..marks.len() {
+            if marks[v] {
+                self.insert(v)?;
             }
         }
         Ok(())
     }
 
-    // Notes the signs of the literals from a level on, which are about to be unset, and puts their variables back
-    // into the heap.
-    pub fn keep(&mut self, trail: &Trail, level: usize) -> Result<(), AllocError> {
-        self.passed = 0;
+    // Notes the signs of the literals from a level on, which are about to be unset, and puts those of their variables
+    // back into the heap that are marked.
+    pub fn keep(&mut self, trail: &Trail, level: usize, marks: &[bool]) -> Result<(), AllocError> {
         if level < trail.level_starts.len() {
             for p in trail.level_starts[level]..trail.literals.len() {
-                self.keep_sign(trail.literals[p])?;
+                let l = trail.literals[p];
+                self.set_sign(l.var, l.positive);
+                if is_on(marks, l.var) {
+                    self.insert(l.var)?;
+                }
             }
         }
         Ok(())

@@ -6,11 +6,12 @@ ghost use Rattle.clause_core.specs.declared.literal.Lit.{Lit};
 ghost use Rattle.clause_core.specs.Literals.{Within};
 ghost use Rattle.sat_core.specs.Queries.{state_of, given_of, learned_of, Learns, IsRefutedAtOnce, AnswerSays, IsPaid, Draws, IsUnsat, CostsOneTicket, IsRefutedForOne};
 ghost use Rattle.sat_core.specs.Paying.{PaysForLearned, PaysForOne};
-ghost use Rattle.sat_core.specs.Searching.{Keeps, SameMarks};
+ghost use Rattle.sat_core.specs.Searching.{Keeps, SameMarks, KnowsPositives};
 ghost use Rattle.sat_core.specs.Ends.{OutcomeSays, HasCore};
 
 use crate::answer::Answer;
 use crate::order::Order;
+use crate::positives::mark_positives;
 use crate::search::{Outcome, restart, search};
 use clause_core::{Bits, Clauses, Lit, Log};
 use effort_purse::{Draw, Purse};
@@ -35,12 +36,15 @@ pub fn add_on<P: Propagator>(
     inner: &mut P,
     marks: &mut Vec<bool>,
     given: &mut usize,
+    positives: &mut [bool],
     order: &mut Order,
     c: &[Lit],
 ) -> Result<(), AllocError>
+    requires positives { KnowsPositives (length (P.trail inner.old).values.items) positives.old (P.clauses inner.old) }
     requires within { Within (length (P.trail inner.old).values.items) c.now }
     requires keeps { Keeps (length (P.trail inner.old).values.items) marks.old.items (P.clauses inner.old) }
     requires count { given.old ≡ length (given_of marks.old.items (P.clauses inner.old)) }
+    ensures positives { KnowsPositives (length (P.trail inner.new).values.items) positives.new (P.clauses inner.new) }
     ensures keeps { Keeps (length (P.trail inner.new).values.items) marks.new.items (P.clauses inner.new) }
     ensures count { given.new ≡ length (given_of marks.new.items (P.clauses inner.new)) }
     ensures done { OnOk result (state_of (length (P.trail inner.new).values.items) marks.new.items (P.clauses inner.new) ≡ record (state_of (length (P.trail inner.old).values.items) marks.old.items (P.clauses inner.old)) { given = (state_of (length (P.trail inner.old).values.items) marks.old.items (P.clauses inner.old)).given ++ c.now ∷ [] }) }
@@ -49,7 +53,8 @@ pub fn add_on<P: Propagator>(
     if *given == usize::MAX {
         return Err(AllocError);
     }
-    restart(inner, order)?;
+    mark_positives(c, positives, order)?;
+    restart(inner, positives, order)?;
     let n = inner.clause_count();
     mark_learned(marks, n)?;
     marks.push(true)?;
@@ -106,6 +111,7 @@ fn run<P: Propagator, Q: Purse>(
     alloc: Global,
     inner: &mut P,
     marks: &[bool],
+    positives: &mut [bool],
     order: &mut Order,
     assumptions: &[Lit],
     purse: &mut Q,
@@ -113,6 +119,8 @@ fn run<P: Propagator, Q: Purse>(
     requires within { Within (length (P.trail inner.old).values.items) assumptions.now }
     requires ready { Q.ready purse.old }
     requires keeps { Keeps (length (P.trail inner.old).values.items) marks.now (P.clauses inner.old) }
+    requires positives { KnowsPositives (length (P.trail inner.old).values.items) positives.old (P.clauses inner.old) }
+    ensures positives { KnowsPositives (length (P.trail inner.new).values.items) positives.new (P.clauses inner.new) }
     ensures keeps { Keeps (length (P.trail inner.new).values.items) marks.now (P.clauses inner.new) }
     ensures learns { Learns assumptions.now (state_of (length (P.trail inner.old).values.items) marks.now (P.clauses inner.old)) (state_of (length (P.trail inner.new).values.items) marks.now (P.clauses inner.new)) }
     ensures kept { Q.kept purse.old purse.new }
@@ -120,10 +128,10 @@ fn run<P: Propagator, Q: Purse>(
     ensures budget { Q.budget purse.new ≡ Q.budget purse.old }
     ensures paid { IfOk result (λ _. Draws (Q.tickets purse.old) (Q.tickets purse.new) (length (learned_of marks.now (P.clauses inner.new)) - length (learned_of marks.now (P.clauses inner.old)))) }
     ensures log { PaysForLearned (state_of (length (P.trail inner.old).values.items) marks.now (P.clauses inner.old)) assumptions.now (state_of (length (P.trail inner.new).values.items) marks.now (P.clauses inner.new)) (Q.tickets purse.old) (Q.tickets purse.new) }
-    ensures says { IfOk result (OutcomeSays (length (P.trail inner.new).values.items) assumptions.now (Q.budget purse.old) (Q.spent purse.new) (P.clauses inner.new) (P.trail inner.new).literals.items) }
+    ensures says { IfOk result (OutcomeSays assumptions.now (Q.budget purse.old) (Q.spent purse.new) (P.clauses inner.new) (P.trail inner.new).literals.items) }
     ensures at_once { IsRefutedAtOnce (P.clauses inner.old) assumptions.now → (P.clauses inner.new ≡ P.clauses inner.old) × (Q.tickets purse.new ≡ Q.tickets purse.old) × IfOk result HasCore }
 {
-    search(alloc, inner, assumptions, purse, order)
+    search(alloc, inner, positives, assumptions, purse, order)
 }
 
 // The search's answer, with its model or its core and log.
@@ -131,6 +139,7 @@ fn answer<P: Propagator, Q: Purse>(
     alloc: Global,
     inner: &mut P,
     marks: &[bool],
+    positives: &mut [bool],
     order: &mut Order,
     assumptions: &[Lit],
     purse: &mut Q,
@@ -138,6 +147,8 @@ fn answer<P: Propagator, Q: Purse>(
     requires within { Within (length (P.trail inner.old).values.items) assumptions.now }
     requires ready { Q.ready purse.old }
     requires keeps { Keeps (length (P.trail inner.old).values.items) marks.now (P.clauses inner.old) }
+    requires positives { KnowsPositives (length (P.trail inner.old).values.items) positives.old (P.clauses inner.old) }
+    ensures positives { KnowsPositives (length (P.trail inner.new).values.items) positives.new (P.clauses inner.new) }
     ensures keeps { Keeps (length (P.trail inner.new).values.items) marks.now (P.clauses inner.new) }
     ensures learns { Learns assumptions.now (state_of (length (P.trail inner.old).values.items) marks.now (P.clauses inner.old)) (state_of (length (P.trail inner.new).values.items) marks.now (P.clauses inner.new)) }
     ensures kept { Q.kept purse.old purse.new }
@@ -148,7 +159,7 @@ fn answer<P: Propagator, Q: Purse>(
     ensures says { IfOk result (AnswerSays (state_of (length (P.trail inner.new).values.items) marks.now (P.clauses inner.new)).vars (state_of (length (P.trail inner.new).values.items) marks.now (P.clauses inner.new)).given (learned_of marks.now (P.clauses inner.new)) assumptions.now (Q.budget purse.old) (Q.spent purse.new)) }
     ensures at_once { IsRefutedAtOnce (P.clauses inner.old) assumptions.now → (P.clauses inner.new ≡ P.clauses inner.old) × (Q.tickets purse.new ≡ Q.tickets purse.old) × IfOk result IsUnsat }
 {
-    match run(alloc, inner, marks, order, assumptions, purse)? {
+    match run(alloc, inner, marks, positives, order, assumptions, purse)? {
         Outcome::Sat => {
             let model = model_of(alloc, inner.assignment())?;
             Ok(Answer::Sat(Bits::from_vec(model)))
@@ -163,6 +174,7 @@ pub fn ask<P: Propagator, Q: Purse>(
     alloc: Global,
     inner: &mut P,
     marks: &[bool],
+    positives: &mut [bool],
     order: &mut Order,
     assumptions: &[Lit],
     purse: &mut Q,
@@ -170,6 +182,8 @@ pub fn ask<P: Propagator, Q: Purse>(
     requires within { Within (length (P.trail inner.old).values.items) assumptions.now }
     requires ready { Q.ready purse.old }
     requires keeps { Keeps (length (P.trail inner.old).values.items) marks.now (P.clauses inner.old) }
+    requires positives { KnowsPositives (length (P.trail inner.old).values.items) positives.old (P.clauses inner.old) }
+    ensures positives { KnowsPositives (length (P.trail inner.new).values.items) positives.new (P.clauses inner.new) }
     ensures keeps { Keeps (length (P.trail inner.new).values.items) marks.now (P.clauses inner.new) }
     ensures learns { Learns assumptions.now (state_of (length (P.trail inner.old).values.items) marks.now (P.clauses inner.old)) (state_of (length (P.trail inner.new).values.items) marks.now (P.clauses inner.new)) }
     ensures kept { Q.kept purse.old purse.new }
@@ -183,5 +197,5 @@ pub fn ask<P: Propagator, Q: Purse>(
     if let Draw::Spent { drawn, budget } = purse.draw() {
         return Ok(Answer::Spent { drawn, budget });
     }
-    answer(alloc, inner, marks, order, assumptions, purse)
+    answer(alloc, inner, marks, positives, order, assumptions, purse)
 }

@@ -5,7 +5,7 @@ ghost use Rattle.clause_core.specs.Literals.{Within, negate};
 ghost use Rattle.clause_core.specs.Values.{unset};
 ghost use Rattle.sat_prop.specs.Trails.{among, AtRest};
 ghost use Rattle.sat_core.specs.Queries.{IsRefutedAtOnce};
-ghost use Rattle.sat_core.specs.Searching.{PerLevel, Level, Refutes};
+ghost use Rattle.sat_core.specs.Searching.{PerLevel, Level, Refutes, KnowsPositives};
 ghost use Rattle.sat_core.specs.Ends.{IsSeen, OutcomeSays, HasCore, NoneOpposed, RefutesOnTrail};
 
 use crate::order::Order;
@@ -109,10 +109,12 @@ fn core_before_decisions<P: Propagator>(
 pub fn refute_or_choose<P: Propagator>(
     alloc: Global,
     inner: &mut P,
+    positives: &[bool],
     assumptions: &[Lit],
     seen: &mut Seen,
     order: &mut Order,
 ) -> Result<Option<Outcome>, AllocError>
+    requires positives { KnowsPositives (length (P.trail inner.old).values.items) positives.now (P.clauses inner.old) }
     requires within { Within (length (P.trail inner.old).values.items) assumptions.now }
     requires seen { IsSeen (P.trail inner.old).literals.items assumptions.now seen.old }
     requires rest { AtRest (P.clauses inner.old) (P.trail inner.old).literals.items }
@@ -122,11 +124,11 @@ pub fn refute_or_choose<P: Propagator>(
     ensures vars { length (P.trail inner.new).values.items ≡ length (P.trail inner.old).values.items }
     ensures levels { IfOk result (λ _. PerLevel (Level (P.clauses inner.new) assumptions.now) (P.trail inner.new).literals.items (P.trail inner.new).level_starts.items) }
     ensures seen { IfOk result (λ _. IsSeen (P.trail inner.new).literals.items assumptions.now seen.new) }
-    ensures says { IfOk result (λ o. MatchOption o (unset (P.trail inner.new).values.items < unset (P.trail inner.old).values.items) (λ e. (budget : ℕ) (over : Bool) → OutcomeSays (length (P.trail inner.old).values.items) assumptions.now budget over (P.clauses inner.new) (P.trail inner.new).literals.items e)) }
+    ensures says { IfOk result (λ o. MatchOption o (unset (P.trail inner.new).values.items < unset (P.trail inner.old).values.items) (λ e. (budget : ℕ) (over : Bool) → OutcomeSays assumptions.now budget over (P.clauses inner.new) (P.trail inner.new).literals.items e)) }
     ensures at_once { IfOk result (λ o. length (P.trail inner.old).level_starts.items ≡ 0 → IsRefutedAtOnce (P.clauses inner.old) assumptions.now → MatchOption o ⊥ HasCore) }
 {
     match core_before_decisions(alloc, inner, assumptions, &mut order.numbers)? {
         Some(core) => Ok(Some(Outcome::Unsat(core))),
-        None => choose(alloc, inner, assumptions, seen, order),
+        None => choose(alloc, inner, positives, assumptions, seen, order),
     }
 }

@@ -1,19 +1,20 @@
 //! The search: propagate, decide, learn from each conflict and jump back, with restarts (Eén and
 //! Sörensson 2003).
 
-ghost use Rattle.std.specs.Prelude.{Bool, ◌⊎◌, [], ◌≡◌, ◌<◌, ℕ, true, IfOk, OnOk, MatchOption, List, length, take, All, Contains, slice_index};
+ghost use Rattle.std.specs.Prelude.{Bool, ◌⊎◌, [], ◌≡◌, ◌<◌, ℕ, true, IfOk, OnOk, MatchOption, List, length, take, All, Contains};
 ghost use Rattle.clause_core.specs.declared.literal.Lit.{Lit};
 ghost use Rattle.clause_core.specs.Literals.{Within, negate, at};
 ghost use Rattle.clause_core.specs.Values.{unset};
 ghost use Rattle.sat_core.specs.Positions.{Marked};
 ghost use Rattle.sat_prop.specs.Trails.{FalseOn, among, AtRest};
 ghost use Rattle.sat_core.specs.Queries.{IsRefutedAtOnce};
-ghost use Rattle.sat_core.specs.Searching.{MarksFalse, decided, PerLevel, Level, GrowsByLearning, PaidFor, PaysInTurn, Refutes, AllSet};
+ghost use Rattle.sat_core.specs.Searching.{MarksFalse, decided, PerLevel, Level, GrowsByLearning, PaidFor, PaysInTurn, Refutes, KnowsPositives};
 ghost use Rattle.sat_core.specs.Ends.{NextSays, IsSeen, OutcomeSays, HasCore};
 
 use crate::learn::{analyze, follow};
 use crate::marks::mark;
 use crate::order::Order;
+use crate::positives::pick;
 use crate::refute::refute_or_choose;
 use clause_core::{Lit, is_false, is_set};
 use effort_purse::{Draw, Purse};
@@ -41,7 +42,7 @@ pub struct Seen {
 // How a search ends.
 #[derive(Drop)]
 pub enum Outcome {
-    // Every variable is set, without a conflict: a model.
+    // Every positive literal is set, without a conflict: a model, in which what is not set is false.
     Sat,
     // Unit propagation refutes the clauses with this part of the assumptions: a core.
     Unsat(Vec<Lit>),
@@ -81,39 +82,6 @@ fn still_seen(trail: &Trail, seen: Seen) -> Seen
     } else {
         Seen { count: 0, until: 0 }
     }
-}
-
-// A variable that is not set.
-fn free_var(trail: &Trail) -> Option<usize>
-    ensures some { MatchOption result (AllSet (length trail.now.values.items) trail.now.literals.items) (λ v. (v < length trail.now.values.items) × ((slice_index trail.now.values.items v ≡ 1 → ⊥) × (slice_index trail.now.values.items v ≡ 2 → ⊥))) }
-{
-    for v in 0..trail.values.len() {
-        let x = trail.values[v];
-        if x != 1 && x != 2 {
-            return Some(v);
-        }
-    }
-    None
-}
-
-// The most active variable that is not set.
-fn pick(order: &mut Order, trail: &Trail) -> Option<usize>
-    ensures some { MatchOption result (AllSet (length trail.now.values.items) trail.now.literals.items) (λ v. (v < length trail.now.values.items) × ((slice_index trail.now.values.items v ≡ 1 → ⊥) × (slice_index trail.now.values.items v ≡ 2 → ⊥))) }
-{
-    for _ in 0..trail.values.len() {
-        match order.next() {
-            None => break,
-            Some(v) => {
-                if v < trail.values.len() {
-                    let x = trail.values[v];
-                    if x != 1 && x != 2 {
-                        return Some(v);
-                    }
-                }
-            }
-        }
-    }
-    free_var(trail)
 }
 
 // Resolves a clause that is false on the trail with reasons until decisions alone are left, which go to the core.
@@ -167,13 +135,17 @@ fn core_of<P: Propagator>(alloc: Global, inner: &P, a: Lit) -> Result<Vec<Lit>, 
 }
 
 // Restarts: undoes all decisions.
-pub fn restart<P: Propagator>(inner: &mut P, order: &mut Order) -> Result<(), AllocError>
+pub fn restart<P: Propagator>(
+    inner: &mut P,
+    positives: &[bool],
+    order: &mut Order,
+) -> Result<(), AllocError>
     ensures clauses { P.clauses inner.new ≡ P.clauses inner.old }
     ensures level_starts { OnOk result (length (P.trail inner.new).level_starts.items ≡ 0) }
     ensures vars { length (P.trail inner.new).values.items ≡ length (P.trail inner.old).values.items }
 {
     if inner.assignment().level_starts.len() > 0 {
-        order.keep(inner.assignment(), 0)?;
+        order.keep(inner.assignment(), 0, positives)?;
         inner.undo(0);
     }
     Ok(())
@@ -183,10 +155,12 @@ pub fn restart<P: Propagator>(inner: &mut P, order: &mut Order) -> Result<(), Al
 pub fn choose<P: Propagator>(
     alloc: Global,
     inner: &mut P,
+    positives: &[bool],
     assumptions: &[Lit],
     seen: &mut Seen,
     order: &mut Order,
 ) -> Result<Option<Outcome>, AllocError>
+    requires positives { KnowsPositives (length (P.trail inner.old).values.items) positives.now (P.clauses inner.old) }
     requires within { Within (length (P.trail inner.old).values.items) assumptions.now }
     requires seen { IsSeen (P.trail inner.old).literals.items assumptions.now seen.old }
     requires rest { AtRest (P.clauses inner.old) (P.trail inner.old).literals.items }
@@ -196,7 +170,7 @@ pub fn choose<P: Propagator>(
     ensures vars { length (P.trail inner.new).values.items ≡ length (P.trail inner.old).values.items }
     ensures levels { IfOk result (λ _. PerLevel (Level (P.clauses inner.new) assumptions.now) (P.trail inner.new).literals.items (P.trail inner.new).level_starts.items) }
     ensures seen { IfOk result (λ _. IsSeen (P.trail inner.new).literals.items assumptions.now seen.new) }
-    ensures says { IfOk result (λ o. MatchOption o (unset (P.trail inner.new).values.items < unset (P.trail inner.old).values.items) (λ e. (budget : ℕ) (over : Bool) → OutcomeSays (length (P.trail inner.old).values.items) assumptions.now budget over (P.clauses inner.new) (P.trail inner.new).literals.items e)) }
+    ensures says { IfOk result (λ o. MatchOption o (unset (P.trail inner.new).values.items < unset (P.trail inner.old).values.items) (λ e. (budget : ℕ) (over : Bool) → OutcomeSays assumptions.now budget over (P.clauses inner.new) (P.trail inner.new).literals.items e)) }
 {
     match next_of(inner.assignment(), assumptions, seen) {
         Next::Fails(a) => Ok(Some(Outcome::Unsat(core_of(alloc, inner, a)?))),
@@ -204,7 +178,7 @@ pub fn choose<P: Propagator>(
             inner.decide(l)?;
             Ok(None)
         }
-        Next::AllTrue => match pick(order, inner.assignment()) {
+        Next::AllTrue => match pick(order, inner.assignment(), positives) {
             None => Ok(Some(Outcome::Sat)),
             Some(var) => {
                 let positive = order.sign(var);
@@ -215,18 +189,21 @@ pub fn choose<P: Propagator>(
     }
 }
 
-// Decides and propagates, learns from each conflict and jumps back. It ends when all variables are set, an assumption is
+// Decides and propagates, learns from each conflict and jumps back. It ends when all positive literals are set, an assumption is
 // false, or a conflict comes without a decision; and before any decision, where the assumptions are refuted then. A clause
 // is paid for once it is known from its conflict, and before it is kept; if memory runs out, the last one may not be.
 pub fn search<P: Propagator, Q: Purse>(
     alloc: Global,
     inner: &mut P,
+    positives: &mut [bool],
     assumptions: &[Lit],
     purse: &mut Q,
     order: &mut Order,
 ) -> Result<Outcome, AllocError>
+    requires positives { KnowsPositives (length (P.trail inner.old).values.items) positives.old (P.clauses inner.old) }
     requires within { Within (length (P.trail inner.old).values.items) assumptions.now }
     requires ready { Q.ready purse.old }
+    ensures positives { KnowsPositives (length (P.trail inner.new).values.items) positives.new (P.clauses inner.new) }
     ensures learned { GrowsByLearning (length (P.trail inner.old).values.items) assumptions.now (P.clauses inner.old) (P.clauses inner.new) }
     ensures vars { length (P.trail inner.new).values.items ≡ length (P.trail inner.old).values.items }
     ensures kept { Q.kept purse.old purse.new }
@@ -234,10 +211,10 @@ pub fn search<P: Propagator, Q: Purse>(
     ensures budget { Q.budget purse.new ≡ Q.budget purse.old }
     ensures paid { IfOk result (λ _. PaidFor (Q.tickets purse.old) (Q.tickets purse.new) (P.clauses inner.old) (P.clauses inner.new)) }
     ensures log { PaysInTurn (length (P.trail inner.old).values.items) assumptions.now (P.clauses inner.old) (P.clauses inner.new) (Q.tickets purse.old) (Q.tickets purse.new) }
-    ensures says { IfOk result (OutcomeSays (length (P.trail inner.old).values.items) assumptions.now (Q.budget purse.old) (Q.spent purse.new) (P.clauses inner.new) (P.trail inner.new).literals.items) }
+    ensures says { IfOk result (OutcomeSays assumptions.now (Q.budget purse.old) (Q.spent purse.new) (P.clauses inner.new) (P.trail inner.new).literals.items) }
     ensures at_once { IsRefutedAtOnce (P.clauses inner.old) assumptions.now → (P.clauses inner.new ≡ P.clauses inner.old) × (Q.tickets purse.new ≡ Q.tickets purse.old) × IfOk result HasCore }
 {
-    restart(inner, order)?;
+    restart(inner, positives, order)?;
     let mut seen = Seen { count: 0, until: 0 };
     'search: loop {
         match inner.propagate()? {
@@ -250,11 +227,18 @@ pub fn search<P: Propagator, Q: Purse>(
                 if let Draw::Spent { drawn, budget } = purse.draw() {
                     return Ok(Outcome::Spent { drawn, budget });
                 }
-                follow(inner, order, &learned)?;
+                follow(inner, positives, order, &learned)?;
                 seen = still_seen(inner.assignment(), seen);
             }
             None => {
-                if let Some(e) = refute_or_choose(alloc, inner, assumptions, &mut seen, order)? {
+                if let Some(e) = refute_or_choose(
+                    alloc,
+                    inner,
+                    positives,
+                    assumptions,
+                    &mut seen,
+                    order,
+                )? {
                     return Ok(e);
                 }
             }

@@ -28,19 +28,21 @@ pub struct Solver<P: Propagator + Drop> {
     marks: Vec<bool>,
     // How many were given.
     given: usize,
+    // Which variables stand in a clause as a positive literal: they alone are decided.
+    positives: Vec<bool>,
     order: Order,
 }
 
 impl<P: Propagator + Drop> Model for Solver<P> {
     ghost use Rattle.std.specs.Prelude.{◌≡◌, length};
     ghost use Rattle.sat_core.specs.Queries.{State, state_of, given_of};
-    ghost use Rattle.sat_core.specs.Searching.{Keeps};
+    ghost use Rattle.sat_core.specs.Searching.{Keeps, KnowsPositives};
 
     ghost Value = { State };
 
     ghost view = { λ s. state_of (length (P.trail s.inner).values.items) s.marks.items (P.clauses s.inner) };
 
-    ghost invariant = { λ s. Keeps (length (P.trail s.inner).values.items) s.marks.items (P.clauses s.inner) × (s.given ≡ length (given_of s.marks.items (P.clauses s.inner))) };
+    ghost invariant = { λ s. Keeps (length (P.trail s.inner).values.items) s.marks.items (P.clauses s.inner) × KnowsPositives (length (P.trail s.inner).values.items) s.positives.items (P.clauses s.inner) × (s.given ≡ length (given_of s.marks.items (P.clauses s.inner))) };
 }
 
 // A solver that was given the clauses of these that are marked as given, and has learned none.
@@ -68,11 +70,13 @@ impl<P: Propagator + Drop> Solver<P> {
         ensures { IfOk result (λ s. s ≡ record { vars = vars; given = []; learned = [] }) }
     {
         let inner = P::new(alloc, vars)?;
+        let positives = vec![in alloc; false; vars]?;
         let order = Order::new(alloc, vars)?;
         Ok(Solver {
             inner,
             marks: Vec::new(alloc),
             given: 0,
+            positives,
             order,
         })
     }
@@ -119,6 +123,7 @@ impl<P: Propagator + Drop> Solver<P> {
             &mut self.inner,
             &mut self.marks,
             &mut self.given,
+            &mut self.positives,
             &mut self.order,
             c,
         )
@@ -141,17 +146,10 @@ impl<P: Propagator + Drop> Solver<P> {
         ensures failed { OnErr result (self.new ≡ self.old) }
     {
         let mut solver = with_given_clauses(alloc, &self.inner, &self.marks)?;
+        self.order.fill(&solver.positives)?;
         swap(&mut solver.order, &mut self.order);
         *self = solver;
         Ok(())
-    }
-
-    /// From now on the variable is decided only once all others are set, and false, as suits an activation literal that a
-    /// query does not assume. A hint: no answer depends on it.
-    pub fn decide_last(&mut self, var: usize) -> Result<(), AllocError>
-        ensures { self.new ≡ self.old }
-    {
-        self.order.put_last(var)
     }
 
     /// The variable gets this sign when it is decided next, unless propagation sets it before. A hint: no answer depends
@@ -201,6 +199,7 @@ impl<P: Propagator + Drop> Solver<P> {
             alloc,
             &mut self.inner,
             &self.marks,
+            &mut self.positives,
             &mut self.order,
             assumptions,
             purse,

@@ -3,6 +3,7 @@ use Rattle.std.proofs.Math.Seq.{take-append_seam}
 use Rattle.clause_core.specs.declared.literal.Lit.{Lit}
 use Rattle.sat_core.specs.Queries.{given_of, learned_of}
 use Rattle.sat_core.specs.Searching.{Keeps}
+use Rattle.sat_core.proofs.Deciding.{within_marks, known_more, known_push}
 use Rattle.sat_core.proofs.Origins.{given_push, learned_push, count_same, count_add}
 use Rattle.sat_core.proofs.Results.{keeps_same, keeps_add, state_same}
 use Rattle.sat_core.proofs.query.add_on.Goals as goal
@@ -124,3 +125,39 @@ returns-clause-count g c =
     let full : length ms ≡ length cs = c.in_ok-mark_learned.ensures.full ∙ n in
     let grown : new ≡ cs ++ c.args.c.now ∷ [] = c.in_default.ensures.done ∙ ap (λ ys. ys ++ c.args.c.now ∷ []) c.restart.ensures.clauses in
     count_add c.args.given.now c.args.marks.now.items ms c.push.new.self.items cs new c.args.c.now c.requires.count (c.mark_learned.ensures.same cs (sym n)) full grown c.in_ok-push.ensures.items
+
+pub mark_positives-requires : goal.mark_positives-requires
+mark_positives-requires g c =
+    within_marks (length (g.P.Propagator.trail c.args.inner.now).values.items) c.args.positives.now (g.P.Propagator.clauses c.args.inner.now) c.args.c.now c.requires.positives c.requires.within
+
+pub returns-in_err-mark_positives-clause-positives : goal.returns-in_err-mark_positives-clause-positives
+returns-in_err-mark_positives-clause-positives g c =
+    known_more (length (g.P.Propagator.trail c.args.inner.now).values.items) (length (g.P.Propagator.trail c.args.inner.now).values.items) c.args.positives.now c.mark_positives.new.positives
+    (g.P.Propagator.clauses c.args.inner.now) (g.P.Propagator.clauses c.args.inner.now) c.requires.positives c.mark_positives.auto.positives c.mark_positives.ensures.kept refl refl
+
+pub returns-in_err-restart-clause-positives : goal.returns-in_err-restart-clause-positives
+returns-in_err-restart-clause-positives g c =
+    known_more (length (g.P.Propagator.trail c.args.inner.now).values.items) (length (g.P.Propagator.trail c.restart.new.inner).values.items) c.args.positives.now c.mark_positives.new.positives
+    (g.P.Propagator.clauses c.args.inner.now) (g.P.Propagator.clauses c.restart.new.inner) c.requires.positives c.mark_positives.auto.positives c.mark_positives.ensures.kept c.restart.ensures.vars c.restart.ensures.clauses
+
+pub returns-in_err-mark_learned-clause-positives : goal.returns-in_err-mark_learned-clause-positives
+returns-in_err-mark_learned-clause-positives g c =
+    known_more (length (g.P.Propagator.trail c.args.inner.now).values.items) (length (g.P.Propagator.trail c.restart.new.inner).values.items) c.args.positives.now c.mark_positives.new.positives
+    (g.P.Propagator.clauses c.args.inner.now) (g.P.Propagator.clauses c.restart.new.inner) c.requires.positives c.mark_positives.auto.positives c.mark_positives.ensures.kept c.restart.ensures.vars c.restart.ensures.clauses
+
+pub returns-in_err-push-clause-positives : goal.returns-in_err-push-clause-positives
+returns-in_err-push-clause-positives g c =
+    known_more (length (g.P.Propagator.trail c.args.inner.now).values.items) (length (g.P.Propagator.trail c.restart.new.inner).values.items) c.args.positives.now c.mark_positives.new.positives
+    (g.P.Propagator.clauses c.args.inner.now) (g.P.Propagator.clauses c.restart.new.inner) c.requires.positives c.mark_positives.auto.positives c.mark_positives.ensures.kept c.restart.ensures.vars c.restart.ensures.clauses
+
+pub returns-in-Err-clause-positives : goal.returns-in-Err-clause-positives
+returns-in-Err-clause-positives g c =
+    known_more (length (g.P.Propagator.trail c.args.inner.now).values.items) (length (g.P.Propagator.trail c.add.new.self).values.items) c.args.positives.now c.mark_positives.new.positives
+    (g.P.Propagator.clauses c.args.inner.now) (g.P.Propagator.clauses c.add.new.self) c.requires.positives c.mark_positives.auto.positives c.mark_positives.ensures.kept (c.in-Err.ensures.vars ∙ c.restart.ensures.vars) (c.in-Err.ensures.failed ∙ c.restart.ensures.clauses)
+
+pub returns-clause-positives : goal.returns-clause-positives
+returns-clause-positives g c =
+    known_push (length (g.P.Propagator.trail c.args.inner.now).values.items) (length (g.P.Propagator.trail c.add.new.self).values.items) c.args.positives.now c.mark_positives.new.positives
+    (g.P.Propagator.clauses c.args.inner.now) (g.P.Propagator.clauses c.add.new.self) c.args.c.now c.requires.positives c.mark_positives.auto.positives c.mark_positives.ensures.kept
+    c.in_ok-mark_positives.ensures.done (c.in_default.ensures.vars ∙ c.restart.ensures.vars)
+    (c.in_default.ensures.done ∙ ap (λ ys. ys ++ c.args.c.now ∷ []) c.restart.ensures.clauses)

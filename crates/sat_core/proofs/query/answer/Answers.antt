@@ -13,7 +13,7 @@ returns-in_ok-model-in-Sat-clause-says g c =
     let said = rw c.in-Sat.is at c.in_ok-run.ensures.says in
     let e : c.from_vec.result ≡ map (λ x. eqb x 1) t.values.items =
     c.from_vec.ensures ∙ c.in_ok-model-in-Sat.ensures ∙ ap (λ (x : Trail). map (λ n. eqb n 1) x.values.items) c.assignment.ensures in
-    sat_says t cs (given_of c.args.marks.now cs) c.args.assumptions.now c.from_vec.result said.0 said.1 said.2 (g.met.P.Propagator.within new)
+    sat_says t cs (given_of c.args.marks.now cs) c.args.assumptions.now c.from_vec.result said.0 said.1 said.2
     (given_in c.args.marks.now cs) e
 
 pub returns-in-Unsat-clause-says : goal.returns-in-Unsat-clause-says

@@ -1,9 +1,7 @@
-use Rattle.std.proofs.Common.{ℕ, ◌-◌, length, sym, subst}
-use Rattle.std.specs.Result.{IfOk}
+use Rattle.std.proofs.Common.{◌-◌, length}
 use Rattle.std.proofs.lemmas.Result.{IfOk-weaker}
 use Rattle.sat_core.specs.Queries.{learned_of, Draws}
 use Rattle.sat_core.specs.Searching.{PaidFor}
-use Rattle.sat_core.specs.Ends.{OutcomeSays}
 use Rattle.sat_core.proofs.Results.{keeps_learnt, learns_from, draws_learned}
 use Rattle.sat_core.proofs.Payments.{pays_learned}
 use Rattle.sat_core.proofs.query.run.Goals as goal
@@ -37,11 +35,3 @@ returns-clause-log g c =
     pays_learned (length (g.P.Propagator.trail c.args.inner.now).values.items) (length (g.P.Propagator.trail c.search.new.inner).values.items) c.args.marks.now
     (g.P.Propagator.clauses c.args.inner.now) (g.P.Propagator.clauses c.search.new.inner) c.args.assumptions.now
     (g.Q.Purse.tickets c.args.purse.now) (g.Q.Purse.tickets c.search.new.purse) c.requires.keeps.known c.search.ensures.log
-
-pub returns-clause-says : goal.returns-clause-says
-returns-clause-says g c =
-    let new = c.search.new.inner in
-    let V : ℕ → Type 0 = λ n.
-    IfOk c.search.result
-    (OutcomeSays n c.args.assumptions.now (g.Q.Purse.budget c.args.purse.now) (g.Q.Purse.spent c.search.new.purse) (g.P.Propagator.clauses new) (g.P.Propagator.trail new).literals.items) in
-    subst V (sym c.search.ensures.vars) c.search.ensures.says

@@ -9,10 +9,11 @@ use Rattle.sat_prop.specs.Moves.{FalseClause}
 use Rattle.clause_core.specs.Literals.{Within}
 use Rattle.sat_core.specs.Queries.{IsLearned, IsRefutedAtOnce}
 use Rattle.sat_core.specs.Searching.{GrowsByLearning, LearnSays, PaidFor, decided}
-use Rattle.sat_core.specs.Ends.{IsSeen, OutcomeSays}
+use Rattle.sat_core.specs.Ends.{IsSeen}
 use Rattle.effort_purse.specs.Drawing.{past}
 use Rattle.effort_purse.proofs.Past.{past-snoc}
 use Rattle.sat_core.proofs.Finals.{refuted_root, levels_went, level_after, learnt_more, paid_more, is_learned, assumptions_first, unset_le, measure_less}
+use Rattle.sat_core.proofs.Deciding.{known_same}
 use Rattle.sat_core.proofs.Payments.{turn_none, turn_paid, turn_lost}
 use Rattle.sat_core.proofs.Seeing.{seen_went}
 use Rattle.sat_core.proofs.search.search.Goals as goal
@@ -69,6 +70,7 @@ search-preserved-in-Some g c =
     let K : List (List Lit) → Type 0 = PaidFor (g.Q.Purse.tickets c.args.purse.now) (g.Q.Purse.tickets c.search.purse) (g.P.Propagator.clauses first) in
     let I : Trail → Type 0 = λ x. IsSeen x.literals.items assumptions c.still_seen-seen.result in
     record {
+      known = c.in_ok-follow-in-Some.ensures.positives;
       learned = learnt_more vars assumptions t.literals.items t.level_starts.items (g.P.Propagator.clauses first) cs cs' u.literals.items u.level_starts.items learned
           (assumptions_first t cs assumptions (g.met.P.Propagator.based mid) levels) said;
       vars = c.in_ok-follow-in-Some.ensures.vars ∙ same;
@@ -95,17 +97,8 @@ refute_or_choose-requires-clause-levels g c =
 
 pub returns-in-Some-2-clause-says : goal.returns-in-Some-2-clause-says
 returns-in-Some-2-clause-says g c =
-    let assumptions = c.args.assumptions.now in
-    let new = c.refute_or_choose.new.inner in
-    let budget = g.Q.Purse.budget c.args.purse.now in
-    let over = g.Q.Purse.spent c.search.purse in
-    let cs = g.P.Propagator.clauses new in
-    let literals = (g.P.Propagator.trail new).literals.items in
-    let V : ℕ → Type 0 = λ n. OutcomeSays n assumptions budget over cs literals c.in-Some-2.e in
     let h = rw c.in-Some-2.is at c.in_ok-e-in-None.ensures.says in
-    let same : length (g.P.Propagator.trail c.propagate.new.self).values.items ≡ length (g.P.Propagator.trail c.args.inner.now).values.items =
-    c.in_ok-k.ensures.extends.vars ∙ c.search.invariant.vars in
-    subst V same (h budget over)
+    h (g.Q.Purse.budget c.args.purse.now) (g.Q.Purse.spent c.search.purse)
 
 pub returns-in_err-restart-clause-log : goal.returns-in_err-restart-clause-log
 returns-in_err-restart-clause-log g c =
@@ -270,6 +263,8 @@ search-preserved g c =
     let L : List (List Lit) → Type 0 = GrowsByLearning (length (g.P.Propagator.trail first).values.items) c.args.assumptions.now (g.P.Propagator.clauses first) in
     let K : List (List Lit) → Type 0 = PaidFor (g.Q.Purse.tickets c.args.purse.now) (g.Q.Purse.tickets c.search.purse) (g.P.Propagator.clauses first) in
     record {
+      known = known_same (length (g.P.Propagator.trail c.search.inner).values.items) (length (g.P.Propagator.trail c.refute_or_choose.new.inner).values.items)
+          c.search.positives (g.P.Propagator.clauses c.search.inner) (g.P.Propagator.clauses c.refute_or_choose.new.inner) inv.known (said.vars ∙ c.in_ok-k.ensures.extends.vars) same;
       learned = subst L (sym same) inv.learned;
       vars = said.vars ∙ c.in_ok-k.ensures.extends.vars ∙ inv.vars;
       levels = said.levels;
@@ -317,3 +312,48 @@ returns-in-Some-2-clause-at_once g c p =
     let R : List (List Lit) → Type 0 = λ cs. IsRefutedAtOnce cs c.args.assumptions.now in
     let ends = rw c.in-Some-2.is at c.in_ok-e-in-None.ensures.at_once in
     (c.refute_or_choose.ensures.clauses ∙ same, h.1, ends zero (subst R (sym same) p))
+
+pub returns-in_err-restart-clause-positives : goal.returns-in_err-restart-clause-positives
+returns-in_err-restart-clause-positives g c =
+    known_same (length (g.P.Propagator.trail c.args.inner.now).values.items) (length (g.P.Propagator.trail c.restart.new.inner).values.items) c.args.positives.now
+    (g.P.Propagator.clauses c.args.inner.now) (g.P.Propagator.clauses c.restart.new.inner) c.requires.positives c.restart.ensures.vars c.restart.ensures.clauses
+
+pub returns-in_err-k-clause-positives : goal.returns-in_err-k-clause-positives
+returns-in_err-k-clause-positives g c =
+    known_same (length (g.P.Propagator.trail c.search.inner).values.items) (length (g.P.Propagator.trail c.propagate.new.self).values.items) c.search.positives
+    (g.P.Propagator.clauses c.search.inner) (g.P.Propagator.clauses c.propagate.new.self) c.search.invariant.known c.in_err-k.ensures.extends.vars c.in_err-k.ensures.clauses_kept
+
+pub returns-then-len-eq0-clause-positives : goal.returns-then-len-eq0-clause-positives
+returns-then-len-eq0-clause-positives g c =
+    known_same (length (g.P.Propagator.trail c.search.inner).values.items) (length (g.P.Propagator.trail c.propagate.new.self).values.items) c.search.positives
+    (g.P.Propagator.clauses c.search.inner) (g.P.Propagator.clauses c.propagate.new.self) c.search.invariant.known c.in_ok-k.ensures.extends.vars c.in_ok-k.ensures.clauses_kept
+
+pub returns-in_err-learned-in-Some-clause-positives : goal.returns-in_err-learned-in-Some-clause-positives
+returns-in_err-learned-in-Some-clause-positives g c =
+    known_same (length (g.P.Propagator.trail c.search.inner).values.items) (length (g.P.Propagator.trail c.propagate.new.self).values.items) c.search.positives
+    (g.P.Propagator.clauses c.search.inner) (g.P.Propagator.clauses c.propagate.new.self) c.search.invariant.known c.in_ok-k.ensures.extends.vars c.in_ok-k.ensures.clauses_kept
+
+pub returns-in-Spent-clause-positives : goal.returns-in-Spent-clause-positives
+returns-in-Spent-clause-positives g c =
+    known_same (length (g.P.Propagator.trail c.search.inner).values.items) (length (g.P.Propagator.trail c.propagate.new.self).values.items) c.search.positives
+    (g.P.Propagator.clauses c.search.inner) (g.P.Propagator.clauses c.propagate.new.self) c.search.invariant.known c.in_ok-k.ensures.extends.vars c.in_ok-k.ensures.clauses_kept
+
+pub follow-requires-clause-positives : goal.follow-requires-clause-positives
+follow-requires-clause-positives g c =
+    known_same (length (g.P.Propagator.trail c.search.inner).values.items) (length (g.P.Propagator.trail c.propagate.new.self).values.items) c.search.positives
+    (g.P.Propagator.clauses c.search.inner) (g.P.Propagator.clauses c.propagate.new.self) c.search.invariant.known c.in_ok-k.ensures.extends.vars c.in_ok-k.ensures.clauses_kept
+
+pub refute_or_choose-requires-clause-positives : goal.refute_or_choose-requires-clause-positives
+refute_or_choose-requires-clause-positives g c =
+    known_same (length (g.P.Propagator.trail c.search.inner).values.items) (length (g.P.Propagator.trail c.propagate.new.self).values.items) c.search.positives
+    (g.P.Propagator.clauses c.search.inner) (g.P.Propagator.clauses c.propagate.new.self) c.search.invariant.known c.in_ok-k.ensures.extends.vars c.in_ok-k.ensures.clauses_kept
+
+pub returns-in_err-e-in-None-clause-positives : goal.returns-in_err-e-in-None-clause-positives
+returns-in_err-e-in-None-clause-positives g c =
+    known_same (length (g.P.Propagator.trail c.search.inner).values.items) (length (g.P.Propagator.trail c.refute_or_choose.new.inner).values.items) c.search.positives
+    (g.P.Propagator.clauses c.search.inner) (g.P.Propagator.clauses c.refute_or_choose.new.inner) c.search.invariant.known (c.refute_or_choose.ensures.vars ∙ c.in_ok-k.ensures.extends.vars) (c.refute_or_choose.ensures.clauses ∙ c.in_ok-k.ensures.clauses_kept)
+
+pub returns-in-Some-2-clause-positives : goal.returns-in-Some-2-clause-positives
+returns-in-Some-2-clause-positives g c =
+    known_same (length (g.P.Propagator.trail c.search.inner).values.items) (length (g.P.Propagator.trail c.refute_or_choose.new.inner).values.items) c.search.positives
+    (g.P.Propagator.clauses c.search.inner) (g.P.Propagator.clauses c.refute_or_choose.new.inner) c.search.invariant.known (c.refute_or_choose.ensures.vars ∙ c.in_ok-k.ensures.extends.vars) (c.refute_or_choose.ensures.clauses ∙ c.in_ok-k.ensures.clauses_kept)

@@ -1,7 +1,7 @@
 use Rattle.std.proofs.Common.{◌≡◌, ◌-◌, ◌+◌, ◌*◌, length}
 use Rattle.clause_core.specs.Values.{unset}
 use Rattle.sat_core.specs.Queries.{IsRefutedAtOnce}
-use Rattle.sat_core.specs.Searching.{PerLevel, Level, GrowsByLearning, PaidFor}
+use Rattle.sat_core.specs.Searching.{PerLevel, Level, GrowsByLearning, PaidFor, KnowsPositives}
 use Rattle.sat_core.specs.Ends.{IsSeen}
 use Rattle.effort_purse.specs.Drawing.{past}
 use Rattle.sat_core.proofs.search.search.Given as goal
@@ -9,6 +9,7 @@ use Rattle.sat_core.proofs.search.search.Given as goal
 abbrev pub invariant-search : goal.invariant-search
 invariant-search g l =
     record {
+      known : KnowsPositives (length (g.P.Propagator.trail l.inner).values.items) l.positives (g.P.Propagator.clauses l.inner);
       learned : GrowsByLearning (length (g.P.Propagator.trail l.fn.inner).values.items) l.assumptions (g.P.Propagator.clauses l.fn.inner) (g.P.Propagator.clauses l.inner);
       vars : length (g.P.Propagator.trail l.inner).values.items ≡ length (g.P.Propagator.trail l.fn.inner).values.items;
       levels : PerLevel (Level (g.P.Propagator.clauses l.inner) l.assumptions) (g.P.Propagator.trail l.inner).literals.items (g.P.Propagator.trail l.inner).level_starts.items;
