@@ -50,8 +50,7 @@ pub(crate) fn sum(a: usize, b: usize) -> Result<usize, AllocError>
     }
 }
 
-// Adds the clause behind this activation variable, which is decided last. If memory runs out, the solver
-// is as before.
+// Adds the clause behind this activation variable. If memory runs out, the solver is as before.
 pub(crate) fn push_guarded(
     alloc: Global,
     solver: &mut Solver<Watched>,
@@ -66,7 +65,6 @@ pub(crate) fn push_guarded(
     let mut literals = Vec::new(alloc);
     literals.push(Lit::new(guard, false))?;
     literals.extend_from_slice(clause)?;
-    solver.decide_last(guard)?;
     solver.push(&literals)
 }
 

@@ -70,17 +70,16 @@ first_loaded m p room cs s t plan is new done =
     }
 
 -- one that was given a step more
-pub step_loaded : (m : TransitionSystem) (p : Plan) (e : Engine) (next : ℕ) (cs : List (List Lit)) (s t : State) → p ≡ plan_of m → cs ≡ moment p m e.steps →
-    next ≡ e.steps + 1 → s ≡ e.solver → t ≡ record s { given = s.given ++ cs } → IsLoaded m e → vars_of m (e.steps + 1) ≤ e.solver.vars →
+pub step_loaded : (m : TransitionSystem) (p : Plan) (e : Engine) (next : ℕ) (cs : List (List Lit)) (t : State) → p ≡ plan_of m → cs ≡ moment p m e.steps →
+    next ≡ e.steps + 1 → t ≡ record e.solver { given = e.solver.given ++ cs } → IsLoaded m e → vars_of m (e.steps + 1) ≤ e.solver.vars →
     IsLoaded m (record { solver = t; steps = next })
-step_loaded m p e next cs s t plan is after same done loaded fits =
-    let vars : t.vars ≡ e.solver.vars = ap (λ (x : State). x.vars) done ∙ ap (λ (x : State). x.vars) same in
+step_loaded m p e next cs t plan is after done loaded fits =
+    let vars : t.vars ≡ e.solver.vars = ap (λ (x : State). x.vars) done in
     let more : e.solver.given ++ cs ≡ unrolled m (e.steps + 1) =
     ap (λ xs. xs ++ cs) loaded.given ∙ ap (λ xs. unrolled m e.steps ++ xs) (is ∙ ap (λ (q : Plan). moment q m e.steps) plan) ∙ more_unrolled m e.steps in
     record {
       fits = subst (λ k. vars_of m next ≤ k) (sym vars) (subst (λ k. vars_of m k ≤ e.solver.vars) (sym after) fits);
-      given =
-          ap (λ (x : State). x.given) done ∙ ap (λ xs. xs ++ cs) (ap (λ (x : State). x.given) same) ∙ more ∙ ap (λ k. unrolled m k) (sym after);
+      given = ap (λ (x : State). x.given) done ∙ more ∙ ap (λ k. unrolled m k) (sym after);
     }
 
 -- what was learned is known where it was kept

@@ -106,8 +106,6 @@ fn load_step(
     system.law();
     let time = engine.steps;
     let next = sum(time, 1)?;
-    let end = plan.ends(next)?;
-    engine.solver.decide_last(end.var)?;
     push_moment(alloc, plan, system, time, &mut engine.solver)?;
     engine.steps = next;
     Ok(())

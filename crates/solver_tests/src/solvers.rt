@@ -466,3 +466,68 @@ fn a_solver_is_asked_again(rt: HostRuntime) -> Result<(), Fail> {
     assert!(rt; is_too_far(rt.alloc()));
     Ok(())
 }
+
+// Clauses, and the model in which each variable is true that is decided.
+struct Chosen(&'static str, &'static [bool]);
+
+const CHOSEN: [Chosen; 4] = [
+    Chosen("", &[false, false, false, false]),
+    Chosen("AB.", &[false, false, false, false]),
+    Chosen("aB.", &[false, true, false, false]),
+    Chosen("aB.bC.", &[false, true, true, false]),
+];
+
+fn is_model(answer: &Answer, values: &[bool]) -> bool {
+    match answer {
+        Answer::Sat(model) => model.as_slice() == values,
+        _ => false,
+    }
+}
+
+// Whether the solver answers with this model, where it makes each variable true that it decides.
+fn has_model(
+    alloc: Global,
+    solver: &mut Solver<Watched>,
+    values: &[bool],
+) -> Result<bool, AllocError> {
+    for var in 0..values.len() {
+        solver.prefer(var, true);
+    }
+    let mut purse = PlainPurse::new(1);
+    let answer = solver.solve(alloc, &[], &mut purse)?;
+    let is_right = is_model(&answer, values);
+    drop(answer);
+    Ok(is_right)
+}
+
+fn is_chosen_of(alloc: Global, clauses: &Clauses, values: &[bool]) -> Result<bool, AllocError> {
+    if !clauses.is_within(values.len()) {
+        return Ok(false);
+    }
+    let mut solver = Solver::with_clauses(alloc, values.len(), clauses)?;
+    let is_right = has_model(alloc, &mut solver, values);
+    drop(solver);
+    is_right
+}
+
+fn is_chosen(alloc: Global, row: &Chosen) -> Result<bool, AllocError> {
+    let list = clauses_of(alloc, row.0.as_bytes(), 1)?;
+    let answer = is_chosen_of(alloc, &list, row.1);
+    drop(list);
+    answer
+}
+
+fn wrong_chosen(alloc: Global) -> Result<Option<usize>, AllocError> {
+    for (k, row) in CHOSEN.iter().enumerate() {
+        if !is_chosen(alloc, row)? {
+            return Ok(Some(k));
+        }
+    }
+    Ok(None)
+}
+
+#[test]
+fn variables_without_positive_literals_are_not_decided(rt: HostRuntime) -> Result<(), Fail> {
+    assert_eq!(rt; wrong_chosen(rt.alloc())?, None);
+    Ok(())
+}
