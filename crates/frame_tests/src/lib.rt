@@ -1,10 +1,8 @@
-//! Tests of frames, of queries about them and of the book that workers share, through the public calls of their crates:
-//! systems of one bit and of three worked by hand, and each call once with ample memory.
+//! Tests of frames and of the book that workers share, through the public calls of their crates: systems of one bit and
+//! of three worked by hand, and each call once with ample memory.
 #![tactic(auto)]
 
 #[cfg(test)]
 mod books;
-#[cfg(test)]
-mod frame_queries;
 #[cfg(test)]
 mod frames;

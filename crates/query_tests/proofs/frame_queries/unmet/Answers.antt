@@ -1,6 +1,6 @@
 use Rattle.frame_core.specs.FrameLaw.{system_at}
 use Rattle.frame_query.proofs.Tried.{meets_more}
-use Rattle.frame_tests.proofs.frame_queries.unmet.Goals as goal
+use Rattle.query_tests.proofs.frame_queries.unmet.Goals as goal
 
 pub returns-in-Meet-clause-met : goal.returns-in-Meet-clause-met
 returns-in-Meet-clause-met c =

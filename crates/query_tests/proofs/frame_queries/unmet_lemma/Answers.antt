@@ -4,7 +4,7 @@ use Rattle.clause_core.specs.declared.literal.Lit.{Lit}
 use Rattle.frame_core.specs.declared.parts.Lemma.{Lemma}
 use Rattle.frame_core.specs.FrameLaw.{system_at}
 use Rattle.frame_solver.specs.Firsts.{AllFirstsMeet}
-use Rattle.frame_tests.proofs.frame_queries.unmet_lemma.Goals as goal
+use Rattle.query_tests.proofs.frame_queries.unmet_lemma.Goals as goal
 
 pub returns-clause-met : goal.returns-clause-met
 returns-clause-met c =

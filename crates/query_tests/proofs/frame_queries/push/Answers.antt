@@ -3,7 +3,7 @@ use Rattle.clause_core.specs.Systems.{TransitionSystem}
 use Rattle.frame_core.specs.declared.parts.Lemma.{Lemma}
 use Rattle.frame_core.specs.FrameLaw.{system_at, lemma_at}
 use Rattle.frame_solver.specs.Firsts.{AllFirstsMeet}
-use Rattle.frame_tests.proofs.frame_queries.push.Goals as goal
+use Rattle.query_tests.proofs.frame_queries.push.Goals as goal
 
 pub push_met-requires-clause-first : goal.push_met-requires-clause-first
 push_met-requires-clause-first c =

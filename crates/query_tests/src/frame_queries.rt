@@ -1,5 +1,5 @@
-//! Tests of queries about frames, on a latch and a shift register of three bits worked by hand. A row has a lemma that the
-//! solver follows, a question, the tickets that there are, and what is answered.
+//! Tests of queries about frames, on a latch and a shift register of three bits worked by hand. A row has a lemma that
+//! the solver follows, a question, the tickets that there are, and what is answered.
 
 ghost use Rattle.std.specs.Prelude.{◌≡◌, ◌<◌, ◌+◌, ◌^◌, All, IfOk, IfNone, OnOk, length};
 ghost use Rattle.clause_core.specs.Literals.{Within};
@@ -15,19 +15,21 @@ use std::alloc::{AllocError, Global};
 use std::slice::from_ref;
 use std::test::Fail;
 
-// The system: `l` for the latch, whose bit 0 is false at first and stays so once it is, and whose bad states have bits 0 and
-// 1 true; `r` for the register, whose bits 1 and 2 are false at first, in which a step gives bit 1 what bit 0 was and bit 2
-// what bit 1 was, and whose bad states have all bits true. A lemma and its level; no level, no lemma.
+// The system: `l` for the latch, whose bit 0 is false at first and stays so once it is, and whose bad states have
+// bits 0 and 1 true; `r` for the register, whose bits 1 and 2 are false at first, in which a step gives bit 1 what
+// bit 0 was and bit 2 what bit 1 was, and whose bad states have all bits true. A lemma and its level; no level, no
+// lemma.
 //
-// The question: `b` for bad states of the level's frame; of the clause `f` whether first states meet it, `r` whether it is
-// inductive relative to the frame below the level, `n` the same and whether a step found leads from a first state, `d` the same
-// and which literals can be dropped, `o` the same so many times that the solvers are made anew; `p` whether the lemma holds one
-// level higher, and `a` the same again. Its clause and level, and the tickets.
+// The question: `b` for bad states of the level's frame; of the clause `f` whether first states meet it, `r` whether
+// it is inductive relative to the frame below the level, `n` the same and whether a step found leads from a first
+// state, `d` the same and which literals can be dropped, `o` the same so many times that the solvers are made anew;
+// `p` whether the lemma holds one level higher, and `a` the same again; `u` whether the rows of `LATER` are answered.
+// Its clause and level, and the tickets.
 //
-// The answer: `c` for none, `b` for a bad state or one before, `i` if that is an initial one; `m` for a clause that first states
-// meet, `f` for a first state that does not; `p` for a proof, `s` for a step, `d` for a smaller proof, `g` for the one that was
-// given; `x` for a spent purse. The clause or the values that it has, and how many parents. Clauses and states have a sign for
-// each bit, `-` for any or none.
+// The answer: `c` for none, `b` for a bad state or one before, `i` if that is an initial one; `m` for a clause that
+// first states meet, `f` for a first state that does not; `p` for a proof, `s` for a step, `d` for a smaller proof,
+// `g` for the one that was given; `x` for a spent purse; `u` for all rows. The clause or the values that it has, and
+// how many parents. Clauses and states have a sign for each bit, `-` for any or none.
 #[derive(Clone, Copy)]
 struct Row(
     char,
@@ -45,7 +47,7 @@ struct Row(
 // An answer that no row has.
 const OTHER: char = '?';
 
-const ROWS: [Row; 47] = [
+const ROWS: [Row; 48] = [
     // Bad states.
     Row('r', "", 0, 'b', "", 0, 9, 'c', "", 0),
     Row('r', "", 0, 'b', "", 0, 0, 'x', "", 0),
@@ -100,19 +102,24 @@ const ROWS: [Row; 47] = [
     // Solvers that are made anew.
     Row('l', "", 0, 'o', "0--", 2, 9999, 'p', "", 0),
     Row('r', "-0-", 2, 'o', "000", 3, 9999, 'p', "", 1),
+    // Lemmas that come, are raised and retired.
+    Row('l', "", 0, 'u', "", 0, 0, 'u', "", 0),
 ];
+
+// Adds the literals of these signs.
+fn push_signs(clause: &mut Vec<Lit>, signs: &[u8]) -> Result<(), AllocError> {
+    for var in 0..signs.len() {
+        if signs[var] != b'-' {
+            clause.push(Lit::new(var, signs[var] == b'1'))?;
+        }
+    }
+    Ok(())
+}
 
 // The clause of these signs.
 fn clause_of(alloc: Global, signs: &str) -> Result<Vec<Lit>, AllocError> {
     let mut clause = Vec::new(alloc);
-    let signs = signs.as_bytes();
-    for var in 0..signs.len() {
-        match signs[var] {
-            b'0' => clause.push(Lit::new(var, false))?,
-            b'1' => clause.push(Lit::new(var, true))?,
-            _ => {}
-        }
-    }
+    push_signs(&mut clause, signs.as_bytes())?;
     Ok(clause)
 }
 
@@ -429,6 +436,23 @@ fn of_steps(
     }
 }
 
+// What is answered of a clause, if it is over the three bits.
+fn if_within(
+    alloc: Global,
+    solver: &mut FrameSolver,
+    clause: &[Lit],
+    row: &Row,
+    purse: &mut PlainPurse,
+) -> Result<char, AllocError>
+    requires { (system_at solver.old.systems 0).state_bits ≡ 3 }
+{
+    if is_within(clause, 3) {
+        of_clause(alloc, solver, clause, row, purse)
+    } else {
+        Ok(OTHER)
+    }
+}
+
 // The questions about a clause.
 fn of_clause(
     alloc: Global,
@@ -558,10 +582,9 @@ fn with_clause(
     requires { (system_at solver.old.systems 0).state_bits ≡ 3 }
 {
     let clause = clause_of(alloc, row.4)?;
-    if !is_within(&clause, 3) {
-        return Ok(OTHER);
-    }
-    of_clause(alloc, solver, &clause, row, purse)
+    let answer = if_within(alloc, solver, &clause, row, purse);
+    drop(clause);
+    answer
 }
 
 // Adds a lemma, and lets the solver follow. False: it speaks of no bit.
@@ -581,6 +604,7 @@ fn add(
 {
     let clause = clause_of(alloc, signs)?;
     if !is_within(&clause, 3) {
+        drop(clause);
         return Ok(false);
     }
     lemmas.push(Clause::from_vec(clause), level)?;
@@ -637,12 +661,24 @@ fn of_clauses(
     }
 }
 
+fn push_clause(alloc: Global, clauses: &mut Clauses, signs: &str) -> Result<(), AllocError> {
+    let clause = clause_of(alloc, signs)?;
+    let pushed = clauses.push(&clause);
+    drop(clause);
+    pushed
+}
+
+fn push_clauses(alloc: Global, clauses: &mut Clauses, signs: &[&str]) -> Result<(), AllocError> {
+    for clause in signs {
+        push_clause(alloc, clauses, clause)?;
+    }
+    Ok(())
+}
+
 // A clause for each of these signs.
 fn clauses_of(alloc: Global, signs: &[&str]) -> Result<Clauses, AllocError> {
     let mut clauses = Clauses::new(alloc);
-    for clause in signs {
-        clauses.push(&clause_of(alloc, clause)?)?;
-    }
+    push_clauses(alloc, &mut clauses, signs)?;
     Ok(clauses)
 }
 
@@ -674,58 +710,6 @@ fn system_of(alloc: Global, of: char) -> Result<System, AllocError>
         'l' => latch(alloc),
         _ => register(alloc),
     }
-}
-
-// What is answered over the lemma of the row, if it has one.
-fn over_lemma(
-    alloc: Global,
-    solver: &mut FrameSolver,
-    lemmas: &mut Lemmas,
-    row: &Row,
-) -> Result<char, AllocError>
-    requires some { 0 < length solver.old.systems }
-    requires bits { (system_at solver.old.systems 0).state_bits ≡ 3 }
-    requires lemmas { solver.old.lemmas ≡ lemmas.old }
-    requires within { All (λ (l : ALemma). Within 3 l.clause) lemmas.old }
-{
-    if row.2 > 0 && !add(alloc, solver, lemmas, row.1, row.2)? {
-        return Ok(OTHER);
-    }
-    asked(alloc, solver, lemmas, row)
-}
-
-fn answer_of(alloc: Global, system: &System, row: &Row) -> Result<char, AllocError>
-    requires { system.now.state_bits ≡ 3 }
-{
-    let mut lemmas = Lemmas::new(alloc);
-    let mut solver = FrameSolver::new(alloc, from_ref(system))?;
-    let answer = over_lemma(alloc, &mut solver, &mut lemmas, row);
-    drop(solver);
-    drop(lemmas);
-    answer
-}
-
-fn is_right(alloc: Global, row: &Row) -> Result<bool, AllocError> {
-    let system = system_of(alloc, row.0)?;
-    let answer = answer_of(alloc, &system, row);
-    drop(system);
-    Ok(answer? == row.7)
-}
-
-// The first row that is answered otherwise.
-fn first_wrong(alloc: Global) -> Result<Option<usize>, AllocError> {
-    for k in 0..ROWS.len() {
-        if !is_right(alloc, &ROWS[k])? {
-            return Ok(Some(k));
-        }
-    }
-    Ok(None)
-}
-
-#[test]
-fn each_question_is_answered(rt: HostRuntime) -> Result<(), Fail> {
-    assert_eq!(rt; first_wrong(rt.alloc())?, None);
-    Ok(())
 }
 
 // What is answered of bad states of the latch, as lemmas come, are raised and retired.
@@ -790,22 +774,12 @@ fn is_retired(
     Ok(added && retired && fourth && fifth && last)
 }
 
-fn follows(alloc: Global, system: &System) -> Result<bool, AllocError>
-    requires { system.now.state_bits ≡ 3 }
-{
-    let mut lemmas = Lemmas::new(alloc);
-    let mut solver = FrameSolver::new(alloc, from_ref(system))?;
-    let answer = follows_both(alloc, &mut solver, &mut lemmas);
-    drop(solver);
-    drop(lemmas);
-    answer
-}
-
-fn follows_both(
+// Whether questions are answered as they should while lemmas come, are raised and retired.
+fn as_lemmas_change(
     alloc: Global,
     solver: &mut FrameSolver,
     lemmas: &mut Lemmas,
-) -> Result<bool, AllocError>
+) -> Result<char, AllocError>
     requires some { 0 < length solver.old.systems }
     requires bits { (system_at solver.old.systems 0).state_bits ≡ 3 }
     requires lemmas { solver.old.lemmas ≡ lemmas.old }
@@ -813,18 +787,60 @@ fn follows_both(
 {
     let raised = is_raised(alloc, solver, lemmas)?;
     let retired = is_retired(alloc, solver, lemmas)?;
-    Ok(raised && retired)
+    Ok(if raised && retired { 'u' } else { OTHER })
 }
 
-fn is_followed(alloc: Global) -> Result<bool, AllocError> {
-    let system = latch(alloc)?;
-    let answer = follows(alloc, &system);
-    drop(system);
+// What is answered over the lemma of the row, if it has one.
+fn over_lemma(
+    alloc: Global,
+    solver: &mut FrameSolver,
+    lemmas: &mut Lemmas,
+    row: &Row,
+) -> Result<char, AllocError>
+    requires some { 0 < length solver.old.systems }
+    requires bits { (system_at solver.old.systems 0).state_bits ≡ 3 }
+    requires lemmas { solver.old.lemmas ≡ lemmas.old }
+    requires within { All (λ (l : ALemma). Within 3 l.clause) lemmas.old }
+{
+    if row.3 == 'u' {
+        return as_lemmas_change(alloc, solver, lemmas);
+    }
+    if row.2 > 0 && !add(alloc, solver, lemmas, row.1, row.2)? {
+        return Ok(OTHER);
+    }
+    asked(alloc, solver, lemmas, row)
+}
+
+fn answer_of(alloc: Global, system: &System, row: &Row) -> Result<char, AllocError>
+    requires { system.now.state_bits ≡ 3 }
+{
+    let mut solver = FrameSolver::new(alloc, from_ref(system))?;
+    let mut lemmas = Lemmas::new(alloc);
+    let answer = over_lemma(alloc, &mut solver, &mut lemmas, row);
+    drop(solver);
+    drop(lemmas);
     answer
 }
 
+fn is_right(alloc: Global, row: &Row) -> Result<bool, AllocError> {
+    let system = system_of(alloc, row.0)?;
+    let answer = answer_of(alloc, &system, row);
+    drop(system);
+    Ok(answer? == row.7)
+}
+
+// The first row that is answered otherwise.
+fn first_wrong(alloc: Global) -> Result<Option<usize>, AllocError> {
+    for k in 0..ROWS.len() {
+        if !is_right(alloc, &ROWS[k])? {
+            return Ok(Some(k));
+        }
+    }
+    Ok(None)
+}
+
 #[test]
-fn lemmas_are_followed(rt: HostRuntime) -> Result<(), Fail> {
-    assert!(rt; is_followed(rt.alloc())?);
+fn each_question_is_answered(rt: HostRuntime) -> Result<(), Fail> {
+    assert_eq!(rt; first_wrong(rt.alloc())?, None);
     Ok(())
 }

@@ -1,5 +1,5 @@
 use Rattle.std.proofs.Common.{◌≡◌}
-use Rattle.frame_tests.proofs.frame_queries.often.Given as goal
+use Rattle.query_tests.proofs.frame_queries.often.Given as goal
 
 abbrev pub invariant-queries : goal.invariant-queries
 invariant-queries l = l.solver.systems ≡ l.fn.solver.systems
