@@ -1,1 +1,2 @@
+mod OfPlays
 mod OfThreeBits

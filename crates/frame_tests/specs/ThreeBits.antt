@@ -1,4 +1,4 @@
--- Two systems of three bits, of which the tests of the frames speak.
+-- Two systems of three bits, of which the tests of frames and books speak.
 use Rattle.std.specs.Prelude.{ℕ, Bool, true, false, List, [], ◌∷◌, Some, None, map}
 use Rattle.clause_core.specs.declared.literal.Lit.{Lit}
 use Rattle.clause_core.specs.Literals.{negate, units}
@@ -26,24 +26,29 @@ three_bits init step bad = record {
   defs = [];
 }
 
--- bit 0 is false at first, and once it is false it stays so; all bits true is bad
+-- bit 0 is false at first, and once it is false it stays so; with these bad states
+abbrev pub latch_over : List Lit → TransitionSystem
+latch_over bad = three_bits ((no 0 ∷ []) ∷ []) ((no 3 ∷ yes 0 ∷ []) ∷ []) bad
+
+-- all bits true is bad
 unfoldable pub latch : TransitionSystem
-latch = three_bits ((no 0 ∷ []) ∷ []) ((no 3 ∷ yes 0 ∷ []) ∷ []) (yes 0 ∷ yes 1 ∷ yes 2 ∷ [])
+latch = latch_over (yes 0 ∷ yes 1 ∷ yes 2 ∷ [])
 
 -- bits 1 and 2 are false at first; a step gives bit 1 what bit 0 was, and bit 2 what bit 1 was; all bits true is bad
 unfoldable pub register : TransitionSystem
 register = three_bits ((no 1 ∷ []) ∷ (no 2 ∷ []) ∷ [])
     ((no 4 ∷ yes 0 ∷ []) ∷ (yes 4 ∷ no 0 ∷ []) ∷ (no 5 ∷ yes 1 ∷ []) ∷ (yes 5 ∷ no 1 ∷ []) ∷ []) (yes 0 ∷ yes 1 ∷ yes 2 ∷ [])
 
--- the clauses of which the tests speak: bit 0 is false; bit 0 or bit 1 is
-unfoldable pub low : List Lit
-low = no 0 ∷ []
+-- the clauses of which the tests speak: this bit is false; bit 0 or bit 1 is
+abbrev pub alone : ℕ → List Lit
+alone v = no v ∷ []
 
 unfoldable pub either_low : List Lit
 either_low = no 0 ∷ no 1 ∷ []
 
-abbrev pub low_parent : Parent
-low_parent = record { number = 0; clause = low }
+-- lemma 0, which says that this bit is false
+abbrev pub alone_parent : ℕ → Parent
+alone_parent v = record { number = 0; clause = alone v }
 
 -- values of all bits: of the state with all bits true, of a step to it, and of a step from a first state to that
 unfoldable pub last_values : List Bool

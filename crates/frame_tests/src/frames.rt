@@ -1,168 +1,23 @@
-//! Tests of frames, on a latch and a shift register of three bits worked by hand: lemmas, tops, and
-//! runs.
+//! Tests of frames: lemmas, tops, and runs.
 
-ghost use Rattle.std.specs.Prelude.{◌≡◌, ◌<◌, ◌≤◌, [], ◌∷◌, true, false, Some, None, IfOk, OnOk, IsTrue, map, length};
-ghost use Rattle.clause_core.specs.Literals.{Within};
-ghost use Rattle.frame_tests.specs.ThreeBits.{three_bits, latch, register, low, either_low, low_parent, last_values, middle_values, first_values, last, middle, register_frames};
+ghost use Rattle.std.specs.Prelude.{◌≡◌, ◌<◌, [], ◌∷◌, OnOk, IsTrue, length};
 ghost use Rattle.frame_core.specs.Changes.{IsCovered};
-ghost use Rattle.frame_core.specs.Facts.{IsFound};
+ghost use Rattle.frame_tests.specs.ThreeBits.{latch, register, last, middle, register_frames};
 
-use clause_core::{Bits, Clause, Clauses, Lit, System, is_within};
+use crate::three_bits::{
+    clear, either_proof, first_state, has_the_run, is_same_clause, last_state, latch_system,
+    latch_with, low_proof, middle_state, no, over_itself, register_system, verdict, yes,
+};
+use clause_core::{Lit, System};
 use frame_core::reached_states::{
     a_level_without_live_lemmas_is_an_invariant, lemmas_hold_in_reached_states,
 };
 use frame_core::{
-    BitRun, Clear, Found, Frames, Insertion, Lemmas, Noting, Opening, Parent, Place, Proved,
-    Raising, Verdict, first_unlike, is_part_of,
+    Frames, Insertion, Lemmas, Noting, Opening, Place, Proved, Raising, Verdict, first_unlike,
+    is_part_of,
 };
 use std::alloc::{AllocError, Global};
 use std::test::Fail;
-
-// A clause for each pair.
-fn pairs(alloc: Global, pairs: &[(Lit, Lit)]) -> Result<Clauses, AllocError>
-    ensures { IfOk result (λ c. c ≡ map (λ p. p.0 ∷ p.1 ∷ []) pairs.now) }
-{
-    let mut clauses = Clauses::new(alloc);
-    'pairs: for p in pairs {
-        clauses.push(&[p.0, p.1])?;
-    }
-    Ok(clauses)
-}
-
-fn yes(var: usize) -> Lit
-    ensures { result ≡ record { var = var; positive = true } }
-{
-    Lit::new(var, true)
-}
-
-fn no(var: usize) -> Lit
-    ensures { result ≡ record { var = var; positive = false } }
-{
-    Lit::new(var, false)
-}
-
-// A clause for each literal.
-fn units(alloc: Global, lits: &[Lit]) -> Result<Clauses, AllocError>
-    ensures { IfOk result (λ c. c ≡ map (λ l. l ∷ []) lits.now) }
-{
-    let mut clauses = Clauses::new(alloc);
-    'lits: for l in lits {
-        clauses.push(&[*l])?;
-    }
-    Ok(clauses)
-}
-
-// The system of three bits with these clauses, whose bad states are those in which these literals are true.
-fn plain(alloc: Global, init: Clauses, step: Clauses, bad: &[Lit]) -> Result<System, AllocError>
-    ensures { IfOk result (λ s. s ≡ three_bits init step bad.now) }
-{
-    if init.is_within(6) && step.is_within(6) && is_within(bad, 3) {
-        System::plain(alloc, 3, 6, init, step, bad)
-    } else {
-        drop(init);
-        drop(step);
-        Err(AllocError)
-    }
-}
-
-// The latch with these bad states.
-fn latch_with(alloc: Global, bad: &[Lit]) -> Result<System, AllocError>
-    ensures { IfOk result (λ s. s ≡ three_bits ((record { var = 0; positive = false } ∷ []) ∷ []) ((record { var = 3; positive = false } ∷ record { var = 0; positive = true } ∷ []) ∷ []) bad.now) }
-{
-    let init = units(alloc, &[no(0)])?;
-    let step = pairs(alloc, &[(no(3), yes(0))])?;
-    let system = plain(alloc, init, step, bad)?;
-    Ok(system)
-}
-
-fn latch_system(alloc: Global) -> Result<System, AllocError>
-    ensures { IfOk result (λ s. s ≡ latch) }
-{
-    let system = latch_with(alloc, &[yes(0), yes(1), yes(2)])?;
-    Ok(system)
-}
-
-fn register_system(alloc: Global) -> Result<System, AllocError>
-    ensures { IfOk result (λ s. s ≡ register) }
-{
-    let init = units(alloc, &[no(1), no(2)])?;
-    let step = pairs(
-        alloc,
-        &[
-            (no(4), yes(0)),
-            (yes(4), no(0)),
-            (no(5), yes(1)),
-            (yes(5), no(1)),
-        ],
-    )?;
-    let system = plain(alloc, init, step, &[yes(0), yes(1), yes(2)])?;
-    Ok(system)
-}
-
-// Bit 0 is false.
-fn low_clause(alloc: Global) -> Result<Clause, AllocError>
-    ensures { IfOk result (λ c. c ≡ low) }
-{
-    Clause::from_slice(alloc, &[no(0)])
-}
-
-// Bit 0 or bit 1 is false.
-fn either_clause(alloc: Global) -> Result<Clause, AllocError>
-    ensures { IfOk result (λ c. c ≡ either_low) }
-{
-    Clause::from_slice(alloc, &[no(0), no(1)])
-}
-
-// That bit 0 of the latch is false.
-fn low_proof<'a>(
-    alloc: Global,
-    system: &'a System,
-    level: u32,
-    parents: Vec<Parent>,
-) -> Result<Proved<'a>, AllocError>
-    requires system { system.now ≡ latch }
-    requires level { 0 < level }
-{
-    let clause = low_clause(alloc)?;
-    let part = low_clause(alloc)?;
-    Ok(Proved::new(system, clause, part, level, parents))
-}
-
-// The same over lemma 0, which says it too.
-fn over_itself<'a>(alloc: Global, system: &'a System, level: u32) -> Result<Proved<'a>, AllocError>
-    requires system { system.now ≡ latch }
-    requires level { 0 < level }
-{
-    let parents = low_parents(alloc)?;
-    low_proof(alloc, system, level, parents)
-}
-
-// That bit 0 or bit 1 of the latch is false, at level 1.
-fn either_proof<'a>(alloc: Global, system: &'a System) -> Result<Proved<'a>, AllocError>
-    requires { system.now ≡ latch }
-{
-    let clause = either_clause(alloc)?;
-    let part = either_clause(alloc)?;
-    Ok(Proved::new(system, clause, part, 1, Vec::new(alloc)))
-}
-
-// Lemma 0, which says that bit 0 is false, as the only parent.
-fn low_parents(alloc: Global) -> Result<Vec<Parent>, AllocError>
-    ensures { IfOk result (λ v. v.items ≡ low_parent ∷ []) }
-{
-    let clause = low_clause(alloc)?;
-    let mut parents = Vec::new(alloc);
-    parents.push(Parent { number: 0, clause })?;
-    Ok(parents)
-}
-
-// That a level of the latch has no bad state.
-fn clear<'a>(alloc: Global, system: &'a System, level: u32) -> Result<Clear<'a>, AllocError>
-    requires { system.now ≡ latch }
-{
-    let parents = low_parents(alloc)?;
-    Ok(Clear::new(system, level, parents))
-}
 
 // Whether the insertion has this answer.
 fn inserts(frames: &mut Frames, proof: Proved, wanted: Insertion) -> Result<bool, AllocError> {
@@ -342,12 +197,6 @@ fn retired_where_another_covers(alloc: Global, system: &System) -> Result<bool, 
     answer
 }
 
-fn is_same_clause(a: &[Lit], b: &[Lit]) -> bool
-    ensures { IsTrue result → a.now ≡ b.now }
-{
-    a == b
-}
-
 // What becomes of lemma 0 with this proof of it.
 fn raise(frames: &mut Frames, proof: Proved) -> Option<Raising> {
     if frames.lemmas() > 0 && is_same_clause(proof.clause(), frames.lemma(0).clause.as_slice()) {
@@ -421,14 +270,6 @@ fn opens_twice(alloc: Global, frames: &mut Frames, system: &System) -> Result<bo
     let first = opens(alloc, frames, system, 0, Opening::Opened)?;
     let second = opens(alloc, frames, system, 1, Opening::Opened)?;
     Ok(early && first && second)
-}
-
-// The verdict of the only system.
-fn verdict(frames: &Frames) -> Option<Verdict> {
-    if frames.systems().is_empty() {
-        return None;
-    }
-    frames.verdict(0)
 }
 
 fn opens_to_an_invariant(
@@ -567,63 +408,6 @@ fn carried(alloc: Global, system: &System) -> Result<bool, AllocError>
     Ok(opened? && carried)
 }
 
-fn found<'a>(
-    alloc: Global,
-    system: &'a System,
-    values: &[bool],
-    is_step: bool,
-    first: bool,
-) -> Result<Found<'a>, AllocError>
-    requires { IsFound record { system = system.now; values = values.now; is_step = is_step; first = first } }
-    ensures { IfOk result (λ f. f ≡ record { system = system.now; values = values.now; is_step = is_step; first = first }) }
-{
-    let values = Bits::from_slice(alloc, values)?;
-    Ok(Found::new(system, values, is_step, first))
-}
-
-// The bad state with all bits true.
-fn last_state<'a>(alloc: Global, system: &'a System) -> Result<Found<'a>, AllocError>
-    requires { system.now ≡ register }
-    ensures { IfOk result (λ f. f ≡ record { system = register; values = last_values; is_step = false; first = false }) }
-{
-    let state = found(
-        alloc,
-        system,
-        &[true, true, true, false, false, false],
-        false,
-        false,
-    )?;
-    Ok(state)
-}
-
-fn middle_state<'a>(alloc: Global, system: &'a System) -> Result<Found<'a>, AllocError>
-    requires { system.now ≡ register }
-    ensures { IfOk result (λ f. f ≡ record { system = register; values = middle_values; is_step = true; first = false }) }
-{
-    let state = found(
-        alloc,
-        system,
-        &[true, true, false, true, true, true],
-        true,
-        false,
-    )?;
-    Ok(state)
-}
-
-fn first_state<'a>(alloc: Global, system: &'a System) -> Result<Found<'a>, AllocError>
-    requires { system.now ≡ register }
-    ensures { IfOk result (λ f. f ≡ record { system = register; values = first_values; is_step = true; first = true }) }
-{
-    let state = found(
-        alloc,
-        system,
-        &[true, false, false, true, true, false],
-        true,
-        true,
-    )?;
-    Ok(state)
-}
-
 fn add_last(alloc: Global, frames: &mut Frames, system: &System) -> Result<(), AllocError>
     requires system { system.now ≡ register }
     requires frames { frames.old ≡ register_frames [] }
@@ -667,42 +451,6 @@ fn add_all(alloc: Global, frames: &mut Frames, system: &System) -> Result<(), Al
     add_last(alloc, frames, system)?;
     add_middle(alloc, frames, system)?;
     add_first(alloc, frames, system)
-}
-
-// Whether the run has these rows.
-fn has_rows(run: &BitRun, rows: &[[bool; 6]]) -> bool {
-    if run.len() != rows.len() {
-        return false;
-    }
-    for k in 0..rows.len() {
-        if run.row(k).as_slice() != rows[k].as_slice() {
-            return false;
-        }
-    }
-    true
-}
-
-fn is_expected(run: &BitRun) -> bool {
-    let rows = [
-        [true, false, false, true, true, false],
-        [true, true, false, true, true, true],
-        [true, true, true, false, false, false],
-    ];
-    has_rows(run, &rows)
-}
-
-// Whether the run from that state is the one that is worked by hand.
-fn has_the_run(alloc: Global, frames: &Frames) -> Result<bool, AllocError> {
-    if frames.systems().is_empty() {
-        return Ok(false);
-    }
-    let Some(Verdict::Reached(n)) = frames.verdict(0) else {
-        return Ok(false);
-    };
-    let run = frames.run_of(alloc, n)?;
-    let answer = is_expected(&run);
-    drop(run);
-    Ok(answer)
 }
 
 fn has_all_and_the_run(

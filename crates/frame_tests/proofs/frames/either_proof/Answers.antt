@@ -1,5 +1,0 @@
-use Rattle.frame_tests.proofs.OfThreeBits.{either_proof}
-use Rattle.frame_tests.proofs.frames.either_proof.Goals as goal
-
-pub new-requires-2 : goal.new-requires-2
-new-requires-2 c = either_proof c.args.system.now c.in_ok-clause.clause c.in_ok-part.part c.new.result.items c.requires c.in_ok-clause.ensures c.in_ok-part.ensures

@@ -1,7 +1,0 @@
-use Rattle.std.proofs.Common.{rules}
-use Rattle.frame_tests.specs.ThreeBits.{latch}
-use Rattle.frame_tests.proofs.frames.latch_system.Goals as goal
-
-pub returns : goal.returns
-unfolding latch
-returns c = search rules

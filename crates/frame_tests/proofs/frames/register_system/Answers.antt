@@ -1,7 +1,0 @@
-use Rattle.std.proofs.Common.{rules}
-use Rattle.frame_tests.specs.ThreeBits.{register}
-use Rattle.frame_tests.proofs.frames.register_system.Goals as goal
-
-pub returns : goal.returns
-unfolding register
-returns c = search rules

@@ -1,5 +1,0 @@
-use Rattle.std.proofs.Common.{◌≡◌, [], ◌∷◌, map, take}
-use Rattle.frame_tests.proofs.frames.units.Given as goal
-
-abbrev pub invariant-lits : goal.invariant-lits
-invariant-lits l = l.clauses ≡ map (λ m. m ∷ []) (take l.l-index l.lits)
