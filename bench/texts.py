@@ -56,6 +56,7 @@ SLOT_LIMIT = 65536
 BIT_LIMIT = 65536
 WIDTH_LIMIT = 128
 BOUND_LIMIT = 255
+WIDE = ' * '.join(['2147483647'] * 5)
 
 
 class Refused(Exception):
@@ -762,7 +763,6 @@ ARITY = {'abs': 1, 'max': 2, 'min': 2, 'word1': 1, 'bool': 1, 'signed': 1, 'unsi
 # --- the judge --------------------------------------------------------------------------------------------------------
 
 DEPARTURES = {
-    'wide': 'a limit with a part of more than 128 bits is outside (409; 402 and 413 without a detail), never empty (403)',
     'brackets': 'a text with more than 2000 `[ ]` one over another, on either side of `:=`, ends with status 7',
 }
 """Where the program is known to read the rules otherwise than this judge. A difference that one of these explains is
@@ -1091,23 +1091,6 @@ class Judge:
             return value
         return None
 
-    def is_wide(self, instance, node):
-        """Whether a constant has a part of more than 128 bits, where that is known to matter."""
-        return 'wide' in self.known and self.has_part_over(128, instance, node)
-
-    def has_part_over(self, bits, instance, node):
-        """Whether a constant has a part of more than so many bits."""
-        value = self.constant(instance, node)
-        if value is None or node.form == 'integer':
-            return False
-        if node.form == 'name':
-            meaning = self.meaning(instance, node)
-            if meaning.what == 'definition':
-                return self.has_part_over(bits, meaning.of, meaning.value.body)
-            return self.has_part_over(bits, meaning.of.owner, meaning.of.arguments[meaning.value])
-        limit = 1 << bits - 1
-        return not -limit <= value < limit or any(self.has_part_over(bits, instance, part) for part in node.operands)
-
     def check_types(self):
         """Declared types; within one declaration the rules come in the order 401, 404, 403, 402, 410, 409."""
         self.types = {}
@@ -1129,7 +1112,6 @@ class Judge:
         for limit, value in zip(type_.limits, values):
             if value is None:
                 broken.append(Refused(404, limit.place))
-        wide = [self.is_wide(instance, limit) for limit in type_.limits]
         if type_.form == 'boolean':
             return ('boolean',)
         if type_.form == 'enumeration':
@@ -1141,14 +1123,12 @@ class Judge:
             return ('enumeration', [value for value, _, _ in type_.elements])
         if type_.form == 'word':
             if values[0] is not None and not 1 <= values[0] <= WIDTH_LIMIT:
-                broken.append(Refused(402, type_.limits[0].place, None if wide[0] else str(values[0])))
-            elif wide[0]:
-                broken.append(Refused(402, type_.limits[0].place))
+                broken.append(Refused(402, type_.limits[0].place, str(values[0])))
             return ('word', type_.signed, values[0])
-        if None not in values and values[0] > values[1] and not any(wide):
+        if None not in values and values[0] > values[1]:
             broken.append(Refused(403, type_.limits[0].place))
-        for limit, value, is_wide in zip(type_.limits, values, wide):
-            if value is not None and (is_wide or not -INTEGER_LIMIT - 1 <= value <= INTEGER_LIMIT):
+        for limit, value in zip(type_.limits, values):
+            if value is not None and not -INTEGER_LIMIT - 1 <= value <= INTEGER_LIMIT:
                 broken.append(Refused(409, limit.place))
         if type_.form == 'range':
             return ('range', values[0], values[1])
@@ -1389,8 +1369,6 @@ class Judge:
         self.demand(is_boolean(kind), 401, node)
         if node.bounds:
             self.demand(None not in values, 404, node)
-            if any(self.is_wide(instance, bound) for bound in node.bounds):
-                raise Refused(413, node.place)
             if not 0 <= values[0] <= values[1] <= BOUND_LIMIT:
                 raise Refused(413, node.place, '%d,%d' % tuple(values))
         return BOOLEAN
@@ -2090,12 +2068,18 @@ def limits():
         yield main + 'VAR x : array 1..%d of word[128]; y : 0..0;' % slots
         yield main + 'VAR x : array 1..%d of word[128]; IVAR y : boolean;' % slots
         yield main + 'VAR x : array 1..%d of word[128]; IVAR y : array 1..64 of 0..3;' % slots
-    for power in (2, 3, 5):
+    for power in (2, 3, 5, 9, 40):
         wide = ' * '.join(['2147483647'] * power)
-        yield main + 'VAR x : 0..%s mod 7;' % wide
-        yield main + 'VAR x : %s..0;' % wide
-        yield main + 'VAR x : word[%s];' % wide
-        yield main + 'LTLSPEC F [%s, 1] TRUE' % wide
+        given = main + 'DEFINE p := %s; q := p - 2147483646; ' % wide
+        for low, high in (('0', 'p mod 7'), ('p', '0'), ('p', 'p'), ('0', '-p'), ('-p', '0'), ('0', 'p / p'), ('p / -p', '0'),
+                          ('-p mod 1000', '-p / p'), ('0', 'p mod -1000'), ('-q / p', 'q / p'), ('p / q', 'q mod 65537'),
+                          ('-q mod 65537', '-q mod -65537'), ('q * q / p / p', '1'), ('p - p', 'p - q - 2147483646'),
+                          ('p * q - q * p', '-(p - q) + 2147483647'), ('0', 'p / (p - p)'), ('0', 'p mod (q - q)')):
+            yield given + 'VAR x : %s..%s;' % (low, high)
+            yield given + 'VAR x : array %s..%s of boolean;' % (low, high)
+            yield given + 'LTLSPEC F [%s, %s] TRUE' % (low, high)
+        for width in ('p', '-p', 'q', '-p * q', 'p / p', 'p mod 129', '-q mod 200', 'p - q', 'q / (p / 100)', 'p / 0'):
+            yield given + 'VAR x : word[%s];' % width
     yield main + 'VAR x : array -2147483647 - 1..2147483647 of array -2147483647 - 1..2147483647 of boolean;'
     yield ' ' * SOURCE_LIMIT
     yield ' ' * (SOURCE_LIMIT + 1)
@@ -2487,7 +2471,8 @@ class Maker:
         """A constant as a limit."""
         if self.wrong():
             return self.pick('x', self.any_name(), '1 / 0', '5 mod 0', '-' + self.any_name(), '2147483647 + 1',
-                             '1 + ' + self.any_name(), '2147483647 * 2147483647', '9 - 20', '300')
+                             '1 + ' + self.any_name(), '2147483647 * 2147483647', '9 - 20', '300',
+                             '-' + WIDE, WIDE, '3 * (%s) / (%s)' % (WIDE, WIDE), WIDE + ' mod -5')
         named = [known.text for known in self.names if known.role == NUMBER and 'constant' in known.flags]
         if named and self.chooser.random() < 0.4:
             return self.chooser.choice(named)

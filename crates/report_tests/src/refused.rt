@@ -10,7 +10,7 @@ use std::test::Fail;
 use std::thread::Threads;
 
 // Rules that the type of a declaration breaks.
-const DECLARED: [Case; 23] = [
+const DECLARED: [Case; 29] = [
     (
         "check",
         "MODULE main\nVAR n : 0..3; x : 0..n;\n",
@@ -63,7 +63,7 @@ const DECLARED: [Case; 23] = [
         "-- refused 402 WordWidth at 2:21: -1\n",
         3,
     ),
-    // A width of more than 128 bits is not told.
+    // A width is told, whatever its size.
     (
         "check",
         "MODULE main\nVAR w : word[2147483647 * 2147483647 * 2147483647];\n",
@@ -73,7 +73,7 @@ const DECLARED: [Case; 23] = [
     (
         "check",
         "MODULE main\nDEFINE m := 2147483647;\nVAR w : word[m * m * m * m * m];\n",
-        "-- refused 402 WordWidth at 3:28\n",
+        "-- refused 402 WordWidth at 3:28: 45671926060252476630107084286792841360213803007\n",
         3,
     ),
     ("check", "MODULE main\nVAR w : word[64 + 64];\n", "", 0),
@@ -119,6 +119,43 @@ const DECLARED: [Case; 23] = [
         "check",
         "MODULE main\nDEFINE m := 2147483647;\nVAR x : m * m * m..0;\n",
         "-- refused 403 EmptyRange at 3:15\n",
+        3,
+    ),
+    (
+        "flat",
+        "MODULE main\nDEFINE m := 2147483647; p := m * m * m * m * m;\nVAR x : 0..p / p;\n",
+        "-- slot 0 state x : 0..1\n",
+        0,
+    ),
+    // A quotient is rounded toward zero, and a remainder has the sign of the first.
+    (
+        "flat",
+        "MODULE main\nDEFINE m := 2147483647; p := m * m * m * m * m;\nVAR x : (1 - p) / (p / m)..(p - 1) / (p / m);\n",
+        "-- slot 0 state x : -2147483646..2147483646\n",
+        0,
+    ),
+    (
+        "flat",
+        "MODULE main\nDEFINE m := 2147483647; p := m * m * m * m * m;\nVAR x : -p mod 65536..p mod -65536;\n",
+        "-- slot 0 state x : -65535..65535\n",
+        0,
+    ),
+    (
+        "check",
+        "MODULE main\nDEFINE m := 2147483647; p := m * m * m * m * m;\nVAR x : 0..-p;\n",
+        "-- refused 403 EmptyRange at 3:9\n",
+        3,
+    ),
+    (
+        "check",
+        "MODULE main\nDEFINE m := 2147483647; p := m * m * m * m * m;\nVAR x : -p..0;\n",
+        "-- refused 409 IntWidth at 3:9\n",
+        3,
+    ),
+    (
+        "check",
+        "MODULE main\nDEFINE m := 2147483647; p := m * m * m * m * m;\nVAR x : 0..p / (p - p);\n",
+        "-- refused 404 NotConstant at 3:14\n",
         3,
     ),
     // They are judged declaration by declaration.
@@ -449,7 +486,7 @@ const ARRAYS: [Case; 25] = [
     (
         "check",
         "MODULE main\nVAR x : boolean;\nDEFINE m := 2147483647;\nLTLSPEC F [0, m * m * m * m * m] x\n",
-        "-- refused 413 BadBound at 4:9\n",
+        "-- refused 413 BadBound at 4:9: 0,45671926060252476630107084286792841360213803007\n",
         3,
     ),
     (

@@ -1,5 +1,5 @@
 -- The constants of nodes are those of the expressions that they are.
-use Rattle.std.proofs.Common.{◌≡◌, ℕ, zero, suc, ◌+◌, ◌-◌, ◌<◌, Bool, true, false, ◌||◌, ◌⊎◌, inl, inr, List, [], ◌∷◌, ◌++◌, map, length, drop, take, slice_index_or, refl, sym, ap, ◌∙◌}
+use Rattle.std.proofs.Common.{◌≡◌, ℕ, zero, suc, ◌+◌, ◌-◌, ◌<◌, Bool, true, false, ◌||◌, ◌⊎◌, inl, inr, List, [], ◌∷◌, ◌++◌, map, length, drop, take, slice_index_or, IfOk, Result, refl, sym, ap, subst, ◌∙◌}
 use Rattle.std.proofs.lemmas.List.{map-append}
 use Rattle.smv_tree.specs.Places.{start}
 use Rattle.smv_tree.specs.declared.place.Place.{Place}
@@ -15,8 +15,12 @@ use Rattle.smv_resolve.specs.Resolved.{Operands, Resolved, is_some_stuck, is_stu
 use Rattle.smv_resolve.proofs.NodesOf.{levelled-constant}
 use Rattle.smv_resolve.proofs.Parts.{parts_of-next}
 use Rattle.smv_declared.specs.declared.constant.Constant.{Constant}
-use Rattle.smv_declared.specs.declared.constant.Constant.TheVariants.{NotConstant, Beyond, Integer}
+use Rattle.smv_declared.specs.declared.constant.Constant.TheVariants.{NotConstant, Integer}
 use Rattle.smv_declared.specs.Constants.{constant_of, constant_of_value, constants_of, operated, negated, summed, quotient}
+
+-- what an answer is, told in another way
+pub told_as : {E : Type 0} (r : Result Constant E) (x y : Constant) → IfOk r (λ c. c ≡ x) → x ≡ y → IfOk r (λ c. c ≡ y)
+told_as r x y h e = subst (λ (z : Constant). IfOk r (λ c. c ≡ z)) e h
 
 pub at_mapped : {A B : Type 0} (f : A → B) (xs : List A) (k : ℕ) (d : A) (e : B) → f d ≡ e → slice_index_or (map f xs) k e ≡ f (slice_index_or xs k d)
 at_mapped f [] k d e same = sym same
@@ -61,7 +65,6 @@ sum_first o a b e = ap (λ c. summed o c b) e
 
 sum_second : (o : Arithmetic) (a b : Constant) → b ≡ NotConstant → summed o a b ≡ NotConstant
 sum_second o NotConstant b e = refl
-sum_second o Beyond b e = ap (λ c. summed o Beyond c) e
 sum_second o (Integer z) b e = ap (λ c. summed o (Integer z) c) e
 
 quotient_first : (o : Division) (a b : Constant) → a ≡ NotConstant → quotient o a b ≡ NotConstant
@@ -69,7 +72,6 @@ quotient_first o a b e = ap (λ c. quotient o c b) e
 
 quotient_second : (o : Division) (a b : Constant) → b ≡ NotConstant → quotient o a b ≡ NotConstant
 quotient_second o NotConstant b e = refl
-quotient_second o Beyond b e = ap (λ c. quotient o Beyond c) e
 quotient_second o (Integer z) b e = ap (λ c. quotient o (Integer z) c) e
 
 either : (a b : Bool) → (a || b) ≡ true → (a ≡ true) ⊎ (b ≡ true)
@@ -94,7 +96,8 @@ mutual
   stuck_operated : (o : Operator) (rs : Operands) → is_some_stuck rs ≡ true → operated o (constants_of rs) ≡ NotConstant
   stuck_operated operator.Negate Operands.End e = refl
   stuck_operated operator.Negate (Operands.With a Operands.End) e = ap negated (stuck_is_none a (last_one (is_stuck a) e))
-  stuck_operated operator.Negate (Operands.With a (Operands.With b rs)) e = refl
+  stuck_operated operator.Negate (Operands.With a (Operands.With b Operands.End)) e = refl
+  stuck_operated operator.Negate (Operands.With a (Operands.With b (Operands.With c rs))) e = refl
   stuck_operated (operator.Arithmetic o) Operands.End e = refl
   stuck_operated (operator.Arithmetic o) (Operands.With a Operands.End) e = refl
   stuck_operated (operator.Arithmetic o) (Operands.With a (Operands.With b Operands.End)) e = elim (either (is_stuck a) _ e) [
@@ -109,7 +112,10 @@ mutual
     | inr i ↦ quotient_second o (constant_of a) (constant_of b) (stuck_is_none b (last_one (is_stuck b) i))
   ]
   stuck_operated (operator.Division o) (Operands.With a (Operands.With b (Operands.With c rs))) e = refl
-  stuck_operated other rs e = refl
+  stuck_operated other Operands.End e = refl
+  stuck_operated other (Operands.With a Operands.End) e = refl
+  stuck_operated other (Operands.With a (Operands.With b Operands.End)) e = refl
+  stuck_operated other (Operands.With a (Operands.With b (Operands.With c rs))) e = refl
 
 -- the constants of the nodes so far, and of one more
 pub constants_next : (nodes : List Node) (i : ℕ) (d : Node) → i < length nodes →

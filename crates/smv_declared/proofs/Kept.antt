@@ -25,7 +25,7 @@ use Rattle.smv_scope.specs.Instances.{instances_of}
 use Rattle.smv_scope.specs.Holders.{holds}
 use Rattle.smv_verdicts.specs.Verdicts.{first_of, or_else}
 use Rattle.smv_declared.specs.declared.constant.Constant.{Constant}
-use Rattle.smv_declared.specs.declared.constant.Constant.TheVariants.{NotConstant, Beyond, Integer}
+use Rattle.smv_declared.specs.declared.constant.Constant.TheVariants.{NotConstant, Integer}
 use Rattle.smv_declared.specs.declared.limits.Limits.{Limits}
 use Rattle.smv_declared.specs.declared.variable_type.VariableType.{VariableType}
 use Rattle.smv_declared.specs.Types.{bound_of, bounds_between, bounds_by, element_by, element_of, is_bounds, is_variable_type, number_of, type_of, types_below, types_in, types_with, variable_type, variable_types_of}
@@ -68,12 +68,10 @@ module _ {A B : Type 0} (rule : A → Option Refusal) (found : A → List B) (te
 
 width_kept : (place : Place) (c : Constant) → no_constant place c ≡ None → no_width place c ≡ None → is_width (natural (number_of c)) ≡ true
 width_kept place NotConstant known e = absurd (let no : ⊥ = cc in no)
-width_kept place Beyond known e = absurd (let no : ⊥ = cc in no)
 width_kept place (Integer z) known e = unless (is_width (natural z)) _ e
 
 int_kept : (place : Place) (c : Constant) → no_constant place c ≡ None → too_wide place c ≡ None → is_int (number_of c) ≡ true
 int_kept place NotConstant e f = absurd (let no : ⊥ = cc in no)
-int_kept place Beyond e f = absurd (let no : ⊥ = cc in no)
 int_kept place (Integer z) e f = unless (is_int z) _ f
 
 not_less : (l h : ℤ) → int_lt h l ≡ false → int_le l h ≡ true
@@ -82,9 +80,7 @@ not_less l h e = grind (arith, ints)
 ordered_kept : (p q : Place) (l h : Constant) → no_constant p l ≡ None → no_constant q h ≡ None → too_wide p l ≡ None → too_wide q h ≡ None →
     empty_range p l h ≡ None → int_le (number_of l) (number_of h) ≡ true
 ordered_kept p q NotConstant h e f i j o = absurd (let no : ⊥ = cc in no)
-ordered_kept p q Beyond h e f i j o = absurd (let no : ⊥ = cc in no)
 ordered_kept p q (Integer l) NotConstant e f i j o = absurd (let no : ⊥ = cc in no)
-ordered_kept p q (Integer l) Beyond e f i j o = absurd (let no : ⊥ = cc in no)
 ordered_kept p q (Integer l) (Integer h) e f i j o = not_less l h ((refused_if (int_lt h l) _ None o).0)
 
 range_kept : (x : Limits) → no_constants x ≡ None → empty_limits x ≡ None → wide_limits x ≡ None →

@@ -1,6 +1,5 @@
 -- The rules of declared types: an own choice of this project.
 use Rattle.std.specs.Prelude.{ℕ, ◌+◌, if◌then◌else◌, List, [], ◌∷◌, ◌++◌, map, Option, None, Some, ℤ, int_lt}
-use Rattle.std.specs.Fmt.{signed_decimal}
 use Rattle.std.specs.List.{list_any}
 use Rattle.smv_value.specs.declared.operator.Operator.{Operator}
 use Rattle.smv_value.specs.Results.{is_int, is_width, natural}
@@ -23,9 +22,10 @@ use Rattle.smv_scope.specs.declared.instance.Instance.{Instance}
 use Rattle.smv_scope.specs.Modules.{sections_of, variables_in}
 use Rattle.smv_scope.specs.Instances.{instances_of}
 use Rattle.smv_resolve.specs.Resolved.{place_of_start}
+use Rattle.whole_numbers.specs.Decimals.{decimal_text}
 use Rattle.smv_verdicts.specs.Verdicts.{detailed, first_of, or_else, plain}
 use Rattle.smv_declared.specs.declared.constant.Constant.{Constant}
-use Rattle.smv_declared.specs.declared.constant.Constant.TheVariants.{NotConstant, Beyond, Integer}
+use Rattle.smv_declared.specs.declared.constant.Constant.TheVariants.{NotConstant, Integer}
 use Rattle.smv_declared.specs.declared.limits.Limits.{Limits}
 use Rattle.smv_declared.specs.declared.limits.ElementLimits.{ElementLimits}
 use Rattle.smv_declared.specs.declared.limits.ElementLimits.TheVariants as limit
@@ -62,16 +62,14 @@ abbrev pub empty_range : Place → Constant → Constant → Option Refusal
 empty_range place (Integer low) (Integer high) = if int_lt high low then Some (plain rule.EmptyRange place) else None
 empty_range place low high = None
 
--- a width that no word has; it is told where it has 128 bits
+-- a width that no word has
 abbrev pub no_width : Place → Constant → Option Refusal
 no_width place NotConstant = None
-no_width place Beyond = Some (plain rule.WordWidth place)
-no_width place (Integer z) = if is_width (natural z) then None else Some (detailed rule.WordWidth place (signed_decimal z))
+no_width place (Integer z) = if is_width (natural z) then None else Some (detailed rule.WordWidth place (decimal_text z))
 
 -- a bound that has more than 32 bits
 abbrev pub too_wide : Place → Constant → Option Refusal
 too_wide place NotConstant = None
-too_wide place Beyond = Some (plain rule.IntWidth place)
 too_wide place (Integer z) = if is_int z then None else Some (plain rule.IntWidth place)
 
 -- the limits of a range or of a dimension, which are declared so

@@ -1,126 +1,137 @@
 //! Constants of types, and what operators give of them.
 
-ghost use Rattle.std.specs.Prelude.{◌≡◌, ◌≢◌, ℤ, pos, FitsSigned, SomeIff};
-ghost use Rattle.std.specs.Int.{w128};
+ghost use Rattle.std.specs.Prelude.{◌≡◌, ◌≢◌, pos, IfOk};
+ghost use Rattle.std.specs.Option.{option_copied};
 ghost use Rattle.smv_value.specs.Results.{divided, sum_of};
-ghost use Rattle.smv_declared.specs.Constants.{beyond, constant_of_value, integer, negated, operated, quotient, summed};
+ghost use Rattle.smv_declared.specs.declared.constant.Constant.TheVariants.{Integer};
+ghost use Rattle.smv_declared.specs.Constants.{constant_of_value, integer_of, operated, operated_by_one, operated_by_two, quotient, summed};
 
 use smv_value::{Arithmetic, Division, Operator, Value};
+use std::alloc::{AllocError, Global};
+use whole_numbers::WholeNumber;
 
 /// What is known of an expression before any state is.
-#[derive(Clone, Copy, Debug, PartialEq, Eq)]
+#[derive(Debug, Drop)]
 pub enum Constant {
     /// It is no constant.
     NotConstant,
-    /// It is one, and some part of it has more than 128 bits.
-    Beyond,
-    Integer(i128),
+    Integer(WholeNumber),
+}
+
+impl Constant {
+    /// The integer, if it is one.
+    pub fn integer(&self) -> Option<&WholeNumber>
+        ensures { option_copied result ≡ integer_of self.now }
+    {
+        match self {
+            Constant::NotConstant => None,
+            Constant::Integer(z) => Some(z),
+        }
+    }
+
+    // The same constant again.
+    pub(crate) fn copy(&self, alloc: Global) -> Result<Constant, AllocError>
+        ensures { IfOk result (λ c. c ≡ self.now) }
+    {
+        match self {
+            Constant::NotConstant => Ok(Constant::NotConstant),
+            Constant::Integer(z) => Ok(Constant::Integer(z.copy(alloc)?)),
+        }
+    }
 }
 
 pub(crate) fn constant_of_value(value: Value) -> Constant
     ensures { result ≡ constant_of_value value }
 {
     match value {
-        Value::Int(z) => Constant::Integer(i128::from(z)),
+        Value::Int(z) => Constant::Integer(WholeNumber::new(z)),
         Value::Bool(_) | Value::Sym(_) | Value::Word { .. } => Constant::NotConstant,
     }
 }
 
 // What an operator gives of constants.
-pub(crate) fn operated(operator: Operator, operands: &[Constant]) -> Constant
-    ensures { result ≡ operated operator operands.now }
+pub(crate) fn operated(
+    alloc: Global,
+    operator: Operator,
+    operands: &[Constant],
+) -> Result<Constant, AllocError>
+    ensures { IfOk result (λ c. c ≡ operated operator operands.now) }
 {
+    match operands {
+        [a] => operated_by_one(alloc, operator, a),
+        [a, b] => operated_by_two(alloc, operator, a, b),
+        _ => Ok(Constant::NotConstant),
+    }
+}
+
+fn operated_by_one(alloc: Global, operator: Operator, a: &Constant) -> Result<Constant, AllocError>
+    ensures { IfOk result (λ c. c ≡ operated_by_one operator a.now) }
+{
+    match (operator, a) {
+        (Operator::Negate, Constant::Integer(a)) => Ok(Constant::Integer(a.negated(alloc)?)),
+        _ => Ok(Constant::NotConstant),
+    }
+}
+
+pub(crate) fn operated_by_two(
+    alloc: Global,
+    operator: Operator,
+    a: &Constant,
+    b: &Constant,
+) -> Result<Constant, AllocError>
+    ensures { IfOk result (λ c. c ≡ operated_by_two operator a.now b.now) }
+{
+    let (Constant::Integer(a), Constant::Integer(b)) = (a, b) else {
+        return Ok(Constant::NotConstant);
+    };
     match operator {
-        Operator::Negate => match operands {
-            [a] => negated(*a),
-            _ => Constant::NotConstant,
-        },
-        Operator::Arithmetic(o) => match operands {
-            [a, b] => summed(o, *a, *b),
-            _ => Constant::NotConstant,
-        },
-        Operator::Division(o) => match operands {
-            [a, b] => quotient(o, *a, *b),
-            _ => Constant::NotConstant,
-        },
-        _ => Constant::NotConstant,
+        Operator::Arithmetic(o) => Ok(Constant::Integer(sum_of(alloc, o, a, b)?)),
+        Operator::Division(o) => quotient(alloc, o, a, b),
+        _ => Ok(Constant::NotConstant),
     }
 }
 
-fn negated(a: Constant) -> Constant
-    ensures { result ≡ negated a }
-{
-    match a {
-        Constant::Integer(a) => integer_if(a.checked_neg()),
-        Constant::NotConstant => Constant::NotConstant,
-        Constant::Beyond => Constant::Beyond,
-    }
-}
-
-fn summed(o: Arithmetic, a: Constant, b: Constant) -> Constant
-    ensures { result ≡ summed o a b }
-{
-    match (a, b) {
-        (Constant::Integer(a), Constant::Integer(b)) => sum_of(o, a, b),
-        _ => beyond(a, b),
-    }
-}
-
-fn sum_of(o: Arithmetic, a: i128, b: i128) -> Constant
-    ensures { result ≡ integer (sum_of o a b) }
+fn sum_of(
+    alloc: Global,
+    o: Arithmetic,
+    a: &WholeNumber,
+    b: &WholeNumber,
+) -> Result<WholeNumber, AllocError>
+    ensures { IfOk result (λ z. z ≡ sum_of o a.now b.now) }
 {
     match o {
-        Arithmetic::Add => integer_if(a.checked_add(b)),
-        Arithmetic::Subtract => integer_if(a.checked_sub(b)),
-        Arithmetic::Multiply => integer_if(a.checked_mul(b)),
+        Arithmetic::Add => a.plus(alloc, b),
+        Arithmetic::Subtract => a.minus(alloc, b),
+        Arithmetic::Multiply => a.times(alloc, b),
     }
 }
 
-fn quotient(o: Division, a: Constant, b: Constant) -> Constant
-    ensures { result ≡ quotient o a b }
+fn quotient(
+    alloc: Global,
+    o: Division,
+    a: &WholeNumber,
+    b: &WholeNumber,
+) -> Result<Constant, AllocError>
+    ensures { IfOk result (λ c. c ≡ quotient o (Integer a.now) (Integer b.now)) }
 {
-    match (a, b) {
-        (Constant::Integer(a), Constant::Integer(b)) => if b == 0 {
-            Constant::NotConstant
-        } else {
-            divided(o, a, b)
-        },
-        (Constant::Beyond, Constant::Integer(0)) => Constant::NotConstant,
-        _ => beyond(a, b),
+    if b.is_zero() {
+        Ok(Constant::NotConstant)
+    } else {
+        Ok(Constant::Integer(divided(alloc, o, a, b)?))
     }
 }
 
-fn divided(o: Division, a: i128, b: i128) -> Constant
-    requires { b ≢ pos 0 }
-    ensures { result ≡ integer (divided o a b) }
+fn divided(
+    alloc: Global,
+    o: Division,
+    a: &WholeNumber,
+    b: &WholeNumber,
+) -> Result<WholeNumber, AllocError>
+    requires { b.now ≢ pos 0 }
+    ensures { IfOk result (λ z. z ≡ divided o a.now b.now) }
 {
     match o {
-        Division::Quotient => integer_if(a.checked_div(b)),
-        Division::Remainder => if b == -1 {
-            Constant::Integer(0)
-        } else {
-            Constant::Integer(a % b)
-        },
-    }
-}
-
-// The number, where it has 128 bits.
-fn integer_if(number: Option<i128>) -> Constant
-    ensures { (z : ℤ) → SomeIff number (FitsSigned w128 z) z → result ≡ integer z }
-{
-    match number {
-        Some(z) => Constant::Integer(z),
-        None => Constant::Beyond,
-    }
-}
-
-// Of two parts, one of which has more than 128 bits or is no constant.
-fn beyond(a: Constant, b: Constant) -> Constant
-    ensures { result ≡ beyond a b }
-{
-    match (a, b) {
-        (Constant::NotConstant, _) => Constant::NotConstant,
-        (_, Constant::NotConstant) => Constant::NotConstant,
-        _ => Constant::Beyond,
+        Division::Quotient => a.quotient(alloc, b),
+        Division::Remainder => a.remainder(alloc, b),
     }
 }

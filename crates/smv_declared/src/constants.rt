@@ -2,16 +2,19 @@
 
 ghost use Rattle.std.specs.Prelude.{◌≡◌, List, map, IfOk, slice_index_or};
 ghost use Rattle.smv_resolve.specs.Resolved.{Resolved, part_of, parts_of, resolved_by};
-ghost use Rattle.smv_declared.specs.Constants.{constant_of};
+ghost use Rattle.std.specs.Option.{option_copied};
+ghost use Rattle.smv_declared.specs.Constants.{constant_of, integer_of, operated_by_two};
 ghost use Rattle.smv_declared.specs.Types.{bound_of};
 ghost use Rattle.smv_declared.specs.declared.constant.Constant.TheVariants.{NotConstant};
 
 use crate::Constant;
-use crate::constant::{constant_of_value, operated};
+use crate::constant::{constant_of_value, operated, operated_by_two};
 use smv_resolve::{Node, ResolveStop, last, resolve_wholly};
 use smv_scope::Scope;
 use smv_tree::Expr;
+use smv_value::Operator;
 use std::alloc::{AllocError, Global};
+use whole_numbers::WholeNumber;
 
 // What a bound or a width of a type is, in the instance of this number.
 pub(crate) fn bound_of(
@@ -37,7 +40,7 @@ fn constant_of_node(alloc: Global, nodes: &[Node], root: usize) -> Result<Consta
     ensures { IfOk result (λ c. c ≡ constant_of (part_of nodes.now root)) }
 {
     let table = constants_of(alloc, nodes)?;
-    Ok(constant_at(table.as_slice(), root))
+    copy_at(alloc, table.as_slice(), root)
 }
 
 /// The constant that each node is, in the order of the nodes. It takes a step for each node, and the only error is running out of memory.
@@ -46,33 +49,56 @@ pub fn constants_of(alloc: Global, nodes: &[Node]) -> Result<Vec<Constant>, Allo
 {
     let mut table = Vec::new(alloc);
     for node in nodes {
-        let constant = constant_by(*node, table.as_slice());
+        let constant = constant_by(alloc, *node, table.as_slice())?;
         table.push(constant)?;
     }
     Ok(table)
 }
 
 // The constant that a node is, over those of the nodes before it.
-fn constant_by(node: Node, table: &[Constant]) -> Constant
-    ensures { (parts : List Resolved) → table.now ≡ map constant_of parts → result ≡ constant_of (resolved_by parts node) }
+fn constant_by(alloc: Global, node: Node, table: &[Constant]) -> Result<Constant, AllocError>
+    ensures { (parts : List Resolved) → table.now ≡ map constant_of parts → IfOk result (λ c. c ≡ constant_of (resolved_by parts node)) }
 {
     match node {
-        Node::Constant(_, value) => constant_of_value(value),
-        Node::Named(_, _, a) => constant_at(table, a),
-        Node::Operand(a) => constant_at(table, a),
-        Node::Apply(_, operator, count) => operated(operator, last(table, count)),
-        Node::Link(_, operator, a, b) => {
-            operated(operator, &[constant_at(table, a), constant_at(table, b)])
-        }
-        Node::Slot(..) | Node::Whole(..) | Node::Next(..) => Constant::NotConstant,
+        Node::Constant(_, value) => Ok(constant_of_value(value)),
+        Node::Named(_, _, a) => copy_at(alloc, table, a),
+        Node::Operand(a) => copy_at(alloc, table, a),
+        Node::Apply(_, operator, count) => operated(alloc, operator, last(table, count)),
+        Node::Link(_, operator, a, b) => linked(alloc, operator, table, a, b),
+        Node::Slot(..) | Node::Whole(..) | Node::Next(..) => Ok(Constant::NotConstant),
     }
 }
 
-fn constant_at(table: &[Constant], k: usize) -> Constant
-    ensures { result ≡ slice_index_or table.now k NotConstant }
+// What an operator gives of the constants of these numbers.
+fn linked(
+    alloc: Global,
+    operator: Operator,
+    table: &[Constant],
+    a: usize,
+    b: usize,
+) -> Result<Constant, AllocError>
+    ensures { IfOk result (λ c. c ≡ operated_by_two operator (slice_index_or table.now a NotConstant) (slice_index_or table.now b NotConstant)) }
+{
+    let left = copy_at(alloc, table, a)?;
+    let right = copy_at(alloc, table, b)?;
+    operated_by_two(alloc, operator, &left, &right)
+}
+
+fn copy_at(alloc: Global, table: &[Constant], k: usize) -> Result<Constant, AllocError>
+    ensures { IfOk result (λ c. c ≡ slice_index_or table.now k NotConstant) }
 {
     match table.get(k) {
-        None => Constant::NotConstant,
-        Some(constant) => *constant,
+        None => Ok(Constant::NotConstant),
+        Some(constant) => constant.copy(alloc),
+    }
+}
+
+/// The integer that the constant of this number in a table is, if it is one.
+pub fn integer_at(table: &[Constant], k: usize) -> Option<&WholeNumber>
+    ensures { option_copied result ≡ integer_of (slice_index_or table.now k NotConstant) }
+{
+    match table.get(k) {
+        None => None,
+        Some(constant) => constant.integer(),
     }
 }

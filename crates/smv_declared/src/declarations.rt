@@ -15,8 +15,8 @@ ghost use Rattle.smv_declared.specs.Types.{Tells, element_of, types_in, types_wi
 use crate::bounds::{bounds_of, range_in, width_in};
 use crate::elements::elements_of;
 use crate::limits::{
-    dimension_limits, element_limits, judge_constants, judge_element_constants,
-    judge_element_order, judge_orders,
+    ElementLimits, Limits, dimension_limits, element_limits, judge_constants,
+    judge_element_constants, judge_element_order, judge_orders,
 };
 use crate::tally::{Tally, add, declared_by, no_types};
 use crate::{Declared, VariableType};
@@ -38,12 +38,12 @@ use value_types::{Element, ValueType};
 /// - `TypeMismatch`: `IVAR` or `FROZENVAR` declares an instance, or the elements of an array are instances. At the module's name.
 /// - `NotConstant`: a bound or a width is no constant. At it.
 /// - `EmptyRange`: the first bound is greater than the second. At the first.
-/// - `WordWidth`: a width is none of 1 to 128. At it, with its value if that has 128 bits.
+/// - `WordWidth`: a width is none of 1 to 128. At it, with its value.
 /// - `DuplicateElement`: an element is one of those before it. At it, with its text.
 /// - `IntWidth`: a bound is none of -2147483648 to 2147483647. At it.
 ///
 /// A constant is an integer that literals give by `-`, `+`, `*`, `/` and `mod`, through the names of definitions and parameters,
-/// and without a division by 0. A part of it that has more than 64 bits counts as one that has more than 32.
+/// and without a division by 0. It is a whole number of any size, as each part of it is.
 ///
 /// Linear in the text of the declarations of all instances, and in what their bounds name. The size of arrays costs nothing.
 ///
@@ -157,13 +157,32 @@ fn variable_type(
 {
     let dimensions = dimension_limits(alloc, scope, at, variable.dimensions.as_slice())?;
     let element = element_limits(alloc, scope, at, &variable.declared)?;
-    judge_constants(dimensions.as_slice())?;
+    let answer = type_within(alloc, scope, at, variable, dimensions.as_slice(), &element);
+    drop(element);
+    answer
+}
+
+// The same, where these are the limits that are declared.
+fn type_within(
+    alloc: Global,
+    scope: &Scope,
+    _at: usize,
+    variable: &Variable,
+    dimensions: &[Limits],
+    element: &ElementLimits,
+) -> Result<VariableType, TextStop>
+    requires dimensions { dimensions.now ≡ map (dimension_limits scope.now.program _at) variable.now.dimensions }
+    requires element { element.now ≡ element_limits scope.now.program _at variable.now.declared }
+    ensures judged { Judges result (limits_refusal scope.now.program dimensions.now element.now (written_elements variable.now.declared)) }
+    ensures declared { IfOk result (λ t. t ≡ variable_type scope.now.program _at variable.now) }
+{
+    judge_constants(dimensions)?;
     judge_element_constants(element)?;
-    judge_orders(dimensions.as_slice())?;
-    judge_element_order(element)?;
+    judge_orders(alloc, dimensions)?;
+    judge_element_order(alloc, element)?;
     let width = width_in(alloc, element)?;
     let elements = elements_of(alloc, scope, written_elements(&variable.declared))?;
-    let bounds = bounds_of(alloc, dimensions.as_slice())?;
+    let bounds = bounds_of(alloc, dimensions)?;
     let range = range_in(element)?;
     Ok(VariableType {
         dimensions: bounds,

@@ -14,7 +14,7 @@ mod variable_type;
 mod well_formed_types;
 
 pub use constant::Constant;
-pub use constants::constants_of;
+pub use constants::{constants_of, integer_at};
 pub use declarations::declared_types;
 pub use variable_type::{Bounds, Declared, VariableType};
 pub use well_formed_types::types_are_types;

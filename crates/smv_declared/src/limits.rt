@@ -2,7 +2,7 @@
 
 ghost use Rattle.std.specs.Prelude.{◌≡◌, map, IfOk};
 ghost use Rattle.smv_verdicts.specs.Verdicts.{Judges, first_of};
-ghost use Rattle.smv_declared.specs.Refusals.{dimension_limits, element_limits, empty_limits, empty_of, empty_range, limits_by, no_constant, no_constant_of, no_constants};
+ghost use Rattle.smv_declared.specs.Refusals.{dimension_limits, element_limits, empty_limits, empty_of, limits_by, no_constant, no_constant_of, no_constants};
 
 use crate::Constant;
 use crate::constants::bound_of;
@@ -14,7 +14,7 @@ use sqlite_items::Items;
 use std::alloc::{AllocError, Global};
 
 // The first and the last integer of a range or of a dimension, each with its place.
-#[derive(Clone, Copy, Debug)]
+#[derive(Debug, Drop)]
 pub(crate) struct Limits {
     pub low_place: Place,
     pub low: Constant,
@@ -23,7 +23,7 @@ pub(crate) struct Limits {
 }
 
 // What limits a type that has no dimensions.
-#[derive(Clone, Copy, Debug)]
+#[derive(Debug, Drop)]
 pub(crate) enum ElementLimits {
     Absent,
     // The width of a word.
@@ -94,63 +94,63 @@ pub(crate) fn judge_constants(all: &[Limits]) -> Result<(), TextStop>
     ensures { Judges result (first_of no_constants all.now) }
 {
     for limits in all {
-        both_constants(*limits)?;
+        both_constants(limits)?;
     }
     Ok(())
 }
 
-pub(crate) fn judge_element_constants(element: ElementLimits) -> Result<(), TextStop>
-    ensures { Judges result (no_constant_of element) }
+pub(crate) fn judge_element_constants(element: &ElementLimits) -> Result<(), TextStop>
+    ensures { Judges result (no_constant_of element.now) }
 {
     match element {
         ElementLimits::Absent => Ok(()),
-        ElementLimits::Width(place, width) => constant_at(place, width),
+        ElementLimits::Width(place, width) => is_constant(*place, width),
         ElementLimits::Range(limits) => both_constants(limits),
     }
 }
 
-fn both_constants(limits: Limits) -> Result<(), TextStop>
-    ensures { Judges result (no_constants limits) }
+fn both_constants(limits: &Limits) -> Result<(), TextStop>
+    ensures { Judges result (no_constants limits.now) }
 {
-    constant_at(limits.low_place, limits.low)?;
-    constant_at(limits.high_place, limits.high)
+    is_constant(limits.low_place, &limits.low)?;
+    is_constant(limits.high_place, &limits.high)
 }
 
-fn constant_at(place: Place, bound: Constant) -> Result<(), TextStop>
-    ensures { Judges result (no_constant place bound) }
+fn is_constant(place: Place, bound: &Constant) -> Result<(), TextStop>
+    ensures { Judges result (no_constant place bound.now) }
 {
     match bound {
         Constant::NotConstant => Err(refused(Rule::NotConstant, place)),
-        Constant::Beyond | Constant::Integer(_) => Ok(()),
+        Constant::Integer(_) => Ok(()),
     }
 }
 
 // No first limit is greater than the second.
-pub(crate) fn judge_orders(all: &[Limits]) -> Result<(), TextStop>
+pub(crate) fn judge_orders(alloc: Global, all: &[Limits]) -> Result<(), TextStop>
     ensures { Judges result (first_of empty_limits all.now) }
 {
     for limits in all {
-        some_between(limits.low_place, limits.low, limits.high)?;
+        some_between(alloc, limits)?;
     }
     Ok(())
 }
 
-pub(crate) fn judge_element_order(element: ElementLimits) -> Result<(), TextStop>
-    ensures { Judges result (empty_of element) }
+pub(crate) fn judge_element_order(alloc: Global, element: &ElementLimits) -> Result<(), TextStop>
+    ensures { Judges result (empty_of element.now) }
 {
     match element {
         ElementLimits::Absent | ElementLimits::Width(..) => Ok(()),
-        ElementLimits::Range(limits) => some_between(limits.low_place, limits.low, limits.high),
+        ElementLimits::Range(limits) => some_between(alloc, limits),
     }
 }
 
 // The first bound is no greater than the second.
-fn some_between(place: Place, low: Constant, high: Constant) -> Result<(), TextStop>
-    ensures { Judges result (empty_range place low high) }
+fn some_between(alloc: Global, limits: &Limits) -> Result<(), TextStop>
+    ensures { Judges result (empty_limits limits.now) }
 {
-    match (low, high) {
-        (Constant::Integer(low), Constant::Integer(high)) => if high < low {
-            Err(refused(Rule::EmptyRange, place))
+    match (&limits.low, &limits.high) {
+        (Constant::Integer(low), Constant::Integer(high)) => if high.is_less(alloc, low)? {
+            Err(refused(Rule::EmptyRange, limits.low_place))
         } else {
             Ok(())
         },

@@ -15,12 +15,11 @@ use Rattle.smv_resolve.specs.Finding.{Grows}
 use Rattle.smv_resolve.specs.Resolved.{Resolved, last_of, operands_of, part_at, parts_of, resolved_by}
 use Rattle.smv_resolve.proofs.Parts.{last_of-map, parts_of-next, parts_of-take}
 use Rattle.smv_declared.specs.declared.constant.Constant.{Constant}
-use Rattle.smv_declared.specs.declared.constant.Constant.TheVariants.{NotConstant}
 use Rattle.smv_declared.specs.declared.variable_type.VariableType.{VariableType}
 use Rattle.smv_declared.specs.Constants.{constant_of, constants_of}
 use Rattle.smv_layout.specs.declared.laid.LaidNode.{LaidNode}
 use Rattle.smv_layout.specs.Indices.{index_of}
-use Rattle.smv_layout.specs.Layout.{Laid, all_laid, applied, laid}
+use Rattle.smv_layout.specs.Layout.{Laid, all_laid, applied, bounds_in, laid}
 use Rattle.smv_layout.specs.Nodes.{AreLaid, IsLaid, Knows, Stands, entry_by, laid_at, laid_by}
 use Rattle.smv_layout.proofs.Indexing.{index_found, indices-operands}
 use Rattle.smv_layout.proofs.Standing.{AreLaid_grown, AreLaid_push, laid_kept, map_kept}
@@ -64,33 +63,30 @@ pub laid_none : (vs : List VariableType) (nodes : List Node) (entries : List Lai
 unfolding parts_of
 laid_none vs nodes entries e = record { stand = subst (All (Stands nodes)) (sym e) (All-nil (Stands nodes)); are = ap (map (laid_by nodes)) e }
 
-constant_found : (parts : List Resolved) (table : List Constant) (k : ℕ) → table ≡ map constant_of parts → slice_index_or table k NotConstant ≡ constant_of (part_at parts k)
-constant_found parts table k e = ap (λ (cs : List Constant). slice_index_or cs k NotConstant) e ∙ get_or-map constant_of parts k Resolved.Stuck
-
-pub applied_along : (vs : List VariableType) (place : Place) (o : Operator) (a b : List Constant) (c d : List (Option ℤ)) (x y : List Laid) → a ≡ b → c ≡ d → x ≡ y →
+pub applied_along : (vs : List VariableType) (place : Place) (o : Operator) (a b : Option (ℕ × ℕ)) (c d : List (Option ℤ)) (x y : List Laid) → a ≡ b → c ≡ d → x ≡ y →
     applied vs place o a c x ≡ applied vs place o b d y
 applied_along vs place o a b c d x y e f g =
-    ap (λ (z : List Constant). applied vs place o z c x) e ∙ ap (λ (z : List (Option ℤ)). applied vs place o b z x) f ∙ ap (applied vs place o b d) g
+    ap (λ (z : Option (ℕ × ℕ)). applied vs place o z c x) e ∙ ap (λ (z : List (Option ℤ)). applied vs place o b z x) f ∙ ap (applied vs place o b d) g
 
 -- an operator over the last parts
 pub applied_last : (vs : List VariableType) (place : Place) (o : Operator) (count : ℕ) (nodes : List Node) (entries : List LaidNode) (constants : List Constant) (indices : List (Option ℤ)) (parts : List Resolved) →
     Knows constants indices parts → map (laid_by nodes) entries ≡ map (laid vs) parts →
-    applied vs place o (last_of count constants) (last_of count indices) (map (laid_by nodes) (last_of count entries)) ≡ laid vs (Resolved.Apply place o (operands_of (last_of count parts)))
+    applied vs place o (bounds_in (last_of count constants)) (last_of count indices) (map (laid_by nodes) (last_of count entries)) ≡ laid vs (Resolved.Apply place o (operands_of (last_of count parts)))
 applied_last vs place o count nodes entries constants indices parts k e =
     applied_along vs place o _ _ _ _ _ _
-    (ap (last_of count) k.constants_are ∙ last_of-map constant_of count parts ∙ sym (constants-operands (last_of count parts)))
+    (ap bounds_in (ap (last_of count) k.constants_are ∙ last_of-map constant_of count parts ∙ sym (constants-operands (last_of count parts))))
     (ap (last_of count) k.indices_are ∙ last_of-map index_of count parts ∙ sym (indices-operands (last_of count parts)))
     (sym (last_of-map (laid_by nodes) count entries) ∙ ap (last_of count) e ∙ last_of-map (laid vs) count parts ∙ sym (laid-operands vs (last_of count parts)))
 
 -- a link of a chain
 pub applied_two : (vs : List VariableType) (place : Place) (o : Operator) (a b : ℕ) (nodes : List Node) (entries : List LaidNode) (constants : List Constant) (indices : List (Option ℤ)) (parts : List Resolved) →
     Knows constants indices parts → map (laid_by nodes) entries ≡ map (laid vs) parts →
-    applied vs place o (slice_index_or constants a NotConstant ∷ slice_index_or constants b NotConstant ∷ []) (slice_index_or indices a None ∷ slice_index_or indices b None ∷ [])
+    applied vs place o None (slice_index_or indices a None ∷ slice_index_or indices b None ∷ [])
     (laid_at nodes entries a ∷ laid_at nodes entries b ∷ [])
     ≡ laid vs (Resolved.Apply place o (operands_of (part_at parts a ∷ part_at parts b ∷ [])))
 applied_two vs place o a b nodes entries constants indices parts k e =
     applied_along vs place o _ _ _ _ _ _
-    (ap (λ (c : Constant). c ∷ slice_index_or constants b NotConstant ∷ []) (constant_found parts constants a k.constants_are) ∙ ap (λ (c : Constant). constant_of (part_at parts a) ∷ c ∷ []) (constant_found parts constants b k.constants_are))
+    refl
     (ap (λ (c : Option ℤ). c ∷ slice_index_or indices b None ∷ []) (index_found parts indices a k.indices_are) ∙ ap (λ (c : Option ℤ). index_of (part_at parts a) ∷ c ∷ []) (index_found parts indices b k.indices_are))
     (ap (λ (c : Laid). c ∷ laid_at nodes entries b ∷ []) (laid_found vs nodes entries parts a e) ∙ ap (λ (c : Laid). laid vs (part_at parts a) ∷ c ∷ []) (laid_found vs nodes entries parts b e))
 

@@ -144,11 +144,11 @@ bounded place o None xs = Resolved.Apply place (operator.Window o) (values_of xs
 
 -- Expressions.
 
--- an operator over operands that are laid out; what constants they are is told, too
-abbrev pub applied : List VariableType → Place → Operator → List Constant → List (Option ℤ) → List Laid → Laid
-applied vs place operator.Index constants indices xs = index_laid vs place (slice_index_or indices 1 None) xs
-applied vs place (operator.Window o) constants indices xs = Laid.Value (bounded place o (bounds_in constants) xs)
-applied vs place o constants indices xs = Laid.Value (Resolved.Apply place o (values_of xs))
+-- an operator over operands that are laid out; the bounds and the indices that they are as constants are told, too
+abbrev pub applied : List VariableType → Place → Operator → Option (ℕ × ℕ) → List (Option ℤ) → List Laid → Laid
+applied vs place operator.Index bounds indices xs = index_laid vs place (slice_index_or indices 1 None) xs
+applied vs place (operator.Window o) bounds indices xs = Laid.Value (bounded place o bounds xs)
+applied vs place o bounds indices xs = Laid.Value (Resolved.Apply place o (values_of xs))
 
 -- an expression over variables of these types
 abbrev mutual
@@ -158,7 +158,7 @@ abbrev mutual
   laid vs (Resolved.Whole place i) = Laid.Value (Resolved.Whole place i)
   laid vs (Resolved.Named place naming r) = named place naming (laid vs r)
   laid vs (Resolved.Next place r) = Laid.Value (Resolved.Next place (value_of (laid vs r)))
-  laid vs (Resolved.Apply place o rs) = applied vs place o (constants_of rs) (indices_of rs) (all_laid vs rs)
+  laid vs (Resolved.Apply place o rs) = applied vs place o (bounds_in (constants_of rs)) (indices_of rs) (all_laid vs rs)
   laid vs Resolved.Stuck = Laid.Value Resolved.Stuck
 
   pub all_laid : List VariableType → Operands → List Laid

@@ -5,7 +5,6 @@ ghost use Rattle.std.specs.List.{All};
 ghost use Rattle.smv_resolve.specs.declared.node.Naming.TheVariants as given;
 ghost use Rattle.smv_resolve.specs.Resolved.{Resolved, parts_of, resolved_by};
 ghost use Rattle.smv_resolve.specs.Finding.{Grows};
-ghost use Rattle.smv_declared.specs.declared.constant.Constant.TheVariants.{NotConstant};
 ghost use Rattle.smv_layout.specs.declared.laid.LaidNode.TheVariants.{Array as LaidArray};
 ghost use Rattle.smv_layout.specs.Layout.{Laid, applied, array_given, array_of, laid, named, slot_laid, subscript_given};
 ghost use Rattle.smv_layout.specs.Nodes.{AreLaid, AreSubscripts, IsLaid, Knows, Stands, SubscriptsStand, laid_at, laid_by, subarray_by, subscript_by};
@@ -15,7 +14,7 @@ use crate::entries::{copy_at, push_value, value_at};
 use crate::indices::{index_at, indices_of};
 use crate::laid::{LaidNode, SubarrayNode, SubscriptNode};
 use crate::nodes::push;
-use crate::operators::apply;
+use crate::operators::{apply, bounds_in};
 use crate::sizes::{first_at, first_slots};
 use smv_declared::{Constant, VariableType, constants_of};
 use smv_resolve::{Naming, Node, first, last};
@@ -93,13 +92,13 @@ fn lay_out_node(
             nodes,
             place,
             operator,
-            last(constants, count),
+            bounds_in(last(constants, count)),
             last(indices, count),
             last(entries, count),
         ),
         Node::Link(place, operator, a, b) => {
             link(
-                alloc, variables, firsts, constants, indices, nodes, entries, place, operator, a, b,
+                alloc, variables, firsts, indices, nodes, entries, place, operator, a, b,
             )
         }
     }
@@ -110,7 +109,6 @@ fn link(
     alloc: Global,
     variables: &[VariableType],
     firsts: &[usize],
-    constants: &[Constant],
     indices: &[Option<i64>],
     nodes: &mut Items<Node>,
     entries: &[LaidNode],
@@ -123,27 +121,16 @@ fn link(
     requires stand { All (Stands nodes.old) entries.now }
     ensures grows { OnOk result (Grows nodes.old nodes.new) }
     ensures laid { IfOk result (λ x. IsLaid nodes.new x (applied variables.now place operator
-        (slice_index_or constants.now a NotConstant ∷ slice_index_or constants.now b NotConstant ∷ [])
-        (slice_index_or indices.now a None ∷ slice_index_or indices.now b None ∷ [])
+        None (slice_index_or indices.now a None ∷ slice_index_or indices.now b None ∷ [])
         (laid_at nodes.old entries.now a ∷ laid_at nodes.old entries.now b ∷ []))) }
 {
     let left = copy_at(alloc, nodes, entries, a)?;
     let right = copy_at(alloc, nodes, entries, b)?;
-    let constants = [constant_at(constants, a), constant_at(constants, b)];
     let indices = [index_at(indices, a), index_at(indices, b)];
     let operands = [left, right];
     apply(
-        alloc, variables, firsts, nodes, place, operator, &constants, &indices, &operands,
+        alloc, variables, firsts, nodes, place, operator, None, &indices, &operands,
     )
-}
-
-fn constant_at(constants: &[Constant], k: usize) -> Constant
-    ensures { result ≡ slice_index_or constants.now k NotConstant }
-{
-    match constants.get(k) {
-        None => Constant::NotConstant,
-        Some(constant) => *constant,
-    }
 }
 
 // A variable: its slot, or its array.

@@ -1,7 +1,8 @@
 //! Operators: indices of arrays, and bounds of temporal operators.
 
-ghost use Rattle.std.specs.Prelude.{◌≡◌, ◌<◌, [], ◌∷◌, ◌++◌, drop, length, map, IfOk, OnOk, Some};
+ghost use Rattle.std.specs.Prelude.{◌≡◌, ◌<◌, [], ◌∷◌, ◌++◌, drop, is_some, length, map, IfOk, IfSome, OnOk, Some};
 ghost use Rattle.std.specs.List.{All};
+ghost use Rattle.smv_value.specs.Results.{natural};
 ghost use Rattle.smv_resolve.specs.Resolved.{Resolved};
 ghost use Rattle.smv_resolve.specs.Finding.{Grows};
 ghost use Rattle.smv_layout.specs.declared.laid.LaidNode.TheVariants.{Array as LaidArray};
@@ -21,8 +22,9 @@ use smv_tree::Place;
 use smv_value::{Bounded, Operator};
 use sqlite_items::{Items, at};
 use std::alloc::{AllocError, Global};
+use whole_numbers::WholeNumber;
 
-/// An operator over what stands for its operands, where it is told what constants they are.
+/// An operator over what stands for its operands, where it is told what bounds and indices they are as constants.
 pub fn apply(
     alloc: Global,
     variables: &[VariableType],
@@ -30,14 +32,14 @@ pub fn apply(
     nodes: &mut Items<Node>,
     place: Place,
     operator: Operator,
-    constants: &[Constant],
+    bounds: Option<(u32, u32)>,
     indices: &[Option<i64>],
     operands: &[LaidNode],
 ) -> Result<LaidNode, AllocError>
     requires firsts { firsts.now ≡ first_slots variables.now }
     requires stand { All (Stands nodes.old) operands.now }
     ensures grows { OnOk result (Grows nodes.old nodes.new) }
-    ensures laid { IfOk result (λ x. IsLaid nodes.new x (applied variables.now place operator constants.now indices.now (map (laid_by nodes.old) operands.now))) }
+    ensures laid { IfOk result (λ x. IsLaid nodes.new x (applied variables.now place operator bounds indices.now (map (laid_by nodes.old) operands.now))) }
 {
     match operator {
         Operator::Index => {
@@ -51,9 +53,7 @@ pub fn apply(
                 operands,
             )
         }
-        Operator::Window(o) => {
-            apply_window(alloc, nodes, place, o, bounds_in(constants), operands)
-        }
+        Operator::Window(o) => apply_window(alloc, nodes, place, o, bounds, operands),
         _ => apply_plain(alloc, nodes, place, operator, operands),
     }
 }
@@ -111,33 +111,37 @@ fn behind_bounds(operands: &[LaidNode]) -> &[LaidNode]
     }
 }
 
-// The bounds before a formula, where they are constants of 32 bits without a sign.
-fn bounds_in(constants: &[Constant]) -> Option<(u32, u32)>
+/// The bounds before a formula, where they are constants of 32 bits without a sign.
+pub fn bounds_in(constants: &[Constant]) -> Option<(u32, u32)>
     ensures { result ≡ bounds_in constants.now }
 {
     match constants {
-        [low, high, _] => both_bounds(*low, *high),
+        [low, high, _] => both_bounds(low, high),
         _ => None,
     }
 }
 
-fn both_bounds(low: Constant, high: Constant) -> Option<(u32, u32)>
-    ensures { result ≡ both_bounds low high }
+fn both_bounds(low: &Constant, high: &Constant) -> Option<(u32, u32)>
+    ensures { result ≡ both_bounds low.now high.now }
 {
     let (Constant::Integer(low), Constant::Integer(high)) = (low, high) else {
         return None;
     };
-    if is_bound(low) && is_bound(high) {
-        Some((low as u32, high as u32))
-    } else {
-        None
+    match (bound_by(low), bound_by(high)) {
+        (Some(low), Some(high)) => Some((low, high)),
+        _ => None,
     }
 }
 
-fn is_bound(z: i128) -> bool
-    ensures { result ≡ is_bound z }
+// The bound, if it is one.
+fn bound_by(z: &WholeNumber) -> Option<u32>
+    ensures bound { IfSome result (λ n. n ≡ natural z.now) }
+    ensures is_one { is_some result ≡ is_bound z.now }
 {
-    0 <= z && z <= 4_294_967_295
+    match z.to_i64() {
+        Some(n) if 0 <= n && n <= 4_294_967_295 => Some(n as u32),
+        _ => None,
+    }
 }
 
 // `a[i]`, where this is the integer that i is.

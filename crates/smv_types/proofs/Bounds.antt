@@ -1,11 +1,10 @@
 -- Rules that operators break by their kinds, where temporal operators may stand and where they may not.
-use Rattle.std.proofs.Common.{◌≡◌, Bool, true, false, cond, List, Option, None, Some, refl, sym}
+use Rattle.std.proofs.Common.{◌≡◌, Bool, true, false, cond, ℤ, Option, None, Some, refl, sym}
 use Rattle.std.proofs.lemmas.Bool.{false≢true}
 use Rattle.smv_value.specs.declared.operator.Operator.{Operator}
 use Rattle.smv_value.specs.declared.operator.Operator.TheVariants as operator
 use Rattle.smv_tree.specs.declared.place.Place.{Place}
 use Rattle.smv_tree.specs.declared.refusal.Refusal.{Refusal}
-use Rattle.smv_declared.specs.declared.constant.Constant.{Constant}
 use Rattle.smv_kinds.specs.declared.kind.KindRule.{KindRule}
 use Rattle.smv_meaning.specs.Formulas.{is_temporal}
 use Rattle.smv_verdicts.specs.Verdicts.{plain}
@@ -18,10 +17,10 @@ timed_same None = refl
 timed_same (Some v) = refl
 
 -- of an operator that is no temporal one no bounds are told
-pub plainly_broken : (place : Place) (o : Operator) (cs : List Constant) (r : KindRule) → is_temporal o ≡ false → broken_by place o cs r ≡ plain (rule_of r) place
-plainly_broken place (operator.Window o) cs r e = absurd (false≢true (sym e))
-plainly_broken place (operator.Bounded o low high) cs r e = absurd (false≢true (sym e))
-plainly_broken place other cs r e = refl
+pub plainly_broken : (place : Place) (o : Operator) (bounds : Option (ℤ × ℤ)) (r : KindRule) → is_temporal o ≡ false → broken_by place o bounds r ≡ plain (rule_of r) place
+plainly_broken place (operator.Window o) bounds r e = absurd (false≢true (sym e))
+plainly_broken place (operator.Bounded o low high) bounds r e = absurd (false≢true (sym e))
+plainly_broken place other bounds r e = refl
 
 timeless : (a b : Bool) (r : Refusal) → b ≡ false → cond a None (cond b (Some r) None) ≡ None
 timeless true b r e = refl

@@ -36,7 +36,6 @@ use Rattle.smv_layout.specs.Layout.{items_of}
 use Rattle.smv_resolve.specs.Resolved.{Operands, Resolved}
 use Rattle.smv_slots.specs.declared.slot.Slot.{Slot}
 use Rattle.smv_slots.specs.Slots.{given_to, is_input, slots_of}
-use Rattle.smv_declared.specs.declared.constant.Constant.{Constant}
 use Rattle.smv_declared.specs.Constants.{constants_of}
 use Rattle.smv_declared.specs.Refusals.{declared_refusal}
 use Rattle.smv_slots.specs.Slots.{types_of}
@@ -48,7 +47,7 @@ use Rattle.smv_meaning.specs.Values.{outcome, outcome_in, outcomes}
 use Rattle.smv_meaning.specs.Formulas.{are_known_formulas, is_known, is_known_formula, is_over_formulas, is_propositional, is_temporal}
 use Rattle.smv_meaning.specs.Runs.{AllKnown as AllItemsKnown, are_inputs, is_given, is_known_by, is_known_item, is_single as has_one, is_state}
 use Rattle.smv_verdicts.specs.Verdicts.{first_of, or_else}
-use Rattle.smv_types.specs.Kinds.{Context, all_told, assignment_refusal, at_root, context_of_side, formula_refusal, has_values, inner_refusal, input_here, is_assignable, is_bound, is_input_slot, is_window, item_refusal, kind_in, kind_of_slot, kind_refusal, kinds_broken, left_refusal, misused, next_broken, next_here, no_taker, no_value, of_kind, of_path, of_state, of_step, operands_refusal, place_of, refusal_by_kind, slot_takes, takes_assignment, target_refusal, temporal_at, temporal_here, told, under_element, under_name, under_next, under_operand, unless_bound}
+use Rattle.smv_types.specs.Kinds.{Context, all_told, assignment_refusal, at_root, context_of_side, formula_refusal, has_values, inner_refusal, input_here, is_assignable, is_bound, is_input_slot, is_window, item_refusal, kind_in, kind_of_slot, kind_refusal, kinds_broken, left_refusal, misused, next_broken, next_here, no_taker, no_value, of_kind, of_path, of_state, of_step, operands_refusal, place_of, refusal_by_kind, slot_takes, takes_assignment, target_refusal, temporal_at, temporal_here, told, under_element, under_name, under_next, under_operand, unless_bound, written_bounds}
 use Rattle.smv_types.specs.Judged.{of_name}
 use Rattle.smv_types.proofs.Evaluated.{AllKnown, Fits, Has, Known, constant_fits}
 use Rattle.smv_types.proofs.Gathered.{applied_fits, array_unset, array_unvalued, boolean_value, makes_array, takes_parts}
@@ -95,7 +94,7 @@ both_true a b e f = rw (e, f) refl
 
 -- kinds that are given
 
-kinds_given : (place : Place) (o : Operator) (cs : List Constant) (g : Given) → kinds_broken place o cs g ≡ None → (k : Kind) × (g ≡ Ok k)
+kinds_given : (place : Place) (o : Operator) (cs : Option (ℤ × ℤ)) (g : Given) → kinds_broken place o cs g ≡ None → (k : Kind) × (g ≡ Ok k)
 kinds_given place o cs (Ok k) e = (k, refl)
 kinds_given place o cs (Err r) e = absurd (let never : ⊥ = cc in never)
 
@@ -289,7 +288,7 @@ module _ (p : Program) (typed : list_all is_type (types_of p) ≡ true) where
       let P : Kind → Type 0 = λ k. Fits k o in
       inl (record { fits = subst P same has.fits; constant = λ z e. none_some z e })
 
-  apply_known : (c : Context) (place : Place) (o : Operator) (cs : List Constant) (xs : List Operand) (os : List Outcome) → is_temporal o ≡ false → kinds_broken place o cs (kind_in_context c.set o xs) ≡ None →
+  apply_known : (c : Context) (place : Place) (o : Operator) (cs : Option (ℤ × ℤ)) (xs : List Operand) (os : List Outcome) → is_temporal o ≡ false → kinds_broken place o cs (kind_in_context c.set o xs) ≡ None →
       AllKnown xs os →
       Known (record { kind = kind_in (kind_given o xs); constant = constant_given o xs }) (applied o place os)
   apply_known c place o cs xs os plain free h = elim (cases_Bool (makes_array o)) [
@@ -328,7 +327,7 @@ module _ (p : Program) (typed : list_all is_type (types_of p) ≡ true) where
         let inner = operands_refusal S T o 0 c rs in
         let own = second_none inner _ e in
         let timeless = not_temporal c place o plain (first_none (temporal_here c place o) _ own) in
-        apply_known c place o (constants_of rs) (all_told S T rs) (outcomes S s u t rs) timeless (second_none (temporal_here c place o) _ own)
+        apply_known c place o (written_bounds (constants_of rs)) (all_told S T rs) (outcomes S s u t rs) timeless (second_none (temporal_here c place o) _ own)
         (knowns rs o 0 c s u t plain (λ k. timeless_bound o k timeless) (first_none inner _ e) h)
     known Resolved.Stuck c s u t plain e h = inr (refl, refl)
 

@@ -1,5 +1,5 @@
 -- What is noted of nodes, and so of the expressions that they are.
-use Rattle.std.specs.Prelude.{◌≡◌, ℕ, ℤ, Bool, true, false, List, length, map, Option, None, Some, slice_index_or}
+use Rattle.std.specs.Prelude.{◌≡◌, ℕ, ℤ, pos, Bool, true, false, List, length, map, Option, None, Some, slice_index_or}
 use Rattle.smv_tree.specs.declared.refusal.Refusal.{Refusal}
 use Rattle.smv_tree.specs.declared.tree.AssignmentKind.TheVariants as side
 use Rattle.smv_tree.specs.Places.{start}
@@ -12,14 +12,30 @@ use Rattle.smv_types.specs.declared.judged.Indexing.{Indexing}
 use Rattle.smv_types.specs.declared.judged.Judged.{Judged}
 use Rattle.smv_types.specs.declared.judged.Notes.{Notes}
 use Rattle.smv_types.specs.declared.judged.TimedViolation.{TimedViolation}
+use Rattle.smv_types.specs.declared.judged.ToldBounds.{ToldBounds}
+use Rattle.smv_types.specs.declared.judged.ToldBounds.TheVariants as bounds
+use Rattle.smv_types.specs.declared.judged.WrittenBounds.{WrittenBounds}
 use Rattle.smv_types.specs.declared.judged.Violation.{Violation}
 use Rattle.smv_types.specs.declared.items.Part.{Part}
 use Rattle.smv_types.specs.Kinds.{Context, of_state, of_step, of_path, under_name, bounds_text, defined_refusal, indexing_of, inner_refusal, is_assignable, is_window, kind_refusal, of_kind, place_of, told}
 use Rattle.smv_verdicts.specs.Verdicts.{plain}
 
-abbrev pub detail_of : Option (ℤ × ℤ) → Option (List ℕ)
+-- bounds that are lent
+
+abbrev pub read_bounds : Option WrittenBounds → Option (ℤ × ℤ)
+read_bounds None = None
+read_bounds (Some b) = Some (b.low.now, b.high.now)
+
+abbrev pub told_bounds : ToldBounds → ℤ × ℤ
+told_bounds (bounds.Written b) = (b.low.now, b.high.now)
+told_bounds (bounds.Kept low high) = (pos low, pos high)
+
+abbrev pub text_of : ℤ × ℤ → List ℕ
+text_of b = bounds_text b.0 b.1
+
+abbrev pub detail_of : Option ToldBounds → Option (List ℕ)
 detail_of None = None
-detail_of (Some x) = Some (bounds_text x.0 x.1)
+detail_of (Some b) = Some (text_of (told_bounds b))
 
 abbrev pub as_refusal : Option Violation → Option Refusal
 as_refusal None = None

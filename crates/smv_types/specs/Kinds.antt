@@ -1,6 +1,5 @@
 -- The rules of depth, kinds and contexts: an own choice of this project (the kinds are those of manual 2.1 and 2.2).
 use Rattle.std.specs.Prelude.{ℕ, ◌+◌, ◌==◌, nat_lt, Bool, true, false, not, ◌&&◌, ◌||◌, if◌then◌else◌, List, [], ◌∷◌, ◌++◌, codes, Option, None, Some, Ok, Err, slice_get, ℤ, pos}
-use Rattle.std.specs.Fmt.{signed_decimal}
 use Rattle.std.specs.List.{list_any}
 use Rattle.std.specs.Option.{is_some}
 use Rattle.smv_value.specs.declared.operator.Operator.{Operator}
@@ -40,8 +39,8 @@ use Rattle.smv_tree.specs.Places.{start}
 use Rattle.smv_slots.specs.declared.slot.Slot.{Slot}
 use Rattle.smv_types.specs.declared.judged.Indexing.{Indexing}
 use Rattle.smv_declared.specs.declared.constant.Constant.{Constant}
-use Rattle.smv_declared.specs.declared.constant.Constant.TheVariants.{NotConstant, Integer}
-use Rattle.smv_declared.specs.Constants.{constants_of}
+use Rattle.smv_declared.specs.Constants.{constants_of, integer_of}
+use Rattle.whole_numbers.specs.Decimals.{decimal_text}
 use Rattle.smv_declared.specs.Types.{most_slots, slot_count}
 use Rattle.smv_slots.specs.Slots.{slots_of, is_input}
 use Rattle.smv_resolve.specs.declared.item.ItemKind.{ItemKind}
@@ -191,38 +190,35 @@ rule_of broken.IntWidth = rule.IntWidth
 rule_of broken.BadBound = rule.BadBound
 
 abbrev pub bounds_text : ℤ → ℤ → List ℕ
-bounds_text low high = signed_decimal low ++ codes "," ++ signed_decimal high
+bounds_text low high = decimal_text low ++ codes "," ++ decimal_text high
 
--- both bounds as they are told: whole numbers of at most 128 bits
-abbrev pub both : Constant → Constant → Option (ℤ × ℤ)
-both (Integer low) (Integer high) = Some (low, high)
-both low high = None
+abbrev pub both_integers : Option ℤ → Option ℤ → Option (ℤ × ℤ)
+both_integers (Some low) (Some high) = Some (low, high)
+both_integers low high = None
 
-abbrev pub with_bounds : Place → Option (ℤ × ℤ) → Refusal
-with_bounds place None = plain rule.BadBound place
-with_bounds place (Some bounds) = detailed rule.BadBound place (bounds_text bounds.0 bounds.1)
+-- the bounds before a formula, where they are constants
+abbrev pub written_bounds : List Constant → Option (ℤ × ℤ)
+written_bounds (low ∷ high ∷ cs) = both_integers (integer_of low) (integer_of high)
+written_bounds cs = None
 
-abbrev pub is_some_constant : Constant → Bool
-is_some_constant NotConstant = false
-is_some_constant other = true
+abbrev pub with_bounds : Place → ℤ × ℤ → Refusal
+with_bounds place bounds = detailed rule.BadBound place (bounds_text bounds.0 bounds.1)
 
--- Bounds that stay as they are written are none: they are no constants, or constants that lie outside. As constants
--- they are whole numbers, whatever their parts are; those of more than 128 bits are not told.
-abbrev pub window_refusal : Place → List Constant → Refusal
-window_refusal place (low ∷ high ∷ cs) =
-    if is_some_constant low && is_some_constant high then with_bounds place (both low high) else plain rule.NotConstant place
-window_refusal place cs = plain rule.NotConstant place
+-- Bounds that stay as they are written are none: they are no constants, or constants that lie outside.
+abbrev pub window_refusal : Place → Option (ℤ × ℤ) → Refusal
+window_refusal place None = plain rule.NotConstant place
+window_refusal place (Some bounds) = with_bounds place bounds
 
--- a rule that operands break, where these are the constants that they are; of bounds these are told
-abbrev pub broken_by : Place → Operator → List Constant → KindRule → Refusal
-broken_by place (operator.Window o) cs broken.NotConstant = window_refusal place cs
-broken_by place (operator.Window o) cs broken.BadBound = window_refusal place cs
-broken_by place (operator.Bounded o low high) cs broken.BadBound = with_bounds place (Some (pos low, pos high))
-broken_by place o cs r = plain (rule_of r) place
+-- a rule that operands break, where these are the bounds that they are
+abbrev pub broken_by : Place → Operator → Option (ℤ × ℤ) → KindRule → Refusal
+broken_by place (operator.Window o) bounds broken.NotConstant = window_refusal place bounds
+broken_by place (operator.Window o) bounds broken.BadBound = window_refusal place bounds
+broken_by place (operator.Bounded o low high) bounds broken.BadBound = with_bounds place (pos low, pos high)
+broken_by place o bounds r = plain (rule_of r) place
 
-abbrev pub kinds_broken : Place → Operator → List Constant → Given → Option Refusal
-kinds_broken place o cs (Ok k) = None
-kinds_broken place o cs (Err r) = Some (broken_by place o cs r)
+abbrev pub kinds_broken : Place → Operator → Option (ℤ × ℤ) → Given → Option Refusal
+kinds_broken place o bounds (Ok k) = None
+kinds_broken place o bounds (Err r) = Some (broken_by place o bounds r)
 
 -- `next` of what has no single value
 abbrev pub next_broken : Place → Given → Option Refusal
@@ -272,7 +268,7 @@ abbrev mutual
       or_else (kind_refusal slots types (under_next c) r) (or_else (next_here c place) (next_broken place (next_kind (told slots types r).kind)))
   kind_refusal slots types c (Resolved.Apply place o rs) =
       or_else (operands_refusal slots types o 0 c rs)
-      (or_else (temporal_here c place o) (kinds_broken place o (constants_of rs) (kind_in_context c.set o (all_told slots types rs))))
+      (or_else (temporal_here c place o) (kinds_broken place o (written_bounds (constants_of rs)) (kind_in_context c.set o (all_told slots types rs))))
   kind_refusal slots types c Resolved.Stuck = None
 
   -- the first one in operands of this operator, the first of which has number k
@@ -355,7 +351,7 @@ defined_refusal slots types other = None
 abbrev pub waiting_refusal : List Slot → List ValueType → Place → Resolved → Resolved → Option Refusal
 waiting_refusal slots types place a i =
     or_else (kind_refusal slots types (on_the_left false) i)
-    (or_else (kinds_broken place operator.Index [] (kind_in_context false operator.Index (told slots types a ∷ told slots types i ∷ [])))
+    (or_else (kinds_broken place operator.Index None (kind_in_context false operator.Index (told slots types a ∷ told slots types i ∷ [])))
     (not_within place (is_within i) (is_some (told slots types i).constant)))
 
 -- An index by which an element is chosen: where a parameter was given it, it is judged as what it was given, and then

@@ -8,10 +8,10 @@ ghost use Rattle.smv_resolve.specs.Resolved.{Resolved, part_at, parts_of};
 ghost use Rattle.smv_kinds.specs.Kinds.{is_boolean};
 ghost use Rattle.smv_verdicts.specs.Verdicts.{Judges, first_of};
 ghost use Rattle.smv_tree.specs.declared.refusal.Refusal.{Refusal as ARefusal};
-ghost use Rattle.smv_types.specs.Judged.{AreNotes, IsJudged, IsOf, Tells, as_refusal, as_told, timed_refusal};
+ghost use Rattle.smv_types.specs.Judged.{AreNotes, IsJudged, IsOf, Tells, as_refusal, as_told, text_of, timed_refusal, told_bounds};
 ghost use Rattle.smv_types.specs.Kinds.{Context, assignment_refusal, at_root, bounds_text, context_of_constraint, context_of_side, context_of_specification, first_at_root, formula_refusal, is_after_kind, is_assignable, is_at, item_refusal, kind_refusal, left_refusal, no_boolean, no_taker, target_refusal};
 
-use crate::judged::{Judged, Notes, TimedViolation, Violation};
+use crate::judged::{Judged, Notes, TimedViolation, ToldBounds, Violation};
 use crate::kinds::{Table, no_value};
 use crate::notes::{first, timed};
 use crate::told::told_at;
@@ -22,12 +22,13 @@ use smv_slots::Slot;
 use smv_tree::{AssignmentKind, ConstraintKind, Place, Refusal, Rule, SpecificationKind, TextStop};
 use std::alloc::{AllocError, Global};
 use value_types::ValueType;
+use whole_numbers::WholeNumber;
 
 /// What is told and noted of an expression.
 #[derive(Clone, Copy, Debug)]
-pub struct Part {
+pub struct Part<'c> {
     pub kind: Kind,
-    pub judged: Judged,
+    pub judged: Judged<'c>,
 }
 
 // The first item whose expressions are of other kinds, or stand where they may not.
@@ -36,7 +37,7 @@ pub(crate) fn misused(
     slots: &[Slot],
     types: &[ValueType],
     nodes: &[Node],
-    table: &Table,
+    table: &Table<'_>,
     items: &[Item],
 ) -> Result<(), TextStop>
     requires { Tells slots.now types.now (parts_of nodes.now) table.now.operands.items table.now.judged }
@@ -50,13 +51,13 @@ pub(crate) fn misused(
     Ok(())
 }
 
-fn item_violation(
+fn item_violation<'c>(
     _slots: &[Slot],
     _types: &[ValueType],
     _nodes: &[Node],
-    table: &Table,
+    table: &Table<'c>,
     item: &Item,
-) -> Option<TimedViolation>
+) -> Option<TimedViolation<'c>>
     requires { Tells _slots.now _types.now (parts_of _nodes.now) table.now.operands.items table.now.judged }
     ensures { timed_refusal result ≡ item_refusal _slots.now _types.now (item_by _nodes.now item.now) }
 {
@@ -72,7 +73,7 @@ fn item_violation(
 }
 
 // What is told and noted of the node of this number.
-fn part_at(table: &Table, k: usize) -> Part
+fn part_at<'c>(table: &Table<'c>, k: usize) -> Part<'c>
     ensures { (slots : List Slot) (types : List ValueType) (parts : List Resolved) → Tells slots types parts table.now.operands.items table.now.judged → IsOf slots types (part_at parts k) result }
 {
     Part {
@@ -84,10 +85,10 @@ fn part_at(table: &Table, k: usize) -> Part
 fn assignment_violation(
     place: Place,
     which: AssignmentKind,
-    target: Part,
-    value: Part,
+    target: Part<'_>,
+    value: Part<'_>,
 ) -> Option<Violation>
-    ensures { (slots : List Slot) (types : List ValueType) (r e : Resolved) → IsOf slots types r target → IsOf slots types e value → as_refusal result ≡ assignment_refusal slots types place which (Some r) e }
+    ensures { (slots : List Slot) (types : List ValueType) (r e : Resolved) → IsOf slots types r target.entry → IsOf slots types e value.entry → as_refusal result ≡ assignment_refusal slots types place which (Some r) e }
 {
     first(
         left_violation(place, which, target),
@@ -109,8 +110,8 @@ fn no_taker(place: Place, x: Kind, e: Kind) -> Option<Violation>
 }
 
 // The left side, which begins at this place.
-fn left_violation(place: Place, which: AssignmentKind, target: Part) -> Option<Violation>
-    ensures { (slots : List Slot) (types : List ValueType) (r : Resolved) → IsOf slots types r target → as_refusal result ≡ left_refusal slots types place which r }
+fn left_violation(place: Place, which: AssignmentKind, target: Part<'_>) -> Option<Violation>
+    ensures { (slots : List Slot) (types : List ValueType) (r : Resolved) → IsOf slots types r target.entry → as_refusal result ≡ left_refusal slots types place which r }
 {
     first(
         target.judged.inner,
@@ -122,8 +123,8 @@ fn left_violation(place: Place, which: AssignmentKind, target: Part) -> Option<V
 }
 
 // What is assigned is no variable that may be assigned so; the left side begins at this place.
-fn target_violation(place: Place, which: AssignmentKind, target: Judged) -> Option<Violation>
-    ensures { (slots : List Slot) (types : List ValueType) (r : Resolved) → IsJudged slots types r target → as_refusal result ≡ target_refusal slots place which r }
+fn target_violation(place: Place, which: AssignmentKind, target: Judged<'_>) -> Option<Violation>
+    ensures { (slots : List Slot) (types : List ValueType) (r : Resolved) → IsJudged slots types r target.entry → as_refusal result ≡ target_refusal slots place which r }
 {
     if takes_so(which, target) {
         None
@@ -133,8 +134,8 @@ fn target_violation(place: Place, which: AssignmentKind, target: Judged) -> Opti
 }
 
 #[tactic(auto, using(crate::proofs::Assigning::later_same))]
-fn takes_so(which: AssignmentKind, target: Judged) -> bool
-    ensures { (slots : List Slot) (types : List ValueType) (r : Resolved) → IsJudged slots types r target → result ≡ is_assignable slots which r }
+fn takes_so(which: AssignmentKind, target: Judged<'_>) -> bool
+    ensures { (slots : List Slot) (types : List ValueType) (r : Resolved) → IsJudged slots types r target.entry → result ≡ is_assignable slots which r }
 {
     match which {
         AssignmentKind::Init => target.takes_init,
@@ -143,8 +144,8 @@ fn takes_so(which: AssignmentKind, target: Judged) -> bool
     }
 }
 
-fn value_violation(which: AssignmentKind, value: Judged) -> Option<Violation>
-    ensures { (slots : List Slot) (types : List ValueType) (e : Resolved) → IsJudged slots types e value → as_refusal result ≡ kind_refusal slots types (context_of_side which) e }
+fn value_violation(which: AssignmentKind, value: Judged<'_>) -> Option<Violation>
+    ensures { (slots : List Slot) (types : List ValueType) (e : Resolved) → IsJudged slots types e value.entry → as_refusal result ≡ kind_refusal slots types (context_of_side which) e }
 {
     match which {
         AssignmentKind::Next => value.notes.step_set,
@@ -152,15 +153,15 @@ fn value_violation(which: AssignmentKind, value: Judged) -> Option<Violation>
     }
 }
 
-fn constraint_violation(which: ConstraintKind, value: Part) -> Option<TimedViolation>
-    ensures { (slots : List Slot) (types : List ValueType) (e : Resolved) → IsOf slots types e value → timed_refusal result ≡ formula_refusal slots types (context_of_constraint which) e }
+fn constraint_violation<'c>(which: ConstraintKind, value: Part<'c>) -> Option<TimedViolation<'c>>
+    ensures { (slots : List Slot) (types : List ValueType) (e : Resolved) → IsOf slots types e value.entry → timed_refusal result ≡ formula_refusal slots types (context_of_constraint which) e }
 {
     at_root(value, timed(constraint_note(which, value.judged.notes)))
 }
 
 // What is noted of an expression in the context of a constraint.
-fn constraint_note(which: ConstraintKind, notes: Notes) -> Option<Violation>
-    ensures { (refusal : Context → Option ARefusal) → AreNotes refusal notes → as_refusal result ≡ refusal (context_of_constraint which) }
+fn constraint_note(which: ConstraintKind, notes: Notes<'_>) -> Option<Violation>
+    ensures { (refusal : Context → Option ARefusal) → AreNotes refusal notes.entry → as_refusal result ≡ refusal (context_of_constraint which) }
 {
     match which {
         ConstraintKind::Trans => notes.step,
@@ -168,15 +169,18 @@ fn constraint_note(which: ConstraintKind, notes: Notes) -> Option<Violation>
     }
 }
 
-fn specification_violation(which: SpecificationKind, value: Part) -> Option<TimedViolation>
-    ensures { (slots : List Slot) (types : List ValueType) (e : Resolved) → IsOf slots types e value → timed_refusal result ≡ formula_refusal slots types (context_of_specification which) e }
+fn specification_violation<'c>(
+    which: SpecificationKind,
+    value: Part<'c>,
+) -> Option<TimedViolation<'c>>
+    ensures { (slots : List Slot) (types : List ValueType) (e : Resolved) → IsOf slots types e value.entry → timed_refusal result ≡ formula_refusal slots types (context_of_specification which) e }
 {
     at_root(value, specification_note(which, value.judged.notes))
 }
 
 // What is noted of an expression in the context of a specification.
-fn specification_note(which: SpecificationKind, notes: Notes) -> Option<TimedViolation>
-    ensures { (refusal : Context → Option ARefusal) → AreNotes refusal notes → timed_refusal result ≡ refusal (context_of_specification which) }
+fn specification_note<'c>(which: SpecificationKind, notes: Notes<'c>) -> Option<TimedViolation<'c>>
+    ensures { (refusal : Context → Option ARefusal) → AreNotes refusal notes.entry → timed_refusal result ≡ refusal (context_of_specification which) }
 {
     match which {
         SpecificationKind::Invariant => timed(notes.state),
@@ -185,8 +189,8 @@ fn specification_note(which: SpecificationKind, notes: Notes) -> Option<TimedVio
 }
 
 // What is broken by an expression that has to be a boolean, where it breaks this inside.
-fn at_root(value: Part, inside: Option<TimedViolation>) -> Option<TimedViolation>
-    ensures { timed_refusal result ≡ at_root value.judged.is_window value.judged.place value.kind (timed_refusal inside) }
+fn at_root<'c>(value: Part<'c>, inside: Option<TimedViolation<'c>>) -> Option<TimedViolation<'c>>
+    ensures { timed_refusal result ≡ at_root value.entry.judged.is_window value.entry.judged.place value.entry.kind (timed_refusal inside.entry) }
 {
     match inside {
         None => timed(no_boolean(value.judged.place, value.kind)),
@@ -207,8 +211,12 @@ fn is_boolean(kind: Kind) -> bool
 }
 
 // At the root, that it is no boolean comes before the rules that are asked after that.
-fn first_at_root(is_boolean: bool, place: Place, broken: TimedViolation) -> TimedViolation
-    ensures { timed_refusal (Some result) ≡ Some (first_at_root is_boolean place (as_told broken)) }
+fn first_at_root<'c>(
+    is_boolean: bool,
+    place: Place,
+    broken: TimedViolation<'c>,
+) -> TimedViolation<'c>
+    ensures { timed_refusal (Some result) ≡ Some (first_at_root is_boolean place (as_told broken.entry)) }
 {
     let violation = broken.violation;
     if !is_boolean && is_after_kind(violation.rule) && is_at(violation.place, place) {
@@ -247,12 +255,12 @@ fn no_boolean(place: Place, kind: Kind) -> Option<Violation>
 }
 
 // The refusal by the rule that is broken.
-fn refused_by(alloc: Global, broken: TimedViolation) -> Result<(), TextStop>
-    ensures { Judges result (timed_refusal (Some broken)) }
+fn refused_by(alloc: Global, broken: TimedViolation<'_>) -> Result<(), TextStop>
+    ensures { Judges result (timed_refusal (Some broken.entry)) }
 {
     let detail = match broken.bounds {
         None => None,
-        Some((low, high)) => Some(bounds_text(alloc, low, high)?),
+        Some(bounds) => Some(text_of(alloc, bounds)?),
     };
     Err(TextStop::Refused(Refusal {
         rule: broken.violation.rule,
@@ -262,9 +270,23 @@ fn refused_by(alloc: Global, broken: TimedViolation) -> Result<(), TextStop>
 }
 
 // Bounds as they are told.
-fn bounds_text(alloc: Global, low: i128, high: i128) -> Result<Text, AllocError>
-    ensures { IfOk result (λ t. t ≡ bounds_text low high) }
+fn text_of(alloc: Global, bounds: ToldBounds<'_>) -> Result<Text, AllocError>
+    ensures { IfOk result (λ t. t ≡ text_of (told_bounds bounds.entry)) }
 {
-    let text = format!(in alloc; "{low},{high}")?;
+    match bounds {
+        ToldBounds::Written(bounds) => bounds_text(alloc, bounds.low, bounds.high),
+        ToldBounds::Kept(low, high) => {
+            let (low, high) = (i64::from(low), i64::from(high));
+            bounds_text(alloc, &WholeNumber::new(low), &WholeNumber::new(high))
+        }
+    }
+}
+
+fn bounds_text(alloc: Global, low: &WholeNumber, high: &WholeNumber) -> Result<Text, AllocError>
+    ensures { IfOk result (λ t. t ≡ bounds_text low.now high.now) }
+{
+    let first = low.to_text(alloc)?;
+    let last = high.to_text(alloc)?;
+    let text = format!(in alloc; "{first},{last}")?;
     Text::from_str(alloc, text.as_str())
 }

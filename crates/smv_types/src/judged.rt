@@ -1,6 +1,7 @@
 //! What is noted of the nodes of expressions.
 
 use smv_tree::{Place, Rule};
+use whole_numbers::WholeNumber;
 
 /// A rule that is broken, and where.
 #[derive(Clone, Copy, Debug)]
@@ -20,25 +21,41 @@ impl Violation {
     }
 }
 
+/// The bounds of a temporal operator, as constants of any size.
+#[derive(Clone, Copy, Debug)]
+pub struct WrittenBounds<'c> {
+    pub low: &'c WholeNumber,
+    pub high: &'c WholeNumber,
+}
+
+/// The bounds of a temporal operator that are told.
+#[derive(Clone, Copy, Debug)]
+pub enum ToldBounds<'c> {
+    /// They stand before the formula.
+    Written(WrittenBounds<'c>),
+    /// The operator has them.
+    Kept(u32, u32),
+}
+
 /// A rule that is broken where temporal operators may stand.
 #[derive(Clone, Copy, Debug)]
-pub struct TimedViolation {
+pub struct TimedViolation<'c> {
     pub violation: Violation,
     /// The bounds of a temporal operator, where it is they that break the rule.
-    pub bounds: Option<(i128, i128)>,
+    pub bounds: Option<ToldBounds<'c>>,
 }
 
 /// The first rule that an expression breaks, by where it stands: where a step is spoken of, in what a name stands for
 /// there, where a state is spoken of, each without sets and with them; and where a path is spoken of.
 #[derive(Clone, Copy, Debug)]
-pub struct Notes {
+pub struct Notes<'c> {
     pub step: Option<Violation>,
     pub step_set: Option<Violation>,
     pub name: Option<Violation>,
     pub name_set: Option<Violation>,
     pub state: Option<Violation>,
     pub state_set: Option<Violation>,
-    pub path: Option<TimedViolation>,
+    pub path: Option<TimedViolation<'c>>,
 }
 
 /// What an expression says of the index of an element.
@@ -56,9 +73,9 @@ pub struct Indexing {
 
 /// What is noted of an expression.
 #[derive(Clone, Copy, Debug)]
-pub struct Judged {
+pub struct Judged<'c> {
     pub place: Place,
-    pub notes: Notes,
+    pub notes: Notes<'c>,
     /// The first rule that it breaks on the left side of an assignment, in what a parameter was given and in indices.
     pub inner: Option<Violation>,
     /// The first rule that it breaks where it is a definition that has an index on a left side.

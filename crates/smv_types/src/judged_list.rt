@@ -14,8 +14,8 @@ use std::marker::Model;
 
 /// What an expression breaks.
 #[derive(Clone, Copy)]
-pub struct Broken {
-    pub notes: Notes,
+pub struct Broken<'c> {
+    pub notes: Notes<'c>,
     pub inner: Option<Violation>,
     pub defined: Option<Violation>,
 }
@@ -33,12 +33,12 @@ pub struct Brief {
 
 /// What is noted of nodes. Contracts see it as a list.
 #[derive(Drop)]
-pub struct JudgedList {
+pub struct JudgedList<'c> {
     briefs: Vec<Brief>,
-    broken: Vec<Broken>,
+    broken: Vec<Broken<'c>>,
 }
 
-impl Model for JudgedList {
+impl<'c> Model for JudgedList<'c> {
     ghost use Rattle.std.specs.Prelude.{◌≡◌, List, length, map, true};
     ghost use Rattle.std.specs.List.{list_all};
     ghost use Rattle.smv_types.specs.declared.judged.Judged.{Judged};
@@ -51,9 +51,9 @@ impl Model for JudgedList {
     ghost invariant = { λ s. list_all (is_there (length s.broken.items)) s.briefs.items ≡ true };
 }
 
-impl JudgedList {
+impl<'c> JudgedList<'c> {
     /// An empty list with room for so many.
-    pub fn with_capacity(alloc: Global, count: usize) -> Result<JudgedList, AllocError>
+    pub fn with_capacity(alloc: Global, count: usize) -> Result<JudgedList<'c>, AllocError>
         ensures { IfOk result (λ t. t ≡ []) }
     {
         let briefs = Vec::with_capacity(alloc, count)?;
@@ -64,14 +64,14 @@ impl JudgedList {
     }
 
     /// What is noted at this number.
-    pub fn at(&self, k: usize) -> Judged
+    pub fn at(&self, k: usize) -> Judged<'c>
         ensures { result ≡ judged_at self.now k }
     {
         brief_at(self.briefs.as_slice(), self.broken.as_slice(), k)
     }
 
     /// The last so many.
-    pub fn last(&self, alloc: Global, count: usize) -> Result<Vec<Judged>, AllocError>
+    pub fn last(&self, alloc: Global, count: usize) -> Result<Vec<Judged<'c>>, AllocError>
         ensures { IfOk result (λ list. list.items ≡ last_of count self.now) }
     {
         judged_by_all(
@@ -82,8 +82,8 @@ impl JudgedList {
     }
 
     /// One more.
-    pub fn push(&mut self, judged: Judged) -> Result<(), AllocError>
-        ensures { OnOk result (self.new ≡ self.old ++ judged ∷ []) }
+    pub fn push(&mut self, judged: Judged<'c>) -> Result<(), AllocError>
+        ensures { OnOk result (self.new ≡ self.old ++ judged.entry ∷ []) }
     {
         if breaks_nothing(broken_of(judged)) {
             self.briefs.push(brief_of(judged, None))?;
@@ -94,8 +94,8 @@ impl JudgedList {
     }
 
     // One more, which breaks something.
-    fn push_broken(&mut self, judged: Judged) -> Result<(), AllocError>
-        ensures { OnOk result (self.new ≡ self.old ++ judged ∷ []) }
+    fn push_broken(&mut self, judged: Judged<'c>) -> Result<(), AllocError>
+        ensures { OnOk result (self.new ≡ self.old ++ judged.entry ∷ []) }
     {
         let number = self.broken.as_slice().len();
         self.broken.push(broken_of(judged))?;
@@ -105,7 +105,7 @@ impl JudgedList {
 }
 
 // What is noted at this number.
-fn brief_at(briefs: &[Brief], broken: &[Broken], k: usize) -> Judged
+fn brief_at<'c>(briefs: &[Brief], broken: &[Broken<'c>], k: usize) -> Judged<'c>
     ensures { result ≡ judged_at (map (judged_by broken.now) briefs.now) k }
 {
     match briefs.get(k) {
@@ -114,11 +114,11 @@ fn brief_at(briefs: &[Brief], broken: &[Broken], k: usize) -> Judged
     }
 }
 
-fn judged_by_all(
+fn judged_by_all<'c>(
     alloc: Global,
-    broken: &[Broken],
+    broken: &[Broken<'c>],
     briefs: &[Brief],
-) -> Result<Vec<Judged>, AllocError>
+) -> Result<Vec<Judged<'c>>, AllocError>
     ensures { IfOk result (λ list. list.items ≡ map (judged_by broken.now) briefs.now) }
 {
     let mut list = Vec::with_capacity(alloc, briefs.len())?;
@@ -128,14 +128,14 @@ fn judged_by_all(
     Ok(list)
 }
 
-fn judged_by(broken: &[Broken], brief: Brief) -> Judged
+fn judged_by<'c>(broken: &[Broken<'c>], brief: Brief) -> Judged<'c>
     ensures { result ≡ judged_by broken.now brief }
 {
     judged_with(brief, broken_within(broken, brief.broken))
 }
 
-fn judged_with(brief: Brief, broken: Broken) -> Judged
-    ensures { result ≡ judged_with brief broken }
+fn judged_with<'c>(brief: Brief, broken: Broken<'c>) -> Judged<'c>
+    ensures { result ≡ judged_with brief broken.entry }
 {
     Judged {
         place: brief.place,
@@ -150,7 +150,7 @@ fn judged_with(brief: Brief, broken: Broken) -> Judged
 }
 
 // What has this number.
-fn broken_within(broken: &[Broken], number: Option<usize>) -> Broken
+fn broken_within<'c>(broken: &[Broken<'c>], number: Option<usize>) -> Broken<'c>
     ensures { result ≡ broken_within broken.now number }
 {
     match number {
@@ -159,7 +159,7 @@ fn broken_within(broken: &[Broken], number: Option<usize>) -> Broken
     }
 }
 
-fn broken_at(broken: &[Broken], n: usize) -> Broken
+fn broken_at<'c>(broken: &[Broken<'c>], n: usize) -> Broken<'c>
     ensures { result ≡ broken_at broken.now n }
 {
     match broken.get(n) {
@@ -168,7 +168,7 @@ fn broken_at(broken: &[Broken], n: usize) -> Broken
     }
 }
 
-fn no_break() -> Broken
+fn no_break<'c>() -> Broken<'c>
     ensures { result ≡ no_break }
 {
     Broken {
@@ -178,7 +178,7 @@ fn no_break() -> Broken
     }
 }
 
-fn no_notes() -> Notes
+fn no_notes<'c>() -> Notes<'c>
     ensures { result ≡ no_notes }
 {
     Notes {
@@ -193,7 +193,7 @@ fn no_notes() -> Notes
 }
 
 // What is noted of nothing.
-fn nothing() -> Judged
+fn nothing<'c>() -> Judged<'c>
     ensures { result ≡ nothing }
 {
     Judged {
@@ -213,8 +213,8 @@ fn nothing() -> Judged
     }
 }
 
-fn broken_of(judged: Judged) -> Broken
-    ensures { result ≡ broken_of judged }
+fn broken_of<'c>(judged: Judged<'c>) -> Broken<'c>
+    ensures { result ≡ broken_of judged.entry }
 {
     Broken {
         notes: judged.notes,
@@ -223,8 +223,8 @@ fn broken_of(judged: Judged) -> Broken
     }
 }
 
-fn brief_of(judged: Judged, broken: Option<usize>) -> Brief
-    ensures { result ≡ brief_of judged broken }
+fn brief_of(judged: Judged<'_>, broken: Option<usize>) -> Brief
+    ensures { result ≡ brief_of judged.entry broken }
 {
     Brief {
         place: judged.place,
@@ -236,14 +236,14 @@ fn brief_of(judged: Judged, broken: Option<usize>) -> Brief
     }
 }
 
-fn breaks_nothing(broken: Broken) -> bool
-    ensures { result ≡ breaks_nothing broken }
+fn breaks_nothing(broken: Broken<'_>) -> bool
+    ensures { result ≡ breaks_nothing broken.entry }
 {
     broken.inner.is_none() && broken.defined.is_none() && has_no_notes(broken.notes)
 }
 
-fn has_no_notes(notes: Notes) -> bool
-    ensures { result ≡ has_no_notes notes }
+fn has_no_notes(notes: Notes<'_>) -> bool
+    ensures { result ≡ has_no_notes notes.entry }
 {
     notes.step.is_none()
         && notes.step_set.is_none()

@@ -1,10 +1,10 @@
 //! The rules of kinds and contexts, over nodes.
 
-ghost use Rattle.std.specs.Prelude.{◌≡◌, ℕ, List, [], IfOk, None, Option, Some, false, map, slice_get, slice_index_or};
+ghost use Rattle.std.specs.Prelude.{◌≡◌, ℕ, ℤ, List, [], ◌∷◌, IfOk, None, Option, Some, false, map, slice_get, slice_index_or};
 ghost use Rattle.smv_tree.specs.declared.refusal.Refusal.{Refusal};
 ghost use Rattle.smv_tree.specs.declared.tree.AssignmentKind.TheVariants as side;
 ghost use Rattle.value_types.specs.declared.value_type.ValueType.{ValueType};
-ghost use Rattle.smv_declared.specs.declared.constant.Constant.{Constant as AConstant};
+ghost use Rattle.std.specs.Option.{option_copied};
 ghost use Rattle.smv_declared.specs.declared.constant.Constant.TheVariants.{NotConstant};
 ghost use Rattle.smv_declared.specs.Constants.{constant_of, constants_of};
 ghost use Rattle.smv_kinds.specs.Contexts.{kind_in_context};
@@ -18,17 +18,19 @@ ghost use Rattle.smv_value.specs.declared.operator.Operator.TheVariants as opera
 ghost use Rattle.smv_value.specs.declared.value.FaultRule.TheVariants as fault;
 ghost use Rattle.smv_meaning.specs.Formulas.{is_temporal};
 ghost use Rattle.smv_verdicts.specs.Verdicts.{or_else, plain};
-ghost use Rattle.smv_types.specs.Judged.{AreJudged, AreNotes, IsJudged, Tells, as_refusal, judged_at, no_indexing, timed_refusal};
-ghost use Rattle.smv_types.specs.Kinds.{both as both_bounds, broken_by, chosen_refusal, constant_here, has_values, index_rule, indexing_of, inner_refusal, input_here, is_assignable, is_input_slot, is_some_constant, is_window_operator, kinds_broken, next_broken, no_value, not_within, operands_refusal, rule_of, takes_assignment, temporal_here, told, waiting_refusal, window_refusal, with_bounds};
+ghost use Rattle.smv_types.specs.Judged.{AreJudged, AreNotes, IsJudged, Tells, as_refusal, judged_at, no_indexing, read_bounds, timed_refusal, told_bounds};
+ghost use Rattle.smv_types.specs.Kinds.{both_integers, broken_by, chosen_refusal, constant_here, has_values, index_rule, indexing_of, inner_refusal, input_here, is_assignable, is_input_slot, is_window_operator, kinds_broken, next_broken, no_value, not_within, operands_refusal, rule_of, takes_assignment, temporal_here, told, waiting_refusal, window_refusal, with_bounds, written_bounds};
 
-use crate::judged::{Indexing, Judged, Notes, TimedViolation, Violation};
+use crate::judged::{
+    Indexing, Judged, Notes, TimedViolation, ToldBounds, Violation, WrittenBounds,
+};
 use crate::judged_list::JudgedList;
 use crate::notes::{
     as_operand, both, by_sets, everywhere, first, input_here, next_here, temporal_here,
     under_element, under_name, under_next,
 };
 use crate::told::{kinds_of, told, told_at};
-use smv_declared::{Constant, constants_of};
+use smv_declared::{Constant, integer_at};
 use smv_kinds::{Kind, KindRule, Operand, kind_in_context, next_kind};
 use smv_meaning::is_temporal;
 use smv_resolve::{Naming, Node, first as before, last};
@@ -38,25 +40,27 @@ use smv_value::{FaultRule, Operator, Value, is_value};
 use smv_verdicts::START;
 use std::alloc::{AllocError, Global};
 use value_types::ValueType;
+use whole_numbers::WholeNumber;
 
 /// What is told and noted of nodes.
 #[derive(Drop)]
-pub(crate) struct Table {
+pub(crate) struct Table<'c> {
     pub operands: Vec<Operand>,
-    pub judged: JudgedList,
+    pub judged: JudgedList<'c>,
 }
 
-/// What is told and noted of each node. Linear in the nodes.
-pub(crate) fn judge_nodes(
+/// What is told and noted of each node, where these are the constants that they are. Linear in the nodes.
+pub(crate) fn judge_nodes<'c>(
     alloc: Global,
     slots: &[Slot],
     types: &[ValueType],
     nodes: &[Node],
-) -> Result<Table, AllocError>
+    constants: &'c [Constant],
+) -> Result<Table<'c>, AllocError>
+    requires { constants.now ≡ map constant_of (parts_of nodes.now) }
     ensures { IfOk result (λ table. Tells slots.now types.now (parts_of nodes.now) table.operands.items table.judged) }
 {
     let kinds = kinds_of(alloc, types)?;
-    let constants = constants_of(alloc, nodes)?;
     let mut operands = Vec::with_capacity(alloc, nodes.len())?;
     let mut judged = JudgedList::with_capacity(alloc, nodes.len())?;
     for (i, node) in nodes.iter().enumerate() {
@@ -65,7 +69,7 @@ pub(crate) fn judge_nodes(
             alloc,
             slots,
             *node,
-            before(constants.as_slice(), i),
+            before(constants, i),
             operands.as_slice(),
             &judged,
         )?;
@@ -76,14 +80,14 @@ pub(crate) fn judge_nodes(
 }
 
 // What is noted of a node, over what is told and noted of those before it.
-fn judge(
+fn judge<'c>(
     alloc: Global,
     slots: &[Slot],
     node: Node,
-    constants: &[Constant],
+    constants: &'c [Constant],
     operands: &[Operand],
-    table: &JudgedList,
-) -> Result<Judged, AllocError>
+    table: &JudgedList<'c>,
+) -> Result<Judged<'c>, AllocError>
     ensures { IfOk result (λ j. (types : List ValueType) (parts : List Resolved) → constants.now ≡ map constant_of parts → Tells slots.now types parts operands.now table.now
         → IsJudged slots.now types (resolved_by parts node) j) }
 {
@@ -105,7 +109,7 @@ fn judge(
             Ok(judge_apply(
                 place,
                 operator,
-                last(constants, count),
+                written_bounds(last(constants, count)),
                 last(operands, count),
                 noted.as_slice(),
             ))
@@ -113,23 +117,43 @@ fn judge(
         Node::Link(place, operator, a, b) => Ok(judge_apply(
             place,
             operator,
-            &[constant_at(constants, a), constant_at(constants, b)],
+            bounds_at(constants, a, b),
             &[told_at(operands, a), told_at(operands, b)],
             &[table.at(a), table.at(b)],
         )),
     }
 }
 
-fn constant_at(constants: &[Constant], k: usize) -> Constant
-    ensures { result ≡ slice_index_or constants.now k NotConstant }
+// The bounds before a formula, where they are constants.
+fn written_bounds(constants: &[Constant]) -> Option<WrittenBounds<'_>>
+    ensures { read_bounds result ≡ written_bounds constants.now }
 {
-    match constants.get(k) {
-        None => Constant::NotConstant,
-        Some(constant) => *constant,
+    match constants {
+        [low, high, ..] => both_integers(low.integer(), high.integer()),
+        _ => None,
     }
 }
 
-fn judged_at(table: &[Judged], k: usize) -> Judged
+// The same, by the numbers of the constants.
+fn bounds_at(constants: &[Constant], a: usize, b: usize) -> Option<WrittenBounds<'_>>
+    ensures { read_bounds result ≡ written_bounds (slice_index_or constants.now a NotConstant ∷ slice_index_or constants.now b NotConstant ∷ []) }
+{
+    both_integers(integer_at(constants, a), integer_at(constants, b))
+}
+
+fn both_integers<'c>(
+    low: Option<&'c WholeNumber>,
+    high: Option<&'c WholeNumber>,
+) -> Option<WrittenBounds<'c>>
+    ensures { read_bounds result ≡ both_integers (option_copied low.entry) (option_copied high.entry) }
+{
+    match (low, high) {
+        (Some(low), Some(high)) => Some(WrittenBounds { low, high }),
+        _ => None,
+    }
+}
+
+fn judged_at<'c>(table: &[Judged<'c>], k: usize) -> Judged<'c>
     ensures { result ≡ judged_at table.now k }
 {
     match table.get(k) {
@@ -139,8 +163,8 @@ fn judged_at(table: &[Judged], k: usize) -> Judged
 }
 
 // What is noted of what cannot be assigned.
-fn noted(place: Place, notes: Notes) -> Judged
-    ensures { result ≡ record { place = place; notes = notes; inner = None; defined = None; indexing = no_indexing; is_window = false; takes_init = false; takes_later = false } }
+fn noted<'c>(place: Place, notes: Notes<'c>) -> Judged<'c>
+    ensures { result ≡ record { place = place; notes = notes.entry; inner = None; defined = None; indexing = no_indexing; is_window = false; takes_init = false; takes_later = false } }
 {
     Judged {
         place,
@@ -166,7 +190,7 @@ fn no_indexing() -> Indexing
     }
 }
 
-fn judge_constant(place: Place, value: Value) -> Judged
+fn judge_constant<'c>(place: Place, value: Value) -> Judged<'c>
     ensures { (slots : List Slot) (types : List ValueType) → IsJudged slots types (R.Constant place value) result }
 {
     noted(place, everywhere(constant_here(place, value)))
@@ -182,7 +206,7 @@ fn constant_here(place: Place, value: Value) -> Option<Violation>
     }
 }
 
-fn judge_whole(place: Place) -> Judged
+fn judge_whole<'c>(place: Place) -> Judged<'c>
     ensures { (slots : List Slot) (types : List ValueType) (i : ℕ) → IsJudged slots types (R.Whole place i) result }
 {
     Judged {
@@ -193,7 +217,7 @@ fn judge_whole(place: Place) -> Judged
 }
 
 // What is noted of the slot of this number.
-fn judge_slot(slots: &[Slot], place: Place, n: usize) -> Judged
+fn judge_slot<'c>(slots: &[Slot], place: Place, n: usize) -> Judged<'c>
     ensures { (types : List ValueType) → IsJudged slots.now types (R.Slot place n) result }
 {
     match slots.get(n) {
@@ -202,7 +226,7 @@ fn judge_slot(slots: &[Slot], place: Place, n: usize) -> Judged
     }
 }
 
-fn judge_slot_of(place: Place, kind: VariableKind) -> Judged
+fn judge_slot_of<'c>(place: Place, kind: VariableKind) -> Judged<'c>
     ensures place { result.place ≡ place }
     ensures notes { AreNotes (λ c. input_here c place (is_input kind)) result.notes }
     ensures inner { result.inner ≡ None }
@@ -227,8 +251,14 @@ fn judge_slot_of(place: Place, kind: VariableKind) -> Judged
 }
 
 // What a name stands for, which is of this kind.
-fn judge_named(slots: &[Slot], place: Place, naming: Naming, a: Judged, kind: Kind) -> Judged
-    ensures { (types : List ValueType) (r : Resolved) → IsJudged slots.now types r a → kind ≡ (told slots.now types r).kind → IsJudged slots.now types (R.Named place naming r) result }
+fn judge_named<'c>(
+    slots: &[Slot],
+    place: Place,
+    naming: Naming,
+    a: Judged<'c>,
+    kind: Kind,
+) -> Judged<'c>
+    ensures { (types : List ValueType) (r : Resolved) → IsJudged slots.now types r a.entry → kind ≡ (told slots.now types r).kind → IsJudged slots.now types (R.Named place naming r) result }
 {
     match naming {
         Naming::Given => judge_given(place, a),
@@ -240,8 +270,8 @@ fn judge_named(slots: &[Slot], place: Place, naming: Naming, a: Judged, kind: Ki
 }
 
 // What a parameter was given.
-fn judge_given(place: Place, a: Judged) -> Judged
-    ensures { (slots : List Slot) (types : List ValueType) (r : Resolved) → IsJudged slots types r a → IsJudged slots types (R.Named place naming.Given r) result }
+fn judge_given<'c>(place: Place, a: Judged<'c>) -> Judged<'c>
+    ensures { (slots : List Slot) (types : List ValueType) (r : Resolved) → IsJudged slots types r a.entry → IsJudged slots types (R.Named place naming.Given r) result }
 {
     Judged {
         inner: a.notes.name_set,
@@ -252,8 +282,8 @@ fn judge_given(place: Place, a: Judged) -> Judged
 }
 
 // An element of an array.
-fn judge_element(place: Place, a: Judged) -> Judged
-    ensures { (slots : List Slot) (types : List ValueType) (r : Resolved) → IsJudged slots types r a → IsJudged slots types (R.Named place naming.Element r) result }
+fn judge_element<'c>(place: Place, a: Judged<'c>) -> Judged<'c>
+    ensures { (slots : List Slot) (types : List ValueType) (r : Resolved) → IsJudged slots types r a.entry → IsJudged slots types (R.Named place naming.Element r) result }
 {
     Judged {
         inner: a.inner,
@@ -268,8 +298,14 @@ fn judge_element(place: Place, a: Judged) -> Judged
 }
 
 // An array or an element of one, where this is the place of the array's name, and the slot of its first element.
-fn judge_array(slots: &[Slot], place: Place, name: Place, first: usize, a: Judged) -> Judged
-    ensures { (types : List ValueType) (r : Resolved) → IsJudged slots.now types r a → IsJudged slots.now types (R.Named place (naming.Array name first) r) result }
+fn judge_array<'c>(
+    slots: &[Slot],
+    place: Place,
+    name: Place,
+    first: usize,
+    a: Judged<'c>,
+) -> Judged<'c>
+    ensures { (types : List ValueType) (r : Resolved) → IsJudged slots.now types r a.entry → IsJudged slots.now types (R.Named place (naming.Array name first) r) result }
 {
     let named = input_here(name, is_input_at(slots, first));
     Judged {
@@ -291,8 +327,8 @@ fn is_input_at(slots: &[Slot], n: usize) -> bool
 }
 
 // An index with which a parameter was given an array.
-fn judge_passed(place: Place, a: Judged) -> Judged
-    ensures { (slots : List Slot) (types : List ValueType) (r : Resolved) → IsJudged slots types r a → IsJudged slots types (R.Named place naming.Passed r) result }
+fn judge_passed<'c>(place: Place, a: Judged<'c>) -> Judged<'c>
+    ensures { (slots : List Slot) (types : List ValueType) (r : Resolved) → IsJudged slots types r a.entry → IsJudged slots types (R.Named place naming.Passed r) result }
 {
     Judged {
         indexing: Indexing {
@@ -304,8 +340,8 @@ fn judge_passed(place: Place, a: Judged) -> Judged
 }
 
 // What a definition stands for, which is of this kind.
-fn judge_defined(place: Place, a: Judged, kind: Kind) -> Judged
-    ensures { (slots : List Slot) (types : List ValueType) (r : Resolved) → IsJudged slots types r a → kind ≡ (told slots types r).kind → IsJudged slots types (R.Named place naming.Defined r) result }
+fn judge_defined<'c>(place: Place, a: Judged<'c>, kind: Kind) -> Judged<'c>
+    ensures { (slots : List Slot) (types : List ValueType) (r : Resolved) → IsJudged slots types r a.entry → kind ≡ (told slots types r).kind → IsJudged slots types (R.Named place naming.Defined r) result }
 {
     let whole = everywhere(no_value(a.place, kind));
     let notes = both(under_name(a.notes), whole);
@@ -340,8 +376,8 @@ fn has_values(kind: Kind) -> bool
 }
 
 // `next` of what is of this kind.
-fn judge_next(place: Place, a: Judged, kind: Kind) -> Judged
-    ensures { (slots : List Slot) (types : List ValueType) (r : Resolved) → IsJudged slots types r a → kind ≡ (told slots types r).kind → IsJudged slots types (R.Next place r) result }
+fn judge_next<'c>(place: Place, a: Judged<'c>, kind: Kind) -> Judged<'c>
+    ensures { (slots : List Slot) (types : List ValueType) (r : Resolved) → IsJudged slots types r a.entry → kind ≡ (told slots types r).kind → IsJudged slots types (R.Next place r) result }
 {
     let whole = everywhere(next_broken(place, kind));
     noted(
@@ -359,19 +395,19 @@ fn next_broken(place: Place, kind: Kind) -> Option<Violation>
     }
 }
 
-// An operator, over what is told and noted of its operands, and the constants that these are.
-fn judge_apply(
+// An operator, over what is told and noted of its operands, and the bounds that these are.
+fn judge_apply<'c>(
     place: Place,
     operator: Operator,
-    constants: &[Constant],
+    bounds: Option<WrittenBounds<'c>>,
     operands: &[Operand],
-    table: &[Judged],
-) -> Judged
-    ensures { (slots : List Slot) (types : List ValueType) (rs : List Resolved) → constants.now ≡ constants_of (operands_of rs) → Tells slots types rs operands.now table.now
+    table: &[Judged<'c>],
+) -> Judged<'c>
+    ensures { (slots : List Slot) (types : List ValueType) (rs : List Resolved) → read_bounds bounds.entry ≡ written_bounds (constants_of (operands_of rs)) → Tells slots types rs operands.now table.now
         → IsJudged slots types (R.Apply place operator (operands_of rs)) result }
 {
     let inside = all_noted(operator, table);
-    let own = own_notes(place, operator, constants, operands);
+    let own = own_notes(place, operator, bounds, operands);
     let notes = both(inside, own);
     let is_array = is_array(operator);
     Judged {
@@ -396,7 +432,7 @@ fn is_array(operator: Operator) -> bool
 }
 
 // What an operator says of the index of an element, over what is told and noted of operands.
-fn indexing_of(operator: Operator, operands: &[Operand], table: &[Judged]) -> Indexing
+fn indexing_of(operator: Operator, operands: &[Operand], table: &[Judged<'_>]) -> Indexing
     ensures { (slots : List Slot) (types : List ValueType) (place : Place) (rs : List Resolved) → Tells slots types rs operands.now table.now
         → result ≡ indexing_of slots types (R.Apply place operator (operands_of rs)) }
 {
@@ -422,7 +458,7 @@ fn inner_of(
     place: Place,
     operator: Operator,
     operands: &[Operand],
-    table: &[Judged],
+    table: &[Judged<'_>],
 ) -> Option<Violation>
     ensures { (slots : List Slot) (types : List ValueType) (rs : List Resolved) → Tells slots types rs operands.now table.now
         → as_refusal result ≡ inner_refusal slots types (R.Apply place operator (operands_of rs)) }
@@ -435,7 +471,7 @@ fn inner_of(
 }
 
 // What an array that waits for more indices breaks there.
-fn inner_of_index(place: Place, operands: &[Operand], table: &[Judged]) -> Option<Violation>
+fn inner_of_index(place: Place, operands: &[Operand], table: &[Judged<'_>]) -> Option<Violation>
     ensures { (slots : List Slot) (types : List ValueType) (rs : List Resolved) → Tells slots types rs operands.now table.now
         → as_refusal result ≡ inner_refusal slots types (R.Apply place operator.Index (operands_of rs)) }
 {
@@ -453,8 +489,8 @@ fn inner_of_index(place: Place, operands: &[Operand], table: &[Judged]) -> Optio
 }
 
 // What an index of an array that waits for more breaks there, over what is told of the array and of the index.
-fn waiting(place: Place, array: Operand, index: Operand, i: Judged) -> Option<Violation>
-    ensures { (slots : List Slot) (types : List ValueType) (a r : Resolved) → array ≡ told slots types a → index ≡ told slots types r → IsJudged slots types r i
+fn waiting(place: Place, array: Operand, index: Operand, i: Judged<'_>) -> Option<Violation>
+    ensures { (slots : List Slot) (types : List ValueType) (a r : Resolved) → array ≡ told slots types a → index ≡ told slots types r → IsJudged slots types r i.entry
         → as_refusal result ≡ waiting_refusal slots types place a r }
 {
     let kinds = kinds_broken(place, Operator::Index, false, &[array, index]);
@@ -474,7 +510,7 @@ fn not_within(place: Place, is_within: bool, is_constant: bool) -> Option<Violat
 }
 
 // What the choice of an element breaks there.
-fn inner_of_choice(place: Place, table: &[Judged]) -> Option<Violation>
+fn inner_of_choice(place: Place, table: &[Judged<'_>]) -> Option<Violation>
     ensures { (slots : List Slot) (types : List ValueType) (rs : List Resolved) → AreJudged slots types rs table.now
         → as_refusal result ≡ inner_refusal slots types (R.Apply place (operator.Choice fault.IndexOutside) (operands_of rs)) }
 {
@@ -485,8 +521,8 @@ fn inner_of_choice(place: Place, table: &[Judged]) -> Option<Violation>
 }
 
 // What an index by which an element is chosen breaks there, where the element breaks this.
-fn chosen(place: Place, condition: Judged, inner: Option<Violation>) -> Option<Violation>
-    ensures { (slots : List Slot) (types : List ValueType) (r : Resolved) (broken : Option Refusal) → IsJudged slots types r condition → as_refusal inner ≡ broken
+fn chosen(place: Place, condition: Judged<'_>, inner: Option<Violation>) -> Option<Violation>
+    ensures { (slots : List Slot) (types : List ValueType) (r : Resolved) (broken : Option Refusal) → IsJudged slots types r condition.entry → as_refusal inner ≡ broken
         → as_refusal result ≡ chosen_refusal slots types place r broken }
 {
     let indexing = condition.indexing;
@@ -514,27 +550,34 @@ fn outside(place: Place, is_constant: bool) -> Violation
 }
 
 // What is noted of all operands of an operator.
-fn all_noted(operator: Operator, table: &[Judged]) -> Notes
+fn all_noted<'c>(operator: Operator, table: &[Judged<'c>]) -> Notes<'c>
     ensures { (slots : List Slot) (types : List ValueType) (rs : List Resolved) → AreJudged slots types rs table.now → AreNotes (λ c. operands_refusal slots types operator 0 c (operands_of rs)) result }
 {
-    let mut all = everywhere(None);
+    let mut all = none_noted(table);
     for (k, judged) in table.iter().enumerate() {
         all = both(all, as_operand(operator, k, judged.notes));
     }
     all
 }
 
+// What is noted of no operands; notes of these may be put to it.
+fn none_noted<'c>(_table: &[Judged<'c>]) -> Notes<'c>
+    ensures { AreNotes (λ c. as_refusal None) result }
+{
+    everywhere(None)
+}
+
 // What an operator itself breaks in each context.
-fn own_notes(
+fn own_notes<'c>(
     place: Place,
     operator: Operator,
-    constants: &[Constant],
+    bounds: Option<WrittenBounds<'c>>,
     operands: &[Operand],
-) -> Notes
-    ensures { AreNotes (λ c. or_else (temporal_here c place operator) (kinds_broken place operator constants.now (kind_in_context c.set operator operands.now))) result }
+) -> Notes<'c>
+    ensures { AreNotes (λ c. or_else (temporal_here c place operator) (kinds_broken place operator (read_bounds bounds.entry) (kind_in_context c.set operator operands.now))) result }
 {
     if is_temporal(operator) {
-        temporal_here(place, timed_broken(place, operator, constants, operands))
+        temporal_here(place, timed_broken(place, operator, bounds, operands))
     } else {
         by_sets(
             kinds_broken(place, operator, false, operands),
@@ -550,7 +593,7 @@ fn kinds_broken(
     sets: bool,
     operands: &[Operand],
 ) -> Option<Violation>
-    ensures { (constants : List AConstant) → is_temporal operator ≡ false → as_refusal result ≡ kinds_broken place operator constants (kind_in_context sets operator operands.now) }
+    ensures { (bounds : Option (ℤ × ℤ)) → is_temporal operator ≡ false → as_refusal result ≡ kinds_broken place operator bounds (kind_in_context sets operator operands.now) }
 {
     match kind_in_context(sets, operator, operands) {
         Ok(_) => None,
@@ -559,35 +602,35 @@ fn kinds_broken(
 }
 
 // The rule that operands of a temporal operator break by their kinds, where one may stand.
-fn timed_broken(
+fn timed_broken<'c>(
     place: Place,
     operator: Operator,
-    constants: &[Constant],
+    bounds: Option<WrittenBounds<'c>>,
     operands: &[Operand],
-) -> Option<TimedViolation>
-    ensures { timed_refusal result ≡ kinds_broken place operator constants.now (kind_in_context false operator operands.now) }
+) -> Option<TimedViolation<'c>>
+    ensures { timed_refusal result ≡ kinds_broken place operator (read_bounds bounds.entry) (kind_in_context false operator operands.now) }
 {
     match kind_in_context(false, operator, operands) {
         Ok(_) => None,
-        Err(rule) => Some(broken_by(place, operator, constants, rule)),
+        Err(rule) => Some(broken_by(place, operator, bounds, rule)),
     }
 }
 
-fn broken_by(
+fn broken_by<'c>(
     place: Place,
     operator: Operator,
-    constants: &[Constant],
+    bounds: Option<WrittenBounds<'c>>,
     rule: KindRule,
-) -> TimedViolation
-    ensures { timed_refusal (Some result) ≡ Some (broken_by place operator constants.now rule) }
+) -> TimedViolation<'c>
+    ensures { timed_refusal (Some result) ≡ Some (broken_by place operator (read_bounds bounds.entry) rule) }
 {
     match operator {
         Operator::Window(_) => match rule {
-            KindRule::NotConstant | KindRule::BadBound => window_violation(place, constants),
+            KindRule::NotConstant | KindRule::BadBound => window_violation(place, bounds),
             _ => plainly(rule_of(rule), place),
         },
         Operator::Bounded(_, low, high) => match rule {
-            KindRule::BadBound => { with_bounds(place, Some((i128::from(low), i128::from(high)))) }
+            KindRule::BadBound => with_bounds(place, ToldBounds::Kept(low, high)),
             _ => plainly(rule_of(rule), place),
         },
         _ => plainly(rule_of(rule), place),
@@ -595,7 +638,7 @@ fn broken_by(
 }
 
 // A rule that is broken, of which no bounds are told.
-fn plainly(rule: Rule, place: Place) -> TimedViolation
+fn plainly<'c>(rule: Rule, place: Place) -> TimedViolation<'c>
     ensures { timed_refusal (Some result) ≡ Some (plain rule place) }
 {
     TimedViolation {
@@ -604,44 +647,22 @@ fn plainly(rule: Rule, place: Place) -> TimedViolation
     }
 }
 
-fn with_bounds(place: Place, bounds: Option<(i128, i128)>) -> TimedViolation
-    ensures { timed_refusal (Some result) ≡ Some (with_bounds place bounds) }
+fn with_bounds<'c>(place: Place, bounds: ToldBounds<'c>) -> TimedViolation<'c>
+    ensures { timed_refusal (Some result) ≡ Some (with_bounds place (told_bounds bounds.entry)) }
 {
     TimedViolation {
         violation: Violation::new(Rule::BadBound, place),
-        bounds,
+        bounds: Some(bounds),
     }
 }
 
 // Bounds as they are written, which are none.
-fn window_violation(place: Place, constants: &[Constant]) -> TimedViolation
-    ensures { timed_refusal (Some result) ≡ Some (window_refusal place constants.now) }
+fn window_violation<'c>(place: Place, bounds: Option<WrittenBounds<'c>>) -> TimedViolation<'c>
+    ensures { timed_refusal (Some result) ≡ Some (window_refusal place (read_bounds bounds.entry)) }
 {
-    match constants {
-        [low, high, ..] => if is_some_constant(*low) && is_some_constant(*high) {
-            with_bounds(place, both_bounds(*low, *high))
-        } else {
-            plainly(Rule::NotConstant, place)
-        },
-        _ => plainly(Rule::NotConstant, place),
-    }
-}
-
-fn is_some_constant(constant: Constant) -> bool
-    ensures { result ≡ is_some_constant constant }
-{
-    match constant {
-        Constant::NotConstant => false,
-        Constant::Beyond | Constant::Integer(_) => true,
-    }
-}
-
-fn both_bounds(low: Constant, high: Constant) -> Option<(i128, i128)>
-    ensures { result ≡ both_bounds low high }
-{
-    match (low, high) {
-        (Constant::Integer(low), Constant::Integer(high)) => Some((low, high)),
-        _ => None,
+    match bounds {
+        None => plainly(Rule::NotConstant, place),
+        Some(bounds) => with_bounds(place, ToldBounds::Written(bounds)),
     }
 }
 

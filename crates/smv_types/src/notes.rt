@@ -15,7 +15,7 @@ use smv_tree::{Place, Rule};
 use smv_value::Operator;
 
 // The same where temporal operators may stand.
-pub(crate) fn timed(violation: Option<Violation>) -> Option<TimedViolation>
+pub(crate) fn timed<'c>(violation: Option<Violation>) -> Option<TimedViolation<'c>>
     ensures is { result ≡ timed violation }
     ensures same { timed_refusal result ≡ as_refusal violation }
 {
@@ -29,7 +29,7 @@ pub(crate) fn timed(violation: Option<Violation>) -> Option<TimedViolation>
 }
 
 // The same in all contexts.
-pub(crate) fn everywhere(violation: Option<Violation>) -> Notes
+pub(crate) fn everywhere<'c>(violation: Option<Violation>) -> Notes<'c>
     ensures { AreNotes (λ c. as_refusal violation) result }
 {
     Notes {
@@ -44,7 +44,7 @@ pub(crate) fn everywhere(violation: Option<Violation>) -> Notes
 }
 
 // One thing where sets may stand, and another where they may not.
-pub(crate) fn by_sets(without: Option<Violation>, with: Option<Violation>) -> Notes
+pub(crate) fn by_sets<'c>(without: Option<Violation>, with: Option<Violation>) -> Notes<'c>
     ensures { (refusal : Bool → Option Refusal) → as_refusal without ≡ refusal false → as_refusal with ≡ refusal true → AreNotes (λ c. refusal c.set) result }
 {
     Notes {
@@ -59,8 +59,8 @@ pub(crate) fn by_sets(without: Option<Violation>, with: Option<Violation>) -> No
 }
 
 // First what one breaks, and then what the other does.
-pub(crate) fn both(a: Notes, b: Notes) -> Notes
-    ensures { (first later : Context → Option Refusal) → AreNotes first a → AreNotes later b → AreNotes (λ c. or_else (first c) (later c)) result }
+pub(crate) fn both<'c>(a: Notes<'c>, b: Notes<'c>) -> Notes<'c>
+    ensures { (first later : Context → Option Refusal) → AreNotes first a.entry → AreNotes later b.entry → AreNotes (λ c. or_else (first c) (later c)) result }
 {
     Notes {
         step: first(a.step, b.step),
@@ -82,11 +82,11 @@ pub(crate) fn first(a: Option<Violation>, b: Option<Violation>) -> Option<Violat
     }
 }
 
-pub(crate) fn first_timed(
-    a: Option<TimedViolation>,
-    b: Option<TimedViolation>,
-) -> Option<TimedViolation>
-    ensures { timed_refusal result ≡ or_else (timed_refusal a) (timed_refusal b) }
+pub(crate) fn first_timed<'c>(
+    a: Option<TimedViolation<'c>>,
+    b: Option<TimedViolation<'c>>,
+) -> Option<TimedViolation<'c>>
+    ensures { timed_refusal result ≡ or_else (timed_refusal a.entry) (timed_refusal b.entry) }
 {
     match a {
         Some(violation) => Some(violation),
@@ -95,8 +95,8 @@ pub(crate) fn first_timed(
 }
 
 // In what a name stands for.
-pub(crate) fn under_name(n: Notes) -> Notes
-    ensures { (refusal : Context → Option Refusal) → AreNotes refusal n → AreNotes (λ c. refusal (under_name c)) result }
+pub(crate) fn under_name<'c>(n: Notes<'c>) -> Notes<'c>
+    ensures { (refusal : Context → Option Refusal) → AreNotes refusal n.entry → AreNotes (λ c. refusal (under_name c)) result }
 {
     Notes {
         step: n.name,
@@ -110,8 +110,8 @@ pub(crate) fn under_name(n: Notes) -> Notes
 }
 
 // In an element of an array.
-pub(crate) fn under_element(n: Notes) -> Notes
-    ensures { (refusal : Context → Option Refusal) → AreNotes refusal n → AreNotes (λ c. refusal (under_element c)) result }
+pub(crate) fn under_element<'c>(n: Notes<'c>) -> Notes<'c>
+    ensures { (refusal : Context → Option Refusal) → AreNotes refusal n.entry → AreNotes (λ c. refusal (under_element c)) result }
 {
     Notes {
         path: timed(n.name),
@@ -120,8 +120,8 @@ pub(crate) fn under_element(n: Notes) -> Notes
 }
 
 // Under `next`.
-pub(crate) fn under_next(n: Notes) -> Notes
-    ensures { (refusal : Context → Option Refusal) → AreNotes refusal n → AreNotes (λ c. refusal (under_next c)) result }
+pub(crate) fn under_next<'c>(n: Notes<'c>) -> Notes<'c>
+    ensures { (refusal : Context → Option Refusal) → AreNotes refusal n.entry → AreNotes (λ c. refusal (under_next c)) result }
 {
     Notes {
         step: n.state,
@@ -136,8 +136,8 @@ pub(crate) fn under_next(n: Notes) -> Notes
 
 // As an operand of this number.
 #[tactic(auto, using(crate::proofs::Bounds::timed_same))]
-fn under_operand(operator: Operator, operand: usize, n: Notes) -> Notes
-    ensures { (refusal : Context → Option Refusal) → AreNotes refusal n → AreNotes (λ c. refusal (under_operand operator operand c)) result }
+fn under_operand<'c>(operator: Operator, operand: usize, n: Notes<'c>) -> Notes<'c>
+    ensures { (refusal : Context → Option Refusal) → AreNotes refusal n.entry → AreNotes (λ c. refusal (under_operand operator operand c)) result }
 {
     if takes_sets(operator, operand, false) {
         with_sets(n)
@@ -152,8 +152,8 @@ fn under_operand(operator: Operator, operand: usize, n: Notes) -> Notes
 }
 
 // As an operand of this number, if it is judged itself.
-pub(crate) fn as_operand(operator: Operator, operand: usize, n: Notes) -> Notes
-    ensures { (refusal : Context → Option Refusal) → AreNotes refusal n → AreNotes (λ c. unless_bound operator operand (refusal (under_operand operator operand c))) result }
+pub(crate) fn as_operand<'c>(operator: Operator, operand: usize, n: Notes<'c>) -> Notes<'c>
+    ensures { (refusal : Context → Option Refusal) → AreNotes refusal n.entry → AreNotes (λ c. unless_bound operator operand (refusal (under_operand operator operand c))) result }
 {
     if is_bound(operator, operand) {
         everywhere(None)
@@ -173,8 +173,8 @@ fn is_bound(operator: Operator, operand: usize) -> bool
 }
 
 // Where sets may stand, and no temporal operator.
-fn with_sets(n: Notes) -> Notes
-    ensures { result ≡ record { step = n.step_set; step_set = n.step_set; name = n.name_set; name_set = n.name_set; state = n.state_set; state_set = n.state_set; path = timed n.name_set } }
+fn with_sets<'c>(n: Notes<'c>) -> Notes<'c>
+    ensures { result ≡ record { step = n.entry.step_set; step_set = n.entry.step_set; name = n.entry.name_set; name_set = n.entry.name_set; state = n.entry.state_set; state_set = n.entry.state_set; path = timed n.entry.name_set } }
 {
     Notes {
         step: n.step_set,
@@ -188,7 +188,7 @@ fn with_sets(n: Notes) -> Notes
 }
 
 // An input, where none may stand.
-pub(crate) fn input_here(place: Place, is_input: bool) -> Notes
+pub(crate) fn input_here<'c>(place: Place, is_input: bool) -> Notes<'c>
     ensures { AreNotes (λ c. input_here c place is_input) result }
 {
     let misplaced = if is_input {
@@ -204,7 +204,7 @@ pub(crate) fn input_here(place: Place, is_input: bool) -> Notes
 }
 
 // A `next`, where none may stand.
-pub(crate) fn next_here(place: Place) -> Notes
+pub(crate) fn next_here<'c>(place: Place) -> Notes<'c>
     ensures { AreNotes (λ c. next_here c place) result }
 {
     Notes {
@@ -215,8 +215,8 @@ pub(crate) fn next_here(place: Place) -> Notes
 }
 
 // A temporal operator: it is misplaced where none may stand, and breaks this where one may.
-pub(crate) fn temporal_here(place: Place, broken: Option<TimedViolation>) -> Notes
-    ensures { (operator : Operator) (refusal : Bool → Option Refusal) → is_temporal operator ≡ true → timed_refusal broken ≡ refusal false
+pub(crate) fn temporal_here<'c>(place: Place, broken: Option<TimedViolation<'c>>) -> Notes<'c>
+    ensures { (operator : Operator) (refusal : Bool → Option Refusal) → is_temporal operator ≡ true → timed_refusal broken.entry ≡ refusal false
         → AreNotes (λ c. or_else (temporal_here c place operator) (refusal c.set)) result }
 {
     Notes {

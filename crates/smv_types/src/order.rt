@@ -11,6 +11,7 @@ ghost use Rattle.smv_types.specs.Rules.{kinds_refusal, types_verdict};
 use crate::items::misused;
 use crate::kinds::judge_nodes;
 use crate::limits::variable_types;
+use smv_declared::constants_of;
 use smv_layout::lay_out_items;
 use smv_meaning::Typed;
 use smv_names::check_names;
@@ -129,6 +130,7 @@ fn kinds(
     ensures { Judges result (first_of (item_refusal slots.now types.now) (map (item_by laid.now.nodes) laid.now.items)) }
 {
     let nodes = laid.nodes.as_slice();
-    let table = judge_nodes(alloc, slots, types, nodes)?;
+    let constants = constants_of(alloc, nodes)?;
+    let table = judge_nodes(alloc, slots, types, nodes, constants.as_slice())?;
     misused(alloc, slots, types, nodes, &table, laid.items.as_slice())
 }

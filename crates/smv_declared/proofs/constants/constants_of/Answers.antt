@@ -10,5 +10,5 @@ loop-node-init c = c.new-table.ensures.items
 
 pub loop-node-preserved : goal.loop-node-preserved
 loop-node-preserved c =
-    one_more c.args.nodes.now c.loop-node.node-index _ c.loop-node.table.items c.push.new.self.items c.constant_by-constant.result c.loop-node-test.true c.loop-node.invariant
-    (λ parts told. c.constant_by-constant.ensures parts (c.as_slice.ensures.value ∙ told)) c.in_ok-push.ensures.items
+    one_more c.args.nodes.now c.loop-node.node-index _ c.loop-node.table.items c.push.new.self.items c.in_ok-constant.constant c.loop-node-test.true c.loop-node.invariant
+    (λ parts told. c.in_ok-constant.ensures parts (c.as_slice.ensures.value ∙ told)) c.in_ok-push.ensures.items

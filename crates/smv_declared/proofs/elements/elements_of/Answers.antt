@@ -1,8 +1,7 @@
 -- The set has one element more.
-use Rattle.std.proofs.Common.{Bool, false, ◌≡◌, ◌||◌, List, ap, sym, ◌∙◌, arith}
+use Rattle.std.proofs.Common.{Bool, false, ◌≡◌, ◌||◌, ap, sym, ◌∙◌, arith}
 use Rattle.std.proofs.lemmas.Grind.{common_steps}
 use Rattle.std.specs.List.{list_any}
-use Rattle.value_types.specs.declared.value_type.Element.{Element}
 use Rattle.value_types.specs.Types.{element_value, is_element}
 use Rattle.smv_declared.specs.Refusals.{wide_element}
 use Rattle.smv_declared.specs.Types.{element_of}

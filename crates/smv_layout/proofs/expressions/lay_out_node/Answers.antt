@@ -2,7 +2,7 @@
 use Rattle.std.proofs.Common.{ap, map, sym, ◌∙◌}
 use Rattle.smv_resolve.specs.declared.node.Node.{Node}
 use Rattle.smv_resolve.specs.Resolved.{Resolved, part_of, resolved_by}
-use Rattle.smv_layout.specs.Layout.{Laid, applied, laid, named, value_of}
+use Rattle.smv_layout.specs.Layout.{Laid, applied, bounds_in, laid, named, value_of}
 use Rattle.smv_layout.specs.Nodes.{laid_at, laid_by}
 use Rattle.smv_layout.proofs.Laying.{applied_along, applied_last, applied_two, laid_found, lays}
 use Rattle.smv_layout.proofs.expressions.lay_out_node.Goals as goal
@@ -35,9 +35,9 @@ returns-in-Next-clause-laid c =
 pub returns-in-Apply-clause-laid : goal.returns-in-Apply-clause-laid
 returns-in-Apply-clause-laid c =
     lays c.args.variables.now c.args.constants.now c.args.indices.now c.args.entries.now c.args.nodes.now c.apply.new.nodes c.apply.result
-    (applied c.args.variables.now c.in-Apply.place c.in-Apply.operator c.last.result.now c.last-in-Apply.result.now (map (laid_by c.args.nodes.now) c.last-in-Apply-2.result.now)) c.args.node
+    (applied c.args.variables.now c.in-Apply.place c.in-Apply.operator c.bounds_in.result c.last-in-Apply.result.now (map (laid_by c.args.nodes.now) c.last-in-Apply-2.result.now)) c.args.node
     (λ parts k e.
-    applied_along c.args.variables.now c.in-Apply.place c.in-Apply.operator _ _ _ _ _ _ c.last.ensures c.last-in-Apply.ensures (ap (map (laid_by c.args.nodes.now)) c.last-in-Apply-2.ensures)
+    applied_along c.args.variables.now c.in-Apply.place c.in-Apply.operator _ _ _ _ _ _ (c.bounds_in.ensures ∙ ap bounds_in c.last.ensures) c.last-in-Apply.ensures (ap (map (laid_by c.args.nodes.now)) c.last-in-Apply-2.ensures)
     ∙ applied_last c.args.variables.now c.in-Apply.place c.in-Apply.operator c.in-Apply.count c.args.nodes.now c.args.entries.now c.args.constants.now c.args.indices.now parts k e
     ∙ ap (λ (n : Node). laid c.args.variables.now (resolved_by parts n)) (sym c.in-Apply.is))
     c.apply.ensures.laid

@@ -1,6 +1,7 @@
 -- One operand more.
-use Rattle.std.proofs.Common.{◌≡◌, ℕ, zero, suc, ◌<◌, ◌≤◌, length, List, [], ◌∷◌, take, refl, ap, subst, arith}
+use Rattle.std.proofs.Common.{◌≡◌, ℕ, zero, suc, ◌<◌, ◌≤◌, length, List, [], ◌∷◌, take, refl, sym, ap, subst, arith}
 use Rattle.smv_resolve.specs.Resolved.{Resolved, operands_of, part_at}
+use Rattle.smv_types.specs.declared.judged.Judged.{Judged}
 use Rattle.smv_types.specs.Judged.{AreNotes}
 use Rattle.smv_types.specs.Kinds.{kind_refusal, operands_refusal, under_operand, unless_bound}
 use Rattle.smv_types.proofs.Judging.{judged_any, notes_more}
@@ -17,10 +18,12 @@ loop-k-preserved c = λ slots types rs h.
     let k = c.loop-k.k in
     let o = c.args.operator in
     let within : k < length rs = omega (arith, h.long, c.loop-k-test.true) in
-    let here = judged_any slots types rs c.args.table.now h k _ c.loop-k-test.true in
+    let item = c.index-table-k.result in
+    let here = judged_any slots types rs c.args.table.now h k item c.loop-k-test.true in
+    let N : Judged → Type 0 = λ j. AreNotes (λ x. kind_refusal slots types x (part_at rs k)) j.notes in
     notes_more slots types o rs k c.both-all.result within
     (c.both-all.ensures (λ x. operands_refusal slots types o 0 x (operands_of (take k rs))) (λ x. unless_bound o k (kind_refusal slots types (under_operand o k x) (part_at rs k)))
-    (c.loop-k.invariant slots types rs h) (c.as_operand.ensures (λ x. kind_refusal slots types x (part_at rs k)) here.notes))
+    (c.loop-k.invariant slots types rs h) (c.as_operand.ensures (λ x. kind_refusal slots types x (part_at rs k)) (subst N (sym c.index-table-k.is) here.notes)))
 
 pub returns : goal.returns
 returns c = λ slots types rs h.

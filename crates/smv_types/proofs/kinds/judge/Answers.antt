@@ -1,6 +1,7 @@
 -- What is noted of a node follows from what is told and noted of its parts.
 use Rattle.std.proofs.Common.{◌∙◌, ◌∷◌, [], ap}
 use Rattle.smv_resolve.specs.Resolved.{part_at}
+use Rattle.smv_types.specs.Kinds.{written_bounds}
 use Rattle.smv_types.proofs.Judging.{judged_is, last_constants, last_tells, told_is, two_constants, two_tell}
 use Rattle.smv_types.proofs.kinds.judge.Goals as goal
 
@@ -28,13 +29,14 @@ returns-in-Next c = λ types parts k h.
 pub returns-in_ok-noted-in-Apply : goal.returns-in_ok-noted-in-Apply
 returns-in_ok-noted-in-Apply c = λ types parts k h.
     rw c.in-Apply.is
-    (c.judge_apply.ensures c.args.slots.now types _ (c.last-in-Apply.ensures ∙ last_constants c.in-Apply.count parts c.args.constants.now k)
+    (c.judge_apply.ensures c.args.slots.now types _
+    (c.written_bounds.ensures ∙ ap written_bounds (c.last-in-Apply.ensures ∙ last_constants c.in-Apply.count parts c.args.constants.now k))
     (rw (c.last-in-Apply-2.ensures, c.as_slice.ensures.value, c.in_ok-noted-in-Apply.ensures) (last_tells c.args.slots.now types c.in-Apply.count parts c.args.operands.now c.args.table.now h)))
 
 pub returns-in-Link : goal.returns-in-Link
 returns-in-Link c = λ types parts k h.
     rw c.in-Link.is
     (c.judge_apply-in-Link.ensures c.args.slots.now types (part_at parts c.in-Link.a ∷ part_at parts c.in-Link.b ∷ [])
-    (rw (c.constant_at.ensures, c.constant_at-in-Link.ensures) (two_constants parts c.args.constants.now c.in-Link.a c.in-Link.b k))
+    (c.bounds_at.ensures ∙ ap written_bounds (two_constants parts c.args.constants.now c.in-Link.a c.in-Link.b k))
     (rw (c.told_at-in-Link.ensures, c.told_at-in-Link-2.ensures, c.at-in-Link.ensures, c.at-in-Link-2.ensures)
     (two_tell c.args.slots.now types parts c.args.operands.now c.args.table.now h c.in-Link.a c.in-Link.b)))

@@ -1,5 +1,5 @@
 -- What the index breaks, then its kind and that of the array; and it has to be a constant, and one of the array.
-use Rattle.std.proofs.Common.{◌≡◌, ◌∙◌, false, [], ◌∷◌, refl, ap}
+use Rattle.std.proofs.Common.{◌≡◌, ◌∙◌, false, None, [], ◌∷◌, refl, ap}
 use Rattle.std.specs.Option.{is_some}
 use Rattle.smv_value.specs.declared.operator.Operator.TheVariants as operator
 use Rattle.smv_kinds.specs.Contexts.{kind_in_context}
@@ -14,9 +14,9 @@ returns c = λ slots types a r array index is.
     let place = c.args.place in
     let i = c.args.i in
     let kinds =
-    c.kinds_broken-kinds.ensures [] refl
-    ∙ ap (λ x. kinds_broken place operator.Index [] (kind_in_context false operator.Index (x ∷ c.args.index ∷ []))) array
-    ∙ ap (λ x. kinds_broken place operator.Index [] (kind_in_context false operator.Index (told slots types a ∷ x ∷ []))) index in
+    c.kinds_broken-kinds.ensures None refl
+    ∙ ap (λ x. kinds_broken place operator.Index None (kind_in_context false operator.Index (x ∷ c.args.index ∷ []))) array
+    ∙ ap (λ x. kinds_broken place operator.Index None (kind_in_context false operator.Index (told slots types a ∷ x ∷ []))) index in
     let within : i.indexing.within ≡ is_within r = ap (λ x. x.within) is.indexing in
     let outside =
     c.not_within-outside.ensures ∙ ap (λ w. not_within place w c.is_some.result) within
