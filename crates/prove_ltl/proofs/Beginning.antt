@@ -11,12 +11,13 @@ use Rattle.ltl_monitor.specs.States.{IsMonitor}
 use Rattle.ltl_lassos.specs.Violating.{AreViolating}
 use Rattle.prove_ltl.specs.declared.effort.LtlEffort.{LtlEffort}
 use Rattle.prove_ltl.specs.declared.answers.LtlAnswer.TheVariants.{False, Unknown}
-use Rattle.prove_ltl.specs.Lengths.{IsSearchOpen, HasNoneUpTo, queries_of}
+use Rattle.prove_ltl.specs.Lengths.{IsSearchOpen, PaysLengths, queries_of}
 use Rattle.prove_ltl.specs.Searching.{SearchSays}
 use Rattle.prove_ltl.specs.Rungs.{IsPassed}
 use Rattle.prove_ltl.specs.LtlAnswers.{LtlLog, IsLtlLog, IsLtlSpent, IsLtlDone, limits_of}
 use Rattle.prove_ltl.specs.Climbing.{IsClimbing, spent_cause}
 use Rattle.prove_ltl.proofs.Ladder.{long_after}
+use Rattle.prove_ltl.proofs.Longer.{pays_wider, searched_none}
 
 add_nothing : (x y n : ℕ) → y ≡ 0 + x → y ≡ n → x + 0 + 0 ≡ n
 add_nothing x y n a b = omega arith
@@ -41,14 +42,13 @@ module _ (sys : TransitionSystem) (f : Ltl) (atoms : List Lit) (effort : LtlEffo
       record { parts = []; left_open = inl (open', refl, refl); all = add_nothing (tickets_in (queries_of s.log)) (length tickets) effort.conflicts drawn whole } in
       record { log = log; so_it_was = is_log; kept = refl; right = (refl, refl, spent) }
 
-  -- there is none
-  pub none_climbing : Gives sys.state_bits sys.fair sys.defs → HasNoneUpTo m effort.bound → IsClimbing sys f atoms effort m log 0 [] [] (length tickets)
-  none_climbing own none =
+  -- the first counter comes next
+  pub none_climbing : Gives sys.state_bits sys.fair sys.defs → IsClimbing sys f atoms effort m log 0 [] [] (length tickets)
+  none_climbing own =
       record {
         so_it_was = is_log;
         of = refl;
         own = own;
-        none = none;
         count = refl;
         lemmas = refl;
         drawn = omega arith;
@@ -56,3 +56,25 @@ module _ (sys : TransitionSystem) (f : Ltl) (atoms : List Lit) (effort : LtlEffo
         signals = inl refl;
         kept = refl;
       }
+
+-- no lasso was asked for, and the first counter comes at once
+pub unasked : (sys : TransitionSystem) (effort : LtlEffort) (m : TransitionSystem) → Gives sys.state_bits sys.fair sys.defs →
+    Gives m.state_bits m.fair m.defs → (f : Ltl) (atoms : List Lit) → IsMonitor sys f atoms m →
+    (log : LtlLog) × IsClimbing sys f atoms effort m log 0 [] [] 0
+unasked sys effort m own gives f atoms ism =
+    let nothing = searched_none m 0 [] [] in
+    let pays : PaysLengths m effort.bound [] [] nothing.log = pays_wider m 0 0 0 effort.bound [] [] [] [] nothing.log (omega arith) (omega arith) nothing.pays in
+    let nowhere : LtlLog = record { monitored = m; lassos = nothing.log; known = []; asked = []; rungs = [] } in (
+      nowhere,
+      record {
+        so_it_was = record { monitor = ism; gives = gives; searched = pays; climbed = tt };
+        of = refl;
+        own = own;
+        count = refl;
+        lemmas = refl;
+        drawn = omega arith;
+        passed = All-nil (IsPassed (limits_of effort));
+        signals = inl refl;
+        kept = refl;
+      },
+    )

@@ -37,7 +37,8 @@ use Rattle.prove_ltl.specs.declared.answers.LtlAnswer.{LtlAnswer}
 use Rattle.prove_ltl.specs.declared.answers.LtlAnswer.TheVariants.{True, False, Unknown}
 use Rattle.prove_ltl.specs.declared.answers.LtlCause.{LtlCause}
 use Rattle.prove_ltl.specs.declared.answers.LtlCause.TheVariants.{Bound, Frames}
-use Rattle.prove_ltl.specs.Lengths.{queries_of}
+use Rattle.prove_ltl.specs.Early.{is_unknown}
+use Rattle.prove_ltl.specs.Lengths.{HasNoneUpTo, queries_of}
 use Rattle.prove_ltl.specs.Rungs.{Rung, IsRung, IsPassed, tickets_of, histories_of, histories_in}
 use Rattle.prove_ltl.specs.LtlAnswers.{LtlLog, IsLtlLog, IsLast, IsClimbOpen, IsLimitMet, IsLtlRight, IsLtlDone, limits_of}
 use Rattle.prove_ltl.specs.Climbing.{IsClimbing, IsUsedUp, Shows, cause_of, spent_cause}
@@ -142,11 +143,12 @@ module _ (sys : TransitionSystem) (f : Ltl) (atoms : List Lit) (effort : LtlEffo
       let here : histories_of next.rungs ≡ histories_of log.rungs ++ one.history.items ∷ [] = map-append (λ (r : Rung). r.history) log.rungs (rung ∷ []) in
       ap histories_in is_now ∙ there ∙ ap (λ (z : List (List Entry)). z ++ one.history.items ∷ []) h.kept ∙ sym here
 
-  last : IsLast effort next log.rungs rung
-  last = record { none = h.none; rungs = refl; passed = h.passed }
+  last : HasNoneUpTo m effort.bound → IsLast effort next log.rungs rung
+  last none = record { none = subst (λ (z : TransitionSystem). HasNoneUpTo z effort.bound) (sym h.of) none; rungs = refl; passed = h.passed }
 
-  short : NeverViolatedWithin sys f atoms (past_height f) effort.bound
-  short = none_within sys log.monitored f atoms h.so_it_was.monitor h.own h.so_it_was.gives effort.bound (λ n some le. (h.none n some le).never)
+  short : HasNoneUpTo m effort.bound → NeverViolatedWithin sys f atoms (past_height f) effort.bound
+  short none =
+      none_within sys log.monitored f atoms h.so_it_was.monitor h.own h.so_it_was.gives effort.bound (λ n some le. ((last none).none n some le).never)
 
   -- ---- It was passed
 
@@ -167,7 +169,6 @@ module _ (sys : TransitionSystem) (f : Ltl) (atoms : List Lit) (effort : LtlEffo
           so_it_was = so_it_was;
           of = h.of;
           own = h.own;
-          none = h.none;
           count = omega (arith, long, count);
           lemmas = lemmas_last (limits_of effort) [] log.rungs rung ∙ ap (λ (z : FrameState). z.lemmas) (sym e.frames);
           drawn = drawn_all;
@@ -181,24 +182,25 @@ module _ (sys : TransitionSystem) (f : Ltl) (atoms : List Lit) (effort : LtlEffo
   done a right = record { log = next; so_it_was = so_it_was; kept = kept; right = right }
 
   -- and no more is counted
-  pub ends : (n : ℕ) → VerdictSays fr 0 (Some (Reached n)) → k ≡ effort.counter → IsLtlDone sys f atoms effort now (Unknown (Bound effort.bound k))
-  ends n says at =
+  pub ends : (n : ℕ) → VerdictSays fr 0 (Some (Reached n)) → k ≡ effort.counter → HasNoneUpTo m effort.bound →
+      IsLtlDone sys f atoms effort now (Unknown (Bound effort.bound k))
+  ends n says at none =
       let run = more_signals n says in
       done (Unknown (Bound effort.bound k))
-      (refl, at, short, run)
+      (refl, at, short none, run)
 
   -- ---- The budget was spent
 
   spent : (after : List ℕ) (parts : List CertQuery) → IsLeftOpen fr parts 0 → PaysCertificates fr tickets after parts → length after ≡ effort.conflicts →
-      IsLtlDone sys f atoms effort now (Unknown (spent_cause effort))
-  spent after parts left certified all =
+      HasNoneUpTo m effort.bound → IsLtlDone sys f atoms effort now (Unknown (spent_cause effort))
+  spent after parts left certified all none =
       let asked = long_after [] log.asked (tickets_in (queries_of log.lassos)) h.so_it_was.searched.paid.drawn in
       let last_drawn = long_after tickets after (tickets_in (part_queries parts)) certified.paid.drawn in
       let open' : IsClimbOpen effort next parts =
       record {
         earlier = log.rungs;
         here = rung;
-        last = last;
+        last = last none;
         left = subst (λ (z : FrameState). IsLeftOpen z parts 0) e.frames left;
         before = tickets;
         after = after;
@@ -218,9 +220,10 @@ module _ (sys : TransitionSystem) (f : Ltl) (atoms : List Lit) (effort : LtlEffo
 
   -- ---- There is no verdict
 
-  limited : over ≡ false → k ≤ effort.counter → (HasVerdict fr 0 → ⊥) → IsLtlDone sys f atoms effort now (Unknown (Frames effort.bound effort.frames k))
-  limited not_over within none =
-      let both = e.limit not_over 0 (omega arith) none in
+  limited : over ≡ false → k ≤ effort.counter → (HasVerdict fr 0 → ⊥) → HasNoneUpTo m effort.bound →
+      IsLtlDone sys f atoms effort now (Unknown (Frames effort.bound effort.frames k))
+  limited not_over within undecided none =
+      let both = e.limit not_over 0 (omega arith) undecided in
       let few : SignalsWithin sys f atoms effort.frames (k + 1) → ⊥ = λ s.
       (let bad = (exact sys log.monitored c f atoms k h.so_it_was.monitor its_counted h.own h.so_it_was.gives effort.frames).0 s in
       both.1 bad.0 bad.1 bad.2) in
@@ -228,21 +231,21 @@ module _ (sys : TransitionSystem) (f : Ltl) (atoms : List Lit) (effort : LtlEffo
       record {
         earlier = log.rungs;
         here = rung;
-        last = last;
+        last = last none;
         number = h.count;
-        undecided = subst (λ (z : FrameState). HasVerdict z 0 → ⊥) e.frames none;
+        undecided = subst (λ (z : FrameState). HasVerdict z 0 → ⊥) e.frames undecided;
         met = both.0;
         few = few;
       } in
-      done (Unknown (Frames effort.bound effort.frames k)) (refl, refl, within, short, h.signals, met)
+      done (Unknown (Frames effort.bound effort.frames k)) (refl, refl, within, short none, h.signals, met)
 
-  pub stops : IsUsedUp effort tickets over → k ≤ effort.counter → (HasVerdict fr 0 → ⊥) →
+  pub stops : IsUsedUp effort tickets over → k ≤ effort.counter → (HasVerdict fr 0 → ⊥) → HasNoneUpTo m effort.bound →
       IsLtlDone sys f atoms effort now (Unknown (cause_of over k effort))
-  stops whole within none = elim (which over) [
+  stops whole within undecided none = elim (which over) [
     | inl on ↦
         subst (λ (o : Bool). IsLtlDone sys f atoms effort now (Unknown (cause_of o k effort))) (sym on)
-        (spent tickets [] (inl none) (none_asked fr tickets) (whole on))
-    | inr off ↦ subst (λ (o : Bool). IsLtlDone sys f atoms effort now (Unknown (cause_of o k effort))) (sym off) (limited off within none)
+        (spent tickets [] (inl undecided) (none_asked fr tickets) (whole on) none)
+    | inr off ↦ subst (λ (o : Bool). IsLtlDone sys f atoms effort now (Unknown (cause_of o k effort))) (sym off) (limited off within undecided none)
   ]
 
   -- ---- An invariant
@@ -268,18 +271,18 @@ module _ (sys : TransitionSystem) (f : Ltl) (atoms : List Lit) (effort : LtlEffo
 
   pub uncertified : (level : ℕ) (after : List ℕ) (late : Bool) → VerdictSays fr 0 (Some (Invariant level)) →
       CertifySays (system_at fr.systems 0) (clauses_above level fr.lemmas) (Some k) tickets after late None → IsUsedUp effort after late →
-      IsLtlDone sys f atoms effort now (Unknown (spent_cause effort))
-  uncertified level after late says said whole =
+      HasNoneUpTo m effort.bound → IsLtlDone sys f atoms effort now (Unknown (spent_cause effort))
+  uncertified level after late says said whole none =
       let asked : List PartQuery = said.1.0 in
-      let none : AllBefore 0 [] = All-nil (λ (q : CertQuery). q.system < 0) in
+      let before : AllBefore 0 [] = All-nil (λ (q : CertQuery). q.system < 0) in
       let parts : List CertQuery = map (by_system 0) asked in
-      spent after parts (inr (lacks_some fr 0 level says tickets tickets after [] (none_asked fr tickets) none asked said.1.1 said.1.2))
-      (pays_more fr 0 level says tickets tickets after [] (none_asked fr tickets) none asked said.1.1) (whole said.0)
+      spent after parts (inr (lacks_some fr 0 level says tickets tickets after [] (none_asked fr tickets) before asked said.1.1 said.1.2))
+      (pays_more fr 0 level says tickets tickets after [] (none_asked fr tickets) before asked said.1.1) (whole said.0) none
 
   pub shown : (level : ℕ) (after : List ℕ) (late : Bool) (a : LtlAnswer) → VerdictSays fr 0 (Some (Invariant level)) → Shows effort fr level k tickets after late a →
       k ≤ effort.counter → ((cert : Block) → Certifies c cert → NeverViolated sys f atoms) → IsUsedUp effort after late →
-      IsLtlDone sys f atoms effort now a
-  shown level after late (True cert) says shows within never whole = certified level after late cert shows within (never cert)
-  shown level after late (False lasso) says shows within never whole = absurd shows
-  shown level after late (Unknown cause) says shows within never whole =
-      subst (λ (z : LtlCause). IsLtlDone sys f atoms effort now (Unknown z)) (sym shows.1) (uncertified level after late says shows.0 whole)
+      (is_unknown a ≡ true → HasNoneUpTo m effort.bound) → IsLtlDone sys f atoms effort now a
+  shown level after late (True cert) says shows within never whole none = certified level after late cert shows within (never cert)
+  shown level after late (False lasso) says shows within never whole none = absurd shows
+  shown level after late (Unknown cause) says shows within never whole none =
+      subst (λ (z : LtlCause). IsLtlDone sys f atoms effort now (Unknown z)) (sym shows.1) (uncertified level after late says shows.0 whole (none refl))

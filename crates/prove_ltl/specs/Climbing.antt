@@ -20,6 +20,7 @@ use Rattle.prove_ltl.specs.declared.answers.LtlCause.TheVariants.{Conflicts, Fra
 use Rattle.prove_ltl.specs.declared.answers.LtlDone.{LtlDone}
 use Rattle.prove_ltl.specs.declared.counting.Climbed.{Climbed}
 use Rattle.prove_ltl.specs.declared.counting.Climbed.TheVariants as climbed
+use Rattle.prove_ltl.specs.Early.{is_unknown}
 use Rattle.prove_ltl.specs.Lengths.{HasNoneUpTo}
 use Rattle.prove_ltl.specs.Rungs.{lemmas_after, tickets_of, histories_of, histories_in, IsPassed}
 use Rattle.prove_ltl.specs.LtlAnswers.{LtlLog, IsLtlLog, HasSignals, IsLtlDone, limits_of}
@@ -43,7 +44,6 @@ pub record IsClimbing (sys : TransitionSystem) (f : Ltl) (atoms : List Lit) (eff
   pub so_it_was : IsLtlLog sys f atoms effort log
   pub of : log.monitored ≡ m
   pub own : Gives sys.state_bits sys.fair sys.defs
-  pub none : HasNoneUpTo log.monitored effort.bound
   pub count : length log.rungs ≡ k
   pub lemmas : lemmas_after (limits_of effort) [] log.rungs ≡ carried
   pub drawn : length log.asked + tickets_of log.rungs ≡ tickets
@@ -56,17 +56,20 @@ abbrev pub IsDoneFor : TransitionSystem → LtlEffort → TransitionSystem → L
 IsDoneFor sys effort m d =
     (f : Ltl) (atoms : List Lit) → IsMonitor sys f atoms m → IsLtlDone sys f atoms effort d.work.items d.answer
 
--- after so many tickets the lengths were searched: there is a right answer; or none has a fair lasso, and the first counter comes next
-abbrev pub Begins : TransitionSystem → LtlEffort → TransitionSystem → ℕ → Option LtlDone → Type 0
-Begins sys effort m tickets (Some d) = IsDoneFor sys effort m d
-Begins sys effort m tickets None =
-    (f : Ltl) (atoms : List Lit) → IsMonitor sys f atoms m → (log : LtlLog) × IsClimbing sys f atoms effort m log 0 [] [] tickets
+-- after these tickets the lengths were searched: there is an answer, right if it is known or all tickets were drawn; or
+-- none has a fair lasso, and the first counter comes next
+abbrev pub Begins : TransitionSystem → LtlEffort → TransitionSystem → List ℕ → Bool → Option LtlDone → Type 0
+Begins sys effort m tickets over (Some d) = (is_unknown d.answer ≡ true → IsUsedUp effort tickets over) → IsDoneFor sys effort m d
+Begins sys effort m tickets over None =
+    HasNoneUpTo m effort.bound
+    × ((f : Ltl) (atoms : List Lit) → IsMonitor sys f atoms m → (log : LtlLog) × IsClimbing sys f atoms effort m log 0 [] [] (length tickets))
 
--- whatever formula's monitored system it is, the answer is right where counter k began like this
+-- whatever formula's monitored system it is, the answer is right where counter k began like this; an unknown one, where
+-- no length up to the bound has a fair lasso either
 abbrev pub Settles : LtlEffort → TransitionSystem → ℕ → List Lemma → List Work → ℕ → LtlDone → Type 0
 Settles effort m k carried works tickets d =
     (sys : TransitionSystem) (f : Ltl) (atoms : List Lit) (log : LtlLog) → IsClimbing sys f atoms effort m log k carried works tickets →
-    IsLtlDone sys f atoms effort d.work.items d.answer
+    (is_unknown d.answer ≡ true → HasNoneUpTo m effort.bound) → IsLtlDone sys f atoms effort d.work.items d.answer
 
 -- a certificate, with this counter; or the purse was spent before it was made
 abbrev pub Shows : LtlEffort → FrameState → ℕ → ℕ → List ℕ → List ℕ → Bool → LtlAnswer → Type 0

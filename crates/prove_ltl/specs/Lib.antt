@@ -4,3 +4,4 @@ pub mod Rungs
 pub mod LtlAnswers
 pub mod Climbing
 pub mod Early
+pub mod Sought

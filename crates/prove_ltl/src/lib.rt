@@ -1,12 +1,14 @@
 //! Linear temporal logic by search and proof, by one worker or by several: lassos of one length after another (Biere,
-//! Heljanko, Junttila, Latvala and Schuppan 2006), then k-liveness by IC3 for one counter after another (Claessen and
+//! Heljanko, Junttila, Latvala and Schuppan 2006), and k-liveness by IC3 for one counter after another (Claessen and
 //! Sörensson 2012; Bradley 2011).
 #![tactic(auto)]
 
 pub mod answers;
+mod beside;
 mod climbing;
 mod counting;
 pub mod effort;
+mod known;
 pub mod proving;
 mod searching;
 mod together;

@@ -8,14 +8,14 @@ ghost use Rattle.ltl_meaning.specs.Temporal.{formula_of};
 ghost use Rattle.ltl_meaning.specs.Unfolded.{unfolded};
 ghost use Rattle.ltl_monitor.specs.States.{AtomsBelow};
 ghost use Rattle.prove_ltl.specs.Climbing.{IsDoneFor};
-ghost use Rattle.prove_ltl.specs.Early.{is_unknown};
 ghost use Rattle.prove_ltl.specs.LtlAnswers.{IsLtlDone};
 
-use crate::answers::{LtlAnswer, LtlDone};
+use crate::answers::LtlDone;
+use crate::beside::prove_together;
 use crate::climbing::climb_all;
 use crate::effort::LtlEffort;
+use crate::known::is_unknown;
 use crate::searching::search_first;
-use crate::together::prove_together;
 use clause_core::{Lit, System};
 use effort_purse::PlainPurse;
 use ltl_meaning::formula::Formula;
@@ -33,12 +33,14 @@ use std::thread::Threads;
 /// no bad state. All work is paid from one budget of tickets. Before that one worker tries the same twice, with smaller bounds
 /// and with few tickets of its own, since counters often answer where long lassos cost much. What it finds is the answer.
 ///
-/// One worker is the caller, with number 0. Several have the numbers from 1 on, and explore the frames of each counter. The
-/// caller searches the lengths before, finishes what they leave, and makes the certificate. Where the book of a counter
-/// has to be dropped, the caller begins anew alone, with a purse of its own. It works alone too where the numbers of tickets
-/// and of workers have no room in one purse. Each worker passes the gate before each of its tasks, but the caller not before
-/// those that it finishes for others. A worker of several that is refused memory ends alone; that the caller is refused memory is
-/// the only error.
+/// One worker is the caller, with number 0. Several have the numbers from 1 on: the last of them searches lassos, while
+/// the others explore the frames of each counter. The caller finishes what these leave, and makes the certificate. All
+/// draw from one purse. Who finds a lasso or a certificate stops the others, who get no more tickets. A bound that was
+/// reached stops nobody: the cause says what both found. Where all tickets were drawn, or the book of a counter has to
+/// be dropped, the caller begins anew alone, with a purse of its own. It works alone too where the numbers of tickets
+/// and of workers have no room in one purse. Each worker passes the gate before each of its tasks, but the caller not
+/// before those that it finishes for others. A worker of several that is refused memory ends alone; that the caller is
+/// refused memory is the only error.
 pub fn prove_ltl<R: Threads + Wait + Sync, G: Gate + Sync>(
     rt: &R,
     alloc: Global,
@@ -109,16 +111,6 @@ fn less_effort(effort: &LtlEffort, limits: (usize, u64)) -> LtlEffort
     }
 }
 
-fn is_unknown(answer: &LtlAnswer) -> bool
-    ensures { result ≡ is_unknown answer.now }
-{
-    match answer {
-        LtlAnswer::True(_) => false,
-        LtlAnswer::False(_) => false,
-        LtlAnswer::Unknown(_) => true,
-    }
-}
-
 // A certificate or a lasso, where so small an effort finds one. It has a purse of its own.
 fn prove_early<R: Wait, G: Gate>(
     rt: &R,
@@ -179,7 +171,7 @@ fn prove_alone<R: Wait, G: Gate>(
     ensures { IfOk result (IsDoneFor system.now effort.now monitored.now.system) }
 {
     let mut purse = PlainPurse::new(effort.conflicts);
-    match search_first(rt, alloc, system, monitored, effort, &mut purse, gate)? {
+    match search_first(rt, alloc, system, monitored, effort, &mut purse, 0, gate)? {
         Some(done) => Ok(done),
         None => {
             let done = climb_all(rt, alloc, monitored, effort, &mut purse, gate)?;

@@ -4,13 +4,13 @@
 //! for the greatest of many lengths finds none, it answers for all of them. It mostly costs less than the queries for the
 //! lengths in the middle.
 
-ghost use Rattle.std.specs.Prelude.{◌≡◌, ◌<◌, ◌≤◌, ℕ, List, [], length, IfOk};
+ghost use Rattle.std.specs.Prelude.{◌≡◌, ◌<◌, ◌≤◌, ℕ, List, [], IfOk};
 ghost use Rattle.clause_core.specs.declared.literal.Lit.{Lit};
 ghost use Rattle.ltl_meaning.specs.Ltl.{Ltl};
 ghost use Rattle.ltl_monitor.specs.States.{IsMonitor};
 ghost use Rattle.lasso_search.specs.Lassos.{IsFairLasso};
 ghost use Rattle.ltl_lassos.specs.Violating.{AreViolating};
-ghost use Rattle.prove_ltl.specs.Climbing.{Begins, IsUsedUp};
+ghost use Rattle.prove_ltl.specs.Climbing.{Begins};
 ghost use Rattle.prove_ltl.specs.Searching.{SearchSays, LengthsSay};
 
 use crate::answers::{LtlAnswer, LtlDone};
@@ -31,8 +31,8 @@ const SHORT: usize = 4;
 // Up to this length, and then up to twice the length before, the greatest is asked for first.
 const LONG: usize = 32;
 
-// A fair lasso of `first` + 1, .. states up to `last`, the shortest, if there is one. Each length is asked for once, by worker
-// 0, who passes the gate before it.
+// A fair lasso of `first` + 1, .. states up to `last`, the shortest, if there is one. Each length is asked for once, by
+// this worker, who passes the gate before it.
 fn search_lengths<R: Wait, Q: Purse, G: Gate>(
     rt: &R,
     alloc: Global,
@@ -40,6 +40,7 @@ fn search_lengths<R: Wait, Q: Purse, G: Gate>(
     first: usize,
     last: usize,
     purse: &mut Q,
+    worker: u32,
     gate: &G,
 ) -> Result<Searched, AllocError>
     requires order { first ≤ last }
@@ -51,7 +52,7 @@ fn search_lengths<R: Wait, Q: Purse, G: Gate>(
     ensures budget { Q.budget purse.new ≡ Q.budget purse.old }
 {
     'lengths: for k in first..last {
-        gate.enter(rt, 0);
+        gate.enter(rt, worker);
         match solver.search(alloc, k + 1, purse)? {
             Searched::None => {}
             Searched::Found(lasso) => return Ok(Searched::Found(lasso)),
@@ -70,6 +71,7 @@ fn search_between<R: Wait, Q: Purse, G: Gate>(
     low: usize,
     high: usize,
     purse: &mut Q,
+    worker: u32,
     gate: &G,
 ) -> Result<Searched, AllocError>
     requires some { low < high }
@@ -81,12 +83,12 @@ fn search_between<R: Wait, Q: Purse, G: Gate>(
     ensures budget { Q.budget purse.new ≡ Q.budget purse.old }
 {
     shorter_lassos();
-    gate.enter(rt, 0);
+    gate.enter(rt, worker);
     match solver.search(alloc, high, purse)? {
         Searched::None => Ok(Searched::None),
         Searched::Spent { drawn, budget } => Ok(Searched::Spent { drawn, budget }),
         Searched::Found(lasso) => {
-            match search_lengths(rt, alloc, solver, low, high - 1, purse, gate)? {
+            match search_lengths(rt, alloc, solver, low, high - 1, purse, worker, gate)? {
                 Searched::Found(shorter) => Ok(Searched::Found(shorter)),
                 _ => Ok(Searched::Found(lasso)),
             }
@@ -115,6 +117,7 @@ fn search_all<R: Wait, Q: Purse, G: Gate>(
     system: &System,
     bound: usize,
     purse: &mut Q,
+    worker: u32,
     gate: &G,
 ) -> Result<Searched, AllocError>
     requires fresh { Q.tickets purse.old ≡ [] }
@@ -126,14 +129,14 @@ fn search_all<R: Wait, Q: Purse, G: Gate>(
 {
     let mut solver = LassoSolver::new(system);
     let mut low = SHORT.min(bound);
-    match search_lengths(rt, alloc, &mut solver, 0, low, purse, gate)? {
+    match search_lengths(rt, alloc, &mut solver, 0, low, purse, worker, gate)? {
         Searched::None => {}
         Searched::Found(lasso) => return Ok(Searched::Found(lasso)),
         Searched::Spent { drawn, budget } => return Ok(Searched::Spent { drawn, budget }),
     }
     'longer: while low < bound {
         let high = length_after(low, bound);
-        match search_between(rt, alloc, &mut solver, low, high, purse, gate)? {
+        match search_between(rt, alloc, &mut solver, low, high, purse, worker, gate)? {
             Searched::None => {}
             Searched::Found(lasso) => return Ok(Searched::Found(lasso)),
             Searched::Spent { drawn, budget } => return Ok(Searched::Spent { drawn, budget }),
@@ -160,7 +163,7 @@ fn violating(
     Ok(own)
 }
 
-// Searches the lengths up to the bound, and answers where a lasso is found or the purse is spent.
+// Searches the lengths up to the bound, by this worker, and answers where a lasso is found or the purse is spent.
 pub(crate) fn search_first<R: Wait, Q: Purse, G: Gate>(
     rt: &R,
     alloc: Global,
@@ -168,18 +171,27 @@ pub(crate) fn search_first<R: Wait, Q: Purse, G: Gate>(
     monitored: &Monitored,
     effort: &LtlEffort,
     purse: &mut Q,
+    worker: u32,
     gate: &G,
 ) -> Result<Option<LtlDone>, AllocError>
     requires fresh { Q.tickets purse.old ≡ [] }
     requires ready { Q.ready purse.old }
-    ensures begins { IfOk result (λ o. IsUsedUp effort.now (Q.tickets purse.new) (Q.spent purse.new) → Begins system.now effort.now monitored.now.system (length (Q.tickets purse.new)) o) }
+    ensures begins { IfOk result (Begins system.now effort.now monitored.now.system (Q.tickets purse.new) (Q.spent purse.new)) }
     ensures kept { Q.kept purse.old purse.new }
     ensures ready { Q.ready purse.new }
     ensures budget { Q.budget purse.new ≡ Q.budget purse.old }
 {
     system.law();
     monitored.system.law();
-    match search_all(rt, alloc, &monitored.system, effort.bound, purse, gate)? {
+    match search_all(
+        rt,
+        alloc,
+        &monitored.system,
+        effort.bound,
+        purse,
+        worker,
+        gate,
+    )? {
         Searched::Found(lasso) => {
             let lasso = violating(alloc, system, monitored, &lasso)?;
             Ok(Some(LtlDone {

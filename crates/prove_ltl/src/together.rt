@@ -3,14 +3,14 @@
 ghost use Rattle.std.specs.Prelude.{◌≡◌, ◌≤◌, ◌<◌, ◌+◌, ◌^◌, ◌∷◌, [], length, replicate, IfOk, IfSome};
 ghost use Rattle.clause_core.specs.Systems.{TransitionSystem};
 ghost use Rattle.cert_core.specs.declared.form.TheConstants.{MAX_COUNTER};
-ghost use Rattle.effort_purse.specs.Seats.{IsSeatOf, budget_of, is_spent, seats_of, shares_of, tickets_of};
+ghost use Rattle.effort_purse.specs.Seats.{IsSeatOf, budget_of, is_spent, shares_of, tickets_of};
 ghost use Rattle.ltl_monitor.specs.Counted.{IsCounted};
-ghost use Rattle.prove_ltl.specs.Climbing.{Climbs, ClimbsBy, IsDoneFor, Settles};
+ghost use Rattle.prove_ltl.specs.Climbing.{Climbs, ClimbsBy, Settles};
 
 use crate::answers::LtlDone;
 use crate::counting::{Climbed, climbed_by};
 use crate::effort::LtlEffort;
-use crate::searching::search_first;
+use crate::known::stop_others;
 use clause_core::System;
 use effort_purse::{Lent, Seat, SharedPurse};
 use frame_core::Frames;
@@ -32,7 +32,8 @@ struct Counting<'a> {
     seat: Seat,
 }
 
-// Explores the frames of the system with `k` signals counted, and says what came of it; none where the book was dropped.
+// Explores the frames of the system with `k` signals counted, and says what came of it; none where the book was
+// dropped, or the purse was spent.
 fn count_together<'a, R: Threads + Wait + Sync, G: Gate + Sync>(
     rt: &R,
     alloc: Global,
@@ -55,7 +56,6 @@ fn count_together<'a, R: Threads + Wait + Sync, G: Gate + Sync>(
     requires own { IsSeatOf purse.now seat }
     requires some { 0 < workers }
     requires shares { workers < shares_of seat }
-    requires all { shares_of seat ≡ seats_of purse.now }
     requires budget { budget_of purse.now ≡ effort.now.conflicts }
     ensures climbs { IfOk result (λ o. IfSome o (λ c. Climbs effort.now monitored.now.system k frames.entry.systems frames.entry.lemmas work.items (length (tickets_of seat)) (length (tickets_of c.seat)) c.climbed)) }
     ensures own { IfOk result (λ o. IfSome o (λ c. IsSeatOf purse.now c.seat)) }
@@ -79,13 +79,14 @@ fn count_together<'a, R: Threads + Wait + Sync, G: Gate + Sync>(
         workers,
         gate,
     )?;
-    match explored {
-        Some(explored) => {
-            let counting = counted_by(alloc, monitored, k, explored, work, effort, purse, seat)?;
-            Ok(Some(counting))
-        }
-        None => Ok(None),
+    let Some(explored) = explored else {
+        return Ok(None);
+    };
+    let counting = counted_by(alloc, monitored, k, explored, work, effort, purse, seat)?;
+    if SharedPurse::seen_spent(&counting.seat) {
+        return Ok(None);
     }
+    Ok(Some(counting))
 }
 
 // What came of frames that several workers explored, where a certificate is paid for by their seat.
@@ -117,8 +118,8 @@ fn counted_by<'a>(
     Ok(Counting { climbed, seat })
 }
 
-// Counts up to `k` signals, and to more while these are passed; none where a book was dropped. Lemmas stay from one number
-// to the next; obligations do not.
+// Counts up to `k` signals, and to more while these are passed; none where a book was dropped or the purse was spent.
+// Lemmas stay from one number to the next; obligations do not. A certificate stops the search of lassos.
 fn climb_together<'a, R: Threads + Wait + Sync, G: Gate + Sync>(
     rt: &R,
     alloc: Global,
@@ -141,18 +142,20 @@ fn climb_together<'a, R: Threads + Wait + Sync, G: Gate + Sync>(
     requires own { IsSeatOf purse.now seat }
     requires some { 0 < workers }
     requires shares { workers < shares_of seat }
-    requires all { shares_of seat ≡ seats_of purse.now }
     requires budget { budget_of purse.now ≡ effort.now.conflicts }
     ensures { IfOk result (λ o. IfSome o (Settles effort.now monitored.now.system k frames.entry.lemmas work.items (length (tickets_of seat)))) }
 {
     let counting = count_together(
         rt, alloc, monitored, k, frames, work, effort, purse, seat, workers, gate,
     )?;
-    let Some(Counting { climbed, seat }) = counting else {
+    let Some(Counting { climbed, mut seat }) = counting else {
         return Ok(None);
     };
     match climbed {
-        Climbed::Done(done) => Ok(Some(done)),
+        Climbed::Done(done) => {
+            stop_others(purse, &mut seat, &done.answer);
+            Ok(Some(done))
+        }
         Climbed::Passed(frames, work) => {
             monitored.system.law();
             counters();
@@ -176,8 +179,8 @@ fn climb_together<'a, R: Threads + Wait + Sync, G: Gate + Sync>(
     }
 }
 
-// Counts up to 0 signals, then to more; none where a book was dropped.
-fn climb_all_together<R: Threads + Wait + Sync, G: Gate + Sync>(
+// Counts up to 0 signals, then to more; none where a book was dropped or the purse was spent.
+pub(crate) fn climb_all_together<R: Threads + Wait + Sync, G: Gate + Sync>(
     rt: &R,
     alloc: Global,
     monitored: &Monitored,
@@ -192,7 +195,6 @@ fn climb_all_together<R: Threads + Wait + Sync, G: Gate + Sync>(
     requires own { IsSeatOf purse.now seat }
     requires some { 0 < workers }
     requires shares { workers < shares_of seat }
-    requires all { shares_of seat ≡ seats_of purse.now }
     requires budget { budget_of purse.now ≡ effort.now.conflicts }
     ensures { IfOk result (λ o. IfSome o (Settles effort.now monitored.now.system 0 [] [] (length (tickets_of seat)))) }
 {
@@ -203,42 +205,4 @@ fn climb_all_together<R: Threads + Wait + Sync, G: Gate + Sync>(
         rt, alloc, monitored, 0, frames, work, effort, purse, seat, workers, gate,
     )?;
     Ok(done)
-}
-
-// What several workers answer; none where a book was dropped, or where the numbers of tickets and of workers have no room in
-// one purse.
-pub(crate) fn prove_together<R: Threads + Wait + Sync, G: Gate + Sync>(
-    rt: &R,
-    alloc: Global,
-    system: &System,
-    monitored: &Monitored,
-    effort: &LtlEffort,
-    workers: u32,
-    gate: &G,
-) -> Result<Option<LtlDone>, AllocError>
-    requires limit { effort.now.frames + 1 < 2 ^ 32 }
-    requires counter { effort.now.counter ≤ MAX_COUNTER }
-    requires some { 0 < workers }
-    ensures { IfOk result (λ o. IfSome o (IsDoneFor system.now effort.now monitored.now.system)) }
-{
-    let shares = u64::from(workers) + 1;
-    if effort.conflicts > u64::MAX - shares {
-        return Ok(None);
-    }
-    let (purse, seat) = SharedPurse::new(alloc, effort.conflicts, 0, shares)?;
-    let mut lent = Lent {
-        purse: &purse,
-        seat,
-    };
-    let first = search_first(rt, alloc, system, monitored, effort, &mut lent, gate)?;
-    let Lent { purse: _, seat } = lent;
-    match first {
-        Some(done) => Ok(Some(done)),
-        None => {
-            let done = climb_all_together(
-                rt, alloc, monitored, effort, &purse, seat, workers, gate,
-            )?;
-            Ok(done)
-        }
-    }
 }

@@ -20,11 +20,11 @@ carry-frames-requires-clause-cut g t c =
     (subst (λ (z : List TransitionSystem). IsCut old (system_at z 0)) (sym c.from_ref.ensures.value) both)
 
 pub returns-in_ok-done-in-Passed : goal.returns-in_ok-done-in-Passed
-returns-in_ok-done-in-Passed g t c = λ sys f atoms log h.
+returns-in_ok-done-in-Passed g t c = λ sys f atoms log h none.
     let climbs = rw c.in-Passed.is at c.in_ok-done.ensures.climbs in
     let next = climbs.2 sys f atoms log h in
     let d = c.in_ok-done-in-Passed.done in
     let tickets : ℕ = plain_count c.count_to.new.purse in
     let S : List Lemma → Type 0 = λ carried. Settles c.args.effort.now c.args.monitored.now.system (c.args.k + 1) carried c.in-Passed.work.items tickets d in
     let same : c.carry-frames.result.lemmas ≡ c.in-Passed.frames.lemmas = ap (λ (z : FrameState). z.lemmas) c.carry-frames.ensures in
-    subst S same c.in_ok-done-in-Passed.ensures sys f atoms next.0 next.1
+    subst S same c.in_ok-done-in-Passed.ensures sys f atoms next.0 next.1 none

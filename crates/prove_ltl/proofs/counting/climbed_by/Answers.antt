@@ -1,4 +1,4 @@
-use Rattle.std.proofs.Common.{◌≡◌, ◌∙◌, ℕ, List, [], ◌∷◌, length, sym, subst, arith}
+use Rattle.std.proofs.Common.{◌≡◌, ◌∙◌, ℕ, List, [], ◌∷◌, length, refl, sym, subst, arith}
 use Rattle.std.specs.Prelude.{Some}
 use Rattle.cert_core.specs.Blocks.{Block}
 use Rattle.cert_core.specs.Certificates.{Certifies}
@@ -16,7 +16,7 @@ use Rattle.prove_ltl.proofs.Stepping.{same_after, its_counted, goes_on, ends, st
 use Rattle.prove_ltl.proofs.counting.climbed_by.Goals as goal
 
 pub returns-in-Some-Invariant-clause-climbs : goal.returns-in-Some-Invariant-clause-climbs
-returns-in-Some-Invariant-clause-climbs g c = λ c0 carried old isc e whole sys f atoms log h.
+returns-in-Some-Invariant-clause-climbs g c = λ c0 carried old isc e whole sys f atoms log h none.
     let effort = c.args.effort.now in
     let m = c.args.monitored.now.system in
     let k : ℕ = c.args.k in
@@ -33,7 +33,7 @@ returns-in-Some-Invariant-clause-climbs g c = λ c0 carried old isc e whole sys 
     c.counted_systems.ensures.certified sys log.monitored c0 f atoms k cert h.so_it_was.monitor
     (its_counted sys f atoms effort m log k carried works old h c0 isc now one is_now fr tickets c.args.over e) h.own h.so_it_was.gives certifies in
     shown sys f atoms effort m log k carried works old h c0 isc now one is_now fr tickets c.args.over e level (g.Q.Purse.tickets p) (g.Q.Purse.spent p)
-    c.in_ok-answer-in-Some-Invariant.answer says c.in_ok-answer-in-Some-Invariant.ensures.shows c.requires.within never whole
+    c.in_ok-answer-in-Some-Invariant.answer says c.in_ok-answer-in-Some-Invariant.ensures.shows c.requires.within never whole none
 
 pub returns-then-k-effort-clause-climbs : goal.returns-then-k-effort-clause-climbs
 returns-then-k-effort-clause-climbs g c = λ c0 carried old isc e whole.
@@ -53,7 +53,7 @@ returns-then-k-effort-clause-climbs g c = λ c0 carried old isc e whole.
     )
 
 pub returns-in-Some-Reached-clause-climbs : goal.returns-in-Some-Reached-clause-climbs
-returns-in-Some-Reached-clause-climbs g c = λ c0 carried old isc e whole sys f atoms log h.
+returns-in-Some-Reached-clause-climbs g c = λ c0 carried old isc e whole sys f atoms log h none.
     let effort = c.args.effort.now in
     let m = c.args.monitored.now.system in
     let k : ℕ = c.args.k in
@@ -67,10 +67,10 @@ returns-in-Some-Reached-clause-climbs g c = λ c0 carried old isc e whole sys f 
     let most = c.if-k-effort.false in
     let within = c.requires.within in
     let at : k ≡ effort.counter = omega (arith, most, within) in
-    ends sys f atoms effort m log k carried works old h c0 isc now one is_now fr tickets c.args.over e c.in-Some-Reached.field-0-0 says at
+    ends sys f atoms effort m log k carried works old h c0 isc now one is_now fr tickets c.args.over e c.in-Some-Reached.field-0-0 says at (none refl)
 
 pub returns-clause-climbs : goal.returns-clause-climbs
-returns-clause-climbs g c = λ c0 carried old isc e whole sys f atoms log h.
+returns-clause-climbs g c = λ c0 carried old isc e whole sys f atoms log h none.
     let effort = c.args.effort.now in
     let m = c.args.monitored.now.system in
     let k : ℕ = c.args.k in
@@ -80,7 +80,7 @@ returns-clause-climbs g c = λ c0 carried old isc e whole sys f atoms log h.
     let now = c.push.new.self.items in
     let is_now = c.in_ok-push.ensures.items in
     let tickets : List ℕ = g.Q.Purse.tickets c.args.purse.now in
-    let none = no_verdict fr 0 (subst (VerdictSays fr 0) c.in-None.is c.verdict.ensures) in
+    let undecided = no_verdict fr 0 (subst (VerdictSays fr 0) c.in-None.is c.verdict.ensures) in
     let used : IsUsedUp effort tickets c.args.over = λ on. whole (sym c.requires.over ∙ on) in
     subst (λ (z : LtlCause). IsLtlDone sys f atoms effort now (Unknown z)) (sym c.cause.ensures)
-    (stops sys f atoms effort m log k carried works old h c0 isc now one is_now fr tickets c.args.over e used c.requires.within none)
+    (stops sys f atoms effort m log k carried works old h c0 isc now one is_now fr tickets c.args.over e used c.requires.within undecided (none refl))

@@ -1,4 +1,4 @@
-use Rattle.std.proofs.Common.{ℕ, Bool, List, [], sym, subst}
+use Rattle.std.proofs.Common.{ℕ, Bool, List, [], refl, sym, subst}
 use Rattle.lasso_search.specs.declared.searched.Searched.TheVariants.{Found, None, Spent}
 use Rattle.prove_run.specs.declared.answers.Work.{Work}
 use Rattle.prove_ltl.specs.declared.answers.LtlAnswer.TheVariants.{False, Unknown}
@@ -31,16 +31,19 @@ returns-in-Spent-clause-begins g c = λ whole f atoms ism.
     let says = rw c.in-Spent.is at c.in_ok-lasso.ensures.says in
     subst (λ (w : List Work). IsLtlDone sys f atoms effort w (Unknown c.spent_by.result)) (sym c.new-in-Spent.ensures.items)
     (subst (λ (z : LtlCause). IsLtlDone sys f atoms effort [] (Unknown z)) (sym c.spent_by.ensures)
-    (search_spent sys f atoms effort m ism c.law-2.ensures.gives tickets over (Spent c.in-Spent.drawn c.in-Spent.budget) says says.finds.0 (whole says.finds.1)))
+    (search_spent sys f atoms effort m ism c.law-2.ensures.gives tickets over (Spent c.in-Spent.drawn c.in-Spent.budget) says says.finds.0 (whole refl says.finds.1)))
 
 pub returns-in-None-clause-begins : goal.returns-in-None-clause-begins
-returns-in-None-clause-begins g c = λ whole f atoms ism.
+returns-in-None-clause-begins g c =
     let sys = c.args.system.now in
     let effort = c.args.effort.now in
     let m = c.args.monitored.now.system in
     let tickets : List ℕ = g.Q.Purse.tickets c.search_all.new.purse in
     let over : Bool = g.Q.Purse.spent c.search_all.new.purse in
     let says = rw c.in-None.is at c.in_ok-lasso.ensures.says in (
-      log sys f atoms effort m ism c.law-2.ensures.gives tickets over None says,
-      none_climbing sys f atoms effort m ism c.law-2.ensures.gives tickets over None says c.law.ensures.gives says.finds,
+      says.finds,
+      λ f atoms ism. (
+        log sys f atoms effort m ism c.law-2.ensures.gives tickets over None says,
+        none_climbing sys f atoms effort m ism c.law-2.ensures.gives tickets over None says c.law.ensures.gives,
+      ),
     )

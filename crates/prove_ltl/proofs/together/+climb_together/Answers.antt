@@ -32,6 +32,6 @@ returns-in_ok-done-in-Passed g t c =
     let P : LtlDone → Type 0 = λ d. S d c.carry-frames.result.lemmas in
     let Q : LtlDone → Type 0 = Settles effort m k c.args.frames.lemmas c.args.work.items (length (tickets_of c.args.seat)) in
     let same : c.carry-frames.result.lemmas ≡ c.in-Passed.frames.lemmas = ap (λ (z : FrameState). z.lemmas) c.carry-frames.ensures in
-    IfSome_then c.in_ok-done-in-Passed.done {P = P} {Q = Q} c.in_ok-done-in-Passed.ensures (λ d settles sys f atoms log h.
+    IfSome_then c.in_ok-done-in-Passed.done {P = P} {Q = Q} c.in_ok-done-in-Passed.ensures (λ d settles sys f atoms log h none.
     (let next = climbs.2 sys f atoms log h in
-    subst (S d) same settles sys f atoms next.0 next.1))
+    subst (S d) same settles sys f atoms next.0 next.1 none))
