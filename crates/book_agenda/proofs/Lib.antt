@@ -1,3 +1,4 @@
 mod Agendas
 pub mod Blocked
 pub mod Orderly
+mod Retired

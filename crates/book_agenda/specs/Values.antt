@@ -1,5 +1,5 @@
 -- How far a state is blocked: the greatest level of a lemma that it does not meet.
-use Rattle.std.specs.Prelude.{◌≡◌, ◌⊎◌, ℕ, ◌<◌, ◌≤◌, ◌+◌, ◌*◌, Bool, List, length, slice_index_or}
+use Rattle.std.specs.Prelude.{◌≡◌, ◌⊎◌, ℕ, ◌<◌, ◌≤◌, ◌+◌, ◌*◌, Bool, true, List, length, slice_index_or}
 use Rattle.clause_core.specs.Assignments.{ClauseTrue, assignment_of}
 use Rattle.frame_core.specs.declared.parts.Lemma.{Lemma}
 use Rattle.frame_core.specs.declared.parts.Obligation.{Obligation}
@@ -13,6 +13,15 @@ pub record IsBlockedBelow (lemmas : List Lemma) (bound : ℕ) (level : ℕ) (x :
 -- the same of all lemmas
 abbrev pub IsBlockedTo : List Lemma → ℕ → (ℕ → Bool) → Type 0
 IsBlockedTo lemmas level x = IsBlockedBelow lemmas (length lemmas) level x
+
+-- x meets each live one of the first lemmas above this level, and does not meet one of this level, where that is not 0
+pub record IsBlockedLive (lemmas : List Lemma) (bound : ℕ) (level : ℕ) (x : ℕ → Bool) : Type 0 where
+  pub above : (n : ℕ) → n < bound → (lemma_at lemmas n).live ≡ true → level < (lemma_at lemmas n).level → ClauseTrue x (lemma_at lemmas n).clause
+  pub at' : (level ≡ 0) ⊎ ((n : ℕ) × (n < bound) × ((lemma_at lemmas n).level ≡ level) × (ClauseTrue x (lemma_at lemmas n).clause → ⊥))
+
+-- x meets each live lemma of this level or more
+abbrev pub MeetsLive : List Lemma → ℕ → (ℕ → Bool) → Type 0
+MeetsLive lemmas level x = (n : ℕ) → n < length lemmas → (lemma_at lemmas n).live ≡ true → level ≤ (lemma_at lemmas n).level → ClauseTrue x (lemma_at lemmas n).clause
 
 -- the level to which obligation o is blocked
 abbrev pub blocked_at : List ℕ → ℕ → ℕ

@@ -160,7 +160,7 @@ impl<'a> Levels<'a> {
         ensures err { OnErr result (self.new ≡ self.old) }
     {
         reserve_one(&mut self.blocked, &mut self.floors)?;
-        let level = blocked_to(self.frames.all_lemmas(), found.values().as_slice());
+        let level = blocked_to(&self.frames, found.values().as_slice());
         let noting = self.frames.add_obligation_same(j, found, parent)?;
         lower(&mut self.floors, &self.blocked, level);
         self.blocked.push_reserved(level);

@@ -1,9 +1,9 @@
 //! States that do not meet clauses.
 
-ghost use Rattle.std.specs.Prelude.{◌≡◌, ◌↔◌, ◌<◌, ◌≤◌, ◌+◌, ◌*◌, ◌++◌, ◌∷◌, [], ℕ, length, slice_index_or, vec_len, vec_capacity, IsTrue};
+ghost use Rattle.std.specs.Prelude.{◌≡◌, ◌↔◌, ◌<◌, ◌≤◌, ◌+◌, ◌*◌, ◌++◌, ◌∷◌, [], ℕ, length, slice_index_or, vec_len, vec_capacity, true, false, IsTrue};
 ghost use Rattle.clause_core.specs.Assignments.{ClauseTrue, assignment_of};
 ghost use Rattle.frame_core.specs.FrameLaw.{MeetsFrom, lemma_at, obligation_at};
-ghost use Rattle.book_agenda.specs.Values.{IsBlockedTo, IsLifted, AreFloors, AreMetBelow, blocked_at};
+ghost use Rattle.book_agenda.specs.Values.{IsBlockedLive, IsBlockedTo, MeetsLive, IsLifted, AreFloors, AreMetBelow, blocked_at};
 
 use clause_core::Lit;
 use frame_core::{Frames, Lemma, Lemmas};
@@ -30,21 +30,28 @@ fn is_true(clause: &[Lit], values: &[bool]) -> bool
     false
 }
 
-/// The greatest level of a lemma that the state does not meet, 0 where it meets them all. Takes no memory.
-pub(crate) fn blocked_to(lemmas: &Lemmas, values: &[bool]) -> u32
-    ensures { IsBlockedTo lemmas.now result (assignment_of values.now) }
+// The greatest level of a live lemma that the state does not meet, 0 where it meets them all.
+fn blocked_live(lemmas: &Lemmas, values: &[bool]) -> u32
+    ensures { IsBlockedLive lemmas.now (length lemmas.now) result (assignment_of values.now) }
 {
     let mut level = 0;
     for n in 0..lemmas.len() {
-        level = lifted(level, lemmas.lemma(n), values);
+        level = lifted_live(level, lemmas.lemma(n), values);
     }
     level
 }
 
-/// Whether the state meets each lemma of this level or more. It ends at the first one that it does not meet.
-/// Takes no memory.
-pub fn meets_from(lemmas: &Lemmas, level: u32, values: &[bool]) -> bool
-    ensures { IsTrue result ↔ MeetsFrom lemmas.now level (assignment_of values.now) }
+/// The greatest level of a lemma that the state does not meet, 0 where it meets them all. Retired lemmas are passed
+/// over, since a live one covers each of them. Takes no memory.
+pub(crate) fn blocked_to(frames: &Frames, values: &[bool]) -> u32
+    ensures { IsBlockedTo frames.now.lemmas result (assignment_of values.now) }
+{
+    blocked_live(frames.all_lemmas(), values)
+}
+
+// Whether the state meets each live lemma of this level or more.
+fn meets_live(lemmas: &Lemmas, level: u32, values: &[bool]) -> bool
+    ensures { IsTrue result ↔ MeetsLive lemmas.now level (assignment_of values.now) }
 {
     for n in 0..lemmas.len() {
         if !meets_at(level, lemmas.lemma(n), values) {
@@ -54,11 +61,31 @@ pub fn meets_from(lemmas: &Lemmas, level: u32, values: &[bool]) -> bool
     true
 }
 
-// Whether the lemma is below the level, or the state meets it.
-fn meets_at(level: u32, lemma: &Lemma, values: &[bool]) -> bool
-    ensures { IsTrue result ↔ (level ≤ lemma.now.level → ClauseTrue (assignment_of values.now) lemma.now.clause) }
+/// Whether the state meets each lemma of this level or more. It ends at the first live one that it does not meet.
+/// Retired lemmas are passed over, since a live one covers each of them. Takes no memory.
+pub fn meets_from(frames: &Frames, level: u32, values: &[bool]) -> bool
+    ensures { IsTrue result ↔ MeetsFrom frames.now.lemmas level (assignment_of values.now) }
 {
-    lemma.level < level || is_true(lemma.clause.as_slice(), values)
+    meets_live(frames.all_lemmas(), level, values)
+}
+
+// Whether the lemma is retired or below the level, or the state meets it.
+fn meets_at(level: u32, lemma: &Lemma, values: &[bool]) -> bool
+    ensures { IsTrue result ↔ (lemma.now.live ≡ true → level ≤ lemma.now.level → ClauseTrue (assignment_of values.now) lemma.now.clause) }
+{
+    !lemma.live || lemma.level < level || is_true(lemma.clause.as_slice(), values)
+}
+
+// The level to which the state is blocked with this lemma too, if it is live.
+fn lifted_live(level: u32, lemma: &Lemma, values: &[bool]) -> u32
+    ensures live { lemma.now.live ≡ true → IsLifted lemma.now (assignment_of values.now) level result }
+    ensures retired { lemma.now.live ≡ false → result ≡ level }
+{
+    if lemma.live {
+        lifted(level, lemma, values)
+    } else {
+        level
+    }
 }
 
 // The level to which the state is blocked with this lemma too.

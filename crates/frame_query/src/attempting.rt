@@ -17,11 +17,12 @@ ghost use Rattle.frame_solver.specs.Stepping.{Ends, Finds};
 ghost use Rattle.frame_query.specs.Dropping.{IsBroken};
 ghost use Rattle.frame_query.specs.Trying.{proof_of, Tries, PaysFor, PaysNew, IsOthers, IsNeeded, IsSplit, IsSame};
 
+use crate::lookups::{Lookup, is_part_of};
 use crate::trying::{Draft, Trial};
 use clause_core::{Clause, Lit, System};
 use effort_purse::Purse;
-use frame_core::{Lemma, Parent, is_part_of};
-use frame_solver::{Engine, Firsts, Known, Stepping, firsts_of, has, steps_of};
+use frame_core::{Lemma, Parent};
+use frame_solver::{Engine, Firsts, Known, Stepping, firsts_of, steps_of};
 use std::alloc::{AllocError, Global};
 
 // A copy of the parents.
@@ -53,23 +54,23 @@ pub(crate) fn others(alloc: Global, literals: &[Lit], l: Lit) -> Result<Vec<Lit>
 }
 
 // Whether the literal is in one of the two parts.
-fn is_needed(part: &[Lit], met: &[Lit], l: Lit) -> bool
+fn is_needed(part: &Lookup, met: &Lookup, l: Lit) -> bool
     ensures { MatchBool result (Contains part.now l ⊎ Contains met.now l) (Contains part.now l ⊎ Contains met.now l → ⊥) }
 {
-    if has(part, l) {
+    if part.has(l) {
         return true;
     }
-    has(met, l)
+    met.has(l)
 }
 
 // Whether the literal is in one of the two parts, or in the hint.
-fn is_wanted(part: &[Lit], met: &[Lit], hint: &[Lit], l: Lit) -> bool
+fn is_wanted(part: &Lookup, met: &Lookup, hint: &Lookup, l: Lit) -> bool
     ensures { MatchBool result ⊤ (Contains part.now l ⊎ Contains met.now l → ⊥) }
 {
     if is_needed(part, met, l) {
         return true;
     }
-    has(hint, l)
+    hint.has(l)
 }
 
 // The literals that are in one of the two parts, and those of the hint.
@@ -82,9 +83,12 @@ pub(crate) fn needed_of(
 ) -> Result<Vec<Lit>, AllocError>
     ensures { IfOk result (λ v. IsNeeded left.now part.now met.now v.items) }
 {
+    let part = Lookup::new(alloc, part);
+    let met = Lookup::new(alloc, met);
+    let hint = Lookup::new(alloc, hint);
     let mut needed = Vec::new(alloc);
     'literals: for l in left {
-        if is_wanted(part, met, hint, *l) {
+        if is_wanted(&part, &met, &hint, *l) {
             needed.push(*l)?;
         }
     }
@@ -97,9 +101,10 @@ pub(crate) fn hinted(alloc: Global, literals: &[Lit], hint: &[Lit]) -> Result<Ve
     ensures inside { IfOk result (λ v. IsPart v.items hint.now) }
     ensures fewer { IfOk result (λ v. length v.items ≤ length literals.now) }
 {
+    let hint = Lookup::new(alloc, hint);
     let mut both = Vec::new(alloc);
     'literals: for l in literals {
-        if has(hint, *l) {
+        if hint.has(*l) {
             both.push(*l)?;
         }
     }
@@ -107,11 +112,12 @@ pub(crate) fn hinted(alloc: Global, literals: &[Lit], hint: &[Lit]) -> Result<Ve
 }
 
 // A literal that the hint lacks.
-pub(crate) fn lacked(literals: &[Lit], hint: &[Lit]) -> Option<Lit>
+pub(crate) fn lacked(alloc: Global, literals: &[Lit], hint: &[Lit]) -> Option<Lit>
     ensures { IfSome result (λ l. Contains literals.now l × (Contains hint.now l → ⊥)) }
 {
+    let hint = Lookup::new(alloc, hint);
     'literals: for l in literals {
-        if !has(hint, *l) {
+        if !hint.has(*l) {
             return Some(*l);
         }
     }
@@ -119,11 +125,14 @@ pub(crate) fn lacked(literals: &[Lit], hint: &[Lit]) -> Option<Lit>
 }
 
 // Whether the clause has just the literals of the one that failed.
-pub(crate) fn has_failed(failed: &Option<Clause>, clause: &[Lit]) -> bool
+pub(crate) fn has_failed(alloc: Global, failed: &Option<Clause>, clause: &[Lit]) -> bool
     ensures { MatchBool result (IsSame failed.now clause.now) (IsSame failed.now clause.now → ⊥) }
 {
     match failed {
-        Some(other) => is_part_of(other.as_slice(), clause) && is_part_of(clause, other.as_slice()),
+        Some(other) => {
+            is_part_of(alloc, other.as_slice(), clause)
+                && is_part_of(alloc, clause, other.as_slice())
+        }
         None => false,
     }
 }
@@ -134,10 +143,11 @@ fn ordered(alloc: Global, clause: &[Lit], part: &[Lit]) -> Result<Vec<Lit>, Allo
     ensures only { IfOk result (λ v. IsPart v.items clause.now) }
     ensures many { IfOk result (λ v. length v.items ≡ length clause.now) }
 {
+    let part = Lookup::new(alloc, part);
     let mut inside = Vec::new(alloc);
     let mut outside = Vec::new(alloc);
     'literals: for l in clause {
-        if has(part, *l) {
+        if part.has(*l) {
             inside.push(*l)?;
         } else {
             outside.push(*l)?;
@@ -224,7 +234,7 @@ fn steps_or_draft<Q: Purse>(
     ensures ready { Q.ready purse.new }
     ensures budget { Q.budget purse.new ≡ Q.budget purse.old }
 {
-    if is_part_of(&draft.part, clause) {
+    if is_part_of(alloc, &draft.part, clause) {
         return shown_by_draft(alloc, draft, met);
     }
     let found = steps_of(alloc, systems, lemmas, steps, known, clause, level, purse)?;
@@ -307,7 +317,7 @@ pub(crate) fn attempt_new<Q: Purse>(
     ensures ready { Q.ready purse.new }
     ensures budget { Q.budget purse.new ≡ Q.budget purse.old }
 {
-    if has_failed(failed, clause) {
+    if has_failed(alloc, failed, clause) {
         return Ok(Trial::Fails);
     }
     attempt(

@@ -212,13 +212,13 @@ fn hint_turn<Q: Purse>(
 }
 
 // A literal still to be tried that the hint lacks, where there is a hint and one clause more may be asked about.
-fn fits(walk: &Walk) -> Option<Lit>
+fn fits(alloc: Global, walk: &Walk) -> Option<Lit>
     ensures { IfSome result (Fits walk.now) }
 {
     if walk.hint.is_empty() || walk.asks <= walk.rest.len() {
         return None;
     }
-    lacked(&walk.rest, &walk.hint)
+    lacked(alloc, &walk.rest, &walk.hint)
 }
 
 // Tries the hint, where that fits, and else the clause without one of the literals still to be tried.
@@ -250,7 +250,7 @@ fn next<Q: Purse>(
     ensures ready { Q.ready purse.new }
     ensures budget { Q.budget purse.new ≡ Q.budget purse.old }
 {
-    if let Some(l) = fits(walk) {
+    if let Some(l) = fits(alloc, walk) {
         return hint_turn(
             alloc, systems, lemmas, steps, states, known, given, walk, l, purse,
         );

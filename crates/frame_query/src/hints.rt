@@ -14,6 +14,38 @@ const MOST: usize = 1024;
 pub struct Hint {
     state: Vec<bool>,
     clause: Vec<Lit>,
+    // A mix of the numbers of the bits that are true in the state. States with other mixes differ.
+    key: u64,
+}
+
+// What a true bit of this number adds to a state's key.
+fn key_of_bit(b: usize) -> u64 {
+    let spread = (b as u64)
+        .wrapping_add(1)
+        .wrapping_mul(11_400_714_819_323_198_485);
+    (spread ^ (spread >> 29)).wrapping_mul(13_787_848_793_156_543_929)
+}
+
+// The key of a state.
+fn key_of(state: &[bool]) -> u64 {
+    let mut key: u64 = 0;
+    for b in 0..state.len() {
+        if state[b] {
+            key ^= key_of_bit(b);
+        }
+    }
+    key
+}
+
+// The key of the state that makes each literal false, where the clause has one literal for each bit.
+fn key_outside(clause: &[Lit]) -> u64 {
+    let mut key: u64 = 0;
+    for l in clause {
+        if !l.positive {
+            key ^= key_of_bit(l.var);
+        }
+    }
+    key
 }
 
 // Whether each literal of the clause is false in the state.
@@ -31,15 +63,16 @@ fn is_outside(state: &[bool], clause: &[Lit]) -> bool {
     true
 }
 
-// Whether the clause says that a state is another than that of the hint.
-fn is_of(hint: &Hint, clause: &[Lit]) -> bool {
-    clause.len() == hint.state.len() && is_outside(&hint.state, clause)
+// Whether the clause, of this key, says that a state is another than that of the hint.
+fn is_of(hint: &Hint, key: u64, clause: &[Lit]) -> bool {
+    hint.key == key && clause.len() == hint.state.len() && is_outside(&hint.state, clause)
 }
 
 // The place of the last hint for the clause.
 fn place_of(hints: &[Hint], clause: &[Lit]) -> Option<usize> {
+    let key = key_outside(clause);
     'hints: for k in (0..hints.len()).rev() {
-        if is_of(&hints[k], clause) {
+        if is_of(&hints[k], key, clause) {
             return Some(k);
         }
     }
@@ -75,7 +108,8 @@ fn hint_of(alloc: Global, values: &[bool], bits: usize, marks: &Marks) -> Result
     let clause = clause_of(alloc, values, bits, marks)?;
     let mut state = Vec::from_slice(alloc, values)?;
     state.truncate(bits);
-    Ok(Hint { state, clause })
+    let key = key_of(&state);
+    Ok(Hint { state, clause, key })
 }
 
 // Asks for the next bits of the clause.

@@ -10,6 +10,7 @@ mod hints;
 pub mod keeping;
 mod kept_proofs;
 mod lifting;
+mod lookups;
 pub mod outcomes;
 mod pushing;
 mod reissuing;

@@ -1,10 +1,11 @@
 //! A bounded list of steps that queries found. One that leaves a clause is a counterexample to its
 //! induction, and saves a query.
 //!
-//! Most steps are ruled out by the first bits of the state that they lead to, which stand in one word; the others
-//! mostly by the lemma that ruled them out before. Both are kept beside each step, and tested first.
+//! Most steps are ruled out by 64 bits of the state that they lead to, which stand in one word: those among which one
+//! ruled the step out before. The others are mostly ruled out by another word, or by the lemma that did so before.
+//! All of this is kept beside each step, and tested first.
 
-ghost use Rattle.std.specs.Prelude.{◌≡◌, ◌+◌, ◌-◌, ◌<◌, ◌≤◌, ℕ, Bool, not, true, All, IfNone, IfSome, IsTrue, length};
+ghost use Rattle.std.specs.Prelude.{◌≡◌, ◌+◌, ◌-◌, ◌<◌, ◌≤◌, ℕ, Bool, not, true, All, IfNone, IfOk, IfSome, IsTrue, length};
 ghost use Rattle.std.specs.List.{HoldsAt};
 ghost use Rattle.clause_core.specs.declared.literal.Lit.{Lit as ALit};
 ghost use Rattle.clause_core.specs.Literals.{Within};
@@ -17,7 +18,7 @@ ghost use Rattle.frame_solver.specs.Recalling.{IsKnownStep, LeadsOut};
 
 use clause_core::{Bits, Lit, System, met};
 use frame_core::Lemma;
-use std::alloc::AllocError;
+use std::alloc::{AllocError, Global};
 
 // How many steps are kept.
 const MOST: usize = 1024;
@@ -30,12 +31,23 @@ pub struct KnownStep {
 }
 
 // What is kept beside a step to rule it out fast. Contracts do not see it: a step that it lets through is tested.
-#[derive(Clone, Copy, Drop)]
+#[derive(Drop)]
 pub struct StepHint {
-    // The first 64 bits of the state that the step leads to, the first one lowest.
+    // The bits of the state that the step leads to, 64 in a word, the first one lowest.
+    pub words: Vec<u64>,
+    // The place of the word that ruled the step out last.
+    pub place: usize,
+    // That word.
     pub next: u64,
     // The place of the lemma that ruled the step out last.
     pub bar: usize,
+}
+
+// The bits of a clause's literals, in a word of 64 bits: those of positive ones, and those of negative ones.
+#[derive(Clone, Copy, Drop)]
+pub(crate) struct Mask {
+    positive: u64,
+    negative: u64,
 }
 
 // The bits of this number of a word, where `k` is one.
@@ -55,15 +67,69 @@ fn word_from(values: &[bool], from: usize) -> u64 {
     word
 }
 
-// The bits of the literals of a clause that have this sign.
-fn bits_of(clause: &[Lit], positive: bool) -> u64 {
-    let mut word: u64 = 0;
-    for l in clause {
-        if l.positive == positive {
-            word |= bit(l.var);
+// Sets the literal's bit.
+fn note_literal(masks: &mut [Mask], l: Lit) {
+    let place = l.var / 64;
+    if place < masks.len() {
+        let own = bit(l.var % 64);
+        if l.positive {
+            masks[place].positive |= own;
+        } else {
+            masks[place].negative |= own;
         }
     }
-    word
+}
+
+// The bits of the clause's literals, 64 state bits in a word.
+fn masks_of(alloc: Global, bits: usize, clause: &[Lit]) -> Result<Vec<Mask>, AllocError> {
+    let none = Mask {
+        positive: 0,
+        negative: 0,
+    };
+    let count = (bits / 64).saturating_add(1);
+    let mut masks = vec![in alloc; none; count]?;
+    for l in clause {
+        note_literal(&mut masks, *l);
+    }
+    Ok(masks)
+}
+
+// Whether the word at this place makes a literal of the clause true.
+fn is_ruled_by(masks: &[Mask], place: usize, word: u64) -> bool {
+    if place < masks.len() {
+        let mask = masks[place];
+        (word & mask.positive) | (!word & mask.negative) != 0
+    } else {
+        false
+    }
+}
+
+// The place of the first word that makes a literal of the clause true.
+fn ruling_place(masks: &[Mask], words: &[u64]) -> Option<usize> {
+    for place in 0..words.len() {
+        if is_ruled_by(masks, place, words[place]) {
+            return Some(place);
+        }
+    }
+    None
+}
+
+// Whether the state that the step leads to makes a literal of the clause true, by what is kept beside the step. The
+// word that tells it is tested first the next time.
+fn is_ruled_out(masks: &[Mask], hint: &mut StepHint) -> bool {
+    if is_ruled_by(masks, hint.place, hint.next) {
+        return true;
+    }
+    match ruling_place(masks, &hint.words) {
+        Some(place) => {
+            if place < hint.words.len() {
+                hint.next = hint.words[place];
+                hint.place = place;
+            }
+            true
+        }
+        None => false,
+    }
 }
 
 // Whether the values from place `from` on make each literal false.
@@ -158,13 +224,14 @@ fn leads_out(
         && leads_from(step, lemmas, level - 1, bar)
 }
 
-// What is kept beside the step at this place.
-fn hint_at(hints: &[StepHint], k: usize) -> StepHint {
-    if k < hints.len() {
-        hints[k]
-    } else {
-        StepHint { next: 0, bar: 0 }
-    }
+// Whether what is kept beside the step at this place rules it out.
+fn is_ruled_out_at(masks: &[Mask], hints: &mut [StepHint], k: usize) -> bool {
+    k < hints.len() && is_ruled_out(masks, &mut hints[k])
+}
+
+// The place of the lemma that ruled out the step at this place last.
+fn bar_at(hints: &[StepHint], k: usize) -> usize {
+    if k < hints.len() { hints[k].bar } else { 0 }
 }
 
 // Remembers the lemma that ruled out the step at this place.
@@ -174,12 +241,14 @@ fn note_bar(hints: &mut [StepHint], k: usize, bar: usize) {
     }
 }
 
-// The place of the last of these steps that is known to lead out of the clause at the level.
-pub(crate) fn last_out(
+// The place of the last of these steps that is known to lead out of the clause at the level. The masks are those of
+// the clause.
+fn last_by(
     system: &System,
     lemmas: &[Lemma],
     steps: &[KnownStep],
     hints: &mut [StepHint],
+    masks: &[Mask],
     clause: &[Lit],
     level: u32,
 ) -> Option<usize>
@@ -189,11 +258,9 @@ pub(crate) fn last_out(
     requires level { 0 < level }
     ensures { IfSome result (λ k. (k < length steps.now) × HoldsAt (LeadsOut system.now lemmas.now level clause.now) steps.now k) }
 {
-    let positive = bits_of(clause, true);
-    let negative = bits_of(clause, false);
     'steps: for k in (0..steps.len()).rev() {
-        let StepHint { next, mut bar } = hint_at(hints, k);
-        if (next & positive) | (!next & negative) == 0 {
+        if !is_ruled_out_at(masks, hints, k) {
+            let mut bar = bar_at(hints, k);
             if leads_out(system, lemmas, &steps[k], clause, level, &mut bar) {
                 return Some(k);
             }
@@ -201,6 +268,26 @@ pub(crate) fn last_out(
         }
     }
     None
+}
+
+// The place of the last of these steps that is known to lead out of the clause at the level.
+pub(crate) fn last_out(
+    alloc: Global,
+    system: &System,
+    lemmas: &[Lemma],
+    steps: &[KnownStep],
+    hints: &mut [StepHint],
+    clause: &[Lit],
+    level: u32,
+) -> Result<Option<usize>, AllocError>
+    requires known { All (IsKnownStep system.now) steps.now }
+    requires lemmas { All (λ (l : ALemma). Within system.now.state_bits l.clause) lemmas.now }
+    requires within { Within system.now.state_bits clause.now }
+    requires level { 0 < level }
+    ensures { IfOk result (λ r. IfSome r (λ k. (k < length steps.now) × HoldsAt (LeadsOut system.now lemmas.now level clause.now) steps.now k)) }
+{
+    let masks = masks_of(alloc, system.state_bits(), clause)?;
+    Ok(last_by(system, lemmas, steps, hints, &masks, clause, level))
 }
 
 // The step at this place goes to the end. If memory runs out, it is gone.
@@ -231,18 +318,49 @@ fn keep_hint(hints: &mut Vec<StepHint>, hint: StepHint) -> Result<(), AllocError
     Ok(())
 }
 
+// So many bits from place `from` on, 64 in a word.
+fn words_of(
+    alloc: Global,
+    values: &[bool],
+    from: usize,
+    bits: usize,
+) -> Result<Vec<u64>, AllocError> {
+    let mut words = Vec::new(alloc);
+    for place in 0..(bits / 64).saturating_add(1) {
+        words.push(word_from(values, from.saturating_add(place.saturating_mul(64))))?;
+    }
+    Ok(words)
+}
+
+// What is to be kept beside a step of these values at first.
+fn new_hint(
+    alloc: Global,
+    values: &[bool],
+    from: usize,
+    bits: usize,
+) -> Result<StepHint, AllocError> {
+    let words = words_of(alloc, values, from, bits)?;
+    Ok(StepHint {
+        words,
+        place: 0,
+        next: word_from(values, from),
+        bar: 0,
+    })
+}
+
 // Adds the step at the end, and what is kept beside it; where there is no room for one more, the first one goes. The
-// bits of the state that it leads to stand from place `from` on.
+// bits of the state that it leads to stand from place `bits` on, as many as that.
 pub(crate) fn keep(
+    alloc: Global,
     steps: &mut Vec<KnownStep>,
     hints: &mut Vec<StepHint>,
-    from: usize,
+    bits: usize,
     step: KnownStep,
 ) -> Result<(), AllocError>
     ensures { (sys : TransitionSystem) → All (IsKnownStep sys) steps.old.items → IsKnownStep sys step → All (IsKnownStep sys) steps.new.items }
 {
-    let next = word_from(step.values.as_slice(), from);
-    keep_hint(hints, StepHint { next, bar: 0 })?;
+    let hint = new_hint(alloc, step.values.as_slice(), bits, bits)?;
+    keep_hint(hints, hint)?;
     if steps.len() >= MOST {
         let _ = steps.remove(0);
     }

@@ -144,14 +144,16 @@ impl<'a> Known<'a> {
         ensures found { IfOk result (λ r. IfSome r (IsStepOut self.old lemmas.now level clause.now)) }
         ensures same { self.new ≡ self.old }
     {
-        match last_out(
+        let found = last_out(
+            alloc,
             self.system,
             lemmas,
             &self.steps,
             &mut self.hints,
             clause,
             level,
-        ) {
+        )?;
+        match found {
             Some(k) => {
                 let values = Bits::from_slice(alloc, self.steps[k].values.as_slice())?;
                 put_last(&mut self.steps, k)?;
@@ -174,11 +176,12 @@ impl<'a> Known<'a> {
     {
         if let Stepping::Leaves(values) = found {
             let values = Bits::from_slice(alloc, values.as_slice())?;
-            let from = self.system.state_bits();
+            let bits = self.system.state_bits();
             keep(
+                alloc,
                 &mut self.steps,
                 &mut self.hints,
-                from,
+                bits,
                 KnownStep { values, first },
             )?;
         }

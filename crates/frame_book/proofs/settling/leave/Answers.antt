@@ -10,7 +10,7 @@ pub returns-then-meets_from : goal.returns-then-meets_from
 returns-then-meets_from c =
     let f : FrameState = c.args.levels.now in
     let s : FoundStep = c.args.step in
-    let ls : c.all_lemmas.result.now ≡ f.lemmas = c.all_lemmas.ensures.value ∙ ap (λ (z : FrameState). z.lemmas) c.frames.ensures in
+    let ls : c.frames.result.now.lemmas ≡ f.lemmas = ap (λ (z : FrameState). z.lemmas) c.frames.ensures in
     let vs : c.as_slice.result.now ≡ s.values = c.as_slice.ensures ∙ c.values.ensures in
     let meets : MeetsFrom f.lemmas (c.args.made.now.level - 1) (assignment_of s.values) =
     subst (λ (v : List Bool). MeetsFrom f.lemmas (c.args.made.now.level - 1) (assignment_of v)) vs

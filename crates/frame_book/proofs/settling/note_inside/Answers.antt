@@ -11,7 +11,7 @@ pub returns-then-not-is_inside-clause-done : goal.returns-then-not-is_inside-cla
 returns-then-not-is_inside-clause-done c =
     let f : FrameState = c.args.levels.now in
     let g : FoundState = c.args.found in
-    let ls : c.all_lemmas.result.now ≡ f.lemmas = c.all_lemmas.ensures.value ∙ ap (λ (z : FrameState). z.lemmas) c.frames.ensures in
+    let ls : c.frames.result.now.lemmas ≡ f.lemmas = ap (λ (z : FrameState). z.lemmas) c.frames.ensures in
     let out : InFrame g.system f.lemmas c.args.level (assignment_of g.values) → ⊥ =
     λ h. let t : c.is_inside.result ≡ true = c.is_inside.ensures.1 (subst (λ (z : List Lemma). InFrame g.system z c.args.level (assignment_of g.values)) (sym ls) h) in
     let u : c.is_inside.result ≡ false = c.if-not-is_inside.true in cc in
@@ -21,7 +21,7 @@ pub returns-in-Ok-clause-done : goal.returns-in-Ok-clause-done
 returns-in-Ok-clause-done c =
     let f : FrameState = c.args.levels.now in
     let g : FoundState = c.args.found in
-    let ls : c.all_lemmas.result.now ≡ f.lemmas = c.all_lemmas.ensures.value ∙ ap (λ (z : FrameState). z.lemmas) c.frames.ensures in
+    let ls : c.frames.result.now.lemmas ≡ f.lemmas = ap (λ (z : FrameState). z.lemmas) c.frames.ensures in
     let inside : InFrame g.system f.lemmas c.args.level (assignment_of g.values) =
     subst (λ (z : List Lemma). InFrame g.system z c.args.level (assignment_of g.values)) ls (c.is_inside.ensures.0 c.if-not-is_inside.false) in
     inr (inside, c.in-Ok.ensures.done.0, c.in-Ok.ensures.done.1)

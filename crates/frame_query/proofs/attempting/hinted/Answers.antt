@@ -23,7 +23,7 @@ literals-preserved c =
           let e : c.if-has.both.items ≡ old ++ l ∷ [] = cc (w.both-is, w.in_ok-push.ensures.items) in
           record {
             only = subst P (sym e) (All-push (Contains literals) old l inv.only (Contains-get_or literals i none_lit lt));
-            inside = subst Q (sym e) (All-push (Contains hint) old l inv.inside w.if-has.ensures);
+            inside = subst Q (sym e) (All-push (Contains hint) old l inv.inside (subst (λ (xs : List Lit). Contains xs l) c.new-hint.ensures w.if-has.ensures));
             fewer = omega (arith, ap length e, length-append old (l ∷ []), inv.fewer);
           }
       | else-has w ↦

@@ -1,4 +1,5 @@
 use Rattle.std.proofs.Common.{◌≡◌, ◌++◌, ◌∷◌, [], List, take, get_or, length, subst, sym, arith, ◌<◌}
+use Rattle.std.specs.Prelude.{◌⊎◌, Contains}
 use Rattle.std.proofs.lemmas.List.{take_more, take_all}
 use Rattle.clause_core.specs.declared.literal.Lit.{Lit}
 use Rattle.clause_core.specs.Literals.{none_lit}
@@ -18,13 +19,16 @@ literals-preserved c =
     let more = take_more left i none_lit lt in
     let P : List Lit → Type 0 = λ xs. IsNeeded xs c.args.part.now c.args.met.now c.if-is_wanted.needed.items in
     let Q : List Lit → Type 0 = λ ys. IsNeeded (take i left ++ l ∷ []) c.args.part.now c.args.met.now ys in
+    let R : List Lit → Type 0 = λ ps. Contains ps l ⊎ Contains c.args.met.now l → ⊥ in
+    let S : List Lit → Type 0 = λ ms. Contains c.new-part.result l ⊎ Contains ms l → ⊥ in
     elim c.if-is_wanted.branch [
       | then-is_wanted+in_ok-push w ↦
           let e : c.if-is_wanted.needed.items ≡ needed ++ l ∷ [] = cc (w.needed-is, w.in_ok-push.ensures.items) in
           subst P (sym more) (subst Q (sym e) (needed_push (take i left) c.args.part.now c.args.met.now needed l c.literals.invariant))
       | else-is_wanted w ↦
           let e : c.if-is_wanted.needed.items ≡ needed = cc w.needed-is in
-          subst P (sym more) (subst Q (sym e) (needed_skip (take i left) c.args.part.now c.args.met.now needed l c.literals.invariant w.if-is_wanted.ensures))
+          subst P (sym more) (subst Q (sym e) (needed_skip (take i left) c.args.part.now c.args.met.now needed l c.literals.invariant
+          (subst R c.new-part.ensures (subst S c.new-met.ensures w.if-is_wanted.ensures))))
     ]
 
 pub literals-init : goal.literals-init

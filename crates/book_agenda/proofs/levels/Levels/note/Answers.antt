@@ -1,7 +1,6 @@
 use Rattle.std.proofs.Common.{◌≡◌, ℕ, Bool, List, [], ◌∷◌, ◌++◌, refl, sym, ap, subst, ◌∙◌}
 use Rattle.std.specs.Prelude.{is_none}
 use Rattle.clause_core.specs.Assignments.{assignment_of}
-use Rattle.frame_core.specs.declared.parts.Lemma.{Lemma}
 use Rattle.frame_core.specs.declared.parts.Obligation.{Obligation}
 use Rattle.frame_core.specs.FrameLaw.{FrameState}
 use Rattle.frame_core.specs.Changes.{IsOfSystem, MayHaveParent, NotesSame, with_obligation}
@@ -24,7 +23,7 @@ invariant_of-self-2 c =
     let values : c.as_slice.result.now ≡ c.args.found.values = c.as_slice.ensures ∙ c.values.ensures in
     let to : IsBlockedTo f.lemmas c.blocked_to-level.result (assignment_of o.values) =
     subst (λ (v : List Bool). IsBlockedTo f.lemmas c.blocked_to-level.result (assignment_of v)) values
-    (subst (λ (ls : List Lemma). IsBlockedTo ls c.blocked_to-level.result (assignment_of c.as_slice.result.now)) c.all_lemmas.ensures.value c.blocked_to-level.ensures) in
+    c.blocked_to-level.ensures in
     let floors : AreFloors c.lower.new.floors.items c.push_reserved.new.self.items =
     subst (λ (z : List ℕ). AreFloors c.lower.new.floors.items z)
     (ap (λ (z : List ℕ). z ++ c.blocked_to-level.result ∷ []) c.deref.ensures.value ∙ sym c.push_reserved.ensures.items) c.lower.ensures in

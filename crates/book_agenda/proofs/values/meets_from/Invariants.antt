@@ -1,8 +1,0 @@
-use Rattle.std.proofs.Common.{◌<◌, ◌≤◌, ℕ}
-use Rattle.clause_core.specs.Assignments.{ClauseTrue, assignment_of}
-use Rattle.frame_core.specs.FrameLaw.{lemma_at}
-use Rattle.book_agenda.proofs.values.meets_from.Given as goal
-
-abbrev pub invariant-loop-n : goal.invariant-loop-n
-invariant-loop-n l =
-    (k : ℕ) → k < l.n → l.level ≤ (lemma_at l.lemmas k).level → ClauseTrue (assignment_of l.values) (lemma_at l.lemmas k).clause
