@@ -1,6 +1,7 @@
 //! What edges tell of a state, of inputs, and of the nodes of a program there.
 
-ghost use Rattle.std.specs.Prelude.{◌≡◌, length, IfOk};
+ghost use Rattle.std.specs.Prelude.{◌≡◌, List, length, IfOk};
+ghost use Rattle.bit_graph.specs.declared.edge.Node.{Node};
 ghost use Rattle.bit_graph.specs.Growth.{Extends};
 ghost use Rattle.bit_arith.specs.Number.{AllStand};
 ghost use Rattle.bit_states.specs.Layouts.{input_types, input_width, state_types, state_width};
@@ -9,7 +10,7 @@ ghost use Rattle.bit_conditions.specs.Told.{TellsInputs, TellsMoment, TellsNowhe
 use crate::inhabited::some_inputs;
 use bit_graph::{Edge, Graph};
 use bit_operators::Symbolic;
-use bit_outcomes::{Told, nowhere as outcomes_nowhere, table};
+use bit_outcomes::{Told, table, untold};
 use bit_states::{domain_edge, slot_values};
 use smv_meaning::Typed;
 use sqlite_items::Items;
@@ -40,21 +41,19 @@ pub struct ToldInputs {
     pub values: Items<Symbolic>,
 }
 
-/// What is told of each node where there is no state.
-///
-/// Time and memory grow with the nodes. The only error is running out of memory, or operands whose kinds do not fit,
-/// which in a typed program does not come.
-pub fn nowhere(alloc: Global, graph: &mut Graph, typed: &Typed) -> Result<Items<Told>, AllocError>
-    ensures extends { Extends graph.old graph.new }
-    ensures told { IfOk result (TellsNowhere graph.new typed.now) }
+/// What is told of each node where there is no state: nothing, in whatever graph. No item that speaks of a state has a
+/// `next`, so no more is asked. The only error is running out of memory.
+pub fn nowhere(alloc: Global, typed: &Typed) -> Result<Items<Told>, AllocError>
+    ensures { IfOk result (λ r. (g : List Node) → TellsNowhere g typed.now r) }
 {
-    let told = outcomes_nowhere(alloc, graph, typed.slots.as_slice(), typed.nodes.as_slice())?;
+    let told = untold(alloc, typed.nodes.as_slice())?;
     Ok(told)
 }
 
 /// The state whose bits have these edges, where the types are those of its slots.
 ///
-/// Operators over values of many bits have gates as circuits do. The errors are as of `nowhere`. Out of memory is
+/// Operators over values of many bits have gates as circuits do. Time and memory grow with the nodes. The only error is
+/// running out of memory, or operands whose kinds do not fit, which in a typed program does not come. Out of memory is
 /// answered too where an input slot is of a type with no value, an enumeration with no element, which no source can
 /// write.
 pub fn told_state(
@@ -119,7 +118,7 @@ pub fn told_inputs(
 }
 
 /// What is told of each node in the step with these inputs from the one state to the other. The errors are as of
-/// `nowhere`.
+/// `told_state`.
 pub fn told_step(
     alloc: Global,
     graph: &mut Graph,
@@ -147,7 +146,7 @@ pub fn told_step(
 }
 
 /// What is told of each node in the state with these inputs, where no next state is spoken of. The errors are as of
-/// `nowhere`.
+/// `told_state`.
 pub fn told_moment(
     alloc: Global,
     graph: &mut Graph,

@@ -1,10 +1,11 @@
 -- What edges tell of temporal formulas, one node after another.
-use Rattle.std.proofs.Common.{◌≡◌, ◌∙◌, ℕ, zero, suc, ◌+◌, ◌-◌, ◌<◌, Bool, true, false, ◌&&◌, ◌||◌, List, [], ◌∷◌, ◌++◌, length, get_or, take, drop, refl, sym, ap, subst, arith, if◌then◌else◌, length-append}
+use Rattle.std.proofs.Common.{◌≡◌, ◌∙◌, ℕ, zero, suc, ◌+◌, ◌-◌, ◌<◌, Bool, true, false, ◌&&◌, ◌||◌, List, [], ◌∷◌, ◌++◌, length, get_or, take, drop, replicate, refl, sym, ap, subst, arith, if◌then◌else◌, length-append}
 use Rattle.std.specs.Prelude.{None, Option, Some}
 use Rattle.std.specs.List.{list_all, list_any}
 use Rattle.std.specs.Option.{is_some, option_or}
 use Rattle.std.proofs.lemmas.Bool.{and_parts}
-use Rattle.std.proofs.lemmas.List.{get_or-drop, length-drop}
+use Rattle.std.proofs.lemmas.List.{get_or-drop, length-drop, length-replicate}
+use Rattle.std.proofs.lemmas.List.Elements.{All-replicate}
 use Rattle.std.proofs.lemmas.List.Folds.{list_all_more, list_any_more}
 use Rattle.std.proofs.lemmas.Option.{slice_get-get_or}
 use Rattle.bit_graph.specs.declared.edge.Edge.{Edge}
@@ -18,7 +19,7 @@ use Rattle.smv_slots.specs.declared.slot.Slot.{Slot}
 use Rattle.smv_resolve.specs.declared.node.Naming.{Naming}
 use Rattle.smv_resolve.specs.declared.node.Node.{Node}
 use Rattle.smv_resolve.specs.Resolved.{Operands, Resolved, last_of, operands_of, part_at, part_of, parts_of, resolved_by}
-use Rattle.smv_resolve.proofs.Parts.{part_is, parts_of-next}
+use Rattle.smv_resolve.proofs.Parts.{length-parts, part_is, parts_of-next}
 use Rattle.smv_meaning.specs.declared.outcome.Outcome.{Outcome}
 use Rattle.smv_meaning.specs.declared.outcome.Outcome.TheVariants.{Fault, Nothing, Values}
 use Rattle.smv_meaning.specs.Formulas.{are_known_formulas, fault_in, formula_fault, formula_faults, is_known, is_known_formula, is_over_formulas}
@@ -55,6 +56,27 @@ pub stands_at : (g : List Gate) (es : List (Option Edge)) (k : ℕ) → AllStand
 stands_at g [] k stand = tt
 stands_at g (e ∷ es) zero stand = stand 0 None (omega arith)
 stands_at g (e ∷ es) (suc k) stand = stands_at g es k (λ i d lt. stand (suc i) d (omega (arith, lt)))
+
+-- no edge of any node
+
+abbrev pub no_edges : ℕ → List (Option Edge)
+no_edges n = replicate n None
+
+pub none_stand : (g : List Gate) (n : ℕ) → AllStandIfAny g (no_edges n)
+none_stand g n = All-replicate (StandsIfAny g) n None tt
+
+none_at : (n k : ℕ) → get_or (no_edges n) k None ≡ None
+none_at zero k = refl
+none_at (suc n) zero = refl
+none_at (suc n) (suc k) = none_at n k
+
+pub none_tell : (v : ℕ → Bool) (slots : List Slot) (s u : List Value) (nodes : List Node) → TellsFormulas v slots s u (no_edges (length nodes)) (parts_of nodes)
+none_tell v slots s u nodes = record {
+  long = length-replicate (length nodes) None ∙ sym (length-parts nodes);
+  each = λ k. subst (λ (e : Option Edge). TellsFormula v slots s u e (part_at (parts_of nodes) k)) (sym (none_at (length nodes) k)) tt;
+}
+
+-- two operands
 
 pub two_stand : (g : List Gate) (a b : Option Edge) → StandsIfAny g a → StandsIfAny g b → AllStandIfAny g (a ∷ b ∷ [])
 two_stand g a b one other zero d lt = one

@@ -107,7 +107,7 @@ fn conditions_of_step(
     let second = layout.next();
     let between = layout.inputs();
     let mut graph = Graph::new(alloc, named)?;
-    let none = nowhere(alloc, &mut graph, typed)?;
+    let none = nowhere(alloc, typed)?;
     let from = framed_state(alloc, &mut graph, typed, types, none.as_slice(), first)?;
     let to = framed_state(alloc, &mut graph, typed, types, none.as_slice(), second)?;
     let inputs = framed_inputs(alloc, &mut graph, typed, given, between)?;

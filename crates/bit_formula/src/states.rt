@@ -261,7 +261,7 @@ pub fn state_conditions(
     let bits = layout.state();
     let types = layout.state_types();
     let mut graph = Graph::new(alloc, joint)?;
-    let none = nowhere(alloc, &mut graph, typed)?;
+    let none = nowhere(alloc, typed)?;
     let state = framed_state(alloc, &mut graph, typed, types, none.as_slice(), bits)?;
     let inputs = read_inputs(
         alloc,

@@ -167,6 +167,19 @@ of_two v t a b f h (p ∷ []) all = absurd (let no : ⊥ = omega (arith, all.lon
 of_two v t a b f h (p ∷ q ∷ []) all = h p q (all.each 0) (all.each 1)
 of_two v t a b f h (p ∷ q ∷ r ∷ os) all = absurd (let no : ⊥ = omega (arith, all.long) in no)
 
+pub one_by : (v : ℕ → Bool) (t a : Told) (f : List Outcome → Outcome) → ((p : Outcome) → Tells v a p → Tells v t (f (p ∷ []))) → (os : List Outcome) → TellsAll v (a ∷ []) os →
+    Tells v t (f os)
+one_by v t a f h [] all = absurd (let no : ⊥ = omega (arith, all.long) in no)
+one_by v t a f h (p ∷ []) all = h p (all.each 0)
+one_by v t a f h (p ∷ q ∷ os) all = absurd (let no : ⊥ = omega (arith, all.long) in no)
+
+pub two_by : (v : ℕ → Bool) (t a b : Told) (f : List Outcome → Outcome) → ((p q : Outcome) → Tells v a p → Tells v b q → Tells v t (f (p ∷ q ∷ []))) → (os : List Outcome) →
+    TellsAll v (a ∷ b ∷ []) os → Tells v t (f os)
+two_by v t a b f h [] all = absurd (let no : ⊥ = omega (arith, all.long) in no)
+two_by v t a b f h (p ∷ []) all = absurd (let no : ⊥ = omega (arith, all.long) in no)
+two_by v t a b f h (p ∷ q ∷ []) all = h p q (all.each 0) (all.each 1)
+two_by v t a b f h (p ∷ q ∷ r ∷ os) all = absurd (let no : ⊥ = omega (arith, all.long) in no)
+
 -- as many outcomes as nodes
 pub outcomes_long : (slots : List Slot) (s u t : List Value) (nodes : List Node) → length (outcomes_of slots s u t nodes) ≡ length nodes
 outcomes_long slots s u t nodes = length-map (parts_of nodes) (outcome slots s u t) ∙ length-parts nodes

@@ -74,6 +74,19 @@ module _ (v : ℕ → Bool) where
       subst (λ (ws : List Value). TellsEach v r (ss ++ s ∷ []) (over (Values ws) (only ws) (λ w. Values (xs ++ w ∷ [])))) (sym b.1.only)
       (h ∙ or_same v (edge_value v f) (edge_value v g) false false a.0 b.0, denoted_push ss xs s b.1.value a.1 b.1.denotes)
 
+  -- one operand, and two
+
+  pub one_each : (f : Edge) (s : Symbolic) (o : Outcome) → TellsOne v f s o → TellsEach v f (s ∷ []) (operated Values [] (o ∷ []))
+  one_each f s Nothing a = tt
+  one_each f s (Fault rule place) a = a
+  one_each f s (Values ws) a =
+      subst (λ (ws : List Value). TellsEach v f (s ∷ []) (operated Values [] (Values ws ∷ []))) (sym a.1.only) (a.0, (a.1.denotes, tt))
+
+  pub two_each : (f g r : Edge) (s t : Symbolic) (o p : Outcome) → edge_value v r ≡ (edge_value v f || edge_value v g) → TellsOne v f s o → TellsOne v g t p →
+      TellsEach v r (s ∷ t ∷ []) (operated Values [] (o ∷ p ∷ []))
+  two_each f g r s t o p h a b =
+      subst (λ (x : Outcome). TellsEach v r (s ∷ t ∷ []) x) (sym (operated_push [] (o ∷ []) p)) (each_together f g r (s ∷ []) t (operated Values [] (o ∷ [])) p h (one_each f s o a) b)
+
   -- no operand so far
   pub none_gathered : (f : Edge) → edge_value v f ≡ false → TellsEach v f [] (Values [])
   none_gathered f h = (h, tt)

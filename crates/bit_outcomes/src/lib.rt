@@ -13,6 +13,6 @@ mod operators;
 mod told;
 
 pub use items::{false_edge, fault_edge, outside_edge, takes_edge, true_edge};
-pub use nodes::{nowhere, table};
+pub use nodes::{table, untold};
 pub use operators::applied;
 pub use told::{Member, Told, Which, copied};

@@ -26,33 +26,24 @@ use smv_value::{Operator, Value, is_value};
 use sqlite_items::Items;
 use std::alloc::{AllocError, Global};
 
-/// What is told of each node where there is no state. The only error is running out of memory, or operands whose kinds
-/// do not fit.
-pub fn nowhere(
-    alloc: Global,
-    graph: &mut Graph,
-    slots: &[Slot],
-    nodes: &[Node],
-) -> Result<Items<Told>, AllocError>
-    ensures extends { Extends graph.old graph.new }
-    ensures stand { IfOk result (λ ts. AllTold graph.new ts) }
-    ensures told { IfOk result (λ ts. (v : ℕ → Bool) → Consistent v graph.new → TellsAll v ts (outcomes_of slots.now [] [] [] nodes.now)) }
-{
-    let none = untold(alloc, nodes)?;
-    let told = table(alloc, graph, slots, nodes, &[], &[], none.as_slice())?;
-    Ok(told)
-}
-
-// Nothing of each node.
-fn untold(alloc: Global, nodes: &[Node]) -> Result<Items<Told>, AllocError>
+/// Nothing of each node, which is so of whatever outcomes. The only error is running out of memory.
+pub fn untold(alloc: Global, nodes: &[Node]) -> Result<Items<Told>, AllocError>
     ensures stand { IfOk result (λ ts. (g : List Gate) → AllTold g ts) }
     ensures told { IfOk result (λ ts. (v : ℕ → Bool) (os : List Outcome) → length os ≡ length nodes.now → TellsAll v ts os) }
 {
-    let mut made = Items::new(alloc);
+    let mut made = with_room(alloc, nodes.len())?;
     'nodes: for i in 0..nodes.len() {
         made.push(Told::Untold)?;
     }
     Ok(made)
+}
+
+// Nothing so far, with room for so many.
+fn with_room(alloc: Global, count: usize) -> Result<Items<Told>, AllocError>
+    ensures { IfOk result (λ r. r ≡ []) }
+{
+    let made = Vec::with_capacity(alloc, count)?;
+    Ok(Items::from_vec(made))
 }
 
 /// What is told of each node in a state of these values with inputs of these, where `later` tells of the nodes in the
@@ -74,7 +65,7 @@ pub fn table(
     ensures told { IfOk result (λ ts. (v : ℕ → Bool) (s u t : List Value) → Consistent v graph.new → AreDenoted v state.now s → AreDenoted v inputs.now u →
         TellsAll v later.now (outcomes_of slots.now t [] [] nodes.now) → TellsAll v ts (outcomes_of slots.now s u t nodes.now)) }
 {
-    let mut made = Items::new(alloc);
+    let mut made = with_room(alloc, nodes.len())?;
     for (i, node) in nodes.iter().enumerate() {
         let before = first(later, i);
         let told = told_of_node(
@@ -220,19 +211,8 @@ fn linked_at(
     ensures told { IfOk result (λ r. (place : Place) (v : ℕ → Bool) (os : List Outcome) → Consistent v graph.new → TellsAll v here.now os →
         Tells v r (applied operator place (outcome_at os a ∷ outcome_at os b ∷ []))) }
 {
-    let operands = two_at(alloc, here, a, b)?;
-    let told = applied(alloc, graph, operator, operands.as_slice())?;
-    Ok(told)
-}
-
-fn two_at(alloc: Global, here: &[Told], a: usize, b: usize) -> Result<Items<Told>, AllocError>
-    ensures stand { IfOk result (λ ts. (g : List Gate) → AllTold g here.now → AllTold g ts) }
-    ensures told { IfOk result (λ ts. (v : ℕ → Bool) (os : List Outcome) → TellsAll v here.now os → TellsAll v ts (outcome_at os a ∷ outcome_at os b ∷ [])) }
-{
     let one = told_at(alloc, here, a)?;
     let other = told_at(alloc, here, b)?;
-    let mut operands = Items::new(alloc);
-    operands.push(one)?;
-    operands.push(other)?;
-    Ok(operands)
+    let told = applied(alloc, graph, operator, &[one, other])?;
+    Ok(told)
 }

@@ -199,30 +199,114 @@ fn operated(
     ensures told { IfOk result (λ t. (place : Place) (v : ℕ → Bool) (os : List Outcome) → Consistent v graph.new → TellsAll v operands.now os →
         Tells v t (operated (λ vs. given place (result_of operator vs)) [] os)) }
 {
-    match gathered(alloc, graph, operands)? {
-        None => Ok(Told::Untold),
-        Some(each) => {
-            let told = computed(alloc, graph, operator, &each)?;
+    match operands {
+        [a] => {
+            let told = of_one(alloc, graph, operator, a)?;
+            Ok(told)
+        }
+        [a, b] => {
+            let told = of_two(alloc, graph, operator, a, b)?;
+            Ok(told)
+        }
+        _ => {
+            let told = of_many(alloc, graph, operator, operands)?;
             Ok(told)
         }
     }
 }
 
+// An operator over one operand.
+fn of_one(
+    alloc: Global,
+    graph: &mut Graph,
+    operator: Operator,
+    a: &Told,
+) -> Result<Told, AllocError>
+    requires { ToldStands graph.old a.now }
+    ensures extends { Extends graph.old graph.new }
+    ensures stands { IfOk result (λ t. ToldStands graph.new t) }
+    ensures told { IfOk result (λ t. (place : Place) (v : ℕ → Bool) (p : Outcome) → Consistent v graph.new → Tells v a.now p →
+        Tells v t (operated (λ vs. given place (result_of operator vs)) [] (p ∷ []))) }
+{
+    match a {
+        Told::One(f, x) => {
+            let value = copied_value(alloc, x)?;
+            let told = computed(alloc, graph, operator, *f, &[value])?;
+            Ok(told)
+        }
+        Told::Untold => Ok(Told::Untold),
+        Told::Set(..) => Ok(Told::Untold),
+    }
+}
+
+// An operator over two operands.
+fn of_two(
+    alloc: Global,
+    graph: &mut Graph,
+    operator: Operator,
+    a: &Told,
+    b: &Told,
+) -> Result<Told, AllocError>
+    requires a_stands { ToldStands graph.old a.now }
+    requires b_stands { ToldStands graph.old b.now }
+    ensures extends { Extends graph.old graph.new }
+    ensures stands { IfOk result (λ t. ToldStands graph.new t) }
+    ensures told { IfOk result (λ t. (place : Place) (v : ℕ → Bool) (p q : Outcome) → Consistent v graph.new → Tells v a.now p → Tells v b.now q →
+        Tells v t (operated (λ vs. given place (result_of operator vs)) [] (p ∷ q ∷ []))) }
+{
+    match (a, b) {
+        (Told::One(f, x), Told::One(g, y)) => {
+            let one = copied_value(alloc, x)?;
+            let other = copied_value(alloc, y)?;
+            let fault = graph.or(*f, *g)?;
+            let told = computed(alloc, graph, operator, fault, &[one, other])?;
+            Ok(told)
+        }
+        _ => Ok(Told::Untold),
+    }
+}
+
+// An operator over operands, however many.
+fn of_many(
+    alloc: Global,
+    graph: &mut Graph,
+    operator: Operator,
+    operands: &[Told],
+) -> Result<Told, AllocError>
+    requires { AllTold graph.old operands.now }
+    ensures extends { Extends graph.old graph.new }
+    ensures stands { IfOk result (λ t. ToldStands graph.new t) }
+    ensures told { IfOk result (λ t. (place : Place) (v : ℕ → Bool) (os : List Outcome) → Consistent v graph.new → TellsAll v operands.now os →
+        Tells v t (operated (λ vs. given place (result_of operator vs)) [] os)) }
+{
+    match gathered(alloc, graph, operands)? {
+        None => Ok(Told::Untold),
+        Some(each) => {
+            let Each { fault, values } = each;
+            let told = computed(alloc, graph, operator, fault, values.as_slice())?;
+            Ok(told)
+        }
+    }
+}
+
+// An operator over these values, where no operand faults.
 fn computed(
     alloc: Global,
     graph: &mut Graph,
     operator: Operator,
-    each: &Each,
+    fault: Edge,
+    values: &[Symbolic],
 ) -> Result<Told, AllocError>
-    requires { Stands graph.old each.now.fault × AllStandIn graph.old each.now.values }
+    requires fault { Stands graph.old fault }
+    requires values { AllStandIn graph.old values.now }
     ensures extends { Extends graph.old graph.new }
     ensures stands { IfOk result (λ t. ToldStands graph.new t) }
-    ensures told { IfOk result (λ t. (place : Place) (v : ℕ → Bool) (x : Outcome) → Consistent v graph.new → TellsEach v each.now.fault each.now.values x →
+    ensures told { IfOk result (λ t. (place : Place) (v : ℕ → Bool) (x : Outcome) → Consistent v graph.new → TellsEach v fault values.now x →
         Tells v t (bound (λ vs. given place (result_of operator vs)) x)) }
 {
-    let (value, edge) = apply(alloc, graph, operator, each.values.as_slice())?;
-    let fault = graph.or(each.fault, edge)?;
-    Ok(Told::One(fault, value))
+    let (value, edge) = apply(alloc, graph, operator, values)?;
+    let either = graph.or(fault, edge)?;
+    Ok(Told::One(either, value))
 }
 
 // The one value of each operand, and where one faults.

@@ -77,7 +77,7 @@ pub fn state_side_conditions(
     let bits = layout.state();
     let types = layout.state_types();
     let mut graph = Graph::new(alloc, bits.len())?;
-    let none = nowhere(alloc, &mut graph, typed)?;
+    let none = nowhere(alloc, typed)?;
     let state = framed_state(alloc, &mut graph, typed, types, none.as_slice(), bits)?;
     let fair = just_edges(alloc, &mut graph, typed, &state)?;
     let bad = bad_edges(alloc, &mut graph, typed, &state, specs)?;
@@ -108,7 +108,7 @@ fn step_side_conditions(
     let second = layout.next();
     let between = layout.inputs();
     let mut graph = Graph::new(alloc, named)?;
-    let none = nowhere(alloc, &mut graph, typed)?;
+    let none = nowhere(alloc, typed)?;
     let from = framed_state(alloc, &mut graph, typed, types, none.as_slice(), first)?;
     let to = framed_state(alloc, &mut graph, typed, types, none.as_slice(), second)?;
     let inputs = framed_inputs(alloc, &mut graph, typed, given, between)?;

@@ -8,7 +8,7 @@ use Rattle.smv_meaning.specs.Runs.{are_inputs, is_step}
 use Rattle.bit_states.specs.Layouts.{BitLayout, input_types, state_types, state_width}
 use Rattle.bit_states.specs.Values.{decoded_all}
 use Rattle.bit_conditions.specs.Told.{TellsNowhere, inputs_under, state_under}
-use Rattle.bit_conditions.proofs.Kept.{tells_inputs_kept, tells_nowhere_kept, tells_state_kept}
+use Rattle.bit_conditions.proofs.Kept.{tells_inputs_kept, tells_state_kept}
 use Rattle.bit_system.specs.Conditions.{edges_of, input}
 use Rattle.bit_system.proofs.Frames.{edges_stand, framed}
 use Rattle.bit_formula.specs.Coding.{all_places, inputs_in, joint_layout, joint_width, kept_below, next_in, read_next, state_in}
@@ -19,7 +19,7 @@ pub framed_state-requires-clause-types : goal.framed_state-requires-clause-types
 framed_state-requires-clause-types c = c.state_types-types.ensures.types ∙ ap (λ (l : BitLayout). l.state_types) c.requires.layout
 
 pub framed_state-requires-clause-nowhere : goal.framed_state-requires-clause-nowhere
-framed_state-requires-clause-nowhere c = subst (TellsNowhere c.nowhere.new.graph c.args.typed.now) (sym c.as_slice.ensures) c.in_ok-none.ensures.told
+framed_state-requires-clause-nowhere c = subst (TellsNowhere c.in_ok-graph.graph c.args.typed.now) (sym c.as_slice.ensures) (c.in_ok-none.ensures c.in_ok-graph.graph)
 
 pub framed_state-requires-clause-width : goal.framed_state-requires-clause-width
 framed_state-requires-clause-width c =
@@ -28,9 +28,9 @@ framed_state-requires-clause-width c =
 pub framed_state-requires-clause-stand : goal.framed_state-requires-clause-stand
 framed_state-requires-clause-stand c =
     let w = state_width c.args.typed.now.scope.program in
-    let g = c.nowhere.new.graph in
+    let g = c.in_ok-graph.graph in
     subst (λ (ns : List ℕ). AllStand g (edges_of ns)) (sym (c.state-first.ensures ∙ ap (λ (l : BitLayout). l.state) c.requires.layout))
-    (edges_stand g 0 w (omega (arith, c.requires.named, c.in_ok-graph.ensures.length, c.in_ok-none.ensures.extends.longer)))
+    (edges_stand g 0 w (omega (arith, c.requires.named, c.in_ok-graph.ensures.length)))
 
 pub framed_state-requires-2-clause-types : goal.framed_state-requires-2-clause-types
 framed_state-requires-2-clause-types c = c.state_types-types.ensures.types ∙ ap (λ (l : BitLayout). l.state_types) c.requires.layout
@@ -39,7 +39,7 @@ pub framed_state-requires-2-clause-nowhere : goal.framed_state-requires-2-clause
 framed_state-requires-2-clause-nowhere c =
     let h = c.framed_state.new.graph in
     subst (TellsNowhere h c.args.typed.now) (sym c.as_slice-2.ensures)
-    (tells_nowhere_kept c.nowhere.new.graph h c.in_ok-from.ensures.extends c.args.typed.now c.in_ok-none.none c.in_ok-none.ensures.told)
+    (c.in_ok-none.ensures h)
 
 pub framed_state-requires-2-clause-width : goal.framed_state-requires-2-clause-width
 framed_state-requires-2-clause-width c =
@@ -52,7 +52,7 @@ framed_state-requires-2-clause-stand c =
     let h = c.framed_state.new.graph in
     subst (λ (ns : List ℕ). AllStand h (edges_of ns)) (sym (c.next-second.ensures ∙ ap (λ (l : BitLayout). l.next) c.requires.layout))
     (edges_stand h (joint_width p c.args.reads.now) (state_width p)
-    (omega (arith, c.requires.named, c.in_ok-graph.ensures.length, c.in_ok-none.ensures.extends.longer, c.in_ok-from.ensures.extends.longer)))
+    (omega (arith, c.requires.named, c.in_ok-graph.ensures.length, c.in_ok-from.ensures.extends.longer)))
 
 pub framed_inputs-requires-clause-types : goal.framed_inputs-requires-clause-types
 framed_inputs-requires-clause-types c = c.input_types-given.ensures.types ∙ ap (λ (l : BitLayout). l.input_types) c.requires.layout
@@ -69,7 +69,7 @@ framed_inputs-requires-clause-stand c =
     let h = c.framed_state-2.new.graph in
     let places = all_places (input_types p) (state_width p) reads in
     let room : c.args.named ≤ length h =
-    omega (arith, c.in_ok-graph.ensures.length, c.in_ok-none.ensures.extends.longer, c.in_ok-from.ensures.extends.longer, c.in_ok-to.ensures.extends.longer) in
+    omega (arith, c.in_ok-graph.ensures.length, c.in_ok-from.ensures.extends.longer, c.in_ok-to.ensures.extends.longer) in
     let below = places_below (input_types p) (state_width p) reads in
     let stand : All (λ k. k < length h) places = λ i d lt. (let b = below i d lt in omega (arith, b, room, c.requires.named)) in
     subst (λ (ns : List ℕ). AllStand h (edges_of ns)) (sym (c.inputs-between.ensures ∙ ap (λ (l : BitLayout). l.inputs) c.requires.layout)) (All-map (Stands h) input places stand)
@@ -89,7 +89,6 @@ read_inputs-requires-clause-room c =
       c.requires.joint,
       c.requires.named,
       c.in_ok-graph.ensures.length,
-      c.in_ok-none.ensures.extends.longer,
       c.in_ok-from.ensures.extends.longer,
       c.in_ok-to.ensures.extends.longer,
       c.in_ok-inputs.ensures.extends.longer,
@@ -129,7 +128,7 @@ returns-clause-inputs c =
     c.in_ok-step.ensures.extends.inputs named
     (c.in_ok-read.ensures.extends.inputs named
     (c.in_ok-inputs.ensures.extends.inputs named
-    (c.in_ok-to.ensures.extends.inputs named (c.in_ok-from.ensures.extends.inputs named (c.in_ok-none.ensures.extends.inputs named c.in_ok-graph.ensures.inputs)))))
+    (c.in_ok-to.ensures.extends.inputs named (c.in_ok-from.ensures.extends.inputs named c.in_ok-graph.ensures.inputs))))
 
 pub returns-clause-step : goal.returns-clause-step
 returns-clause-step c =

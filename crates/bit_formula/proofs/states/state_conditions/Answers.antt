@@ -13,7 +13,7 @@ use Rattle.bit_states.specs.Layouts.{BitLayout, input_types, state_types, state_
 use Rattle.bit_states.specs.Values.{decoded_all}
 use Rattle.bit_conditions.specs.Asked.{is_just_in, justices_of}
 use Rattle.bit_conditions.specs.Told.{TellsNowhere, inputs_under, state_under}
-use Rattle.bit_conditions.proofs.Kept.{edges_kept, tells_inputs_kept, tells_nowhere_kept, tells_state_kept}
+use Rattle.bit_conditions.proofs.Kept.{edges_kept, tells_inputs_kept, tells_state_kept}
 use Rattle.bit_system.specs.Conditions.{edges_of}
 use Rattle.bit_system.proofs.Frames.{edges_stand, framed}
 use Rattle.bit_formula.specs.Coding.{joint_layout, joint_width, kept_below, read_inputs, state_in}
@@ -25,7 +25,7 @@ pub framed_state-requires-clause-types : goal.framed_state-requires-clause-types
 framed_state-requires-clause-types c = c.state_types-types.ensures.types ∙ ap (λ (l : BitLayout). l.state_types) c.requires.layout
 
 pub framed_state-requires-clause-nowhere : goal.framed_state-requires-clause-nowhere
-framed_state-requires-clause-nowhere c = subst (TellsNowhere c.nowhere.new.graph c.args.typed.now) (sym c.as_slice.ensures) c.in_ok-none.ensures.told
+framed_state-requires-clause-nowhere c = subst (TellsNowhere c.in_ok-graph.graph c.args.typed.now) (sym c.as_slice.ensures) (c.in_ok-none.ensures c.in_ok-graph.graph)
 
 pub framed_state-requires-clause-width : goal.framed_state-requires-clause-width
 framed_state-requires-clause-width c =
@@ -34,9 +34,9 @@ framed_state-requires-clause-width c =
 pub framed_state-requires-clause-stand : goal.framed_state-requires-clause-stand
 framed_state-requires-clause-stand c =
     let w = state_width c.args.typed.now.scope.program in
-    let g = c.nowhere.new.graph in
+    let g = c.in_ok-graph.graph in
     subst (λ (ns : List ℕ). AllStand g (edges_of ns)) (sym (c.state-bits.ensures ∙ ap (λ (l : BitLayout). l.state) c.requires.layout))
-    (edges_stand g 0 w (omega (arith, c.requires.joint, c.in_ok-graph.ensures.length, c.in_ok-none.ensures.extends.longer)))
+    (edges_stand g 0 w (omega (arith, c.requires.joint, c.in_ok-graph.ensures.length)))
 
 pub read_inputs-requires-clause-types : goal.read_inputs-requires-clause-types
 read_inputs-requires-clause-types c = c.input_types.ensures.types ∙ ap (λ (l : BitLayout). l.input_types) c.requires.layout
@@ -47,17 +47,12 @@ read_inputs-requires-clause-width c =
     ap length (c.inputs.ensures ∙ ap (λ (l : BitLayout). l.inputs) c.requires.layout) ∙ long_places (input_types p) (state_width p) c.args.reads.now
 
 pub read_inputs-requires-clause-room : goal.read_inputs-requires-clause-room
-read_inputs-requires-clause-room c = omega (arith, c.in_ok-graph.ensures.length, c.in_ok-none.ensures.extends.longer, c.in_ok-state.ensures.extends.longer)
+read_inputs-requires-clause-room c = omega (arith, c.in_ok-graph.ensures.length, c.in_ok-state.ensures.extends.longer)
 
 pub defined_edges-requires-clause-nowhere : goal.defined_edges-requires-clause-nowhere
 defined_edges-requires-clause-nowhere c =
-    let g = c.nowhere.new.graph in
-    let h = c.framed_state.new.graph in
     let k = c.read_inputs.new.graph in
-    let typed = c.args.typed.now in
-    let told = c.in_ok-none.none in
-    subst (TellsNowhere k typed) (sym c.as_slice-2.ensures)
-    (tells_nowhere_kept h k c.in_ok-inputs.ensures.extends typed told (tells_nowhere_kept g h c.in_ok-state.ensures.extends typed told c.in_ok-none.ensures.told))
+    subst (TellsNowhere k c.args.typed.now) (sym c.as_slice-2.ensures) (c.in_ok-none.ensures k)
 
 pub defined_edges-requires-clause-state : goal.defined_edges-requires-clause-state
 defined_edges-requires-clause-state c =
@@ -99,7 +94,7 @@ returns c =
       inputs = c.in_ok-first.ensures.extends.inputs joint
           (c.in_ok-defined.ensures.extends.inputs joint
           (c.in_ok-inputs.ensures.extends.inputs joint
-          (c.in_ok-state.ensures.extends.inputs joint (c.in_ok-none.ensures.extends.inputs joint (subst (λ n. HasInputs n c.in_ok-graph.graph) c.requires.joint c.in_ok-graph.ensures.inputs)))));
+          (c.in_ok-state.ensures.extends.inputs joint (subst (λ n. HasInputs n c.in_ok-graph.graph) c.requires.joint c.in_ok-graph.ensures.inputs))));
       first = record {
         stand = c.in_ok-first.ensures.told.stand;
         holds = λ v holds. c.in_ok-first.ensures.told.holds v holds ∙ (λ i. is_first_state p (state_is v i) && are_inputs p (read_is v holds i));

@@ -16,9 +16,9 @@ loop-i-init c = record {
   state = c.requires.state;
   inputs = c.requires.inputs;
   later = c.requires.later;
-  stand = subst (AllTold c.args.graph.now) (sym c.new-made.ensures) (λ k d lt. absurd (let no : ⊥ = omega (arith, lt) in no));
+  stand = subst (AllTold c.args.graph.now) (sym c.in_ok-made.ensures) (λ k d lt. absurd (let no : ⊥ = omega (arith, lt) in no));
   told = λ v s u t h ds du next.
-      subst (λ (ts : List Told). TellsAll v ts (outcomes_of c.args.slots.now s u t [])) (sym c.new-made.ensures) (table_none v c.args.slots.now s u t);
+      subst (λ (ts : List Told). TellsAll v ts (outcomes_of c.args.slots.now s u t [])) (sym c.in_ok-made.ensures) (table_none v c.args.slots.now s u t);
 }
 
 pub loop-i-preserved : goal.loop-i-preserved

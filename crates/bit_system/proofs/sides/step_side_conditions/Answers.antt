@@ -7,8 +7,8 @@ use Rattle.smv_meaning.specs.Runs.{is_step}
 use Rattle.bit_outcomes.proofs.Kept.{extends_trans}
 use Rattle.bit_states.specs.Coding.{inputs_of, next_of, state_of}
 use Rattle.bit_states.specs.Layouts.{BitLayout, input_types, input_width, layout_of, state_types, state_width}
-use Rattle.bit_conditions.specs.Told.{inputs_under, state_under}
-use Rattle.bit_conditions.proofs.Kept.{tells_nowhere_kept, tells_state_kept}
+use Rattle.bit_conditions.specs.Told.{TellsNowhere, inputs_under, state_under}
+use Rattle.bit_conditions.proofs.Kept.{tells_state_kept}
 use Rattle.bit_system.specs.Conditions.{edges_of}
 use Rattle.bit_system.proofs.Frames.{edges_stand, framed}
 use Rattle.bit_system.proofs.OfSides.{tells_as}
@@ -32,22 +32,25 @@ types_of_inputs layout = layout.input_types
 pub framed_state-requires-clause-types : goal.framed_state-requires-clause-types
 framed_state-requires-clause-types c = c.state_types-types.ensures.types ∙ ap types_of_state c.requires.layout
 
+pub framed_state-requires-clause-nowhere : goal.framed_state-requires-clause-nowhere
+framed_state-requires-clause-nowhere c = subst (TellsNowhere c.in_ok-graph.graph c.args.typed.now) (sym c.as_slice.ensures) (c.in_ok-none.ensures c.in_ok-graph.graph)
+
 pub framed_state-requires-clause-width : goal.framed_state-requires-clause-width
 framed_state-requires-clause-width c = ap length (c.state-first.ensures ∙ ap state_bits c.requires.layout) ∙ length-range_with_len 0 (state_width c.args.typed.now.scope.program)
 
 pub framed_state-requires-clause-stand : goal.framed_state-requires-clause-stand
 framed_state-requires-clause-stand c =
     let w = state_width c.args.typed.now.scope.program in
-    let g = c.nowhere.new.graph in
+    let g = c.in_ok-graph.graph in
     subst (λ (ns : List ℕ). AllStand g (edges_of ns)) (sym (c.state-first.ensures ∙ ap state_bits c.requires.layout))
-    (edges_stand g 0 w (omega (arith, c.requires.named, c.in_ok-graph.ensures.length, c.in_ok-none.ensures.extends.longer)))
+    (edges_stand g 0 w (omega (arith, c.requires.named, c.in_ok-graph.ensures.length)))
 
 pub framed_state-requires-2-clause-types : goal.framed_state-requires-2-clause-types
 framed_state-requires-2-clause-types c = c.state_types-types.ensures.types ∙ ap types_of_state c.requires.layout
 
 pub framed_state-requires-2-clause-nowhere : goal.framed_state-requires-2-clause-nowhere
 framed_state-requires-2-clause-nowhere c =
-    rw c.as_slice-2.ensures (tells_nowhere_kept c.nowhere.new.graph c.framed_state.new.graph c.in_ok-from.ensures.extends c.args.typed.now c.in_ok-none.none c.in_ok-none.ensures.told)
+    subst (TellsNowhere c.framed_state.new.graph c.args.typed.now) (sym c.as_slice-2.ensures) (c.in_ok-none.ensures c.framed_state.new.graph)
 
 pub framed_state-requires-2-clause-width : goal.framed_state-requires-2-clause-width
 framed_state-requires-2-clause-width c =
@@ -59,7 +62,7 @@ framed_state-requires-2-clause-stand c =
     let w = state_width c.args.typed.now.scope.program in
     let h = c.framed_state.new.graph in
     subst (λ (ns : List ℕ). AllStand h (edges_of ns)) (sym (c.next-second.ensures ∙ ap next_bits c.requires.layout))
-    (edges_stand h w w (omega (arith, c.requires.named, c.in_ok-graph.ensures.length, c.in_ok-none.ensures.extends.longer, c.in_ok-from.ensures.extends.longer)))
+    (edges_stand h w w (omega (arith, c.requires.named, c.in_ok-graph.ensures.length, c.in_ok-from.ensures.extends.longer)))
 
 pub framed_inputs-requires-clause-types : goal.framed_inputs-requires-clause-types
 framed_inputs-requires-clause-types c = c.input_types-given.ensures.types ∙ ap types_of_inputs c.requires.layout
@@ -77,7 +80,7 @@ framed_inputs-requires-clause-stand c =
     let h = c.framed_state-2.new.graph in
     subst (λ (ns : List ℕ). AllStand h (edges_of ns)) (sym (c.inputs-between.ensures ∙ ap input_bits c.requires.layout))
     (edges_stand h (w + w) m
-    (omega (arith, c.requires.named, c.in_ok-graph.ensures.length, c.in_ok-none.ensures.extends.longer, c.in_ok-from.ensures.extends.longer, c.in_ok-to.ensures.extends.longer)))
+    (omega (arith, c.requires.named, c.in_ok-graph.ensures.length, c.in_ok-from.ensures.extends.longer, c.in_ok-to.ensures.extends.longer)))
 
 pub step_conditions-requires-clause-from : goal.step_conditions-requires-clause-from
 step_conditions-requires-clause-from c =
@@ -93,8 +96,7 @@ step_conditions-requires-clause-to c =
 pub returns-clause-inputs : goal.returns-clause-inputs
 returns-clause-inputs c =
     let n = c.args.named in
-    c.in_ok-step.ensures.extends.inputs n (c.in_ok-inputs.ensures.extends.inputs n (c.in_ok-to.ensures.extends.inputs n (c.in_ok-from.ensures.extends.inputs n
-    (c.in_ok-none.ensures.extends.inputs n c.in_ok-graph.ensures.inputs))))
+    c.in_ok-step.ensures.extends.inputs n (c.in_ok-inputs.ensures.extends.inputs n (c.in_ok-to.ensures.extends.inputs n (c.in_ok-from.ensures.extends.inputs n c.in_ok-graph.ensures.inputs)))
 
 pub returns-clause-step : goal.returns-clause-step
 returns-clause-step c =
