@@ -1,7 +1,7 @@
 -- What a solver's answers to the query of a length say of fair lassos.
 use Rattle.std.proofs.Common.{◌≡◌, ℕ, ◌≤◌, Bool, List, [], ◌∷◌, ◌++◌, length, refl, sym, subst, arith}
 use Rattle.std.specs.Prelude.{All, Contains}
-use Rattle.std.proofs.lemmas.List.Elements.{All-append, All-map, All-cons, All-weaker, All-contains, All-head, All-tail}
+use Rattle.std.proofs.lemmas.List.Elements.{All-append, All-map, All-cons, All-weaker, All-contains, All-contains_itself, All-head, All-tail}
 use Rattle.clause_core.specs.declared.literal.Lit.{Lit}
 use Rattle.clause_core.specs.Literals.{none_lit}
 use Rattle.clause_core.specs.Assignments.{assignment_of, ClauseTrue}
@@ -15,7 +15,7 @@ use Rattle.ltl_monitor.specs.Lassos.{IsLasso, IsFair}
 use Rattle.ltl_monitor.proofs.Clauses.{met_from, all_from}
 use Rattle.lasso_search.specs.declared.searched.Searched.{Searched}
 use Rattle.lasso_search.specs.declared.searched.Searched.TheVariants as searched
-use Rattle.lasso_search.specs.Lassos.{HasNoFairLasso}
+use Rattle.lasso_search.specs.Lassos.{HasNoFairLasso, IsFairLasso, Lasso}
 use Rattle.lasso_search.specs.Unrolling.{each, plan_of, begun, ends, seen, steps_at, unrolled, closing}
 use Rattle.lasso_search.specs.Unrolled.{IsCourse, Closes, course_of, CanClose}
 use Rattle.lasso_search.specs.Searches.{Finds, Tells}
@@ -117,3 +117,18 @@ module _ (m : TransitionSystem) (steps n : ℕ) (keeps : IsSystem m) (enough : n
       let derives : Derives vars (unrolled m steps ++ units core.items) (log_of learned) = subst (λ (cs : List (List Lit)). Derives vars (cs ++ units core.items) (log_of learned)) eg said.1 in
       subst (Finds m n budget over) (sym told) (none_there vars core.items (log_of learned) part derives)
   finds vars given learned assumptions (solver.Spent drawn b) f budget over eg ea said told = subst (Finds m n budget over) (sym told) said
+
+  -- a model of the clauses under all that is assumed for the length, and more, tells a fair lasso
+  pub finds_along : (vars : ℕ) (given learned : List (List Lit)) (assumptions : List Lit) (answer : Answer) (r : Lasso) (budget : ℕ) (over : Bool) →
+      given ≡ unrolled m steps → ((x : Lit) → Contains (closing m n) x → Contains assumptions x) →
+      AnswerSays vars given learned assumptions budget over answer → Tells (plan_of m) n answer (searched.Found r) → IsFairLasso m n r
+  finds_along vars given learned assumptions (solver.Sat model) r budget over eg part said told =
+      let a = assignment_of model in
+      let met : All (ClauseTrue a) (unrolled m steps) = subst (λ (cs : List (List Lit)). All (ClauseTrue a) cs) eg said.1.0 in
+      let each_in : All (Contains assumptions) (closing m n) =
+      All-weaker (Contains (closing m n)) (Contains assumptions) (λ q here. part q here) (closing m n) (All-contains_itself (closing m n)) in
+      let assumed : All (IsTrueIn a) (closing m n) =
+      All-weaker (Contains assumptions) (IsTrueIn a) (λ q here. All-contains (IsTrueIn a) assumptions q said.1.1 here) (closing m n) each_in in
+      is_fair_lasso m keeps steps n enough a (clauses_to m steps a met) (closing_to m n a assumed) r told.0 told.1
+  finds_along vars given learned assumptions (solver.Unsat core) r budget over eg part said told = absurd (let never : ⊥ = cc in never)
+  finds_along vars given learned assumptions (solver.Spent drawn b) r budget over eg part said told = absurd (let never : ⊥ = cc in never)

@@ -22,6 +22,7 @@
 //! So a length more costs one step more. `defs` has its own copy at each time: a step's values need not meet it.
 #![tactic(auto)]
 
+mod along;
 mod book;
 mod encoding;
 mod lasso;
@@ -33,6 +34,7 @@ mod searched;
 mod searching;
 pub mod soundness_of_search;
 
+pub use along::lasso_along;
 pub use book::LassoBook;
 pub use lasso::BitLasso;
 pub use lasso_solver::LassoSolver;

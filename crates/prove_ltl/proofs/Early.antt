@@ -1,5 +1,5 @@
 -- What less effort finds is right by more of it, too.
-use Rattle.std.proofs.Common.{◌≡◌, ℕ, ◌≤◌, false, true, List, [], subst, arith}
+use Rattle.std.proofs.Common.{◌≡◌, ℕ, ◌≤◌, false, List, [], subst, arith}
 use Rattle.clause_core.specs.declared.literal.Lit.{Lit}
 use Rattle.clause_core.specs.Systems.{TransitionSystem}
 use Rattle.frame_history.specs.declared.entries.Limits.{Limits}
@@ -10,7 +10,7 @@ use Rattle.prove_ltl.specs.declared.answers.LtlDone.{LtlDone}
 use Rattle.prove_ltl.specs.declared.effort.LtlEffort.{LtlEffort}
 use Rattle.prove_ltl.specs.Climbing.{IsDoneFor}
 use Rattle.prove_ltl.specs.Early.{is_unknown}
-use Rattle.prove_ltl.specs.LtlAnswers.{IsLtlCertificate, IsLtlDone, IsLtlLog, IsLtlRight, LtlLog}
+use Rattle.prove_ltl.specs.LtlAnswers.{IsLtlCertificate, IsLtlLog, IsLtlRight, LtlLog}
 use Rattle.prove_ltl.specs.Rungs.{AreRungs}
 use Rattle.prove_ltl.proofs.Longer.{pays_wider}
 

@@ -5,3 +5,4 @@ pub mod LtlAnswers
 pub mod Climbing
 pub mod Early
 pub mod Sought
+pub mod Leaping

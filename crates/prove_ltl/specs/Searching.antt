@@ -1,5 +1,5 @@
 -- What a search of lassos of many lengths gives.
-use Rattle.std.specs.Prelude.{◌≡◌, ℕ, Bool, true, List, []}
+use Rattle.std.specs.Prelude.{◌≡◌, ℕ, Bool, true, List}
 use Rattle.clause_core.specs.declared.literal.Lit.{Lit}
 use Rattle.clause_core.specs.Systems.{TransitionSystem}
 use Rattle.lasso_search.specs.declared.searched.Searched.{Searched}

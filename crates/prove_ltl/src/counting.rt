@@ -50,7 +50,7 @@ fn cause(over: bool, k: usize, effort: &LtlEffort) -> LtlCause
 }
 
 // What is answered where the frames for `k` signals tell an invariant.
-fn shown<Q: Purse>(
+pub(crate) fn shown<Q: Purse>(
     alloc: Global,
     frames: &Frames,
     level: u32,

@@ -15,6 +15,7 @@ use crate::beside::prove_together;
 use crate::climbing::climb_all;
 use crate::effort::LtlEffort;
 use crate::known::is_unknown;
+use crate::leaping::leap_all;
 use crate::searching::search_first;
 use clause_core::{Lit, System};
 use effort_purse::PlainPurse;
@@ -87,6 +88,9 @@ fn prove_monitored<R: Threads + Wait + Sync, G: Gate + Sync>(
 {
     if workers < 2 {
         if let Some(done) = prove_early(rt, alloc, system, monitored, effort, FIRST, gate)? {
+            return Ok(done);
+        }
+        if let Some(done) = leap_all(rt, alloc, system, monitored, effort, gate)? {
             return Ok(done);
         }
         if let Some(done) = prove_early(rt, alloc, system, monitored, effort, SECOND, gate)? {

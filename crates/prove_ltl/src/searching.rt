@@ -147,7 +147,7 @@ fn search_all<R: Wait, Q: Purse, G: Gate>(
 }
 
 // The lasso of the system that a fair lasso of its monitored system is.
-fn violating(
+pub(crate) fn violating(
     alloc: Global,
     system: &System,
     monitored: &Monitored,

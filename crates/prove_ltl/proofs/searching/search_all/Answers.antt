@@ -1,4 +1,4 @@
-use Rattle.std.proofs.Common.{◌≡◌, ℕ, Bool, ◌∙◌, List, subst, arith}
+use Rattle.std.proofs.Common.{ℕ, Bool, ◌∙◌, List, subst, arith}
 use Rattle.clause_core.specs.Systems.{TransitionSystem}
 use Rattle.lasso_search.specs.declared.searched.Searched.{Searched}
 use Rattle.lasso_search.specs.declared.searched.Searched.TheVariants.{Found, None, Spent}

@@ -1,4 +1,4 @@
-use Rattle.std.proofs.Common.{◌≡◌, ℕ, ◌-◌, ◌≤◌, ◌++◌, ◌∙◌, List, [], subst, arith}
+use Rattle.std.proofs.Common.{ℕ, ◌-◌, ◌++◌, ◌∙◌, List, [], subst, arith}
 use Rattle.std.proofs.lemmas.List.Elements.{All-nil}
 use Rattle.clause_core.specs.Systems.{TransitionSystem}
 use Rattle.lasso_search.specs.Lassos.{IsFairLasso, HasNoFairLasso}
@@ -6,7 +6,7 @@ use Rattle.lasso_search.specs.Paying.{PaysOne}
 use Rattle.lasso_search.specs.declared.searched.Searched.{Searched}
 use Rattle.prove_ltl.specs.Lengths.{IsOfLength}
 use Rattle.prove_ltl.specs.Searching.{LengthsSay}
-use Rattle.prove_ltl.proofs.Longer.{added, pays_one, pays_less, pays_wider, stands_after}
+use Rattle.prove_ltl.proofs.Longer.{added, pays_one, pays_less, stands_after}
 use Rattle.prove_ltl.proofs.searching.search_between.Goals as goal
 
 pub returns-in-None-clause-says : goal.returns-in-None-clause-says

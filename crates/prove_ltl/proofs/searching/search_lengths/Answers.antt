@@ -1,4 +1,4 @@
-use Rattle.std.proofs.Common.{◌≡◌, ℕ, ◌+◌, ◌∙◌, List, refl, subst, arith}
+use Rattle.std.proofs.Common.{ℕ, ◌+◌, ◌∙◌, List, refl, subst, arith}
 use Rattle.clause_core.specs.Systems.{TransitionSystem}
 use Rattle.lasso_search.specs.Lassos.{IsFairLasso, HasNoFairLasso}
 use Rattle.lasso_search.specs.Paying.{PaysOne}
