@@ -17,13 +17,13 @@ use clause_core::{Bits, Lit, System};
 use effort_purse::Purse;
 use std::alloc::{AllocError, Global};
 
-/// A fair lasso of as many states as these, one after another, if there is one along them: it has their bits.
+/// A fair lasso of as many states as these, where the query that assumes them finds one. Contracts promise that it is a
+/// fair lasso of that length, and not which; none tells nothing of other lassos, or the purse was spent.
 ///
 /// It is for a course of states that is known from elsewhere to come back to one of them, as a run along which a state
-/// comes again: unit propagation mostly finds the rest, and where the loop begins. Where there is none the states may have
-/// been no such course, or the purse was spent: that tells nothing of other lassos. A solver is loaded for these steps
-/// alone. One query is asked, which costs a ticket of the purse, and each clause that is learned another. The only error
-/// is out of memory, which more variables than there are numbers count as.
+/// comes again. Unit propagation mostly finds the values between them, and where the loop begins. A solver is loaded for
+/// these steps alone. One query is asked, which costs a ticket of the purse, and each clause that is learned another. The
+/// only error is out of memory, which more variables than there are numbers count as.
 pub fn lasso_along<Q: Purse>(
     alloc: Global,
     system: &System,

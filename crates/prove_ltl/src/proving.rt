@@ -32,7 +32,10 @@ use std::thread::Threads;
 /// Lassos are searched up to the bound, the shortest first; a query for the greatest of many lengths, which finds none, answers
 /// for all of them. Then the system is counted up to 0, 1, .. signals, each with the lemmas of the one before, until it reaches
 /// no bad state. All work is paid from one budget of tickets. Before that one worker tries the same twice, with smaller bounds
-/// and with few tickets of its own, since counters often answer where long lassos cost much. What it finds is the answer.
+/// and with few tickets of its own, since counters often answer where long lassos cost much. Between these tries it counts by
+/// leaps: a run with more signals than were counted is followed to further signals, by searches with tickets of their own, and
+/// the counters that the longer run passes are left out. Such a run may come back to a state after each set was met: the
+/// lasso along it, if it has at most as many states as the bound. What these tries find is the answer.
 ///
 /// One worker is the caller, with number 0. Several have the numbers from 1 on: the last of them searches lassos, while
 /// the others explore the frames of each counter. The caller finishes what these leave, and makes the certificate. All
@@ -66,7 +69,7 @@ pub fn prove_ltl<R: Threads + Wait + Sync, G: Gate + Sync>(
     Ok(done)
 }
 
-// Bounds of lassos, and tickets: what one worker tries before all is done.
+// Bounds of lassos, and tickets: what one worker tries before all is done, with leaps between the two.
 const FIRST: (usize, u64) = (8, 5_000);
 
 const SECOND: (usize, u64) = (16, 30_000);
