@@ -89,7 +89,7 @@ impl<'a, L: Ledger> Book<'a, L> {
     /// no such claim is out here. It takes its memory first: where there is none, claim and outcome come
     /// back, and all is as before. For a lemma that was to be pushed it takes none.
     ///
-    /// It looks at each lemma once where a state was found or a clause is inserted. Where a lemma is added or
+    /// It looks at each lemma at most twice where a state was found or a clause is inserted. Where a lemma is added or
     /// raised it looks at a word for each 64 obligations, and at those 64 alone of which one may be blocked
     /// below the lemma's level.
     pub fn settle(

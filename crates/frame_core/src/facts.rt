@@ -74,20 +74,6 @@ impl<'a> Proved<'a> {
         self.clause.as_slice()
     }
 
-    /// The clause; takes no memory.
-    pub fn into_clause(self) -> Clause
-        ensures { result ≡ self.entry.clause }
-    {
-        let Proved {
-            system: _,
-            clause,
-            part: _,
-            level: _,
-            parents: _,
-        } = self;
-        clause
-    }
-
     /// The clause, its part and the parents; takes no memory.
     pub fn into_parts(self) -> ProvedParts
         ensures clause { result.clause ≡ self.entry.clause }

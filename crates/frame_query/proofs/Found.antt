@@ -68,7 +68,7 @@ first_at_none sys lemmas i values h none = record {
   not_first = λ e. absurd (both_ways true e refl);
 }
 
--- the systems have the same first states
+-- the systems have the same initial states
 pub flag_same : (systems : List TransitionSystem) (j : ℕ) (values : List Bool) (first : Bool) → j < length systems → AreAlike systems →
     IsFirstFlag (system_at systems 0) values first → IsFirstFlag (system_at systems j) values first
 flag_same systems j values first lt alike flag =

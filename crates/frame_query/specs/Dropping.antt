@@ -11,7 +11,7 @@ use Rattle.frame_solver.specs.Firsts.{IsFirstOut}
 use Rattle.frame_solver.specs.Stepping.{IsStepOut}
 use Rattle.frame_solver.specs.Paying.{Firsts, Steps, AskedQuery, Pays, AllDiffer}
 
--- a first state does not meet the clause, or a step leaves it from a state of the frame below that meets it
+-- an initial state does not meet the clause, or a step leaves it from a state of the frame below that meets it
 abbrev pub IsBroken : TransitionSystem → List Lemma → ℕ → List Lit → Type 0
 IsBroken sys lemmas level d = ((v : List Bool) × IsFirstOut sys d v) ⊎ ((v : List Bool) × IsStepOut sys lemmas level d v)
 

@@ -46,12 +46,12 @@ IsTheState values (bads.Clear c) = ⊤
 IsTheState values (bads.Found f) = f.values ≡ values
 IsTheState values (bads.Spent d b) = ⊤
 
--- the state that the step leads from, where it is known whether it is a first one
+-- the state that the step leads from, where it is known whether it is an initial one
 abbrev pub FindsNoted : FoundStep → ℕ → Bool → Noted → Type 0
 FindsNoted s budget over (noted.Found f) = f ≡ record { system = s.system; values = s.values; is_step = true; first = f.first }
 FindsNoted s budget over (noted.Spent d b) = (d ≡ budget) × (b ≡ budget) × (over ≡ true)
 
--- at most two queries were asked, of bad states and of whether the state found is a first one, and they were paid for
+-- at most two queries were asked, of bad states and of whether the state found is an initial one, and they were paid for
 abbrev pub PaysBad : List TransitionSystem → List Lemma → List (List Lit) → List (List Lit) → List ℕ → List ℕ → ℕ → ℕ → (List Bool → Type 0) → Type 0
 PaysBad systems lemmas old new before after j top IsState =
     (log : List AskedQuery)

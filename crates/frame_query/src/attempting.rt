@@ -182,7 +182,7 @@ pub(crate) fn both(alloc: Global, a: &[Lit], b: &[Lit]) -> Result<Vec<Lit>, Allo
     Ok(all)
 }
 
-// What the draft shows of a clause that has its part, where first states meet `met`.
+// What the draft shows of a clause that has its part, where initial states meet `met`.
 fn shown_by_draft(alloc: Global, draft: &Draft, met: Clause) -> Result<Trial, AllocError>
     ensures { IfOk result (λ t. (sys : TransitionSystem) (lemmas : List ALemma) (level : ℕ) (d : List ALit) (b : ℕ) (over : Bool) → Ends sys level d draft.now.parents.items draft.now.part.items → IsPart draft.now.part.items d → AllFirstsMeet sys met → IsPart met d → Tries sys lemmas level draft.now.parents.items d b over t) }
 {
@@ -191,7 +191,7 @@ fn shown_by_draft(alloc: Global, draft: &Draft, met: Clause) -> Result<Trial, Al
     Ok(Trial::Holds { parents, part, met })
 }
 
-// The outcome of a trial, by what was found of steps, where first states meet `met`.
+// The outcome of a trial, by what was found of steps, where initial states meet `met`.
 fn trial_of(found: Stepping, met: Clause) -> Trial
     ensures { (sys : TransitionSystem) (lemmas : List ALemma) (level : ℕ) (given : List AParent) (d : List ALit) (b : ℕ) (over : Bool) → Finds sys lemmas level d b over found → AllFirstsMeet sys met → IsPart met d → Tries sys lemmas level given d b over result }
 {
@@ -202,7 +202,7 @@ fn trial_of(found: Stepping, met: Clause) -> Trial
     }
 }
 
-// Whether a step leaves the clause, a part of the draft's that first states meet. Where it has the draft's own
+// Whether a step leaves the clause, a part of the draft's that initial states meet. Where it has the draft's own
 // part, no query is needed: the draft shows it.
 fn steps_or_draft<Q: Purse>(
     alloc: Global,
@@ -241,7 +241,7 @@ fn steps_or_draft<Q: Purse>(
     Ok(trial_of(found, met))
 }
 
-// Whether the clause, a part of the draft's, is inductive at the level: first whether first states meet it, then
+// Whether the clause, a part of the draft's, is inductive at the level: first whether initial states meet it, then
 // whether a step leaves it.
 pub(crate) fn attempt<Q: Purse>(
     alloc: Global,

@@ -76,7 +76,7 @@ pub(crate) fn relative_of<'a, Q: Purse>(
     step_outcome(alloc, system_of(systems, 0), clause, level, found)
 }
 
-// The bad state of frame `top` that was found, once it is known whether it is a first one.
+// The bad state of frame `top` that was found, once it is known whether it is an initial one.
 fn found_bad<'a, Q: Purse>(
     alloc: Global,
     systems: &'a [System],
@@ -151,7 +151,7 @@ pub(crate) fn bad_of<'a, Q: Purse>(
     }
 }
 
-// The state that the step leads from, once it is known whether it is a first one.
+// The state that the step leads from, once it is known whether it is an initial one.
 pub(crate) fn noted_of<'a, Q: Purse>(
     alloc: Global,
     systems: &[System],

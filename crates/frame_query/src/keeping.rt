@@ -19,7 +19,7 @@ use std::marker::Model;
 /// alone. They hold the systems' clauses and the lemmas', each behind an activation literal (Eén, Sörensson
 /// 2003), so that a query asks for just those that it wants. One has the steps; the other, a small one,
 /// answers questions about single states. They are made anew where activation literals run out, which no
-/// caller sees. What queries found is kept too: values that all first states give to bits, a first state, and
+/// caller sees. What queries found is kept too: values that all initial states give to bits, an initial state, and
 /// 1024 steps at most, those that were found or used last; and the last proof of each lemma that was pushed. A
 /// question that these answer is not asked. Of 1024 states at most it is kept which of their bits were needed: a
 /// hint for `generalise`, of which nothing is claimed. Contracts see the systems, the copy of the lemmas, and
@@ -95,7 +95,7 @@ impl<'a> FrameSolver<'a> {
     }
 
     /// Whether the clause is inductive relative to the frame below the level: whether a step leads from a
-    /// state of that frame that meets the clause to one that does not; at level 1, from a first state.
+    /// state of that frame that meets the clause to one that does not; at level 1, from an initial state.
     ///
     /// First states meet the clause. At most one query is asked, and the tickets drawn are its own, after
     /// each way out. `Spent` comes only where the purse refused a ticket; out of memory is the only error.
@@ -165,9 +165,9 @@ impl<'a> FrameSolver<'a> {
         )
     }
 
-    /// Whether a state of frame `top` is bad for system `j`; at top 0 whether a first state is.
+    /// Whether a state of frame `top` is bad for system `j`; at top 0 whether an initial state is.
     ///
-    /// A state found comes with whether it is a first one, for which a second query is asked where `top` is
+    /// A state found comes with whether it is an initial one, for which a second query is asked where `top` is
     /// not 0. The tickets drawn are those of these two queries at most, after each way out. `Spent` comes
     /// only where the purse refused a ticket; out of memory is the only error.
     pub fn bad<Q: Purse>(
@@ -202,7 +202,7 @@ impl<'a> FrameSolver<'a> {
         Ok(found)
     }
 
-    /// The state that the step leads from, with whether it is a first one.
+    /// The state that the step leads from, with whether it is an initial one.
     ///
     /// At most one query is asked, and the tickets drawn are its own, after each way out. `Spent` comes only
     /// where the purse refused a ticket; out of memory is the only error.
@@ -233,7 +233,7 @@ impl<'a> FrameSolver<'a> {
         )
     }
 
-    /// Whether all first states meet the clause, and a part of it that they meet; or a first state that does
+    /// Whether all initial states meet the clause, and a part of it that they meet; or an initial state that does
     /// not meet it.
     ///
     /// At most one query is asked, and the tickets drawn are its own, after each way out. `Spent` comes only
@@ -266,10 +266,10 @@ impl<'a> FrameSolver<'a> {
     }
 
     /// Drops literals from a proved clause, each tried at most once, as long as what is left is inductive at the
-    /// proof's level. Where literals are not in the part that the proof needs, only first states are asked about.
+    /// proof's level. Where literals are not in the part that the proof needs, only initial states are asked about.
     ///
     /// `Smaller`: for each literal kept there is a part of the clause that lacks it and has all others kept,
-    /// and which a first state does not meet or a step leaves. Where the purse is spent, or no memory is found,
+    /// and which an initial state does not meet or a step leaves. Where the purse is spent, or no memory is found,
     /// the proof that was given comes back. The tickets drawn are those of queries about proper parts of the
     /// clause, no two equal, and of no more parts than it has literals, after each way out.
     pub fn generalise<Q: Purse>(

@@ -131,7 +131,7 @@ fn make_room(proofs: &mut Vec<Option<KeptProof>>, count: usize) -> Result<(), Al
     Ok(())
 }
 
-// Keeps the proof of lemma n, in place of the one before. One at level 1 speaks of steps from first states alone, and
+// Keeps the proof of lemma n, in place of the one before. One at level 1 speaks of steps from initial states alone, and
 // is not kept.
 pub(crate) fn keep_proof(
     alloc: Global,

@@ -1,4 +1,4 @@
-//! Queries of IC3 (Bradley 2011) to solvers that are kept: relative induction, bad states, first states,
+//! Queries of IC3 (Bradley 2011) to solvers that are kept: relative induction, bad states, initial states,
 //! and generalisation of proved clauses.
 #![tactic(auto)]
 

@@ -25,7 +25,7 @@ pub enum Bads<'a> {
     Spent { drawn: u64, budget: u64 },
 }
 
-/// Whether a state is a first one.
+/// Whether a state is an initial one.
 #[derive(Drop)]
 pub enum Noted<'a> {
     /// The state that the step leads from.

@@ -8,7 +8,7 @@ use frame_core::Parent;
 #[derive(Drop)]
 pub enum Trial {
     // A step from a state of the frame below that meets the parents and the clause ends in this part of it, and
-    // first states meet the other part.
+    // initial states meet the other part.
     Holds {
         parents: Vec<Parent>,
         part: Vec<Lit>,

@@ -28,7 +28,7 @@ pub clauses_count : (lemmas : List Lemma) → length (clauses_of lemmas) ≡ len
 clauses_count lemmas = simp length-map
 
 module _ (h : ℕ) (lemmas : List Lemma) (i also : ℕ) where
-  -- a group that is asked for is `also`, or the first states', or a lemma's of the frame
+  -- a group that is asked for is `also`, or the initial states', or a lemma's of the frame
   pub asked_cases : (k : ℕ) → is_asked h lemmas i also k ≡ true →
       (k ≡ also) ⊎ (((k < h) × (k ≡ 0) × (i ≡ 0)) ⊎ ((h ≤ k) × (0 < i) × (i ≤ (lemma_at lemmas (k - h)).level)))
   asked_cases k is =
@@ -146,7 +146,7 @@ module _ (heads : List (List (List Lit))) (lemmas : List Lemma) where
         let like : SameOn x m c = All-weaker (λ (l : Lit). l.var < bits) (λ (l : Lit). x l.var ≡ m l.var) (λ l low. same l.var low) c (inside k no_lemma lt) in
         true_like x m c like (All-head (ClauseTrue m) c [] here)
 
-    -- it is a first state, where these are asked for
+    -- it is an initial state, where these are asked for
     pub is_first : (sys : TransitionSystem) (x : ℕ → Bool) → ((u : ℕ) → u < sys.state_bits → x u ≡ m u) → 0 < length heads → get_or heads 0 [] ≡ init_group sys →
         is_asked (length heads) lemmas i also 0 ≡ true → FirstBits sys x
     is_first sys x same some at is =

@@ -1,4 +1,5 @@
--- An assignment for a query: values of the system's variables, values of a first state, and the activation literals of a core.
+-- An assignment for a query: values of the system's variables, values of an initial state, and a core's activation
+-- literals.
 use Rattle.std.proofs.Common.{◌≡◌, ◌⊎◌, inl, inr, ℕ, ◌+◌, ◌-◌, ◌*◌, ◌<◌, ◌≤◌, Bool, true, ◌&&◌, List, length, map, get_or, refl, sym, ◌∙◌, ap, subst, arith}
 use Rattle.std.specs.Prelude.{All, Contains, nat_lt, if◌then◌else◌}
 use Rattle.std.specs.List.{list_any}
@@ -36,7 +37,7 @@ in_core_to core w h =
     let P : Lit → Type 0 = Contains core in
     subst P e (f.0, f.2, f.3)
 
--- values of the system's variables, then of a first state's own, then of the activation variables
+-- values of the system's variables, then of an initial state's own, then of the activation variables
 abbrev pub joined : TransitionSystem → (ℕ → Bool) → (ℕ → Bool) → (ℕ → Bool) → ℕ → Bool
 joined sys v f g w = if nat_lt w sys.all_bits then v w else (if nat_lt w (base sys) then f (w - others sys) else g w)
 
@@ -75,7 +76,7 @@ module _ (sys : TransitionSystem) (v f g : ℕ → Bool) where
   pub joined_all : (cs : List (List Lit)) → All (Within sys.all_bits) cs → All (ClauseTrue v) cs → All (ClauseTrue (joined sys v f g)) cs
   joined_all cs within all k d lt = joined_true (get_or cs k d) (within k d lt) (all k d lt)
 
-  -- the clauses of a first state
+  -- the clauses of an initial state
   pub joined_init : (cs : List (List Lit)) → 2 * sys.state_bits ≤ sys.all_bits → ((u : ℕ) → u < sys.state_bits → v u ≡ f u) → All (Within sys.all_bits) cs →
       All (ClauseTrue f) cs → All (ClauseTrue (joined sys v f g)) (map (first_clause sys) cs)
   joined_init cs room agree within all =

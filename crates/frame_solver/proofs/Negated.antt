@@ -55,7 +55,7 @@ not_not : (a b : Bool) → a ≡ not (not b) → a ≡ b
 not_not a true e = e
 not_not a false e = e
 
--- where a part of it is met by all first states, the state is none
+-- where a part of it is met by all initial states, the state is none
 pub not_first : (sys : TransitionSystem) (values : List Bool) (part : List Lit) → AllFirstsMeet sys part → IsPart part (negation_of values sys.state_bits) →
     IsFirstFlag sys values false
 not_first sys values part meets is_part = record {
@@ -66,7 +66,7 @@ not_first sys values part meets is_part = record {
       (let here = All-contains (Contains (negation_of values sys.state_bits)) part h.1 is_part (h.0, h.2, h.3) in (here.0, h.1, here.1, here.2, h.4)));
 }
 
--- a first state that does not meet it is the state
+-- an initial state that does not meet it is the state
 pub is_first : (sys : TransitionSystem) (values found : List Bool) → IsFirstOut sys (negation_of values sys.state_bits) found → IsFirstFlag sys values true
 is_first sys values found h = record {
   is_first = λ e.
@@ -86,7 +86,7 @@ flag_says sys values budget over (firsts.Meet part) f h is = subst (FlagSays sys
 flag_says sys values budget over (firsts.First found) f h is = subst (FlagSays sys values budget over) (sym is) (is_first sys values found h)
 flag_says sys values budget over (firsts.Spent d b) f h is = subst (FlagSays sys values budget over) (sym is) h
 
--- where the state is no first one, all first states meet the clause that excludes it
+-- where the state is no initial one, all initial states meet the clause that excludes it
 pub negation_met : (sys : TransitionSystem) (values : List Bool) → IsFirstFlag sys values false → AllFirstsMeet sys (negation_of values sys.state_bits)
 negation_met sys values flag x start =
     let clause = negation_of values sys.state_bits in

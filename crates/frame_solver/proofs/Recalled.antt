@@ -66,7 +66,7 @@ module _ (sys : TransitionSystem) where
         | inr ne ↦ fixed b v (sym (get_or-set_other table l.var b (Some l.positive) None ne) ∙ is)
       ]
 
-  -- a part of one literal that first states meet fixes a bit
+  -- a part of one literal that initial states meet fixes a bit
   pub fixed_by : (table : List (Option Bool)) (part : List Lit) → length part ≡ 1 → AreFixed sys table → AllFirstsMeet sys part →
       (get_or part 0 none_lit).var < length table → AreFixed sys (set table (get_or part 0 none_lit).var (Some (get_or part 0 none_lit).positive))
   fixed_by table [] one fixed meets lt = absurd (omega (arith, one))
@@ -83,7 +83,7 @@ module _ (sys : TransitionSystem) where
   knows_firsts clause budget over (firsts.First vs) h = h
   knows_firsts clause budget over (firsts.Spent d b) h = absurd h
 
-  -- a first state whose values make each literal false
+  -- an initial state whose values make each literal false
   pub first_out : (clause : List Lit) (state copy : List Bool) → copy ≡ state → IsFirstState sys state →
       All (λ (l : Lit). assignment_of state (0 + l.var) ≡ not l.positive) clause → IsFirstOut sys clause copy
   first_out clause state copy same is out =
@@ -105,7 +105,7 @@ module _ (sys : TransitionSystem) where
   }
   tells_step lemmas level clause budget over first (stepping.Spent d b) low h = tt
 
-  -- a literal of the clause that first states meet is what was asked
+  -- a literal of the clause that initial states meet is what was asked
   pub finds_known : (clause : List Lit) (l : Lit) (part : List Lit) → part ≡ l ∷ [] → Contains clause l → AllFirstsMeet sys (l ∷ []) →
       AllFirstsMeet sys part × IsPart part clause
   finds_known clause l part is inside meets =

@@ -49,7 +49,7 @@ bads_more systems b used j bad given more lt h is grown =
     let P : List (List (List Lit)) → Type 0 = λ xs. HoldsGroups b xs used more in
     subst P (sym (ap (λ xs. init ∷ xs) one)) (holds_more b gs used (b + (1 + j)) bad given more h guard grown)
 
--- the clauses of first states are pushed first
+-- the clauses of initial states are pushed first
 pub fresh_init : (sys : TransitionSystem) (b : ℕ) (s t : State) → s.given ≡ [] → t ≡ record s { given = s.given ++ behind b (init_group sys) } →
     HoldsGroups b (init_group sys ∷ []) t.vars t.given
 fresh_init sys b s t none is =

@@ -7,7 +7,7 @@ use Rattle.frame_solver.specs.declared.first_states.Firsts.TheVariants as firsts
 use Rattle.frame_solver.specs.declared.querying.Flag.{Flag}
 use Rattle.frame_solver.specs.declared.querying.Flag.TheVariants as flag
 
--- whether the state is a first one is right
+-- whether the state is an initial one is right
 abbrev pub FlagSays : TransitionSystem → List Bool → ℕ → Bool → Flag → Type 0
 FlagSays sys values budget over (flag.Known first) = IsFirstFlag sys values first
 FlagSays sys values budget over (flag.Spent d b) = (d ≡ budget) × (b ≡ budget) × (over ≡ true)

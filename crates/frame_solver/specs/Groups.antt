@@ -1,7 +1,7 @@
 -- The groups of clauses that queries about systems ask for.
 --
--- The first variables are those of the systems. A first state has variables of its own for all but the state bits, so that
--- a query can ask for a first state and a step from it. Then come the activation variables.
+-- The first variables are those of the systems. An initial state has variables of its own for all but the state bits,
+-- so that a query can ask for an initial state and a step from it. Then come the activation variables.
 use Rattle.std.specs.Prelude.{◌==◌, ℕ, ◌+◌, ◌-◌, ◌&&◌, ◌||◌, Bool, List, [], ◌∷◌, ◌++◌, map, nat_lt, nat_le, if◌then◌else◌}
 use Rattle.clause_core.specs.declared.literal.Lit.{Lit}
 use Rattle.clause_core.specs.Systems.{TransitionSystem}
@@ -16,19 +16,19 @@ others sys = sys.all_bits - sys.state_bits
 abbrev pub base : TransitionSystem → ℕ
 base sys = sys.all_bits + others sys
 
--- the variable that stands for v in the clauses of a first state
+-- the variable that stands for v in the clauses of an initial state
 abbrev pub first_var : TransitionSystem → ℕ → ℕ
 first_var sys v = if nat_lt v sys.state_bits then v else (v + others sys)
 
--- a clause of a first state over its own variables
+-- a clause of an initial state over its own variables
 abbrev pub first_clause : TransitionSystem → List Lit → List Lit
 first_clause sys c = map (λ (l : Lit). record { var = first_var sys l.var; positive = l.positive }) c
 
--- the clauses of a first state over its own variables
+-- the clauses of an initial state over its own variables
 abbrev pub init_group : TransitionSystem → List (List Lit)
 init_group sys = map (first_clause sys) sys.init
 
--- the groups for questions about steps: first states, steps
+-- the groups for questions about steps: initial states, steps
 abbrev pub step_heads : TransitionSystem → List (List (List Lit))
 step_heads sys = init_group sys ∷ sys.step ∷ []
 
@@ -36,7 +36,7 @@ step_heads sys = init_group sys ∷ sys.step ∷ []
 abbrev pub bad_groups : List TransitionSystem → List (List (List Lit))
 bad_groups systems = map (λ (s : TransitionSystem). s.bad) systems
 
--- the groups for questions about single states: first states, then the bad states of each system
+-- the groups for questions about single states: initial states, then the bad states of each system
 abbrev pub state_heads : List TransitionSystem → List (List (List Lit))
 state_heads systems = init_group (system_at systems 0) ∷ bad_groups systems
 

@@ -11,8 +11,8 @@ use Rattle.frame_solver.specs.Groups.{base, step_heads, state_heads, clauses_of,
 use Rattle.frame_solver.specs.Asking.{AreAsked}
 use Rattle.frame_solver.specs.Stepping.{step_literals}
 
--- what a query asks: whether a step from the frame below a level leaves a clause; whether a first state does not meet a
--- clause; whether a state of a frame is bad for system j
+-- what a query asks: whether a step from the frame below a level leaves a clause; whether an initial state does not
+-- meet a clause; whether a state of a frame is bad for system j
 pub data Question : Type 0 where
   Steps : (level : ℕ) (clause : List Lit) → Question
   Firsts : (clause : List Lit) → Question

@@ -18,14 +18,14 @@ use frame_core::{Lemma, Parent};
 use sat_core::Answer;
 use std::alloc::{AllocError, Global};
 
-// What a query about bad states finds.
+/// What a query about bad states finds.
 #[derive(Drop)]
 pub enum BadStates {
-    // No state that meets these lemmas is bad.
+    /// No state that meets these lemmas is bad.
     None(Vec<Parent>),
-    // Values of a bad state of the frame.
+    /// Values of a bad state of the frame.
     Some(Bits),
-    // The purse was spent before it was known.
+    /// The purse was spent before it was known.
     Spent { drawn: u64, budget: u64 },
 }
 

@@ -20,12 +20,12 @@ use frame_core::Lemma;
 use sat_core::Answer;
 use std::alloc::{AllocError, Global};
 
-/// What a query about first states finds.
+/// What a query about initial states finds.
 #[derive(Drop)]
 pub enum Firsts {
     /// First states meet this part of the clause.
     Meet(Clause),
-    /// The state bits of a first state that does not meet the clause.
+    /// The state bits of an initial state that does not meet the clause.
     First(Bits),
     /// The purse was spent before it was known.
     Spent { drawn: u64, budget: u64 },
@@ -57,7 +57,7 @@ fn part_of(alloc: Global, bits: usize, core: &[Lit], clause: &[Lit]) -> Result<V
     Ok(part)
 }
 
-// What the solver's answer says of first states.
+// What the solver's answer says of initial states.
 fn read(
     alloc: Global,
     system: &System,
@@ -77,7 +77,7 @@ fn read(
     }
 }
 
-// Whether all first states meet the clause.
+// Whether all initial states meet the clause.
 pub(crate) fn query_firsts<Q: Purse>(
     alloc: Global,
     systems: &[System],

@@ -23,7 +23,7 @@ use std::alloc::{AllocError, Global};
 // How many steps are kept.
 const MOST: usize = 1024;
 
-// Values of a step that a query found, and whether it is known to lead from a first state.
+// Values of a step that a query found, and whether it is known to lead from an initial state.
 #[derive(Drop)]
 pub struct KnownStep {
     pub values: Bits,

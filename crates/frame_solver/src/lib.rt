@@ -1,5 +1,5 @@
 //! Solvers that are kept over many queries about the frames of IC3 (Bradley 2011): clauses in groups behind
-//! activation literals, what is known without a query, and the questions about steps, first states and bad states.
+//! activation literals, what is known without a query, and the questions about steps, initial states and bad states.
 #![tactic(auto)]
 
 mod asking;

@@ -18,18 +18,19 @@ use std::alloc::{AllocError, Global};
 /// A solver of groups of clauses, each behind an activation literal: those of systems, then the lemmas'.
 #[derive(Drop)]
 pub struct Engine {
+    /// The kept solver.
     pub solver: Solver<Watched>,
-    // The first activation variable.
+    /// The first activation variable.
     pub base: usize,
-    // How many groups are those of systems.
+    /// How many groups are those of systems.
     pub heads: usize,
-    // How many lemmas were loaded.
+    /// How many lemmas were loaded.
     pub loaded: usize,
-    // The activation variables from this one on were used by single queries.
+    /// The activation variables from this one on were used by single queries.
     pub used: usize,
 }
 
-// System number j.
+/// System number j, and that it is one.
 pub fn system_of(systems: &[System], j: usize) -> &System
     requires { j < length systems.now }
     ensures value { result.now ≡ system_at systems.now j }
@@ -85,7 +86,7 @@ pub(crate) fn push_group(
     Ok(())
 }
 
-// The literal of a first state's own variables.
+// The literal of an initial state's own variables.
 fn first_literal(system: &System, l: Lit) -> Result<Lit, AllocError>
     ensures { IfOk result (λ m. m ≡ record { var = first_var system.now l.var; positive = l.positive }) }
 {
@@ -111,7 +112,7 @@ fn first_literals(alloc: Global, system: &System, clause: &[Lit]) -> Result<Vec<
     Ok(literals)
 }
 
-// The clauses of a first state, over its own variables.
+// The clauses of an initial state, over its own variables.
 pub(crate) fn first_clauses(alloc: Global, system: &System) -> Result<Clauses, AllocError>
     ensures value { IfOk result (λ cs. cs ≡ init_group system.now) }
     ensures within { IfOk result (All (Within (base_of system.now))) }
@@ -133,7 +134,7 @@ pub(crate) fn first_guard(system: &System) -> Result<usize, AllocError>
     sum(all, all - system.state_bits())
 }
 
-// The variables of state bits are decided towards the value that a clause of one literal gives first states.
+// The variables of state bits are decided towards the value that a clause of one literal gives initial states.
 pub(crate) fn prefer_first(solver: &mut Solver<Watched>, system: &System)
     ensures { solver.new ≡ solver.old }
 {

@@ -25,8 +25,9 @@ use effort_purse::Purse;
 use frame_core::{Lemma, Parent};
 use std::alloc::{AllocError, Global};
 
-// Relative induction: whether a step from a state that meets the clause, in the frame below the level, leaves the
-// clause. No query is asked where a known step does.
+/// Relative induction (Bradley 2011): whether a step from a state that meets the clause, in the frame below the level,
+/// leaves the clause. No query is asked where a known step does. The tickets drawn are those of the one query; the
+/// error is out of memory.
 pub fn steps_of<Q: Purse>(
     alloc: Global,
     systems: &[System],
@@ -62,7 +63,8 @@ pub fn steps_of<Q: Purse>(
     Ok(found)
 }
 
-// Whether all first states meet the clause. No query is asked where that is known.
+/// Whether all initial states meet the clause, with the part of it that they meet, or one that does not. No query is
+/// asked where that is known. The tickets drawn are those of the one query; the error is out of memory.
 pub fn firsts_of<Q: Purse>(
     alloc: Global,
     systems: &[System],
@@ -96,7 +98,8 @@ pub fn firsts_of<Q: Purse>(
     Ok(found)
 }
 
-// Whether a state of frame i is bad for system j.
+/// Whether a state of frame i is bad for system j, by one query on the solver of single states. The error is out of
+/// memory.
 pub fn bads_of<Q: Purse>(
     alloc: Global,
     systems: &[System],
@@ -122,11 +125,12 @@ pub fn bads_of<Q: Purse>(
     query_bads(alloc, systems, lemmas, engine, j, i, purse)
 }
 
-// Whether a state is an initial state.
+/// Whether a state is an initial state.
 #[derive(Drop)]
 pub enum Flag {
+    /// It is one, or it is none.
     Known(bool),
-    // The purse was spent before it was known.
+    /// The purse was spent before it was known.
     Spent { drawn: u64, budget: u64 },
 }
 
@@ -141,7 +145,8 @@ fn read_flag(answer: Firsts) -> Flag
     }
 }
 
-// Whether the state of these values is an initial state.
+/// Whether the state of these values is an initial state: no query is asked where that is known. The error is out of
+/// memory.
 pub fn flag_of<Q: Purse>(
     alloc: Global,
     systems: &[System],

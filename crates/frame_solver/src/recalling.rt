@@ -11,18 +11,18 @@ use frame_core::Lemma;
 use std::alloc::{AllocError, Global};
 use std::marker::Model;
 
-// What earlier queries found about a system, which later ones need not ask again: values of state bits that
-// all first states have, a first state, and some steps. Contracts see the system.
+/// What earlier queries found about a system, which later ones need not ask again: values of state bits that
+/// all initial states have, an initial state, and some steps. Contracts see the system.
 #[derive(Drop)]
 pub struct Known<'a> {
     system: &'a System,
-    // for each state bit the value that all first states give it, where that is known
+    // For each state bit the value that all initial states give it, where that is known.
     fixed: Vec<Option<bool>>,
-    // the first state that was found last
+    // The initial state that was found last.
     first: Option<Bits>,
-    // that which was added or used last stands at the end
+    // That which was added or used last stands at the end.
     steps: Vec<KnownStep>,
-    // what is kept beside each step to rule it out fast
+    // What is kept beside each step to rule it out fast.
     hints: Vec<StepHint>,
 }
 
@@ -45,7 +45,7 @@ impl<'a> Known<'a> {
     ghost use Rattle.frame_solver.specs.Stepping.{IsStepOut};
     ghost use Rattle.frame_solver.specs.Recalling.{KnowsFirsts, TellsFirsts, TellsStep};
 
-    // Nothing is known of the system yet.
+    /// Nothing is known of the system yet. It costs an entry for each state bit; the error is out of memory.
     pub fn new(alloc: Global, system: &'a System) -> Result<Known<'a>, AllocError>
         ensures { IfOk result (λ k. k ≡ system.now) }
     {
@@ -59,7 +59,7 @@ impl<'a> Known<'a> {
         })
     }
 
-    // Whether all first states are known to make the literal true.
+    // Whether all initial states are known to make the literal true.
     fn is_met(&self, l: Lit) -> bool
         ensures { IsTrue result → AllFirstsMeet self.now (l ∷ []) }
     {
@@ -72,7 +72,7 @@ impl<'a> Known<'a> {
         }
     }
 
-    // A literal of the clause that all first states are known to make true.
+    // A literal of the clause that all initial states are known to make true.
     fn met_in(&self, clause: &[Lit]) -> Option<Lit>
         ensures { IfSome result (λ l. Contains clause.now l × AllFirstsMeet self.now (l ∷ [])) }
     {
@@ -84,7 +84,7 @@ impl<'a> Known<'a> {
         None
     }
 
-    // Whether all first states meet the clause, where that is known.
+    // Whether all initial states meet the clause, where that is known.
     pub(crate) fn firsts(&self, alloc: Global, clause: &[Lit]) -> Result<Option<Firsts>, AllocError>
         requires { Within self.now.state_bits clause.now }
         ensures { IfOk result (λ r. IfSome r (KnowsFirsts self.now clause.now)) }
@@ -102,7 +102,7 @@ impl<'a> Known<'a> {
         Ok(None)
     }
 
-    // Keeps what was found: where first states meet a clause of one literal, all of them give its bit one value.
+    // Keeps what was found: where initial states meet a clause of one literal, all of them give its bit one value.
     pub(crate) fn note_firsts(&mut self, alloc: Global, found: &Firsts) -> Result<(), AllocError>
         requires { TellsFirsts self.old found.now }
         ensures { self.new ≡ self.old }
@@ -164,7 +164,7 @@ impl<'a> Known<'a> {
         }
     }
 
-    // Keeps a copy of the step that was found, which leads from a first state where `first` is true.
+    // Keeps a copy of the step that was found, which leads from an initial state where `first` is true.
     pub(crate) fn note_step(
         &mut self,
         alloc: Global,

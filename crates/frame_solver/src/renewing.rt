@@ -34,7 +34,7 @@ fn is_light(systems: &[System], engine: &Engine) -> bool
     engine.solver.learned() < LEARNED.saturating_add(steps / 8)
 }
 
-// Adds the clauses of first states, as the first group.
+// Adds the clauses of initial states, as the first group.
 fn push_init(
     alloc: Global,
     solver: &mut Solver<Watched>,
@@ -72,7 +72,8 @@ fn push_step_groups(
     Ok(())
 }
 
-// A solver with the groups for questions about steps, and room for so many lemmas.
+/// A solver with the groups for questions about steps, and room for so many lemmas. It costs the clauses of the first
+/// system; the error is out of memory.
 pub fn fresh_steps(alloc: Global, systems: &[System], lemmas: usize) -> Result<Engine, AllocError>
     requires { 0 < length systems.now }
     ensures { IfOk result (IsFresh (base_of (system_at systems.now 0)) (step_heads (system_at systems.now 0)) lemmas) }
@@ -138,7 +139,8 @@ fn push_state_groups(
     Ok(())
 }
 
-// A solver with the groups for questions about single states, and room for so many lemmas.
+/// A solver with the groups for questions about single states, and room for so many lemmas. It costs the clauses of
+/// initial and of bad states; the error is out of memory.
 pub fn fresh_states(alloc: Global, systems: &[System], lemmas: usize) -> Result<Engine, AllocError>
     requires some { 0 < length systems.now }
     requires alike { AreAlike systems.now }

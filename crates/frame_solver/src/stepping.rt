@@ -22,17 +22,17 @@ use frame_core::{Lemma, Parent};
 use sat_core::Answer;
 use std::alloc::{AllocError, Global};
 
-// What a query about steps finds.
+/// What a query about steps finds.
 #[derive(Drop)]
 pub enum Stepping {
-    // Each step from a state of the frame that meets the parents and the clause ends in this part of the clause.
+    /// Each step from a state of the frame that meets the parents and the clause ends in this part of the clause.
     Holds {
         parents: Vec<Parent>,
         part: Vec<Lit>,
     },
-    // Values of a step that leaves the clause.
+    /// Values of a step that leaves the clause.
     Leaves(Bits),
-    // The purse was spent before it was known.
+    /// The purse was spent before it was known.
     Spent {
         drawn: u64,
         budget: u64,
@@ -64,7 +64,7 @@ fn own_literals(
     Ok(literals)
 }
 
-// Whether the literal is in the list.
+/// Whether the literal is in the list, by a walk over it.
 pub fn has(literals: &[Lit], l: Lit) -> bool
     ensures { MatchBool result (Contains literals.now l) (Contains literals.now l → ⊥) }
 {

@@ -50,7 +50,7 @@ either_low = no 0 ∷ no 1 ∷ []
 abbrev pub alone_parent : ℕ → Parent
 alone_parent v = record { number = 0; clause = alone v }
 
--- values of all bits: of the state with all bits true, of a step to it, and of a step from a first state to that
+-- values of all bits: of the state with all bits true, of a step to it, and of a step from an initial state to that
 unfoldable pub last_values : List Bool
 last_values = true ∷ true ∷ true ∷ false ∷ false ∷ false ∷ []
 

@@ -443,7 +443,7 @@ fn add_first(alloc: Global, frames: &mut Frames, system: &System) -> Result<(), 
     }
 }
 
-// The bad state as obligation 0, the state before it as obligation 1, and the first state before that as obligation 2.
+// The bad state as obligation 0, the state before it as obligation 1, and the initial one before that as obligation 2.
 fn add_all(alloc: Global, frames: &mut Frames, system: &System) -> Result<(), AllocError>
     requires system { system.now ≡ register }
     requires frames { frames.old ≡ register_frames [] }
@@ -663,7 +663,7 @@ fn two(alloc: Global) -> Result<bool, AllocError> {
     answer
 }
 
-// Whether the latch and the register differ at their first clause of a first state.
+// Whether the latch and the register differ at their first clause of an initial state.
 fn are_unlike_in(alloc: Global, systems: &mut Vec<System>) -> Result<bool, AllocError> {
     push_latch(alloc, systems)?;
     push_register(alloc, systems)?;

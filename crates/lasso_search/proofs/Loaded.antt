@@ -56,7 +56,7 @@ pub closing_is : (m : TransitionSystem) (n : ℕ) (p : Plan) (ls : List Lit) →
 unfolding closing
 closing_is m n p ls plan is = is ∙ ap (λ (q : Plan). closing_at q n) plan
 
--- a new solver that was given the clauses of the first state
+-- a new solver that was given the clauses of the initial state
 pub first_loaded : (m : TransitionSystem) (p : Plan) (room : ℕ) (cs : List (List Lit)) (s t : State) → p ≡ plan_of m → cs ≡ opening p m →
     s ≡ record { vars = vars_at p room; given = []; learned = [] } → t ≡ record s { given = s.given ++ cs } → IsLoaded m (record { solver = t; steps = 0 })
 first_loaded m p room cs s t plan is new done =

@@ -8,8 +8,8 @@ use Rattle.lasso_search.specs.declared.plan.Plan.{Plan}
 use Rattle.lasso_search.specs.declared.plan.Turn.{Turn}
 use Rattle.lasso_search.specs.Unrolling.{place, begun, ends, seen, unrolled, closing}
 
--- what the variables tell: the values of the first state, of each state and of its step, and of the state at which the
--- loop begins; whether it begins before a time, and ends there; and whether a set was met in it before a time
+-- what the variables tell: the values of the initial state, of each state and of its step, and of the state at which
+-- the loop begins; whether it begins before a time, and ends there; and whether a set was met in it before a time
 pub record Course : Type 0 where
   pub first : ℕ → Bool
   pub state : ℕ → ℕ → Bool

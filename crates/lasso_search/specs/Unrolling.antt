@@ -84,11 +84,11 @@ seeing p l i j =
     ∷ (negate (seen p j (i + 1)) ∷ seen p j i ∷ moved p (Turn.State i) l ∷ [])
     ∷ []
 
--- no set was met before the first state
+-- no set was met before the initial state
 abbrev pub unseen : Plan → ℕ → List (List Lit)
 unseen p j = (negate (seen p j 0) ∷ []) ∷ []
 
--- what is asked of the first state: the loop does not begin before it
+-- what is asked of the initial state: the loop does not begin before it
 abbrev pub opening : Plan → TransitionSystem → List (List Lit)
 opening p m = all_moved p Turn.First m.init ++ (negate (begun p 0) ∷ []) ∷ [] ++ each (unseen p) (length m.fair)
 

@@ -1,5 +1,5 @@
 //! The clauses of bounded model checking for fair lassos (Biere, Heljanko, Junttila, Latvala and
-//! Schuppan 2006). They speak of the first state, each step, the loop's start and end, and the
+//! Schuppan 2006). They speak of the initial state, each step, the loop's start and end, and the
 //! fairness sets met in the loop.
 
 ghost use Rattle.std.specs.Prelude.{◌≡◌, ◌+◌, ◌++◌, ◌∷◌, [], length, IfOk, OnOk};
@@ -10,7 +10,7 @@ use crate::plan::{Plan, Turn, sum};
 use clause_core::{Clauses, Lit, System};
 use std::alloc::{AllocError, Global};
 
-// The clauses that speak of the first state alone.
+// The clauses that speak of the initial state alone.
 pub fn opening(alloc: Global, plan: &Plan, system: &System) -> Result<Clauses, AllocError>
     ensures { IfOk result (λ cs. cs ≡ opening plan.now system.now) }
 {
@@ -22,7 +22,7 @@ pub fn opening(alloc: Global, plan: &Plan, system: &System) -> Result<Clauses, A
     Ok(all)
 }
 
-// None of so many sets was met before the first state.
+// None of so many sets was met before the initial state.
 fn add_all_unseen(plan: &Plan, sets: usize, out: &mut Clauses) -> Result<(), AllocError>
     ensures { OnOk result (out.new ≡ out.old ++ each (unseen plan.now) sets) }
 {
@@ -32,7 +32,7 @@ fn add_all_unseen(plan: &Plan, sets: usize, out: &mut Clauses) -> Result<(), All
     Ok(())
 }
 
-// No set was met before the first state.
+// No set was met before the initial state.
 fn add_unseen(plan: &Plan, set: usize, out: &mut Clauses) -> Result<(), AllocError>
     ensures { OnOk result (out.new ≡ out.old ++ unseen plan.now set) }
 {

@@ -45,7 +45,7 @@ fn raise(solver: &mut Solver<Watched>, clause: &[Lit])
     }
 }
 
-// Gives the clauses of the first state to the solver.
+// Gives the clauses of the initial state to the solver.
 fn push_opening(
     alloc: Global,
     plan: &Plan,
@@ -74,7 +74,7 @@ fn push_moment(
     push_all(solver, &clauses)
 }
 
-// A solver of the first state's clauses, with variables for so many steps.
+// A solver of the initial state's clauses, with variables for so many steps.
 fn fresh(alloc: Global, plan: &Plan, system: &System, room: usize) -> Result<Engine, AllocError>
     requires plan { plan.now ≡ plan_of system.now }
     ensures loaded { IfOk result (IsLoaded system.now) }

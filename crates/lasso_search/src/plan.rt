@@ -22,7 +22,7 @@ pub struct Plan {
 // A copy of the system's variables.
 #[derive(Clone, Copy, Drop)]
 pub enum Turn {
-    // Of the first state.
+    // Of the initial state.
     First,
     // Of a state and what is defined of it.
     State(usize),

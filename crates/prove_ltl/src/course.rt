@@ -90,9 +90,10 @@ impl Course {
         met && own(first, self.bits) == own(again, self.bits)
     }
 
-    // The number of the first place whose state came before, where each set was met on the way.
-    pub(crate) fn closing(&self) -> Option<usize> {
-        for again in 0..self.places.len() {
+    // The number of the first place whose state came before, where each set was met on the way. Places past the bound
+    // are not looked at: a lasso that closes there has more states.
+    pub(crate) fn closing(&self, bound: usize) -> Option<usize> {
+        for again in 0..self.places.len().min(bound.saturating_add(1)) {
             for first in 0..again {
                 if self.closes(&self.places[first], &self.places[again]) {
                     return Some(again);

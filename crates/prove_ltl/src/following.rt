@@ -93,7 +93,7 @@ fn follow_by<R: Wait, G: Gate>(
     Ok(None)
 }
 
-// The lasso along the course, where it comes back to a state and so has at most so many states.
+// The lasso along the course, where it comes back to a state within so many states.
 fn along(
     alloc: Global,
     system: &System,
@@ -103,12 +103,9 @@ fn along(
 ) -> Result<Option<LtlDone>, AllocError>
     ensures { IfOk result (λ o. IfSome o (λ d. (effort : LtlEffort) → IsDoneFor system.now effort monitored.now.system d)) }
 {
-    let Some(count) = course.closing() else {
+    let Some(count) = course.closing(bound) else {
         return Ok(None);
     };
-    if bound < count {
-        return Ok(None);
-    }
     let states = course.states(alloc, count)?;
     let mut purse = PlainPurse::new(CLOSE);
     match lasso_along(alloc, &monitored.system, &states, &mut purse)? {

@@ -20,16 +20,16 @@ use std::test::Fail;
 // bit 0 was and bit 2 what bit 1 was, and whose bad states have all bits true. A lemma and its level; no level, no
 // lemma.
 //
-// The question: `b` for bad states of the level's frame; of the clause `f` whether first states meet it, `r` whether
+// The question: `b` for bad states of the level's frame; of the clause `f` whether initial states meet it, `r` whether
 // it is inductive relative to the frame below the level, `n` the same and whether a step found leads from a first
 // state, `d` the same and which literals can be dropped, `o` the same so many times that the solvers are made anew;
 // `p` whether the lemma holds one level higher, and `a` the same again; `u` whether the rows of `LATER` are answered.
 // Its clause and level, and the tickets.
 //
 // The answer: `c` for none, `b` for a bad state or one before, `i` if that is an initial one; `m` for a clause that
-// first states meet, `f` for a first state that does not; `p` for a proof, `s` for a step, `d` for a smaller proof,
-// `g` for the one that was given; `x` for a spent purse; `u` for all rows. The clause or the values that it has, and
-// how many parents. Clauses and states have a sign for each bit, `-` for any or none.
+// initial states meet, `f` for an initial state that does not; `p` for a proof, `s` for a step, `d` for a smaller
+// proof, `g` for the one that was given; `x` for a spent purse; `u` for all rows. The clause or the values that it has,
+// and how many parents. Clauses and states have a sign for each bit, `-` for any or none.
 #[derive(Clone, Copy)]
 struct Row(
     char,
@@ -271,7 +271,7 @@ fn first(
     Ok(answer)
 }
 
-// What is answered instead, where it is not known that first states meet the clause.
+// What is answered instead, where it is not known that initial states meet the clause.
 fn unmet(
     alloc: Global,
     solver: &mut FrameSolver,
@@ -414,7 +414,7 @@ fn often(
     Ok(row.7)
 }
 
-// The questions about steps, of a clause that first states meet.
+// The questions about steps, of a clause that initial states meet.
 fn of_steps(
     alloc: Global,
     solver: &mut FrameSolver,
@@ -475,7 +475,7 @@ fn of_clause(
     }
 }
 
-// What is answered instead, where it is not known that first states meet lemma 0.
+// What is answered instead, where it is not known that initial states meet lemma 0.
 fn unmet_lemma(
     alloc: Global,
     solver: &mut FrameSolver,
@@ -495,7 +495,7 @@ fn unmet_lemma(
     unmet(alloc, solver, clause, purse)
 }
 
-// Whether lemma 0, which first states meet, holds one level higher.
+// Whether lemma 0, which initial states meet, holds one level higher.
 fn push_met(
     alloc: Global,
     solver: &mut FrameSolver,
