@@ -38,6 +38,7 @@ pub fn explore<'a, R: Wait, Q: Purse, G: Gate>(
     requires ready { Q.ready purse.old }
     ensures explored { IfOk result (λ e. IsExplored frames.entry.systems limits frames.entry.lemmas e.history.items e.frames (length (Q.tickets purse.old)) (length (Q.tickets purse.new)) (Q.spent purse.new)) }
     ensures kept { Q.kept purse.old purse.new }
+    ensures ready { Q.ready purse.new }
     ensures budget { Q.budget purse.new ≡ Q.budget purse.old }
 {
     explore_by::<Brand, Brand, R, Q, G>(rt, alloc, Blank::new(1), frames, limits, purse, gate)
@@ -63,6 +64,7 @@ fn explore_by<'a, L: Ledger, B: Begun, R: Wait, Q: Purse, G: Gate>(
     requires ready { Q.ready purse.old }
     ensures explored { IfOk result (λ e. IsExplored frames.entry.systems limits frames.entry.lemmas e.history.items e.frames (length (Q.tickets purse.old)) (length (Q.tickets purse.new)) (Q.spent purse.new)) }
     ensures kept { Q.kept purse.old purse.new }
+    ensures ready { Q.ready purse.new }
     ensures budget { Q.budget purse.new ≡ Q.budget purse.old }
 {
     let (ledger, share) = blank.open::<L>();
@@ -87,6 +89,7 @@ fn play_out<'a, L: Ledger, B: Begun, R: Wait, Q: Purse, G: Gate>(
     requires ready { Q.ready purse.old }
     ensures explored { IfOk result (λ e. IsExplored book.entry.systems book.entry.limits book.entry.carried e.history.items e.frames (length B.before) (length (Q.tickets purse.new)) (Q.spent purse.new)) }
     ensures kept { Q.kept purse.old purse.new }
+    ensures ready { Q.ready purse.new }
     ensures budget { Q.budget purse.new ≡ Q.budget purse.old }
 {
     play::<L, B, R, Q, G>(rt, alloc, &mut book, &mut share, &mut solver, purse, gate)?;

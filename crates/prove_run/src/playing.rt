@@ -181,6 +181,7 @@ pub(crate) fn play<'a, L: Ledger, B: Begun, R: Wait, Q: Purse, G: Gate>(
     ensures limits { book.new.limits ≡ book.old.limits }
     ensures carried { book.new.carried ≡ book.old.carried }
     ensures kept { Q.kept purse.old purse.new }
+    ensures ready { Q.ready purse.new }
     ensures budget { Q.budget purse.new ≡ Q.budget purse.old }
 {
     'turns: for _turn in 0..u64::MAX {
