@@ -10,7 +10,7 @@ use crate::course::Course;
 use crate::effort::LtlEffort;
 use crate::searching::violating;
 use clause_core::{Bits, Clauses, Lit, System};
-use effort_purse::PlainPurse;
+use effort_purse::{PlainPurse, Purse};
 use frame_core::{BitRun, Frames, Verdict};
 use frame_history::Limits;
 use frame_worker::Explored;
@@ -170,20 +170,22 @@ fn way_to_bad<R: Wait, G: Gate>(
 }
 
 // Explores the frames of a system up to the effort's limit, and what they tell of it.
-pub(crate) fn explore_one<'a, R: Wait, G: Gate>(
+pub(crate) fn explore_one<'a, R: Wait, Q: Purse, G: Gate>(
     rt: &R,
     alloc: Global,
     frames: Frames<'a>,
     effort: &LtlEffort,
-    purse: &mut PlainPurse,
+    purse: &mut Q,
     gate: &G,
 ) -> Result<(Frames<'a>, Option<Verdict>), AllocError>
     requires obligations { frames.obligations ≡ [] }
     requires tops { frames.tops ≡ replicate (length frames.systems) 0 }
     requires some { 0 < length frames.systems }
     requires limit { effort.now.frames + 1 < 2 ^ 32 }
+    requires ready { Q.ready purse.old }
     ensures systems { IfOk result (λ r. r.0.systems ≡ frames.entry.systems) }
     ensures says { IfOk result (λ r. VerdictSays r.0 0 r.1) }
+    ensures ready { Q.ready purse.new }
 {
     let limits = Limits {
         frames: effort.frames,

@@ -16,7 +16,7 @@ use crate::effort::LtlEffort;
 use crate::following::{explore_one, follow};
 use crate::known::is_unknown;
 use clause_core::System;
-use effort_purse::PlainPurse;
+use effort_purse::Purse;
 use frame_core::{Frames, Verdict};
 use ltl_lassos::absence_of_violations::counted_systems;
 use ltl_monitor::monitor_correctness::counters;
@@ -27,7 +27,7 @@ use std::slice::from_ref;
 use std::sync::Wait;
 
 // Tickets for the frames of all counters.
-const TICKETS: u64 = 60_000;
+pub(crate) const LEAP_TICKETS: u64 = 60_000;
 
 // How many ways back to a state are looked for.
 const RETURNS: u32 = 4;
@@ -43,20 +43,22 @@ pub(crate) enum Tried<'a> {
     Open,
 }
 
-// A certificate or a lasso, where leaps find one. All is paid from purses of its own.
-pub(crate) fn leap_all<R: Wait, G: Gate>(
+// A certificate or a lasso, where leaps find one. The purse pays for the frames of the counters; the searches that follow
+// a run have tickets of their own.
+pub(crate) fn leap_all<R: Wait, Q: Purse, G: Gate>(
     rt: &R,
     alloc: Global,
     system: &System,
     monitored: &Monitored,
     effort: &LtlEffort,
+    purse: &mut Q,
     gate: &G,
 ) -> Result<Option<LtlDone>, AllocError>
     requires limit { effort.now.frames + 1 < 2 ^ 32 }
     requires counter { effort.now.counter ≤ MAX_COUNTER }
+    requires ready { Q.ready purse.old }
     ensures { IfOk result (λ o. IfSome o (IsDoneFor system.now effort.now monitored.now.system)) }
 {
-    let mut purse = PlainPurse::new(effort.conflicts.min(TICKETS));
     let mut returns = RETURNS;
     let first = counted(alloc, monitored, 0)?;
     let frames = Frames::of_one(alloc, &first)?;
@@ -69,7 +71,7 @@ pub(crate) fn leap_all<R: Wait, G: Gate>(
         frames,
         0,
         effort,
-        &mut purse,
+        purse,
         &mut returns,
         gate,
     )?;
@@ -78,7 +80,7 @@ pub(crate) fn leap_all<R: Wait, G: Gate>(
 
 // Counts up to `k` signals, unless some run is known to have more: `signals` of them. Then goes on to the next counter,
 // with the lemmas of this one.
-fn leap<'a, R: Wait, G: Gate>(
+fn leap<'a, R: Wait, Q: Purse, G: Gate>(
     rt: &R,
     alloc: Global,
     system: &System,
@@ -87,7 +89,7 @@ fn leap<'a, R: Wait, G: Gate>(
     frames: Frames<'a>,
     signals: usize,
     effort: &LtlEffort,
-    purse: &mut PlainPurse,
+    purse: &mut Q,
     returns: &mut u32,
     gate: &G,
 ) -> Result<Option<LtlDone>, AllocError>
@@ -97,6 +99,7 @@ fn leap<'a, R: Wait, G: Gate>(
     requires limit { effort.now.frames + 1 < 2 ^ 32 }
     requires within { k ≤ effort.now.counter }
     requires counter { effort.now.counter ≤ MAX_COUNTER }
+    requires ready { Q.ready purse.old }
     ensures { IfOk result (λ o. IfSome o (IsDoneFor system.now effort.now monitored.now.system)) }
 {
     let tried = try_counter(
@@ -132,7 +135,7 @@ fn leap<'a, R: Wait, G: Gate>(
 }
 
 // What is known of `k` signals: that some run has more, `signals` of them; or what comes of counting them.
-fn try_counter<'a, R: Wait, G: Gate>(
+fn try_counter<'a, R: Wait, Q: Purse, G: Gate>(
     rt: &R,
     alloc: Global,
     system: &System,
@@ -141,7 +144,7 @@ fn try_counter<'a, R: Wait, G: Gate>(
     frames: Frames<'a>,
     signals: usize,
     effort: &LtlEffort,
-    purse: &mut PlainPurse,
+    purse: &mut Q,
     returns: &mut u32,
     gate: &G,
 ) -> Result<Tried<'a>, AllocError>
@@ -151,7 +154,9 @@ fn try_counter<'a, R: Wait, G: Gate>(
     requires limit { effort.now.frames + 1 < 2 ^ 32 }
     requires within { k ≤ effort.now.counter }
     requires counter { effort.now.counter ≤ MAX_COUNTER }
-    ensures { IfOk result (TriesCounter system.now effort.now monitored.now.system frames.entry.systems) }
+    requires ready { Q.ready purse.old }
+    ensures tries { IfOk result (TriesCounter system.now effort.now monitored.now.system frames.entry.systems) }
+    ensures ready { Q.ready purse.new }
 {
     if k < signals {
         return Ok(Tried::Passed(frames, signals));
@@ -162,7 +167,7 @@ fn try_counter<'a, R: Wait, G: Gate>(
 }
 
 // Explores the frames of the system with `k` signals counted. A run with more signals is followed further.
-fn count<'a, R: Wait, G: Gate>(
+fn count<'a, R: Wait, Q: Purse, G: Gate>(
     rt: &R,
     alloc: Global,
     system: &System,
@@ -170,7 +175,7 @@ fn count<'a, R: Wait, G: Gate>(
     k: usize,
     frames: Frames<'a>,
     effort: &LtlEffort,
-    purse: &mut PlainPurse,
+    purse: &mut Q,
     returns: &mut u32,
     gate: &G,
 ) -> Result<Tried<'a>, AllocError>
@@ -180,7 +185,9 @@ fn count<'a, R: Wait, G: Gate>(
     requires limit { effort.now.frames + 1 < 2 ^ 32 }
     requires within { k ≤ effort.now.counter }
     requires counter { effort.now.counter ≤ MAX_COUNTER }
-    ensures { IfOk result (TriesCounter system.now effort.now monitored.now.system frames.entry.systems) }
+    requires ready { Q.ready purse.old }
+    ensures tries { IfOk result (TriesCounter system.now effort.now monitored.now.system frames.entry.systems) }
+    ensures ready { Q.ready purse.new }
 {
     let (frames, verdict) = explore_one(rt, alloc, frames, effort, purse, gate)?;
     match verdict {

@@ -5,6 +5,7 @@
 
 pub mod answers;
 mod beside;
+mod capped;
 mod climbing;
 mod counting;
 mod course;
@@ -12,6 +13,7 @@ pub mod effort;
 mod following;
 mod known;
 mod leaping;
+mod less_effort;
 pub mod proving;
 mod searching;
 mod together;

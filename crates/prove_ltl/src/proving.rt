@@ -15,7 +15,8 @@ use crate::beside::prove_together;
 use crate::climbing::climb_all;
 use crate::effort::LtlEffort;
 use crate::known::is_unknown;
-use crate::leaping::leap_all;
+use crate::leaping::{LEAP_TICKETS, leap_all};
+use crate::less_effort::{FIRST, SECOND, less_effort};
 use crate::searching::search_first;
 use clause_core::{Lit, System};
 use effort_purse::PlainPurse;
@@ -37,14 +38,14 @@ use std::thread::Threads;
 /// the counters that the longer run passes are left out. Such a run may come back to a state after each set was met: the
 /// lasso along it, if it has at most as many states as the bound. What these tries find is the answer.
 ///
-/// One worker is the caller, with number 0. Several have the numbers from 1 on: the last of them searches lassos, while
-/// the others explore the frames of each counter. The caller finishes what these leave, and makes the certificate. All
-/// draw from one purse. Who finds a lasso or a certificate stops the others, who get no more tickets. A bound that was
-/// reached stops nobody: the cause says what both found. Where all tickets were drawn, or the book of a counter has to
-/// be dropped, the caller begins anew alone, with a purse of its own. It works alone too where the numbers of tickets
-/// and of workers have no room in one purse. Each worker passes the gate before each of its tasks, but the caller not
-/// before those that it finishes for others. A worker of several that is refused memory ends alone; that the caller is
-/// refused memory is the only error.
+/// One worker is the caller, with number 0. Several have the numbers from 1 on: the last of them searches short lassos
+/// with few tickets of its own, counts by leaps, and searches all lassos, while the others explore the frames of each
+/// counter. The caller finishes what these leave, and makes the certificate. All draw from one purse. Who finds a lasso
+/// or a certificate stops the others, who get no more tickets. A bound that was reached stops nobody: the cause says
+/// what both found. Where all tickets were drawn, or the book of a counter has to be dropped, the caller begins anew
+/// alone, with a purse of its own. It works alone too where the numbers of tickets and of workers have no room in one
+/// purse. Each worker passes the gate before each of its tasks, but the caller not before those that it finishes for
+/// others. A worker of several that is refused memory ends alone; that the caller is refused memory is the only error.
 pub fn prove_ltl<R: Threads + Wait + Sync, G: Gate + Sync>(
     rt: &R,
     alloc: Global,
@@ -69,11 +70,6 @@ pub fn prove_ltl<R: Threads + Wait + Sync, G: Gate + Sync>(
     Ok(done)
 }
 
-// Bounds of lassos, and tickets: what one worker tries before all is done, with leaps between the two.
-const FIRST: (usize, u64) = (8, 5_000);
-
-const SECOND: (usize, u64) = (16, 30_000);
-
 // The same of a monitored system. Most formulas are answered by short lassos, or by counters that cost less than long lassos.
 fn prove_monitored<R: Threads + Wait + Sync, G: Gate + Sync>(
     rt: &R,
@@ -93,7 +89,7 @@ fn prove_monitored<R: Threads + Wait + Sync, G: Gate + Sync>(
         if let Some(done) = prove_early(rt, alloc, system, monitored, effort, FIRST, gate)? {
             return Ok(done);
         }
-        if let Some(done) = leap_all(rt, alloc, system, monitored, effort, gate)? {
+        if let Some(done) = leap_alone(rt, alloc, system, monitored, effort, gate)? {
             return Ok(done);
         }
         if let Some(done) = prove_early(rt, alloc, system, monitored, effort, SECOND, gate)? {
@@ -101,21 +97,6 @@ fn prove_monitored<R: Threads + Wait + Sync, G: Gate + Sync>(
         }
     }
     prove_whole(rt, alloc, system, monitored, effort, workers, gate)
-}
-
-// An effort of at most this bound and so many tickets.
-fn less_effort(effort: &LtlEffort, limits: (usize, u64)) -> LtlEffort
-    ensures bound { result.bound ≤ effort.now.bound }
-    ensures frames { result.frames ≡ effort.now.frames }
-    ensures counter { result.counter ≡ effort.now.counter }
-{
-    let (bound, conflicts) = limits;
-    LtlEffort {
-        conflicts: effort.conflicts.min(conflicts),
-        frames: effort.frames,
-        counter: effort.counter,
-        bound: effort.bound.min(bound),
-    }
 }
 
 // A certificate or a lasso, where so small an effort finds one. It has a purse of its own.
@@ -138,6 +119,23 @@ fn prove_early<R: Wait, G: Gate>(
         return Ok(None);
     }
     Ok(Some(done))
+}
+
+// A certificate or a lasso, where leaps find one. They have a purse of their own.
+fn leap_alone<R: Wait, G: Gate>(
+    rt: &R,
+    alloc: Global,
+    system: &System,
+    monitored: &Monitored,
+    effort: &LtlEffort,
+    gate: &G,
+) -> Result<Option<LtlDone>, AllocError>
+    requires limit { effort.now.frames + 1 < 2 ^ 32 }
+    requires counter { effort.now.counter ≤ MAX_COUNTER }
+    ensures { IfOk result (λ o. IfSome o (IsDoneFor system.now effort.now monitored.now.system)) }
+{
+    let mut purse = PlainPurse::new(effort.conflicts.min(LEAP_TICKETS));
+    leap_all(rt, alloc, system, monitored, effort, &mut purse, gate)
 }
 
 // The same by the whole effort.

@@ -6,7 +6,7 @@ use Rattle.prove_ltl.proofs.leaping.+leap.Goals as goal
 
 pub carry-frames-requires-clause-cut : goal.carry-frames-requires-clause-cut
 carry-frames-requires-clause-cut g t c =
-    let tries = rw c.in-Passed.is at c.in_ok-tried.ensures in
+    let tries = rw c.in-Passed.is at c.in_ok-tried.ensures.tries in
     let m = c.args.monitored.now.system in
     let old : TransitionSystem = c.requires.counted.0 in
     let new : TransitionSystem = c.in_ok-next-in-Passed.next in
@@ -17,4 +17,4 @@ carry-frames-requires-clause-cut g t c =
     (subst (λ (z : List TransitionSystem). IsCut old (system_at z 0)) (sym c.from_ref.ensures.value) both)
 
 pub returns-in-Done : goal.returns-in-Done
-returns-in-Done g t c = rw c.in-Done.is at c.in_ok-tried.ensures
+returns-in-Done g t c = rw c.in-Done.is at c.in_ok-tried.ensures.tries

@@ -8,8 +8,8 @@ use Rattle.prove_ltl.specs.LtlAnswers.{IsLtlDone}
 use Rattle.prove_ltl.proofs.Alone.{shown_done}
 use Rattle.prove_ltl.proofs.leaping.count.Goals as goal
 
-pub returns-in-Some-Invariant : goal.returns-in-Some-Invariant
-returns-in-Some-Invariant g c = λ f atoms ism.
+pub returns-in-Some-Invariant-clause-tries : goal.returns-in-Some-Invariant-clause-tries
+returns-in-Some-Invariant-clause-tries g c = λ f atoms ism.
     let sys = c.args.system.now in
     let effort = c.args.effort.now in
     let m = c.args.monitored.now.system in
@@ -26,5 +26,5 @@ returns-in-Some-Invariant g c = λ f atoms ism.
     (c.in_ok-frames.ensures.systems ∙ c.requires.counted.1) c.in_ok-answer-in-Some-Invariant.ensures.shows
     (sym c.is_unknown.ensures ∙ c.if-is_unknown.false) c.requires.within never)
 
-pub returns-in-Some-Reached : goal.returns-in-Some-Reached
-returns-in-Some-Reached g c = c.in_ok-frames.ensures.systems
+pub returns-in-Some-Reached-clause-tries : goal.returns-in-Some-Reached-clause-tries
+returns-in-Some-Reached-clause-tries g c = c.in_ok-frames.ensures.systems
