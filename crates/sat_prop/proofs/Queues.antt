@@ -108,10 +108,6 @@ small_level cs watches t some levels =
     let le : s ≤ length t.literals.items = omega (arith, t.in_trail 0 l0) in
     small_grows cs watches (take s t.literals.items) t.literals.items (λ l on. take_in t.literals.items s l le on) (levels 0 l0).1
 
-pub queue_went : (cs : List (List Lit)) (h : List Watches) (t t' : Trail) (n : ℕ) → n ≤ length t.literals.items → Extends t t' →
-    AllGuarded cs h (take n t.literals.items) t.literals.items → AllGuarded cs h (take n t'.literals.items) t'.literals.items
-queue_went cs h t t' n le w ok = queue_kept cs h h t t' n le w (λ s u part old. old) ok
-
 pub levels_went : (cs : List (List Lit)) (h : List Watches) (t t' : Trail) → Extends t t' →
     LevelsGuarded cs h t.literals.items t.level_starts.items → LevelsGuarded cs h t'.literals.items t'.level_starts.items
 levels_went cs h t t' w levels = levels_kept cs h h t t' w (λ s u part old. old) (λ k big. big) levels

@@ -1,8 +1,8 @@
 -- What the steps of a propagator do to its trail.
-use Rattle.std.specs.Prelude.{◌≡◌, ℕ, ◌+◌, ◌<◌, ◌≤◌, Bool, true, false, List, [], length, take, slice_index_or, All}
+use Rattle.std.specs.Prelude.{◌≡◌, ℕ, ◌+◌, ◌<◌, ◌≤◌, Bool, true, false, List, [], ◌∷◌, ◌++◌, length, take, slice_index_or, slice_set, All}
 use Rattle.clause_core.specs.declared.literal.Lit.{Lit}
 use Rattle.clause_core.specs.Propagation.{Settled}
-use Rattle.clause_core.specs.Values.{unset}
+use Rattle.clause_core.specs.Values.{code, unset}
 use Rattle.sat_prop.specs.declared.trail.Trail.{Trail}
 use Rattle.sat_prop.specs.declared.sweep.Swept.{Swept}
 use Rattle.sat_prop.specs.declared.sweep.Swept.TheVariants.{False, Changed, Still}
@@ -15,6 +15,25 @@ pub record Extends (old new : Trail) : Type 0 where
   pub vars : length new.values.items ≡ length old.values.items
   pub fewer : unset new.values.items ≤ unset old.values.items
   pub count : length new.literals.items + unset new.values.items ≡ length old.literals.items + unset old.values.items
+
+-- from one trail to the next: the literal comes last, for this reason
+pub record Pushes (old new : Trail) (l : Lit) (reason : ℕ) : Type 0 where
+  pub literals : new.literals.items ≡ old.literals.items ++ l ∷ []
+  pub reasons : new.reasons.items ≡ slice_set old.reasons.items l.var reason
+  pub values : new.values.items ≡ slice_set old.values.items l.var (code l.positive)
+
+-- both trails are alike, but for the places of literals that are not set
+pub record IsSameTrail (old new : Trail) : Type 0 where
+  pub literals : new.literals.items ≡ old.literals.items
+  pub reasons : new.reasons.items ≡ old.reasons.items
+  pub values : new.values.items ≡ old.values.items
+  pub level_starts : new.level_starts.items ≡ old.level_starts.items
+
+-- from one trail to the next by a decision
+pub record Decides (old new : Trail) (l : Lit) : Type 0 where
+  pub literals : new.literals.items ≡ old.literals.items ++ l ∷ []
+  pub level_starts : new.level_starts.items ≡ old.level_starts.items ++ length old.literals.items ∷ []
+  pub fewer : unset new.values.items < unset old.values.items
 
 -- clause number k is false on the trail: a conflict
 abbrev pub FalseClause : List (List Lit) → Trail → ℕ → Type 0

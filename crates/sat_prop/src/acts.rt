@@ -1,14 +1,13 @@
 //! What the solver does to clauses and trail under watches: add or learn a clause, decide, and
 //! undo.
 
-ghost use Rattle.std.specs.Prelude.{◌+◌, ◌-◌, ◌*◌, ◌^◌, [], ◌∷◌, ◌≡◌, ◌<◌, ◌≤◌, ℕ, ◌++◌, true, false, IfOk, OnOk, OnErr, length, take, All, List, slice_set, slice_index, slice_index_or};
+ghost use Rattle.std.specs.Prelude.{◌+◌, [], ◌∷◌, ◌≡◌, ◌<◌, ◌≤◌, ◌++◌, false, OnOk, OnErr, length, take, slice_index};
 ghost use Rattle.clause_core.specs.Literals.{Within, negate};
-ghost use Rattle.clause_core.specs.Values.{holds, unset};
-ghost use Rattle.sat_prop.specs.Trails.{Based, among};
-ghost use Rattle.sat_prop.specs.Entries.{AllEntries, fits, numbers_of};
-ghost use Rattle.sat_prop.specs.Packing.{RowsMatch, pairs};
-ghost use Rattle.sat_prop.specs.Watches.{AllWatchesIn, AllListed, AllGuarded, ShortListed, ShortTrue, LevelsGuarded, Watchable, HasTwo};
-ghost use Rattle.sat_prop.specs.Roots.{ShortSwept, root};
+ghost use Rattle.sat_prop.specs.Moves.{Decides};
+ghost use Rattle.sat_prop.specs.Packing.{pairs};
+ghost use Rattle.sat_prop.specs.States.{IsGuarded, IsWatching};
+ghost use Rattle.sat_prop.specs.Trails.{among};
+ghost use Rattle.sat_prop.specs.Watches.{HasTwo, ShortTrue, Watchable};
 
 use crate::attach::{attach, watches_of};
 use crate::cover::Recent;
@@ -78,33 +77,8 @@ pub fn add_on(
 ) -> Result<(), AllocError>
     requires within { Within (length trail.now.values.items) c.now }
     requires watch { Watchable trail.now.literals.items trail.now.level_starts.items c.now w }
-    requires based_in { Based trail.now.literals.items trail.now.reasons.items clauses.old }
-    requires within_in { All (Within (length trail.now.values.items)) clauses.old }
-    requires room { 2 * length trail.now.values.items < 2 ^ 32 }
-    requires rows_len { length rows.old ≡ length clauses.old }
-    requires watches_in { AllWatchesIn clauses.old (pairs rows.old) }
-    requires rows_match { RowsMatch clauses.old rows.old }
-    requires all_listed { AllListed (pairs rows.old) (numbers_of lists.old) }
-    requires cells { length lists.old ≡ 2 * length trail.now.values.items }
-    requires fit { AllEntries (fits clauses.old) lists.old }
-    requires short_listed { ShortListed clauses.old (pairs rows.old) short.old.items }
-    requires swept { ShortSwept clauses.old short.old.items swept (root trail.now.literals.items trail.now.level_starts.items) }
-    requires low { head.old ≤ length trail.now.literals.items }
-    requires queue { AllGuarded clauses.old (pairs rows.old) (take head.old trail.now.literals.items) trail.now.literals.items }
-    requires levels { LevelsGuarded clauses.old (pairs rows.old) trail.now.literals.items trail.now.level_starts.items }
-    ensures based_in { Based trail.now.literals.items trail.now.reasons.items clauses.new }
-    ensures within_in { All (Within (length trail.now.values.items)) clauses.new }
-    ensures rows_len { length rows.new ≡ length clauses.new }
-    ensures watches_in { AllWatchesIn clauses.new (pairs rows.new) }
-    ensures rows_match { RowsMatch clauses.new rows.new }
-    ensures all_listed { AllListed (pairs rows.new) (numbers_of lists.new) }
-    ensures cells { length lists.new ≡ 2 * length trail.now.values.items }
-    ensures fit { AllEntries (fits clauses.new) lists.new }
-    ensures short_listed { ShortListed clauses.new (pairs rows.new) short.new.items }
-    ensures swept { ShortSwept clauses.new short.new.items swept (root trail.now.literals.items trail.now.level_starts.items) }
-    ensures low { head.new ≤ length trail.now.literals.items }
-    ensures queue { AllGuarded clauses.new (pairs rows.new) (take head.new trail.now.literals.items) trail.now.literals.items }
-    ensures levels { LevelsGuarded clauses.new (pairs rows.new) trail.now.literals.items trail.now.level_starts.items }
+    requires watching { IsWatching clauses.old trail.now rows.old lists.old short.old.items swept head.old }
+    ensures watching { IsWatching clauses.new trail.now rows.new lists.new short.new.items swept head.new }
     ensures done { OnOk result (clauses.new ≡ clauses.old ++ c.now ∷ []) }
     ensures failed { OnErr result (clauses.new ≡ clauses.old) }
 {
@@ -131,33 +105,8 @@ pub fn learn_on(
 ) -> Result<(), AllocError>
     requires within { Within (length trail.now.values.items) c.now }
     requires watch { Watchable trail.now.literals.items trail.now.level_starts.items c.now w }
-    requires based_in { Based trail.now.literals.items trail.now.reasons.items clauses.old }
-    requires within_in { All (Within (length trail.now.values.items)) clauses.old }
-    requires room { 2 * length trail.now.values.items < 2 ^ 32 }
-    requires rows_len { length rows.old ≡ length clauses.old }
-    requires watches_in { AllWatchesIn clauses.old (pairs rows.old) }
-    requires rows_match { RowsMatch clauses.old rows.old }
-    requires all_listed { AllListed (pairs rows.old) (numbers_of lists.old) }
-    requires cells { length lists.old ≡ 2 * length trail.now.values.items }
-    requires fit { AllEntries (fits clauses.old) lists.old }
-    requires short_listed { ShortListed clauses.old (pairs rows.old) short.old.items }
-    requires swept { ShortSwept clauses.old short.old.items swept (root trail.now.literals.items trail.now.level_starts.items) }
-    requires low { head.old ≤ length trail.now.literals.items }
-    requires queue { AllGuarded clauses.old (pairs rows.old) (take head.old trail.now.literals.items) trail.now.literals.items }
-    requires levels { LevelsGuarded clauses.old (pairs rows.old) trail.now.literals.items trail.now.level_starts.items }
-    ensures based_in { Based trail.now.literals.items trail.now.reasons.items clauses.new }
-    ensures within_in { All (Within (length trail.now.values.items)) clauses.new }
-    ensures rows_len { length rows.new ≡ length clauses.new }
-    ensures watches_in { AllWatchesIn clauses.new (pairs rows.new) }
-    ensures rows_match { RowsMatch clauses.new rows.new }
-    ensures all_listed { AllListed (pairs rows.new) (numbers_of lists.new) }
-    ensures cells { length lists.new ≡ 2 * length trail.now.values.items }
-    ensures fit { AllEntries (fits clauses.new) lists.new }
-    ensures short_listed { ShortListed clauses.new (pairs rows.new) short.new.items }
-    ensures swept { ShortSwept clauses.new short.new.items swept (root trail.now.literals.items trail.now.level_starts.items) }
-    ensures low { head.new ≤ length trail.now.literals.items }
-    ensures queue { AllGuarded clauses.new (pairs rows.new) (take head.new trail.now.literals.items) trail.now.literals.items }
-    ensures levels { LevelsGuarded clauses.new (pairs rows.new) trail.now.literals.items trail.now.level_starts.items }
+    requires watching { IsWatching clauses.old trail.now rows.old lists.old short.old.items swept head.old }
+    ensures watching { IsWatching clauses.new trail.now rows.new lists.new short.new.items swept head.new }
     ensures done { OnOk result (clauses.new ≡ clauses.old ++ c.now ∷ []) }
     ensures failed { OnErr result (clauses.new ≡ clauses.old) }
 {
@@ -180,20 +129,10 @@ pub fn decide_on(
     requires in_range { l.var < length trail.old.values.items }
     requires off { among trail.old.literals.items l ≡ false }
     requires off_too { among trail.old.literals.items (negate l) ≡ false }
-    requires rested { head ≡ length trail.old.literals.items }
-    requires rested_short { ShortTrue clauses.now (pairs rows.now) trail.old.literals.items }
-    requires based_in { Based trail.old.literals.items trail.old.reasons.items clauses.now }
-    requires swept { ShortSwept clauses.now short.now swept (root trail.old.literals.items trail.old.level_starts.items) }
-    requires queue { AllGuarded clauses.now (pairs rows.now) (take head trail.old.literals.items) trail.old.literals.items }
-    requires levels { LevelsGuarded clauses.now (pairs rows.now) trail.old.literals.items trail.old.level_starts.items }
-    ensures based_in { Based trail.new.literals.items trail.new.reasons.items clauses.now }
-    ensures swept { ShortSwept clauses.now short.now swept (root trail.new.literals.items trail.new.level_starts.items) }
-    ensures low { head ≤ length trail.new.literals.items }
-    ensures queue { AllGuarded clauses.now (pairs rows.now) (take head trail.new.literals.items) trail.new.literals.items }
-    ensures levels { LevelsGuarded clauses.now (pairs rows.now) trail.new.literals.items trail.new.level_starts.items }
-    ensures literals { OnOk result (trail.new.literals.items ≡ trail.old.literals.items ++ l ∷ []) }
-    ensures level_starts { OnOk result (trail.new.level_starts.items ≡ trail.old.level_starts.items ++ length trail.old.literals.items ∷ []) }
-    ensures fewer { OnOk result (unset trail.new.values.items < unset trail.old.values.items) }
+    requires rested { (head ≡ length trail.old.literals.items) × ShortTrue clauses.now (pairs rows.now) trail.old.literals.items }
+    requires guarded { IsGuarded clauses.now trail.old rows.now short.now swept head }
+    ensures guarded { IsGuarded clauses.now trail.new rows.now short.now swept head }
+    ensures decided { OnOk result (Decides trail.old trail.new l) }
     ensures vars { length trail.new.values.items ≡ length trail.old.values.items }
 {
     trail.decide(l)?;
@@ -211,14 +150,8 @@ pub fn undo_on(
     level: usize,
 )
     requires level { level < length trail.old.level_starts.items }
-    requires based_in { Based trail.old.literals.items trail.old.reasons.items clauses.now }
-    requires swept { ShortSwept clauses.now short.now swept (root trail.old.literals.items trail.old.level_starts.items) }
-    requires levels { LevelsGuarded clauses.now (pairs rows.now) trail.old.literals.items trail.old.level_starts.items }
-    ensures based_in { Based trail.new.literals.items trail.new.reasons.items clauses.now }
-    ensures swept { ShortSwept clauses.now short.now swept (root trail.new.literals.items trail.new.level_starts.items) }
-    ensures low { head.new ≤ length trail.new.literals.items }
-    ensures queue { AllGuarded clauses.now (pairs rows.now) (take head.new trail.new.literals.items) trail.new.literals.items }
-    ensures levels { LevelsGuarded clauses.now (pairs rows.now) trail.new.literals.items trail.new.level_starts.items }
+    requires guarded { IsGuarded clauses.now trail.old rows.now short.now swept head.old }
+    ensures guarded { IsGuarded clauses.now trail.new rows.now short.now swept head.new }
     ensures literals { trail.new.literals.items ≡ take (slice_index trail.old.level_starts.items level) trail.old.literals.items }
     ensures level_starts { trail.new.level_starts.items ≡ take level trail.old.level_starts.items }
     ensures vars { length trail.new.values.items ≡ length trail.old.values.items }

@@ -1,12 +1,12 @@
 //! Adds a clause: chooses its two watched literals and puts it into their watch lists.
 
-ghost use Rattle.std.specs.Prelude.{◌+◌, ◌-◌, ◌*◌, ◌^◌, [], ◌∷◌, ◌≡◌, ◌<◌, ◌≤◌, ℕ, ◌++◌, true, false, IfOk, OnOk, OnErr, length, take, All, List, slice_set, slice_index, slice_index_or, MatchOption};
-ghost use Rattle.clause_core.specs.Literals.{Within, negate};
-ghost use Rattle.sat_prop.specs.Entries.{AllEntries, fits, listed_with, numbers_of};
+ghost use Rattle.std.specs.Prelude.{◌+◌, ◌^◌, [], ◌∷◌, ◌≡◌, ◌<◌, ℕ, ◌++◌, true, OnOk, OnErr, length, take, All, List};
 ghost use Rattle.sat_prop.specs.declared.lists.Watcher.{Watcher};
-ghost use Rattle.sat_prop.specs.Packing.{RowsMatch, pairs, row_of};
-ghost use Rattle.sat_prop.specs.Watches.{AllWatchesIn, WatchesIn, AllListed, ShortListed, WatchesSay, ShortMore, InShort, HasTwo, HasOneLiteral, cell};
+ghost use Rattle.sat_prop.specs.Entries.{listed_with};
+ghost use Rattle.sat_prop.specs.Packing.{pairs, row_of};
+ghost use Rattle.sat_prop.specs.States.{HasCells, IsAttachable, IsListed};
 ghost use Rattle.sat_prop.specs.Trails.{is_literal};
+ghost use Rattle.sat_prop.specs.Watches.{WatchesIn, ShortListed, WatchesSay, ShortMore, InShort, HasTwo, HasOneLiteral, cell};
 
 use crate::lists::{WatchLists, Watcher};
 use crate::rows::Rows;
@@ -46,12 +46,8 @@ fn pair_of(c: &[Lit]) -> Watches
 
 // Puts clause k into the lists of its two watches. If memory runs out, these are as before.
 fn list_both(lists: &mut WatchLists, h: Watches, k: usize) -> Result<(), AllocError>
-    requires a_in { 2 * h.a.var + 1 < 2 ^ 64 }
-    requires b_in { 2 * h.b.var + 1 < 2 ^ 64 }
-    requires a_cell { cell h.a < length lists.old }
-    requires b_cell { cell h.b < length lists.old }
-    requires a_word { cell h.a < 2 ^ 32 }
-    requires b_word { cell h.b < 2 ^ 32 }
+    requires two { HasTwo h }
+    requires cells { HasCells (length lists.old) h }
     requires number { k < 2 ^ 32 }
     ensures done { OnOk result (lists.new ≡ listed_with lists.old h k) }
     ensures failed { OnErr result (lists.new ≡ lists.old) }
@@ -75,10 +71,8 @@ fn list_both(lists: &mut WatchLists, h: Watches, k: usize) -> Result<(), AllocEr
 
 // Takes a clause out of the lists again, where it came last.
 fn unlist_both(lists: &mut WatchLists, h: Watches)
-    requires a_in { 2 * h.a.var + 1 < 2 ^ 64 }
-    requires b_in { 2 * h.b.var + 1 < 2 ^ 64 }
-    requires a_cell { cell h.a < length lists.old }
-    requires b_cell { cell h.b < length lists.old }
+    requires two { HasTwo h }
+    requires cells { HasCells (length lists.old) h }
     ensures { (before : List (List Watcher)) (k : ℕ) → length before ≡ length lists.old → lists.old ≡ listed_with before h k → lists.new ≡ before }
 {
     lists.pop(cell_of(h.b));
@@ -92,12 +86,7 @@ fn enlist(
     h: Watches,
     k: usize,
 ) -> Result<(), AllocError>
-    requires a_in { is_literal h.a h.b ≡ false → 2 * h.a.var + 1 < 2 ^ 64 }
-    requires b_in { is_literal h.a h.b ≡ false → 2 * h.b.var + 1 < 2 ^ 64 }
-    requires a_cell { is_literal h.a h.b ≡ false → cell h.a < length lists.old }
-    requires b_cell { is_literal h.a h.b ≡ false → cell h.b < length lists.old }
-    requires a_word { cell h.a < 2 ^ 32 }
-    requires b_word { cell h.b < 2 ^ 32 }
+    requires cells { HasCells (length lists.old) h }
     requires number { k < 2 ^ 32 }
     ensures same { is_literal h.a h.b ≡ true → lists.new ≡ lists.old }
     ensures both { OnOk result (HasTwo h → lists.new ≡ listed_with lists.old h k) }
@@ -116,10 +105,7 @@ fn enlist(
 
 // Takes a clause out of the lists again, where it came last.
 fn delist(lists: &mut WatchLists, h: Watches)
-    requires a_in { is_literal h.a h.b ≡ false → 2 * h.a.var + 1 < 2 ^ 64 }
-    requires b_in { is_literal h.a h.b ≡ false → 2 * h.b.var + 1 < 2 ^ 64 }
-    requires a_cell { is_literal h.a h.b ≡ false → cell h.a < length lists.old }
-    requires b_cell { is_literal h.a h.b ≡ false → cell h.b < length lists.old }
+    requires cells { HasCells (length lists.old) h }
     ensures same { is_literal h.a h.b ≡ true → lists.new ≡ lists.old }
     ensures undone { HasTwo h → (before : List (List Watcher)) (k : ℕ) → length before ≡ length lists.old → lists.old ≡ listed_with before h k → lists.new ≡ before }
 {
@@ -160,33 +146,15 @@ pub fn attach(
     c: &[Lit],
     h: Watches,
 ) -> Result<(), AllocError>
-    requires a_in { is_literal h.a h.b ≡ false → 2 * h.a.var + 1 < 2 ^ 64 }
-    requires b_in { is_literal h.a h.b ≡ false → 2 * h.b.var + 1 < 2 ^ 64 }
-    requires a_cell { is_literal h.a h.b ≡ false → cell h.a < length lists.old }
-    requires b_cell { is_literal h.a h.b ≡ false → cell h.b < length lists.old }
-    requires a_word { cell h.a < 2 ^ 32 }
-    requires b_word { cell h.b < 2 ^ 32 }
-    requires words { All (λ l. cell l < 2 ^ 32) c.now }
-    requires two { HasTwo h → WatchesIn h c.now }
-    requires one { is_literal h.a h.b ≡ true → HasOneLiteral c.now }
-    requires rows_len { length rows.old ≡ length clauses.old }
-    requires watches_in { AllWatchesIn clauses.old (pairs rows.old) }
-    requires rows_match { RowsMatch clauses.old rows.old }
-    requires all_listed { AllListed (pairs rows.old) (numbers_of lists.old) }
+    requires attachable { IsAttachable (length lists.old) c.now h }
+    requires listed { IsListed clauses.old rows.old lists.old }
     requires short_listed { ShortListed clauses.old (pairs rows.old) short.old.items }
-    requires fit { AllEntries (fits clauses.old) lists.old }
-    ensures cells { length lists.new ≡ length lists.old }
-    ensures fit { AllEntries (fits clauses.new) lists.new }
-    ensures rows_len { length rows.new ≡ length clauses.new }
-    ensures watches_in { AllWatchesIn clauses.new (pairs rows.new) }
-    ensures rows_match { RowsMatch clauses.new rows.new }
-    ensures all_listed { AllListed (pairs rows.new) (numbers_of lists.new) }
+    ensures listed { IsListed clauses.new rows.new lists.new }
     ensures short_listed { ShortListed clauses.new (pairs rows.new) short.new.items }
+    ensures cells { length lists.new ≡ length lists.old }
     ensures short_kept { take (length short.old.items) short.new.items ≡ short.old.items }
-    ensures done { OnOk result (clauses.new ≡ clauses.old ++ c.now ∷ []) }
-    ensures done_rows { OnOk result (rows.new ≡ rows.old ++ row_of h c.now ∷ []) }
-    ensures failed { OnErr result (clauses.new ≡ clauses.old) }
-    ensures failed_rows { OnErr result (rows.new ≡ rows.old) }
+    ensures done { OnOk result ((clauses.new ≡ clauses.old ++ c.now ∷ []) × (rows.new ≡ rows.old ++ row_of h c.now ∷ [])) }
+    ensures failed { OnErr result ((clauses.new ≡ clauses.old) × (rows.new ≡ rows.old)) }
 {
     let k = rows.len();
     if k >= u32::MAX as usize {

@@ -11,6 +11,7 @@ mod queue;
 mod rows;
 mod scan;
 mod settle;
+mod steps;
 mod sweep;
 mod trail;
 mod visit;

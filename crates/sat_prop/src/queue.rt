@@ -1,15 +1,11 @@
 //! The propagation queue: literals of the trail whose watch lists are still to be visited, and unit
 //! clauses.
 
-ghost use Rattle.std.specs.Prelude.{◌+◌, ◌-◌, ◌*◌, ◌^◌, [], ◌∷◌, ◌≡◌, ◌<◌, ◌≤◌, ℕ, ◌++◌, true, false, IfOk, length, take, All, List, slice_set, slice_index, slice_index_or, MatchOption, ◌⊎◌};
-ghost use Rattle.clause_core.specs.declared.literal.Lit.{Lit};
-ghost use Rattle.clause_core.specs.Literals.{Within, negate};
-ghost use Rattle.sat_prop.specs.Trails.{Based, AtRest, among};
+ghost use Rattle.std.specs.Prelude.{◌+◌, ◌^◌, ◌≡◌, ◌<◌, ℕ, IfOk, length, slice_index, MatchOption, ◌⊎◌};
 ghost use Rattle.sat_prop.specs.Moves.{Extends, FalseClause};
-ghost use Rattle.sat_prop.specs.Entries.{AllEntries, fits, numbers_of};
-ghost use Rattle.sat_prop.specs.Packing.{RowsMatch, pairs};
-ghost use Rattle.sat_prop.specs.Watches.{AllWatchesIn, AllListed, Kept, KeepsTwo, AllGuarded, ShortDone, ShortListed, ShortTrue, LevelsGuarded};
 ghost use Rattle.sat_prop.specs.Roots.{ShortSwept};
+ghost use Rattle.sat_prop.specs.States.{IsBased, IsWatched, IsPropagated, KeepsWatches};
+ghost use Rattle.sat_prop.specs.Watches.{ShortDone};
 
 use crate::lists::WatchLists;
 use crate::rows::Rows;
@@ -26,29 +22,12 @@ pub fn run_queue(
     lists: &mut WatchLists,
     head: &mut usize,
 ) -> Result<Option<usize>, AllocError>
-    requires short { 2 * length trail.old.values.items < 2 ^ 32 }
-    requires within { All (Within (length trail.old.values.items)) clauses.now }
-    requires based { Based trail.old.literals.items trail.old.reasons.items clauses.now }
-    requires rows_len { length rows.old ≡ length clauses.now }
-    requires watches_in { AllWatchesIn clauses.now (pairs rows.old) }
-    requires rows_match { RowsMatch clauses.now rows.old }
-    requires all_listed { AllListed (pairs rows.old) (numbers_of lists.old) }
-    requires cells { length lists.old ≡ 2 * length trail.old.values.items }
-    requires fit { AllEntries (fits clauses.now) lists.old }
-    requires low { head.old ≤ length trail.old.literals.items }
-    requires queue { AllGuarded clauses.now (pairs rows.old) (take head.old trail.old.literals.items) trail.old.literals.items }
-    ensures based { Based trail.new.literals.items trail.new.reasons.items clauses.now }
+    requires watched { IsWatched clauses.now trail.old rows.old lists.old }
+    requires propagated { IsPropagated clauses.now trail.old rows.old head.old }
+    ensures watched { IsWatched clauses.now trail.new rows.new lists.new }
+    ensures propagated { IsPropagated clauses.now trail.new rows.new head.new }
     ensures extends { Extends trail.old trail.new }
-    ensures rows_len { length rows.new ≡ length clauses.now }
-    ensures watches_in { AllWatchesIn clauses.now (pairs rows.new) }
-    ensures rows_match { RowsMatch clauses.now rows.new }
-    ensures all_listed { AllListed (pairs rows.new) (numbers_of lists.new) }
-    ensures cells { length lists.new ≡ length lists.old }
-    ensures fit { AllEntries (fits clauses.now) lists.new }
-    ensures kept { Kept clauses.now (pairs rows.old) (pairs rows.new) trail.old.literals.items }
-    ensures two_kept { KeepsTwo (pairs rows.old) (pairs rows.new) }
-    ensures low { head.new ≤ length trail.new.literals.items }
-    ensures queue { AllGuarded clauses.now (pairs rows.new) (take head.new trail.new.literals.items) trail.new.literals.items }
+    ensures kept { KeepsWatches clauses.now rows.old rows.new trail.old }
     ensures says { IfOk result (λ o. MatchOption o (head.new ≡ length trail.new.literals.items) (FalseClause clauses.now trail.new)) }
 {
     'queue: while *head < trail.literals.len() {
@@ -81,10 +60,9 @@ pub fn sweep_short(
     short: &[usize],
     swept: &mut usize,
 ) -> Result<Option<usize>, AllocError>
-    requires within { All (Within (length trail.old.values.items)) clauses.now }
-    requires based { Based trail.old.literals.items trail.old.reasons.items clauses.now }
+    requires based { IsBased clauses.now trail.old }
     requires swept { ShortSwept clauses.now short.now swept.old trail.old.literals.items }
-    ensures based { Based trail.new.literals.items trail.new.reasons.items clauses.now }
+    ensures based { IsBased clauses.now trail.new }
     ensures extends { Extends trail.old trail.new }
     ensures swept { ShortSwept clauses.now short.now swept.new trail.new.literals.items }
     ensures says { IfOk result (λ o. MatchOption o ((j : ℕ) → j < length short.now → ShortDone clauses.now trail.new.literals.items (slice_index short.now j)) (FalseClause clauses.now trail.new)) }

@@ -1,8 +1,6 @@
 //! Unit propagation that looks at every clause, with which tests compare the watched one.
 
-ghost use Rattle.std.specs.Prelude.{[], All, length};
-ghost use Rattle.clause_core.specs.Literals.{Within};
-ghost use Rattle.sat_prop.specs.Trails.{Based};
+ghost use Rattle.sat_prop.specs.States.{IsBased};
 
 use crate::propagator::Propagator;
 use crate::sweep::sweep_all;
@@ -16,8 +14,7 @@ use std::alloc::{AllocError, Global};
 pub struct Scan {
     clauses: Clauses,
     trail: Trail,
-    ghost based_in: { Based trail.literals.items trail.reasons.items clauses },
-    ghost within_in: { All (Within (length trail.values.items)) clauses },
+    ghost based_in: { IsBased clauses trail },
 }
 
 impl Propagator for Scan {
@@ -67,7 +64,7 @@ impl Propagator for Scan {
         sweep_all(&self.clauses, &mut self.trail)
     }
 
-    ghost based = { λ s. s.based_in };
+    ghost based = { λ s. s.based_in.reasons };
 
-    ghost within = { λ s. s.within_in };
+    ghost within = { λ s. s.based_in.within };
 }

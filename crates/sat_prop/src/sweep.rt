@@ -1,10 +1,9 @@
 //! Unit propagation by passes over all clauses.
 
-ghost use Rattle.std.specs.Prelude.{◌+◌, ◌-◌, ◌*◌, ◌^◌, [], ◌∷◌, ◌≡◌, ◌<◌, ◌≤◌, ℕ, ◌++◌, true, false, IfOk, OnOk, OnErr, length, take, All, List, slice_set, slice_index, MatchBool, MatchOption};
-ghost use Rattle.clause_core.specs.Values.{holds, code, unset};
-ghost use Rattle.clause_core.specs.Literals.{negate, Within, at};
-ghost use Rattle.sat_prop.specs.Trails.{Based, AtRest};
+ghost use Rattle.std.specs.Prelude.{IfOk, MatchOption};
 ghost use Rattle.sat_prop.specs.Moves.{Extends, SweptSays, FalseClause};
+ghost use Rattle.sat_prop.specs.States.{IsBased};
+ghost use Rattle.sat_prop.specs.Trails.{AtRest};
 
 use crate::trail::Trail;
 use clause_core::{Clauses, Lit, Scan, scan_clause};
@@ -20,9 +19,8 @@ pub enum Swept {
 
 // One pass over the clauses: sets each literal that a clause is unit on.
 fn sweep(clauses: &Clauses, trail: &mut Trail) -> Result<Swept, AllocError>
-    requires within { All (Within (length trail.old.values.items)) clauses.now }
-    requires based { Based trail.old.literals.items trail.old.reasons.items clauses.now }
-    ensures based { Based trail.new.literals.items trail.new.reasons.items clauses.now }
+    requires based { IsBased clauses.now trail.old }
+    ensures based { IsBased clauses.now trail.new }
     ensures extends { Extends trail.old trail.new }
     ensures says { IfOk result (SweptSays clauses.now trail.old trail.new) }
 {
@@ -46,9 +44,8 @@ fn sweep(clauses: &Clauses, trail: &mut Trail) -> Result<Swept, AllocError>
 
 // Passes over the clauses until one is false or nothing is left to set.
 pub fn sweep_all(clauses: &Clauses, trail: &mut Trail) -> Result<Option<usize>, AllocError>
-    requires within { All (Within (length trail.old.values.items)) clauses.now }
-    requires based { Based trail.old.literals.items trail.old.reasons.items clauses.now }
-    ensures based { Based trail.new.literals.items trail.new.reasons.items clauses.now }
+    requires based { IsBased clauses.now trail.old }
+    ensures based { IsBased clauses.now trail.new }
     ensures extends { Extends trail.old trail.new }
     ensures says { IfOk result (λ o. MatchOption o (AtRest clauses.now trail.new.literals.items) (FalseClause clauses.now trail.new)) }
 {

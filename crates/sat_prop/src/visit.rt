@@ -1,15 +1,12 @@
 //! Visits the clauses that watch a literal that became false (Moskewicz and others 2001). Each
 //! finds another watch, forces a literal, or is a conflict.
 
-ghost use Rattle.std.specs.Prelude.{◌+◌, ◌-◌, ◌*◌, ◌^◌, [], ◌∷◌, ◌≡◌, ◌<◌, ◌≤◌, ℕ, ◌++◌, true, false, IfOk, length, take, All, List, slice_set, slice_index, slice_index_or, MatchOption};
-ghost use Rattle.clause_core.specs.declared.literal.Lit.{Lit};
-ghost use Rattle.clause_core.specs.Literals.{Within, negate};
-ghost use Rattle.sat_prop.specs.Trails.{Based, among};
+ghost use Rattle.std.specs.Prelude.{[], ◌≡◌, ℕ, IfOk, MatchOption};
 ghost use Rattle.sat_prop.specs.Moves.{Extends, FalseClause};
-ghost use Rattle.sat_prop.specs.Entries.{AllEntries, fits, numbers_of};
+ghost use Rattle.sat_prop.specs.Packing.{pairs};
 ghost use Rattle.sat_prop.specs.Sifted.{put_back};
-ghost use Rattle.sat_prop.specs.Packing.{RowsMatch, pairs};
-ghost use Rattle.sat_prop.specs.Watches.{AllWatchesIn, AllListed, Kept, DoneWith, KeepsTwo};
+ghost use Rattle.sat_prop.specs.States.{IsWatched, IsFallen, KeepsWatches};
+ghost use Rattle.sat_prop.specs.Watches.{DoneWith};
 
 use crate::lists::{PackedWatcher, Sieve, WatchLists, Watcher};
 use crate::rows::Rows;
@@ -28,28 +25,12 @@ fn visit_entries(
     sieve: &mut Sieve,
     f: Lit,
 ) -> Result<Option<usize>, AllocError>
-    requires short { 2 * length trail.old.values.items < 2 ^ 32 }
-    requires within { All (Within (length trail.old.values.items)) clauses.now }
-    requires based { Based trail.old.literals.items trail.old.reasons.items clauses.now }
-    requires rows_len { length rows.old ≡ length clauses.now }
-    requires watches_in { AllWatchesIn clauses.now (pairs rows.old) }
-    requires rows_match { RowsMatch clauses.now rows.old }
-    requires all_listed { AllListed (pairs rows.old) (numbers_of (put_back lists.old f sieve.old)) }
-    requires cells { length lists.old ≡ 2 * length trail.old.values.items }
-    requires fit { AllEntries (fits clauses.now) (put_back lists.old f sieve.old) }
+    requires watched { IsWatched clauses.now trail.old rows.old (put_back lists.old f sieve.old) }
     requires start { sieve.old.kept ≡ [] }
-    requires f_in { f.var < length trail.old.values.items }
-    requires off { among trail.old.literals.items (negate f) ≡ true }
-    ensures based { Based trail.new.literals.items trail.new.reasons.items clauses.now }
+    requires fallen { IsFallen trail.old f }
+    ensures watched { IsWatched clauses.now trail.new rows.new (put_back lists.new f sieve.new) }
     ensures extends { Extends trail.old trail.new }
-    ensures rows_len { length rows.new ≡ length clauses.now }
-    ensures watches_in { AllWatchesIn clauses.now (pairs rows.new) }
-    ensures rows_match { RowsMatch clauses.now rows.new }
-    ensures all_listed { AllListed (pairs rows.new) (numbers_of (put_back lists.new f sieve.new)) }
-    ensures cells { length lists.new ≡ length lists.old }
-    ensures fit { AllEntries (fits clauses.now) (put_back lists.new f sieve.new) }
-    ensures kept { Kept clauses.now (pairs rows.old) (pairs rows.new) trail.old.literals.items }
-    ensures two_kept { KeepsTwo (pairs rows.old) (pairs rows.new) }
+    ensures kept { KeepsWatches clauses.now rows.old rows.new trail.old }
     ensures says { IfOk result (λ o. MatchOption o ((k : ℕ) → DoneWith clauses.now (pairs rows.new) trail.new.literals.items f k) (FalseClause clauses.now trail.new)) }
 {
     let fallen = word_of(f);
@@ -99,27 +80,11 @@ pub fn visit_list(
     lists: &mut WatchLists,
     f: Lit,
 ) -> Result<Option<usize>, AllocError>
-    requires short { 2 * length trail.old.values.items < 2 ^ 32 }
-    requires within { All (Within (length trail.old.values.items)) clauses.now }
-    requires based { Based trail.old.literals.items trail.old.reasons.items clauses.now }
-    requires rows_len { length rows.old ≡ length clauses.now }
-    requires watches_in { AllWatchesIn clauses.now (pairs rows.old) }
-    requires rows_match { RowsMatch clauses.now rows.old }
-    requires all_listed { AllListed (pairs rows.old) (numbers_of lists.old) }
-    requires cells { length lists.old ≡ 2 * length trail.old.values.items }
-    requires fit { AllEntries (fits clauses.now) lists.old }
-    requires f_in { f.var < length trail.old.values.items }
-    requires off { among trail.old.literals.items (negate f) ≡ true }
-    ensures based { Based trail.new.literals.items trail.new.reasons.items clauses.now }
+    requires watched { IsWatched clauses.now trail.old rows.old lists.old }
+    requires fallen { IsFallen trail.old f }
+    ensures watched { IsWatched clauses.now trail.new rows.new lists.new }
     ensures extends { Extends trail.old trail.new }
-    ensures rows_len { length rows.new ≡ length clauses.now }
-    ensures watches_in { AllWatchesIn clauses.now (pairs rows.new) }
-    ensures rows_match { RowsMatch clauses.now rows.new }
-    ensures all_listed { AllListed (pairs rows.new) (numbers_of lists.new) }
-    ensures cells { length lists.new ≡ length lists.old }
-    ensures fit { AllEntries (fits clauses.now) lists.new }
-    ensures kept { Kept clauses.now (pairs rows.old) (pairs rows.new) trail.old.literals.items }
-    ensures two_kept { KeepsTwo (pairs rows.old) (pairs rows.new) }
+    ensures kept { KeepsWatches clauses.now rows.old rows.new trail.old }
     ensures says { IfOk result (λ o. MatchOption o ((k : ℕ) → DoneWith clauses.now (pairs rows.new) trail.new.literals.items f k) (FalseClause clauses.now trail.new)) }
 {
     let c = cell_of(f);

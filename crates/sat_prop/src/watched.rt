@@ -1,12 +1,9 @@
 //! Unit propagation with two watched literals for each clause (Moskewicz and others 2001).
 
-ghost use Rattle.std.specs.Prelude.{◌+◌, ◌-◌, ◌*◌, ◌^◌, [], ◌∷◌, ◌≡◌, ◌<◌, ◌≤◌, ℕ, ◌++◌, true, false, IfOk, OnOk, OnErr, length, take, All, List, slice_index, slice_index_or, MatchOption};
-ghost use Rattle.clause_core.specs.Literals.{Within};
-ghost use Rattle.sat_prop.specs.Trails.{Based};
-ghost use Rattle.sat_prop.specs.Entries.{AllEntries, fits, numbers_of};
-ghost use Rattle.sat_prop.specs.Packing.{RowsMatch, pairs};
-ghost use Rattle.sat_prop.specs.Watches.{AllWatchesIn, AllListed, AllGuarded, ShortListed, ShortTrue, LevelsGuarded};
-ghost use Rattle.sat_prop.specs.Roots.{ShortSwept, root};
+ghost use Rattle.std.specs.Prelude.{◌≡◌, length};
+ghost use Rattle.sat_prop.specs.Packing.{pairs};
+ghost use Rattle.sat_prop.specs.States.{IsWatching};
+ghost use Rattle.sat_prop.specs.Watches.{ShortTrue};
 
 use crate::acts::{add_on, decide_on, learn_on, open_place, undo_on};
 use crate::cover::Recent;
@@ -32,20 +29,7 @@ pub struct Watched {
     swept: usize,
     head: usize,
     recent: Recent,
-    ghost based_in: { Based trail.literals.items trail.reasons.items clauses },
-    ghost within_in: { All (Within (length trail.values.items)) clauses },
-    ghost room: { 2 * length trail.values.items < 2 ^ 32 },
-    ghost rows_len: { length rows ≡ length clauses },
-    ghost watches_in: { AllWatchesIn clauses (pairs rows) },
-    ghost rows_match: { RowsMatch clauses rows },
-    ghost all_listed: { AllListed (pairs rows) (numbers_of lists) },
-    ghost cells: { length lists ≡ 2 * length trail.values.items },
-    ghost fit: { AllEntries (fits clauses) lists },
-    ghost short_listed: { ShortListed clauses (pairs rows) short.items },
-    ghost swept_in: { ShortSwept clauses short.items swept (root trail.literals.items trail.level_starts.items) },
-    ghost low: { head ≤ length trail.literals.items },
-    ghost queue: { AllGuarded clauses (pairs rows) (take head trail.literals.items) trail.literals.items },
-    ghost levels: { LevelsGuarded clauses (pairs rows) trail.literals.items trail.level_starts.items },
+    ghost watching: { IsWatching clauses trail rows lists short.items swept head },
 }
 
 impl Propagator for Watched {
@@ -151,7 +135,7 @@ impl Propagator for Watched {
         )
     }
 
-    ghost based = { λ s. s.based_in };
+    ghost based = { λ s. s.watching.watched.based.reasons };
 
-    ghost within = { λ s. s.within_in };
+    ghost within = { λ s. s.watching.watched.based.within };
 }

@@ -12,5 +12,5 @@ returns c before k len same =
     let P : List (List Watcher) → List (List Watcher) → ℕ → Type 0 = λ old new n. new ≡ set old n (take (length (get_or old n []) - 1) (get_or old n [])) in
     let Q : ℕ → Type 0 = P now mid in
     let R : ℕ → Type 0 = P mid last in
-    undone_both before mid last now h k (omega (arith, c.requires.a_cell, len)) (omega (arith, c.requires.b_cell, len)) same
+    undone_both before mid last now h k (omega (arith, c.requires.cells.a_cell c.requires.two, len)) (omega (arith, c.requires.cells.b_cell c.requires.two, len)) same
     (subst Q c.cell_of.ensures c.pop.ensures) (subst R c.cell_of-2.ensures c.pop-2.ensures)

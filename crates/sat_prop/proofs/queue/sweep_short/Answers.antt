@@ -10,6 +10,8 @@ use Rattle.sat_prop.specs.Trails.{Based, among}
 use Rattle.sat_prop.specs.Moves.{Extends}
 use Rattle.sat_prop.specs.Watches.{ShortDone}
 use Rattle.sat_prop.specs.Roots.{ShortSwept}
+use Rattle.sat_prop.specs.States.{IsBased}
+use Rattle.sat_prop.proofs.Keeping.{based_on, based_same, went_alike}
 use Rattle.sat_prop.proofs.Ways.{among_here, at_end}
 use Rattle.sat_prop.proofs.Sweeps.{false_on, went_push, went_none, based_push, settled_same}
 use Rattle.sat_prop.proofs.Visits.{went_grows}
@@ -43,7 +45,7 @@ short-preserved c =
     let t = c.short.trail in
     let k = get_or c.args.short.now c.short.j 0 in
     let inv = c.short.invariant in
-    let B : Trail → Type 0 = λ x. Based x.literals.items x.reasons.items cs in
+    let B : Trail → Type 0 = IsBased cs in
     let W : Trail → Type 0 = λ x. Extends c.args.trail.now x in
     let D : Trail → Type 0 = λ x. (i : ℕ) → i < c.short.j + 1 → ShortDone cs x.literals.items (get_or c.args.short.now i 0) in
     let S : Trail → Type 0 = λ x. ShortSwept cs c.args.short.now c.swept_to.result x.literals.items in
@@ -59,16 +61,18 @@ short-preserved c =
           let Q : List ℕ → Type 0 = λ v. UnitIn (holds v) (get_or cs k []) l × (holds v l ≡ false) × (holds v (negate l) ≡ false) in
           let u : Q t.values.items = subst Q w.deref.ensures.value (subst P w.get.ensures w.in-UnitOn.ensures) in
           let in_first : l.var < length c.args.trail.now.values.items =
-          All-contains (λ m. m.var < length c.args.trail.now.values.items) (get_or cs k []) l (c.requires.within k [] lk) u.0.0 in
+          All-contains (λ m. m.var < length c.args.trail.now.values.items) (get_or cs k []) l (c.requires.based.within k [] lk) u.0.0 in
           let in_now : l.var < length t.values.items = omega (arith, in_first, inv.extends.vars) in
           let in_why : l.var < length t.reasons.items = omega (arith, in_now, t.reasons_len) in
           let done = w.in_ok-imply-in-UnitOn.ensures in
           let new = w.imply.new.self in
-          let step = went_push c.args.trail.now t new l inv.extends in_now u.1 u.2 done.literals done.values done.level_starts in
-          let one = went_push t t new l (went_none t) in_now u.1 u.2 done.literals done.values done.level_starts in
-          let based' : B new = rw (done.literals, done.reasons) (based_push t.values.items t.reasons.items t.literals.items cs l k in_why t.values_ok u.1 u.2 lk u.0 inv.based) in
+          let step = went_push c.args.trail.now t new l inv.extends in_now u.1 u.2 done.pushed.literals done.pushed.values done.level_starts in
+          let one = went_push t t new l (went_none t) in_now u.1 u.2 done.pushed.literals done.pushed.values done.level_starts in
+          let P : Trail → Type 0 = λ x. Based x.literals.items x.reasons.items cs in
+          let reasons : P new = rw (done.pushed.literals, done.pushed.reasons) (based_push t.values.items t.reasons.items t.literals.items cs l k in_why t.values_ok u.1 u.2 lk u.0 inv.based.reasons) in
+          let based' : B new = based_on cs t new reasons one.0.vars inv.based in
           let on : among new.literals.items l ≡ true =
-          among_here new.literals.items (length t.literals.items) l (omega (arith, ap length done.literals, length-append t.literals.items (l ∷ []))) (ap (λ xs. at xs (length t.literals.items)) done.literals ∙ at_end t.literals.items l) in
+          among_here new.literals.items (length t.literals.items) l (omega (arith, ap length done.pushed.literals, length-append t.literals.items (l ∷ []))) (ap (λ xs. at xs (length t.literals.items)) done.pushed.literals ∙ at_end t.literals.items l) in
           let now : ShortDone cs new.literals.items k = λ _ _. true_from new.literals.items (get_or cs k []) l u.0.0 on in
           let all : D new = done_on cs t new c.args.short.now c.short.j one.0 inv.done now in
           record { based = subst B (sym w.trail-is) based'; extends = subst W (sym w.trail-is) step.0; done = subst D (sym w.trail-is) all; swept = subst S (sym w.trail-is) (swept_step cs c.args.short.now c.short.swept c.swept_to.result c.short.j t new one.0 low count all inv.swept) }
@@ -89,4 +93,10 @@ short-preserved c =
 pub returns-in_err-imply-in-UnitOn-clause-swept : goal.returns-in_err-imply-in-UnitOn-clause-swept
 returns-in_err-imply-in-UnitOn-clause-swept c =
     let P : List Lit → Type 0 = ShortSwept c.args.clauses.now c.args.short.now c.short.swept in
-    subst P (sym c.in_err-imply-in-UnitOn.ensures.literals_kept) c.short.invariant.swept
+    subst P (sym c.in_err-imply-in-UnitOn.ensures.failed.literals) c.short.invariant.swept
+
+pub returns-in_err-imply-in-UnitOn-clause-based : goal.returns-in_err-imply-in-UnitOn-clause-based
+returns-in_err-imply-in-UnitOn-clause-based c = based_same c.args.clauses.now c.short.trail c.imply.new.self c.in_err-imply-in-UnitOn.ensures.failed c.short.invariant.based
+
+pub returns-in_err-imply-in-UnitOn-clause-extends : goal.returns-in_err-imply-in-UnitOn-clause-extends
+returns-in_err-imply-in-UnitOn-clause-extends c = went_alike c.args.trail.now c.short.trail c.imply.new.self c.in_err-imply-in-UnitOn.ensures.failed c.short.invariant.extends

@@ -1,12 +1,12 @@
 use Rattle.clause_core.specs.Values.{unset}
-use Rattle.sat_prop.specs.Trails.{Based}
+use Rattle.sat_prop.specs.States.{IsBased}
 use Rattle.sat_prop.specs.Moves.{Extends}
 use Rattle.sat_prop.proofs.sweep.sweep_all.Given as goal
 
 abbrev pub invariant-rounds : goal.invariant-rounds
 invariant-rounds l =
     record {
-      based : Based l.trail.literals.items l.trail.reasons.items l.clauses;
+      based : IsBased l.clauses l.trail;
       extends : Extends l.fn.trail l.trail;
     }
 

@@ -13,15 +13,17 @@ use Rattle.sat_prop.specs.declared.trail.Trail.{Trail}
 use Rattle.sat_prop.specs.declared.watch.Watches.{Watches}
 use Rattle.sat_prop.specs.declared.lists.Watcher.{Watcher}
 use Rattle.sat_prop.specs.Trails.{among, Based}
-use Rattle.sat_prop.specs.Entries.{AllEntries, fits, numbers, numbers_of}
+use Rattle.sat_prop.specs.Entries.{fits, numbers, numbers_of}
 use Rattle.sat_prop.specs.Sifted.{put_back, whole}
 use Rattle.sat_prop.specs.Slots.{entry_of}
+use Rattle.sat_prop.specs.States.{IsWatched}
 use Rattle.sat_prop.specs.Watches.{watches_at, HasTwo, AllListed, AllWatchesIn, cell, DoneWith, Kept, KeepsTwo}
+use Rattle.sat_prop.proofs.Keeping.{back_cell, back_len, back_same, based_on, based_same, watched_back, watched_lists, watched_trail, went_alike}
 use Rattle.sat_prop.proofs.Listing.{fits_below, entries_push, numbers_push}
 use Rattle.sat_prop.proofs.Matching.{all_back, all_over, match_move, pair_at, pairs_len, pairs_move, unit_over, watched_off}
 use Rattle.sat_prop.proofs.Packed.{literal_cell}
 use Rattle.sat_prop.proofs.Sifting.{done_all, fit_front, fit_keep, fit_skip, listed_keep, listed_skip, pushed_back, row_in}
-use Rattle.sat_prop.proofs.Sweeps.{false_on, went_push, went_same, went_none, based_push, contains_among}
+use Rattle.sat_prop.proofs.Sweeps.{false_on, went_push, went_none, based_push, contains_among}
 use Rattle.sat_prop.proofs.Visits.{apart_from, beside_which, bigs_move, cell_in, done_grows, done_move, done_true, head_new, heads_move, in_hand, kept_move, lists_move, low_cell, move_facts, var_in, went_grows}
 use Rattle.sat_prop.proofs.Watching.{cell_same, true_from}
 use Rattle.sat_prop.proofs.Ways.{among_here, at_end}
@@ -34,9 +36,9 @@ is_set-requires c =
     let f = c.args.f in
     let inv = c.visit.invariant in
     let e = entry_of c.in-Some.slot in
-    let lf : cell f < length c.visit.lists = omega (arith, inv.cells, c.requires.cells, cell_in f v c.requires.f_in) in
-    let fit : fits cs e ≡ true = fit_front (fits cs) c.visit.lists f c.visit.sieve e lf c.in-Some.ensures inv.fit in
-    let lv : e.blocker.var < v = var_in (get_or cs e.clause []) v e.blocker (c.requires.within e.clause [] (fits_below cs e fit)) fit in
+    let lf : cell f < length c.visit.lists = back_cell c.args.clauses.now c.args.trail.now c.visit.trail c.visit.rows c.visit.lists f c.visit.sieve inv.extends c.requires.fallen inv.watched in
+    let fit : fits cs e ≡ true = fit_front (fits cs) c.visit.lists f c.visit.sieve e lf c.in-Some.ensures inv.watched.listed.fit in
+    let lv : e.blocker.var < v = var_in (get_or cs e.clause []) v e.blocker (c.requires.watched.based.within e.clause [] (fits_below cs e fit)) fit in
     omega (arith, lv, inv.extends.vars, ap length c.deref.ensures.value, ap (λ (l : Lit). l.var) c.literal.ensures)
 
 pub get-requires : goal.get-requires
@@ -45,8 +47,8 @@ get-requires c =
     let R = c.visit.rows in
     let f = c.args.f in
     let inv = c.visit.invariant in
-    let lf : cell f < length c.visit.lists = omega (arith, inv.cells, c.requires.cells, cell_in f (length c.args.trail.now.values.items) c.requires.f_in) in
-    row_in cs R c.visit.lists f c.visit.sieve (entry_of c.in-Some.slot) lf inv.rows_len c.in-Some.ensures inv.fit
+    let lf : cell f < length c.visit.lists = back_cell c.args.clauses.now c.args.trail.now c.visit.trail c.visit.rows c.visit.lists f c.visit.sieve inv.extends c.requires.fallen inv.watched in
+    row_in cs R c.visit.lists f c.visit.sieve (entry_of c.in-Some.slot) lf inv.watched.listed.rows_len c.in-Some.ensures inv.watched.listed.fit
 
 pub visit-preserved-then-is_set : goal.visit-preserved-then-is_set
 visit-preserved-then-is_set c =
@@ -58,8 +60,8 @@ visit-preserved-then-is_set c =
     let s = c.visit.sieve in
     let s' = c.keep.new.self in
     let e = entry_of c.in-Some.slot in
-    let lf : cell f < length c.visit.lists = omega (arith, inv.cells, c.requires.cells, cell_in f (length c.args.trail.now.values.items) c.requires.f_in) in
-    let fit : fits cs e ≡ true = fit_front (fits cs) c.visit.lists f s e lf c.in-Some.ensures inv.fit in
+    let lf : cell f < length c.visit.lists = back_cell c.args.clauses.now c.args.trail.now c.visit.trail c.visit.rows c.visit.lists f c.visit.sieve inv.extends c.requires.fallen inv.watched in
+    let fit : fits cs e ≡ true = fit_front (fits cs) c.visit.lists f s e lf c.in-Some.ensures inv.watched.listed.fit in
     let V : List ℕ → Type 0 = λ v. holds v e.blocker ≡ true in
     let L : Lit → Type 0 = λ l. holds c.deref.result.now l ≡ true in
     let set' : V c.deref.result.now = subst L c.literal.ensures (sym c.is_set.ensures ∙ c.if-is_set.true) in
@@ -69,16 +71,9 @@ visit-preserved-then-is_set c =
     let D : Watcher → Type 0 = λ x. DoneWith cs H t.literals.items f x.clause in
     let P : List Watcher → Type 0 = λ xs. All D xs in
     record {
-      based = inv.based;
+      watched = watched_back cs t c.visit.rows c.visit.lists f s s' (subst A (sym (listed_keep c.visit.lists f s s' e e c.in-Some.ensures refl c.keep.ensures.kept c.keep.ensures.rest)) inv.watched.listed.all_listed) (fit_keep (fits cs) c.visit.lists f s s' e lf c.keep.ensures.kept c.keep.ensures.rest fit inv.watched.listed.fit) inv.watched;
       extends = inv.extends;
-      rows_len = inv.rows_len;
-      watches_in = inv.watches_in;
-      rows_match = inv.rows_match;
-      all_listed = subst A (sym (listed_keep c.visit.lists f s s' e e c.in-Some.ensures refl c.keep.ensures.kept c.keep.ensures.rest)) inv.all_listed;
-      cells = inv.cells;
-      fit = fit_keep (fits cs) c.visit.lists f s s' e lf c.keep.ensures.kept c.keep.ensures.rest fit inv.fit;
       kept = inv.kept;
-      two_kept = inv.two_kept;
       done = subst P (sym c.keep.ensures.kept) (All-push D s.kept e inv.done (done_true cs H t.literals.items f e.clause hit));
     }
 
@@ -95,7 +90,7 @@ visit-preserved-in_default-other_of c =
     let s = c.visit.sieve in
     let s' = c.skip.new.self in
     let e = entry_of c.in-Some.slot in
-    let lf : cell f < length L = omega (arith, inv.cells, c.requires.cells, cell_in f (length c.args.trail.now.values.items) c.requires.f_in) in
+    let lf : cell f < length c.visit.lists = back_cell c.args.clauses.now c.args.trail.now c.visit.trail c.visit.rows c.visit.lists f c.visit.sieve inv.extends c.requires.fallen inv.watched in
     let O : List Lit → Lit → Type 0 = λ r x. HasTwo (pair_of r) → ((pair_of r).a ≡ x → ⊥) × ((pair_of r).b ≡ x → ⊥) in
     let A : List Lit → Type 0 = λ r. O r (literal_of c.word_of-fallen.result) in
     let B : Lit → Type 0 = λ x. O (get_or R k []) x in
@@ -104,16 +99,9 @@ visit-preserved-in_default-other_of c =
     let far = apart_from (watches_at H k) f (cell f) refl beside in
     let P : List Watcher → Type 0 = λ xs. All (λ x. DoneWith cs H t.literals.items f x.clause) xs in
     record {
-      based = inv.based;
+      watched = watched_back cs t R L f s s' (listed_skip H L f s s' e lf c.in-Some.ensures c.skip.ensures.kept c.skip.ensures.rest far inv.watched.listed.all_listed) (fit_skip (fits cs) L f s s' lf c.skip.ensures.kept c.skip.ensures.rest inv.watched.listed.fit) inv.watched;
       extends = inv.extends;
-      rows_len = inv.rows_len;
-      watches_in = inv.watches_in;
-      rows_match = inv.rows_match;
-      all_listed = listed_skip H L f s s' e lf c.in-Some.ensures c.skip.ensures.kept c.skip.ensures.rest far inv.all_listed;
-      cells = inv.cells;
-      fit = fit_skip (fits cs) L f s s' lf c.skip.ensures.kept c.skip.ensures.rest inv.fit;
       kept = inv.kept;
-      two_kept = inv.two_kept;
       done = subst P (sym c.skip.ensures.kept) inv.done;
     }
 
@@ -123,8 +111,8 @@ returns-clause-says c =
     let R = c.visit.rows in
     let f = c.args.f in
     let L = c.visit.lists in
-    let lf : cell f < length L = omega (arith, inv.cells, c.requires.cells, cell_in f (length c.args.trail.now.values.items) c.requires.f_in) in
-    done_all c.args.clauses.now (pairs R) L c.visit.trail.literals.items f c.visit.sieve (pairs_len R c.args.clauses.now inv.rows_len) lf inv.all_listed c.in_default.ensures inv.done
+    let lf : cell f < length c.visit.lists = back_cell c.args.clauses.now c.args.trail.now c.visit.trail c.visit.rows c.visit.lists f c.visit.sieve inv.extends c.requires.fallen inv.watched in
+    done_all c.args.clauses.now (pairs R) L c.visit.trail.literals.items f c.visit.sieve (pairs_len R c.args.clauses.now inv.watched.listed.rows_len) lf inv.watched.listed.all_listed c.in_default.ensures inv.done
 
 pub returns-in-False-clause-says : goal.returns-in-False-clause-says
 returns-in-False-clause-says c =
@@ -136,9 +124,9 @@ returns-in-False-clause-says c =
     let k = c.in-Some.slot.clause in
     let o = c.literal-other.result in
     let inv = c.visit.invariant in
-    let lf : cell f < length c.visit.lists = omega (arith, inv.cells, c.requires.cells, cell_in f (length c.args.trail.now.values.items) c.requires.f_in) in
-    let lr : k < length R = row_in cs R c.visit.lists f c.visit.sieve (entry_of c.in-Some.slot) lf inv.rows_len c.in-Some.ensures inv.fit in
-    let h = in_hand cs R c.get.result.now k f o c.word_of-fallen.result c.in-Some-other_of.word c.get.ensures lr inv.rows_len inv.watches_in inv.rows_match
+    let lf : cell f < length c.visit.lists = back_cell c.args.clauses.now c.args.trail.now c.visit.trail c.visit.rows c.visit.lists f c.visit.sieve inv.extends c.requires.fallen inv.watched in
+    let lr : k < length R = row_in cs R c.visit.lists f c.visit.sieve (entry_of c.in-Some.slot) lf inv.watched.listed.rows_len c.in-Some.ensures inv.watched.listed.fit in
+    let h = in_hand cs R c.get.result.now k f o c.word_of-fallen.result c.in-Some-other_of.word c.get.ensures lr inv.watched.listed.rows_len inv.watched.listed.watches_in inv.watched.listed.rows_match
     c.word_of-fallen.ensures c.literal-other.ensures c.in-Some-other_of.ensures.says in
     let P : List Lit → Type 0 = AllFalse (holds c.deref-in-Some.result.now) in
     let Q : List ℕ → Type 0 = λ v. AllFalse (holds v) (get_or R k []) in
@@ -155,9 +143,9 @@ look_at-requires-clause-has c =
     let k = c.in-Some.slot.clause in
     let o = c.literal-other.result in
     let inv = c.visit.invariant in
-    let lf : cell f < length c.visit.lists = omega (arith, inv.cells, c.requires.cells, cell_in f (length c.args.trail.now.values.items) c.requires.f_in) in
-    let lr : k < length R = row_in cs R c.visit.lists f c.visit.sieve (entry_of c.in-Some.slot) lf inv.rows_len c.in-Some.ensures inv.fit in
-    let h = in_hand cs R c.get.result.now k f o c.word_of-fallen.result c.in-Some-other_of.word c.get.ensures lr inv.rows_len inv.watches_in inv.rows_match
+    let lf : cell f < length c.visit.lists = back_cell c.args.clauses.now c.args.trail.now c.visit.trail c.visit.rows c.visit.lists f c.visit.sieve inv.extends c.requires.fallen inv.watched in
+    let lr : k < length R = row_in cs R c.visit.lists f c.visit.sieve (entry_of c.in-Some.slot) lf inv.watched.listed.rows_len c.in-Some.ensures inv.watched.listed.fit in
+    let h = in_hand cs R c.get.result.now k f o c.word_of-fallen.result c.in-Some-other_of.word c.get.ensures lr inv.watched.listed.rows_len inv.watched.listed.watches_in inv.watched.listed.rows_match
     c.word_of-fallen.ensures c.literal-other.ensures c.in-Some-other_of.ensures.says in
     let P : List Lit → Type 0 = λ x. Contains x o in
     subst P (sym c.get-in-Some.ensures) (contains_among (get_or R k []) o (h.same o ∙ h.on))
@@ -172,15 +160,15 @@ look_at-requires-clause-within c =
     let k = c.in-Some.slot.clause in
     let o = c.literal-other.result in
     let inv = c.visit.invariant in
-    let lf : cell f < length c.visit.lists = omega (arith, inv.cells, c.requires.cells, cell_in f (length c.args.trail.now.values.items) c.requires.f_in) in
-    let lr : k < length R = row_in cs R c.visit.lists f c.visit.sieve (entry_of c.in-Some.slot) lf inv.rows_len c.in-Some.ensures inv.fit in
-    let h = in_hand cs R c.get.result.now k f o c.word_of-fallen.result c.in-Some-other_of.word c.get.ensures lr inv.rows_len inv.watches_in inv.rows_match
+    let lf : cell f < length c.visit.lists = back_cell c.args.clauses.now c.args.trail.now c.visit.trail c.visit.rows c.visit.lists f c.visit.sieve inv.extends c.requires.fallen inv.watched in
+    let lr : k < length R = row_in cs R c.visit.lists f c.visit.sieve (entry_of c.in-Some.slot) lf inv.watched.listed.rows_len c.in-Some.ensures inv.watched.listed.fit in
+    let h = in_hand cs R c.get.result.now k f o c.word_of-fallen.result c.in-Some-other_of.word c.get.ensures lr inv.watched.listed.rows_len inv.watched.listed.watches_in inv.watched.listed.rows_match
     c.word_of-fallen.ensures c.literal-other.ensures c.in-Some-other_of.ensures.says in
     let n = length c.args.trail.now.values.items in
     let W : ℕ → List Lit → Type 0 = λ m x. Within m x in
     let v = c.deref-in-Some.result.now in
     let len : n ≡ length v = omega (arith, inv.extends.vars, ap length c.deref-in-Some.ensures.value) in
-    let row : W n (get_or R k []) = all_back (get_or R k []) (get_or cs k []) (λ x. x.var < n) h.same (c.requires.within k [] h.here) in
+    let row : W n (get_or R k []) = all_back (get_or R k []) (get_or cs k []) (λ x. x.var < n) h.same (c.requires.watched.based.within k [] h.here) in
     let P : List Lit → Type 0 = λ x. W (length v) x in
     let Q : ℕ → Type 0 = λ m. W m (get_or R k []) in
     subst P (sym c.get-in-Some.ensures) (subst Q len row)
@@ -195,14 +183,14 @@ look_at-requires-clause-off c =
     let k = c.in-Some.slot.clause in
     let o = c.literal-other.result in
     let inv = c.visit.invariant in
-    let lf : cell f < length c.visit.lists = omega (arith, inv.cells, c.requires.cells, cell_in f (length c.args.trail.now.values.items) c.requires.f_in) in
-    let lr : k < length R = row_in cs R c.visit.lists f c.visit.sieve (entry_of c.in-Some.slot) lf inv.rows_len c.in-Some.ensures inv.fit in
-    let h = in_hand cs R c.get.result.now k f o c.word_of-fallen.result c.in-Some-other_of.word c.get.ensures lr inv.rows_len inv.watches_in inv.rows_match
+    let lf : cell f < length c.visit.lists = back_cell c.args.clauses.now c.args.trail.now c.visit.trail c.visit.rows c.visit.lists f c.visit.sieve inv.extends c.requires.fallen inv.watched in
+    let lr : k < length R = row_in cs R c.visit.lists f c.visit.sieve (entry_of c.in-Some.slot) lf inv.watched.listed.rows_len c.in-Some.ensures inv.watched.listed.fit in
+    let h = in_hand cs R c.get.result.now k f o c.word_of-fallen.result c.in-Some-other_of.word c.get.ensures lr inv.watched.listed.rows_len inv.watched.listed.watches_in inv.watched.listed.rows_match
     c.word_of-fallen.ensures c.literal-other.ensures c.in-Some-other_of.ensures.says in
     let v = c.deref-in-Some.result.now in
     let row = get_or R k [] in
     let two : 1 < length row = omega (arith, c.in-Some-other_of.ensures.long, ap length c.get.ensures, length-map c.get.result.now literal_of) in
-    let off : among t.literals.items (negate f) ≡ true = went_grows c.args.trail.now t inv.extends (negate f) c.requires.off in
+    let off : among t.literals.items (negate f) ≡ true = went_grows c.args.trail.now t inv.extends (negate f) c.requires.fallen.off in
     let V : List ℕ → Type 0 = λ x. holds x (negate f) ≡ true in
     let fallen : V v = subst V (sym c.deref-in-Some.ensures.value) (sym (t.values_ok (negate f)) ∙ off) in
     let P : List Lit → Type 0 = λ x. All (λ m. (m ≡ o → ⊥) → holds v (negate m) ≡ true) (take 2 x) in
@@ -219,9 +207,9 @@ visit-preserved-in-Hit c =
     let k = c.in-Some.slot.clause in
     let o = c.literal-other.result in
     let inv = c.visit.invariant in
-    let lf : cell f < length c.visit.lists = omega (arith, inv.cells, c.requires.cells, cell_in f (length c.args.trail.now.values.items) c.requires.f_in) in
-    let lr : k < length R = row_in cs R c.visit.lists f c.visit.sieve (entry_of c.in-Some.slot) lf inv.rows_len c.in-Some.ensures inv.fit in
-    let h = in_hand cs R c.get.result.now k f o c.word_of-fallen.result c.in-Some-other_of.word c.get.ensures lr inv.rows_len inv.watches_in inv.rows_match
+    let lf : cell f < length c.visit.lists = back_cell c.args.clauses.now c.args.trail.now c.visit.trail c.visit.rows c.visit.lists f c.visit.sieve inv.extends c.requires.fallen inv.watched in
+    let lr : k < length R = row_in cs R c.visit.lists f c.visit.sieve (entry_of c.in-Some.slot) lf inv.watched.listed.rows_len c.in-Some.ensures inv.watched.listed.fit in
+    let h = in_hand cs R c.get.result.now k f o c.word_of-fallen.result c.in-Some-other_of.word c.get.ensures lr inv.watched.listed.rows_len inv.watched.listed.watches_in inv.watched.listed.rows_match
     c.word_of-fallen.ensures c.literal-other.ensures c.in-Some-other_of.ensures.says in
     let L = c.visit.lists in
     let s = c.visit.sieve in
@@ -237,16 +225,9 @@ visit-preserved-in-Hit c =
     let D : Watcher → Type 0 = λ y. DoneWith cs H t.literals.items f y.clause in
     let P : List Watcher → Type 0 = λ xs. All D xs in
     record {
-      based = inv.based;
+      watched = watched_back cs t R L f s s' (subst A (sym (listed_keep L f s s' e x c.in-Some.ensures refl c.keep-in-Hit.ensures.kept c.keep-in-Hit.ensures.rest)) inv.watched.listed.all_listed) (fit_keep (fits cs) L f s s' x lf c.keep-in-Hit.ensures.kept c.keep-in-Hit.ensures.rest fit inv.watched.listed.fit) inv.watched;
       extends = inv.extends;
-      rows_len = inv.rows_len;
-      watches_in = inv.watches_in;
-      rows_match = inv.rows_match;
-      all_listed = subst A (sym (listed_keep L f s s' e x c.in-Some.ensures refl c.keep-in-Hit.ensures.kept c.keep-in-Hit.ensures.rest)) inv.all_listed;
-      cells = inv.cells;
-      fit = fit_keep (fits cs) L f s s' x lf c.keep-in-Hit.ensures.kept c.keep-in-Hit.ensures.rest fit inv.fit;
       kept = inv.kept;
-      two_kept = inv.two_kept;
       done = subst P (sym c.keep-in-Hit.ensures.kept) (All-push D s.kept x inv.done (done_true cs H t.literals.items f k hit));
     }
 
@@ -260,16 +241,16 @@ cell_of-requires c =
     let k = c.in-Some.slot.clause in
     let o = c.literal-other.result in
     let inv = c.visit.invariant in
-    let lf : cell f < length c.visit.lists = omega (arith, inv.cells, c.requires.cells, cell_in f (length c.args.trail.now.values.items) c.requires.f_in) in
-    let lr : k < length R = row_in cs R c.visit.lists f c.visit.sieve (entry_of c.in-Some.slot) lf inv.rows_len c.in-Some.ensures inv.fit in
-    let h = in_hand cs R c.get.result.now k f o c.word_of-fallen.result c.in-Some-other_of.word c.get.ensures lr inv.rows_len inv.watches_in inv.rows_match
+    let lf : cell f < length c.visit.lists = back_cell c.args.clauses.now c.args.trail.now c.visit.trail c.visit.rows c.visit.lists f c.visit.sieve inv.extends c.requires.fallen inv.watched in
+    let lr : k < length R = row_in cs R c.visit.lists f c.visit.sieve (entry_of c.in-Some.slot) lf inv.watched.listed.rows_len c.in-Some.ensures inv.watched.listed.fit in
+    let h = in_hand cs R c.get.result.now k f o c.word_of-fallen.result c.in-Some-other_of.word c.get.ensures lr inv.watched.listed.rows_len inv.watched.listed.watches_in inv.watched.listed.rows_match
     c.word_of-fallen.ensures c.literal-other.ensures c.in-Some-other_of.ensures.says in
     let g = c.in-Move.g in
     let n = length c.args.trail.now.values.items in
     let m = move_facts cs R t k c.in-Move.j g o (map literal_of c.get-in-Some.result.now) c.deref-in-Some.result.now c.get-in-Some.ensures c.deref-in-Some.ensures.value h.same
     c.in-Move.ensures in
-    let gv : g.var < n = var_in (get_or cs k []) n g (c.requires.within k [] h.here) m.0 in
-    omega (arith, gv, c.requires.short)
+    let gv : g.var < n = var_in (get_or cs k []) n g (c.requires.watched.based.within k [] h.here) m.0 in
+    omega (arith, gv, c.requires.watched.room)
 
 pub push-requires-clause-cell : goal.push-requires-clause-cell
 push-requires-clause-cell c =
@@ -281,16 +262,16 @@ push-requires-clause-cell c =
     let k = c.in-Some.slot.clause in
     let o = c.literal-other.result in
     let inv = c.visit.invariant in
-    let lf : cell f < length c.visit.lists = omega (arith, inv.cells, c.requires.cells, cell_in f (length c.args.trail.now.values.items) c.requires.f_in) in
-    let lr : k < length R = row_in cs R c.visit.lists f c.visit.sieve (entry_of c.in-Some.slot) lf inv.rows_len c.in-Some.ensures inv.fit in
-    let h = in_hand cs R c.get.result.now k f o c.word_of-fallen.result c.in-Some-other_of.word c.get.ensures lr inv.rows_len inv.watches_in inv.rows_match
+    let lf : cell f < length c.visit.lists = back_cell c.args.clauses.now c.args.trail.now c.visit.trail c.visit.rows c.visit.lists f c.visit.sieve inv.extends c.requires.fallen inv.watched in
+    let lr : k < length R = row_in cs R c.visit.lists f c.visit.sieve (entry_of c.in-Some.slot) lf inv.watched.listed.rows_len c.in-Some.ensures inv.watched.listed.fit in
+    let h = in_hand cs R c.get.result.now k f o c.word_of-fallen.result c.in-Some-other_of.word c.get.ensures lr inv.watched.listed.rows_len inv.watched.listed.watches_in inv.watched.listed.rows_match
     c.word_of-fallen.ensures c.literal-other.ensures c.in-Some-other_of.ensures.says in
     let g = c.in-Move.g in
     let n = length c.args.trail.now.values.items in
     let m = move_facts cs R t k c.in-Move.j g o (map literal_of c.get-in-Some.result.now) c.deref-in-Some.result.now c.get-in-Some.ensures c.deref-in-Some.ensures.value h.same
     c.in-Move.ensures in
-    let gv : g.var < n = var_in (get_or cs k []) n g (c.requires.within k [] h.here) m.0 in
-    omega (arith, inv.cells, c.requires.cells, c.cell_of.ensures, cell_in g n gv)
+    let gv : g.var < n = var_in (get_or cs k []) n g (c.requires.watched.based.within k [] h.here) m.0 in
+    omega (arith, back_len cs c.args.trail.now t R c.visit.lists f c.visit.sieve inv.extends inv.watched, c.cell_of.ensures, cell_in g n gv)
 
 pub rewatch-requires-clause-fits_first : goal.rewatch-requires-clause-fits_first
 rewatch-requires-clause-fits_first c =
@@ -302,16 +283,16 @@ rewatch-requires-clause-fits_first c =
     let k = c.in-Some.slot.clause in
     let o = c.literal-other.result in
     let inv = c.visit.invariant in
-    let lf : cell f < length c.visit.lists = omega (arith, inv.cells, c.requires.cells, cell_in f (length c.args.trail.now.values.items) c.requires.f_in) in
-    let lr : k < length R = row_in cs R c.visit.lists f c.visit.sieve (entry_of c.in-Some.slot) lf inv.rows_len c.in-Some.ensures inv.fit in
-    let h = in_hand cs R c.get.result.now k f o c.word_of-fallen.result c.in-Some-other_of.word c.get.ensures lr inv.rows_len inv.watches_in inv.rows_match
+    let lf : cell f < length c.visit.lists = back_cell c.args.clauses.now c.args.trail.now c.visit.trail c.visit.rows c.visit.lists f c.visit.sieve inv.extends c.requires.fallen inv.watched in
+    let lr : k < length R = row_in cs R c.visit.lists f c.visit.sieve (entry_of c.in-Some.slot) lf inv.watched.listed.rows_len c.in-Some.ensures inv.watched.listed.fit in
+    let h = in_hand cs R c.get.result.now k f o c.word_of-fallen.result c.in-Some-other_of.word c.get.ensures lr inv.watched.listed.rows_len inv.watched.listed.watches_in inv.watched.listed.rows_match
     c.word_of-fallen.ensures c.literal-other.ensures c.in-Some-other_of.ensures.says in
     let g = c.in-Move.g in
     let n = length c.args.trail.now.values.items in
     let m = move_facts cs R t k c.in-Move.j g o (map literal_of c.get-in-Some.result.now) c.deref-in-Some.result.now c.get-in-Some.ensures c.deref-in-Some.ensures.value h.same
     c.in-Move.ensures in
     let P : Lit → Type 0 = λ x. cell x < 2 ^ 32 in
-    subst P (sym m.3.2) (low_cell (get_or cs k []) n g (c.requires.within k [] h.here) m.0 c.requires.short)
+    subst P (sym m.3.2) (low_cell (get_or cs k []) n g (c.requires.watched.based.within k [] h.here) m.0 c.requires.watched.room)
 
 pub visit-preserved-in-Move : goal.visit-preserved-in-Move
 visit-preserved-in-Move c =
@@ -323,15 +304,15 @@ visit-preserved-in-Move c =
     let k = c.in-Some.slot.clause in
     let o = c.literal-other.result in
     let inv = c.visit.invariant in
-    let lf : cell f < length c.visit.lists = omega (arith, inv.cells, c.requires.cells, cell_in f (length c.args.trail.now.values.items) c.requires.f_in) in
-    let lr : k < length R = row_in cs R c.visit.lists f c.visit.sieve (entry_of c.in-Some.slot) lf inv.rows_len c.in-Some.ensures inv.fit in
-    let h = in_hand cs R c.get.result.now k f o c.word_of-fallen.result c.in-Some-other_of.word c.get.ensures lr inv.rows_len inv.watches_in inv.rows_match
+    let lf : cell f < length c.visit.lists = back_cell c.args.clauses.now c.args.trail.now c.visit.trail c.visit.rows c.visit.lists f c.visit.sieve inv.extends c.requires.fallen inv.watched in
+    let lr : k < length R = row_in cs R c.visit.lists f c.visit.sieve (entry_of c.in-Some.slot) lf inv.watched.listed.rows_len c.in-Some.ensures inv.watched.listed.fit in
+    let h = in_hand cs R c.get.result.now k f o c.word_of-fallen.result c.in-Some-other_of.word c.get.ensures lr inv.watched.listed.rows_len inv.watched.listed.watches_in inv.watched.listed.rows_match
     c.word_of-fallen.ensures c.literal-other.ensures c.in-Some-other_of.ensures.says in
     let g = c.in-Move.g in
     let n = length c.args.trail.now.values.items in
     let m = move_facts cs R t k c.in-Move.j g o (map literal_of c.get-in-Some.result.now) c.deref-in-Some.result.now c.get-in-Some.ensures c.deref-in-Some.ensures.value h.same
     c.in-Move.ensures in
-    let gv : g.var < n = var_in (get_or cs k []) n g (c.requires.within k [] h.here) m.0 in
+    let gv : g.var < n = var_in (get_or cs k []) n g (c.requires.watched.based.within k [] h.here) m.0 in
     let L = c.visit.lists in
     let L' = c.push.new.self in
     let s = c.visit.sieve in
@@ -339,8 +320,8 @@ visit-preserved-in-Move c =
     let e = entry_of c.in-Some.slot in
     let put : Watcher = record { clause = k; blocker = o } in
     let to = c.cell_of.result in
-    let lg : to < length L = omega (arith, inv.cells, c.requires.cells, c.cell_of.ensures, cell_in g n gv) in
-    let off : among t.literals.items (negate f) ≡ true = went_grows c.args.trail.now t inv.extends (negate f) c.requires.off in
+    let lg : to < length L = omega (arith, back_len cs c.args.trail.now t R L f s inv.extends inv.watched, c.cell_of.ensures, cell_in g n gv) in
+    let off : among t.literals.items (negate f) ≡ true = went_grows c.args.trail.now t inv.extends (negate f) c.requires.fallen.off in
     let ng : g ≡ f → ⊥ = λ q. let N : Lit → Type 0 = λ x. among t.literals.items (negate x) ≡ false in both_ways _ (subst N q m.1) off in
     let elsewhere : to ≡ cell f → ⊥ = λ q. ng (cell_same g f (sym c.cell_of.ensures ∙ q)) in
     let J = put_back L f s in
@@ -354,7 +335,7 @@ visit-preserved-in-Move c =
     let NJ = numbers_of J in
     let G : ℕ → Type 0 = λ x. x < length NJ → AllListed H' (set NJ x (get_or NJ x [] ++ k ∷ [])) in
     let ln : to < length NJ = omega (arith, lj, length-map J numbers) in
-    let listed_g : G (cell g) = λ lt. lists_move H NJ k g o h.paired lt h.two h.which inv.all_listed in
+    let listed_g : G (cell g) = λ lt. lists_move H NJ k g o h.paired lt h.two h.which inv.watched.listed.all_listed in
     let listed_to : G to = subst G (sym c.cell_of.ensures) listed_g in
     let A : List (List ℕ) → Type 0 = AllListed H' in
     let listed : A (numbers_of J') = subst A (sym (numbers_push J J' to put pushed)) (listed_to ln) in
@@ -376,16 +357,18 @@ visit-preserved-in-Move c =
     let Q : List Watches → Type 0 = λ w. All (D w) s'.kept in
     let done : P s.kept = All-weaker (D H) (D H') (λ x d. done_move cs H k g o f t.literals.items x.clause h.paired ng h.apart d) s.kept inv.done in
     record {
-      based = inv.based;
+      watched = watched_lists cs t R R' (put_back L f s) (put_back L' f s') (back_same L L' f s s' lengths) (record {
+        rows_len = ap length c.rewatch.ensures ∙ length-set R k (rewatched row c.in-Move.j o f) ∙ inv.watched.listed.rows_len;
+        watches_in = subst V back (heads_move cs H k g o h.paired m.0 h.on inv.watched.listed.watches_in);
+        rows_match = match_move cs R R' k c.in-Move.j o f h.here lr h.said.0 m.3.0 m.3.1 (beside_which row f o both h.said) c.rewatch.ensures inv.watched.listed.rows_match;
+        all_listed = subst B back (listed_skip H' L' f s s' e lf' c.in-Some.ensures c.skip-in-Move.ensures.kept c.skip-in-Move.ensures.rest far listed);
+        fit = fit_skip (fits cs) L' f s s' lf' c.skip-in-Move.ensures.kept c.skip-in-Move.ensures.rest (entries_push (fits cs) J J' to put lj pushed inv.watched.listed.fit h.on);
+      }) inv.watched;
       extends = inv.extends;
-      rows_len = ap length c.rewatch.ensures ∙ length-set R k (rewatched row c.in-Move.j o f) ∙ inv.rows_len;
-      watches_in = subst V back (heads_move cs H k g o h.paired m.0 h.on inv.watches_in);
-      rows_match = match_move cs R R' k c.in-Move.j o f h.here lr h.said.0 m.3.0 m.3.1 (beside_which row f o both h.said) c.rewatch.ensures inv.rows_match;
-      all_listed = subst B back (listed_skip H' L' f s s' e lf' c.in-Some.ensures c.skip-in-Move.ensures.kept c.skip-in-Move.ensures.rest far listed);
-      cells = lengths ∙ inv.cells;
-      fit = fit_skip (fits cs) L' f s s' lf' c.skip-in-Move.ensures.kept c.skip-in-Move.ensures.rest (entries_push (fits cs) J J' to put lj pushed inv.fit h.on);
-      kept = subst K back (λ x u part old. moves x u (λ l on. went_grows c.args.trail.now t inv.extends l (part l on)) (inv.kept x u part old));
-      two_kept = subst T back (λ j two. bigs_move H k g o h.paired m.2 j (inv.two_kept j two));
+      kept = record {
+        kept = subst K back (λ x u part old. moves x u (λ l on. went_grows c.args.trail.now t inv.extends l (part l on)) (inv.kept.kept x u part old));
+        two_kept = subst T back (λ j two. bigs_move H k g o h.paired m.2 j (inv.kept.two_kept j two));
+      };
       done = subst Q back (subst P (sym c.skip-in-Move.ensures.kept) done);
     }
 
@@ -399,12 +382,12 @@ imply-requires-clause-in_range c =
     let k = c.in-Some.slot.clause in
     let o = c.literal-other.result in
     let inv = c.visit.invariant in
-    let lf : cell f < length c.visit.lists = omega (arith, inv.cells, c.requires.cells, cell_in f (length c.args.trail.now.values.items) c.requires.f_in) in
-    let lr : k < length R = row_in cs R c.visit.lists f c.visit.sieve (entry_of c.in-Some.slot) lf inv.rows_len c.in-Some.ensures inv.fit in
-    let h = in_hand cs R c.get.result.now k f o c.word_of-fallen.result c.in-Some-other_of.word c.get.ensures lr inv.rows_len inv.watches_in inv.rows_match
+    let lf : cell f < length c.visit.lists = back_cell c.args.clauses.now c.args.trail.now c.visit.trail c.visit.rows c.visit.lists f c.visit.sieve inv.extends c.requires.fallen inv.watched in
+    let lr : k < length R = row_in cs R c.visit.lists f c.visit.sieve (entry_of c.in-Some.slot) lf inv.watched.listed.rows_len c.in-Some.ensures inv.watched.listed.fit in
+    let h = in_hand cs R c.get.result.now k f o c.word_of-fallen.result c.in-Some-other_of.word c.get.ensures lr inv.watched.listed.rows_len inv.watched.listed.watches_in inv.watched.listed.rows_match
     c.word_of-fallen.ensures c.literal-other.ensures c.in-Some-other_of.ensures.says in
     let n = length c.args.trail.now.values.items in
-    omega (arith, var_in (get_or cs k []) n o (c.requires.within k [] h.here) h.on, inv.extends.vars)
+    omega (arith, var_in (get_or cs k []) n o (c.requires.watched.based.within k [] h.here) h.on, inv.extends.vars)
 
 pub visit-preserved : goal.visit-preserved
 visit-preserved c =
@@ -416,9 +399,9 @@ visit-preserved c =
     let k = c.in-Some.slot.clause in
     let o = c.literal-other.result in
     let inv = c.visit.invariant in
-    let lf : cell f < length c.visit.lists = omega (arith, inv.cells, c.requires.cells, cell_in f (length c.args.trail.now.values.items) c.requires.f_in) in
-    let lr : k < length R = row_in cs R c.visit.lists f c.visit.sieve (entry_of c.in-Some.slot) lf inv.rows_len c.in-Some.ensures inv.fit in
-    let h = in_hand cs R c.get.result.now k f o c.word_of-fallen.result c.in-Some-other_of.word c.get.ensures lr inv.rows_len inv.watches_in inv.rows_match
+    let lf : cell f < length c.visit.lists = back_cell c.args.clauses.now c.args.trail.now c.visit.trail c.visit.rows c.visit.lists f c.visit.sieve inv.extends c.requires.fallen inv.watched in
+    let lr : k < length R = row_in cs R c.visit.lists f c.visit.sieve (entry_of c.in-Some.slot) lf inv.watched.listed.rows_len c.in-Some.ensures inv.watched.listed.fit in
+    let h = in_hand cs R c.get.result.now k f o c.word_of-fallen.result c.in-Some-other_of.word c.get.ensures lr inv.watched.listed.rows_len inv.watched.listed.watches_in inv.watched.listed.rows_match
     c.word_of-fallen.ensures c.literal-other.ensures c.in-Some-other_of.ensures.says in
     let n = length c.args.trail.now.values.items in
     let v = c.deref-in-Some.result.now in
@@ -426,16 +409,16 @@ visit-preserved c =
     let Q : List ℕ → Type 0 = λ x. UnitIn (holds x) (get_or R k []) o × (holds x o ≡ false) × (holds x (negate o) ≡ false) in
     let said : Q t.values.items = subst Q c.deref-in-Some.ensures.value (subst P c.get-in-Some.ensures c.in-Force.ensures) in
     let u : UnitIn (holds t.values.items) (get_or cs k []) o = unit_over (holds t.values.items) (get_or R k []) (get_or cs k []) o h.same h.on said.0 in
-    let in_now : o.var < length t.values.items = omega (arith, var_in (get_or cs k []) n o (c.requires.within k [] h.here) h.on, inv.extends.vars) in
+    let in_now : o.var < length t.values.items = omega (arith, var_in (get_or cs k []) n o (c.requires.watched.based.within k [] h.here) h.on, inv.extends.vars) in
     let in_why : o.var < length t.reasons.items = omega (arith, in_now, t.reasons_len) in
     let set' = c.in_ok-imply-in-Force.ensures in
     let new = c.imply.new.self in
-    let step = went_push c.args.trail.now t new o inv.extends in_now said.1 said.2 set'.literals set'.values set'.level_starts in
-    let one = went_push t t new o (went_none t) in_now said.1 said.2 set'.literals set'.values set'.level_starts in
+    let step = went_push c.args.trail.now t new o inv.extends in_now said.1 said.2 set'.pushed.literals set'.pushed.values set'.level_starts in
+    let one = went_push t t new o (went_none t) in_now said.1 said.2 set'.pushed.literals set'.pushed.values set'.level_starts in
     let B : Trail → Type 0 = λ x. Based x.literals.items x.reasons.items cs in
-    let based' : B new = rw (set'.literals, set'.reasons) (based_push t.values.items t.reasons.items t.literals.items cs o k in_why t.values_ok said.1 said.2 h.here u inv.based) in
+    let based' : B new = rw (set'.pushed.literals, set'.pushed.reasons) (based_push t.values.items t.reasons.items t.literals.items cs o k in_why t.values_ok said.1 said.2 h.here u inv.watched.based.reasons) in
     let on : among new.literals.items o ≡ true =
-    among_here new.literals.items (length t.literals.items) o (omega (arith, ap length set'.literals, length-append t.literals.items (o ∷ []))) (ap (λ xs. at xs (length t.literals.items)) set'.literals ∙ at_end t.literals.items o) in
+    among_here new.literals.items (length t.literals.items) o (omega (arith, ap length set'.pushed.literals, length-append t.literals.items (o ∷ []))) (ap (λ xs. at xs (length t.literals.items)) set'.pushed.literals ∙ at_end t.literals.items o) in
     let hit = true_from new.literals.items (get_or cs k []) o (contains_among (get_or cs k []) o h.on) on in
     let L = c.visit.lists in
     let s = c.visit.sieve in
@@ -449,40 +432,27 @@ visit-preserved c =
     let below = All-weaker (D t.literals.items) (D new.literals.items) (λ x d. done_grows cs H t.literals.items new.literals.items f x.clause (λ l. went_grows t new one.0 l) d) s.kept inv.done in
     let Z : List Watcher → Type 0 = λ xs. All (D new.literals.items) xs in
     record {
-      based = based';
+      watched = watched_trail cs t new R (put_back L f s') (based_on cs t new based' one.0.vars inv.watched.based) one.0.vars
+          (watched_back cs t R L f s s' (subst A (sym (listed_keep L f s s' e x c.in-Some.ensures refl c.keep-in-Force.ensures.kept c.keep-in-Force.ensures.rest)) inv.watched.listed.all_listed) (fit_keep (fits cs) L f s s' x lf c.keep-in-Force.ensures.kept c.keep-in-Force.ensures.rest fit inv.watched.listed.fit) inv.watched);
       extends = step.0;
-      rows_len = inv.rows_len;
-      watches_in = inv.watches_in;
-      rows_match = inv.rows_match;
-      all_listed = subst A (sym (listed_keep L f s s' e x c.in-Some.ensures refl c.keep-in-Force.ensures.kept c.keep-in-Force.ensures.rest)) inv.all_listed;
-      cells = inv.cells;
-      fit = fit_keep (fits cs) L f s s' x lf c.keep-in-Force.ensures.kept c.keep-in-Force.ensures.rest fit inv.fit;
       kept = inv.kept;
-      two_kept = inv.two_kept;
       done = subst Z (sym c.keep-in-Force.ensures.kept) (All-push (D new.literals.items) s.kept x below (done_true cs H new.literals.items f k hit));
     }
 
-pub returns-in_err-push-in-Move-clause-all_listed : goal.returns-in_err-push-in-Move-clause-all_listed
-returns-in_err-push-in-Move-clause-all_listed c =
-    let P : List (List Watcher) → Type 0 = λ x. AllListed (pairs c.visit.rows) (numbers_of (put_back x c.args.f c.visit.sieve)) in
-    subst P (sym c.in_err-push-in-Move.ensures.failed) c.visit.invariant.all_listed
+pub returns-in_err-push-in-Move-clause-watched : goal.returns-in_err-push-in-Move-clause-watched
+returns-in_err-push-in-Move-clause-watched c =
+    let W : List (List Watcher) → Type 0 = λ x. IsWatched c.args.clauses.now c.visit.trail c.visit.rows (put_back x c.args.f c.visit.sieve) in
+    subst W (sym c.in_err-push-in-Move.ensures.failed) c.visit.invariant.watched
 
-pub returns-in_err-push-in-Move-clause-cells : goal.returns-in_err-push-in-Move-clause-cells
-returns-in_err-push-in-Move-clause-cells c = ap length c.in_err-push-in-Move.ensures.failed ∙ c.visit.invariant.cells
-
-pub returns-in_err-push-in-Move-clause-fit : goal.returns-in_err-push-in-Move-clause-fit
-returns-in_err-push-in-Move-clause-fit c =
-    let P : List (List Watcher) → Type 0 = λ x. AllEntries (fits c.args.clauses.now) (put_back x c.args.f c.visit.sieve) in
-    subst P (sym c.in_err-push-in-Move.ensures.failed) c.visit.invariant.fit
-
-pub returns-in_err-imply-in-Force-clause-based : goal.returns-in_err-imply-in-Force-clause-based
-returns-in_err-imply-in-Force-clause-based c =
-    let said = c.in_err-imply-in-Force.ensures in
-    let P : List Lit → Type 0 = λ x. Based x c.imply.new.self.reasons.items c.args.clauses.now in
-    let Q : List ℕ → Type 0 = λ x. Based c.visit.trail.literals.items x c.args.clauses.now in
-    subst P (sym said.literals_kept) (subst Q (sym said.reasons_kept) c.visit.invariant.based)
+pub returns-in_err-imply-in-Force-clause-watched : goal.returns-in_err-imply-in-Force-clause-watched
+returns-in_err-imply-in-Force-clause-watched c =
+    let cs = c.args.clauses.now in
+    let t = c.visit.trail in
+    let new = c.imply.new.self in
+    let said = c.in_err-imply-in-Force.ensures.failed in
+    let before = c.visit.invariant.watched in
+    watched_trail cs t new c.visit.rows (put_back c.visit.lists c.args.f c.visit.sieve) (based_same cs t new said before.based) (ap length said.values) before
 
 pub returns-in_err-imply-in-Force-clause-extends : goal.returns-in_err-imply-in-Force-clause-extends
 returns-in_err-imply-in-Force-clause-extends c =
-    let said = c.in_err-imply-in-Force.ensures in
-    went_same c.args.trail.now c.visit.trail c.imply.new.self c.visit.invariant.extends said.literals_kept said.values_kept said.level_starts
+    went_alike c.args.trail.now c.visit.trail c.imply.new.self c.in_err-imply-in-Force.ensures.failed c.visit.invariant.extends

@@ -1,22 +1,11 @@
-use Rattle.std.proofs.Common.{arith, ℕ, List, subst, sym}
-use Rattle.std.specs.List.{All}
-use Rattle.clause_core.specs.Literals.{Within}
-use Rattle.sat_prop.specs.Roots.{ShortSwept, root}
+use Rattle.std.proofs.Common.{List, ℕ, subst}
+use Rattle.sat_prop.specs.States.{IsGuarded}
+use Rattle.sat_prop.proofs.Keeping.{watching_trail}
 use Rattle.sat_prop.proofs.watched.WatchedPropagator.undo.Goals as goal
 
-pub invariant_of-self-clause-swept_in : goal.invariant_of-self-clause-swept_in
-invariant_of-self-clause-swept_in c =
+pub invariant_of-self : goal.invariant_of-self
+invariant_of-self c =
+    let s = c.args.self.now in
     let t = c.undo_on.new.trail in
-    let P : List ℕ → Type 0 = λ xs. ShortSwept c.args.self.now.clauses xs c.args.self.now.swept (root t.literals.items t.level_starts.items) in
-    subst P c.deref.ensures.value c.undo_on.ensures.swept
-
-pub invariant_of-self-clause-within_in : goal.invariant_of-self-clause-within_in
-invariant_of-self-clause-within_in c =
-    let P : ℕ → Type 0 = λ n. All (Within n) c.args.self.now.clauses in
-    subst P (sym c.undo_on.ensures.vars) c.args.self.now.within_in
-
-pub invariant_of-self-clause-room : goal.invariant_of-self-clause-room
-invariant_of-self-clause-room c = omega (arith, c.undo_on.ensures.vars, c.args.self.now.room)
-
-pub invariant_of-self-clause-cells : goal.invariant_of-self-clause-cells
-invariant_of-self-clause-cells c = omega (arith, c.undo_on.ensures.vars, c.args.self.now.cells)
+    let P : List ℕ → Type 0 = λ x. IsGuarded s.clauses t s.rows x s.swept c.undo_on.new.head in
+    record { watching = watching_trail s.clauses s.trail t s.rows s.lists s.short.items s.swept s.head c.undo_on.new.head c.undo_on.ensures.vars (subst P c.deref.ensures.value c.undo_on.ensures.guarded) s.watching }

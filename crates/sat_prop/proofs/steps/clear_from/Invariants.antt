@@ -1,6 +1,6 @@
 use Rattle.std.proofs.Common.{take, length, ◌≡◌, ◌≤◌}
 use Rattle.sat_prop.specs.Trails.{ValuesMatch}
-use Rattle.sat_prop.proofs.trail.clear_from.Given as goal
+use Rattle.sat_prop.proofs.steps.clear_from.Given as goal
 
 abbrev pub invariant-loop-p : goal.invariant-loop-p
 invariant-loop-p l =

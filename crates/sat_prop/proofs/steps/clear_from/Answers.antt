@@ -4,7 +4,7 @@ use Rattle.clause_core.specs.declared.literal.Lit.{Lit}
 use Rattle.clause_core.specs.Literals.{at, none_lit}
 use Rattle.sat_prop.specs.Trails.{ValuesMatch}
 use Rattle.sat_prop.proofs.Ways.{values_pop}
-use Rattle.sat_prop.proofs.trail.clear_from.Goals as goal
+use Rattle.sat_prop.proofs.steps.clear_from.Goals as goal
 
 pub loop-p-init : goal.loop-p-init
 loop-p-init c =
