@@ -4,6 +4,7 @@ pub mod Counts
 mod Held
 mod Kept
 mod Looked
+mod Marked
 pub mod Reaching
 pub mod Running
 pub mod Same

@@ -5,5 +5,6 @@ pub mod Differences
 pub mod Facts
 pub mod FrameLaw
 pub mod Looking
+pub mod Marks
 pub mod Runs
 pub mod Signatures

@@ -1,9 +1,11 @@
-//! The list of lemmas with levels and signatures, and how a copy of it is brought up to date.
+//! The list of lemmas with levels and signatures, how a copy of it is brought up to date, and what changed
+//! since it was.
 
 ghost use Rattle.std.specs.Prelude.{◌≡◌, ◌<◌, vec_len, vec_capacity, OnOk};
 ghost use Rattle.frame_core.specs.FrameLaw.{raised_at, retired_at};
 
 use crate::covering::covers_at;
+use crate::marking::{add_word, is_level_with, is_same_word, mark_anew};
 use crate::parts::Lemma;
 use crate::signing::signature_of;
 use clause_core::{Clause, Lit};
@@ -17,24 +19,27 @@ pub struct Lemmas {
     items: Vec<Lemma>,
     // for each lemma the signature of its clause
     signatures: Vec<u64>,
+    // for each four lemmas a word that tells their levels, and which are live
+    marks: Vec<u64>,
 }
 
 impl Model for Lemmas {
     ghost use Rattle.std.specs.Prelude.{List};
     ghost use Rattle.frame_core.specs.declared.parts.Lemma.{Lemma as ALemma};
     ghost use Rattle.frame_core.specs.Signatures.{AreSigned};
+    ghost use Rattle.frame_core.specs.Marks.{AreMarked};
 
     ghost Value = { List ALemma };
 
     ghost view = { λ l. l.items.items };
 
-    ghost invariant = { λ l. AreSigned l.items.items l.signatures.items };
+    ghost invariant = { λ l. AreSigned l.items.items l.signatures.items × AreMarked l.items.items l.marks.items };
 }
 
 impl Lemmas {
-    ghost use Rattle.std.specs.Prelude.{◌≡◌, ◌<◌, ◌++◌, ◌∷◌, [], Bool, true, ℕ, List, length, IfOk, OnOk, OnErr, IsTrue};
+    ghost use Rattle.std.specs.Prelude.{◌≡◌, ◌<◌, ◌≤◌, ◌+◌, ◌++◌, ◌∷◌, [], Bool, true, ℕ, List, length, IfOk, OnOk, OnErr, IsTrue};
     ghost use Rattle.clause_core.specs.declared.literal.Lit.{Lit as ALit};
-    ghost use Rattle.frame_core.specs.Copies.{LagsBehind};
+    ghost use Rattle.frame_core.specs.Copies.{LagsBehind, AreLevel, IsNextChange};
     ghost use Rattle.frame_core.specs.Facts.{IsPart};
     ghost use Rattle.frame_core.specs.Looking.{AreCoveredBy};
     ghost use Rattle.frame_core.specs.FrameLaw.{lemma_at, raised_at, retired_at};
@@ -47,6 +52,7 @@ impl Lemmas {
         Lemmas {
             items: Vec::new(alloc),
             signatures: Vec::new(alloc),
+            marks: Vec::new(alloc),
         }
     }
 
@@ -127,10 +133,13 @@ impl Lemmas {
         ensures done { OnOk result (self.new ≡ self.old ++ lemma ∷ []) }
         ensures failed { OnErr result (self.new ≡ self.old) }
     {
+        let n = self.len();
         let signature = signature_of(lemma.clause.as_slice());
+        add_word(&mut self.marks, n)?;
         reserve_one(&mut self.items, &mut self.signatures)?;
         self.items.push_reserved(lemma);
         self.signatures.push_reserved(signature);
+        mark_anew(&mut self.marks, &self.items, n);
         Ok(())
     }
 
@@ -140,6 +149,7 @@ impl Lemmas {
         ensures { self.new ≡ raised_at self.old n level }
     {
         set_level(&mut self.items, n, level);
+        mark_anew(&mut self.marks, &self.items, n);
     }
 
     /// Makes lemma `n` a retired one; takes no memory.
@@ -148,6 +158,7 @@ impl Lemmas {
         ensures { self.new ≡ retired_at self.old n }
     {
         set_retired(&mut self.items, n);
+        mark_anew(&mut self.marks, &self.items, n);
     }
 
     /// Brings this copy of the lemmas up to date, where `changed` names those that were raised or retired
@@ -165,6 +176,59 @@ impl Lemmas {
             self.add_copy(lemmas.lemma(n))?;
         }
         Ok(())
+    }
+
+    /// The first lemma, from number `from` on, that has another level in `later` or is live in one of the two
+    /// alone; where there is none, how many lemmas there are. It looks at one word for each four lemmas that
+    /// are the same.
+    pub fn next_change(&self, later: &Lemmas, from: usize) -> usize
+        requires from { from ≤ length self.now }
+        requires longer { length self.now ≤ length later.now }
+        ensures { IsNextChange self.now later.now from result }
+    {
+        let mut n = from;
+        'lemmas: while n < self.len() {
+            let alike = self.alike_at(later, n);
+            if alike == 0 {
+                return n;
+            }
+            n += alike;
+        }
+        n
+    }
+
+    // How many lemmas, from lemma `n` on, one look shows to be the same there: four by their word, else lemma
+    // `n` alone, or none.
+    fn alike_at(&self, later: &Lemmas, n: usize) -> usize
+        requires in_range { n < length self.now }
+        requires longer { length self.now ≤ length later.now }
+        ensures within { n + result ≤ length self.now }
+        ensures same { (m : ℕ) → n ≤ m → m < n + result → AreLevel (lemma_at self.now m) (lemma_at later.now m) }
+        ensures changed { result ≡ 0 → AreLevel (lemma_at self.now n) (lemma_at later.now n) → ⊥ }
+    {
+        if self.are_four_alike(later, n) {
+            return 4;
+        }
+        if is_level_with(self.lemma(n), later.lemma(n)) {
+            1
+        } else {
+            0
+        }
+    }
+
+    // Whether lemma `n` is the first of four whose word is the same there.
+    fn are_four_alike(&self, later: &Lemmas, n: usize) -> bool
+        requires { n < length self.now }
+        ensures within { IsTrue result → n + 4 ≤ length self.now }
+        ensures same { IsTrue result → (m : ℕ) → n ≤ m → m < n + 4 → AreLevel (lemma_at self.now m) (lemma_at later.now m) }
+    {
+        if n % 4 != 0 {
+            return false;
+        }
+        if self.len() - n < 4 {
+            return false;
+        }
+        is_same_word(&self.marks, &later.marks, n / 4)
     }
 
     // Adds a copy of this lemma.

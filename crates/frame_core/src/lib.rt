@@ -11,6 +11,7 @@ pub mod facts;
 pub mod keeping;
 pub mod lemma_list;
 mod looking;
+mod marking;
 pub mod outcomes;
 pub mod parts;
 pub mod reached_states;

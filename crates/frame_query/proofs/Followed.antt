@@ -9,6 +9,7 @@ use Rattle.clause_core.specs.Literals.{Within}
 use Rattle.clause_core.specs.Systems.{TransitionSystem}
 use Rattle.frame_core.specs.declared.parts.Lemma.{Lemma}
 use Rattle.std.proofs.Math.Seq.{get_or-append_seam, set-append_seam}
+use Rattle.frame_core.specs.Copies.{IsNextChange}
 use Rattle.frame_core.specs.FrameLaw.{no_lemma, lemma_at, system_at, raised_at, retired_at}
 use Rattle.frame_solver.specs.declared.loading.Engine.{Engine}
 use Rattle.frame_solver.specs.Guards.{HoldsGroups}
@@ -49,6 +50,29 @@ followed_more lemmas old n copy more h lt is =
             | inr ne ↦ get_or-set_other copy n k x no_lemma ne ∙ h.new k (omega (arith, ne))
           ];
       same = λ k high. get_or-set_other copy n k x no_lemma (λ e. omega (arith, e)) ∙ h.same k (omega arith);
+    }
+
+lemma_is : (a l : Lemma) → a.clause ≡ l.clause → a.level ≡ l.level → a.live ≡ l.live → a ≡ l
+lemma_is a l c e v = ap (λ (x : ℕ). let r : Lemma = record { clause = a.clause; level = x; live = a.live } in r) e ∙ lemma_same a l c v
+
+-- the lemmas up to the next change are the same
+pub followed_skip : (lemmas old copy : List Lemma) (n next : ℕ) → IsOlder old lemmas → IsFollowed lemmas old n copy → IsNextChange copy lemmas n next →
+    IsFollowed lemmas old next copy
+followed_skip lemmas old copy n next older h skips =
+    let past : n ≤ next = skips.past in
+    let within : next ≤ length copy = skips.within in
+    let long : length copy ≡ length old = h.long in
+    record {
+      long = long;
+      new = λ k lt.
+          elim (cases_lt k n) [
+            | inl low ↦ h.new k low
+            | inr high ↦
+                let level = skips.same k high lt in
+                let clause = ap (λ (l : Lemma). l.clause) (h.same k high) ∙ older.clause k (omega arith) in
+                lemma_is (lemma_at copy k) (lemma_at lemmas k) clause level.0 level.1
+          ];
+      same = λ k high. h.same k (omega arith);
     }
 
 pub followed_all : (lemmas old copy : List Lemma) → length old ≤ length lemmas → IsFollowed lemmas old (length old) copy → copy ≡ take (length old) lemmas

@@ -23,13 +23,16 @@ fn follow_at(copy: &mut Lemmas, lemmas: &Lemmas, n: usize)
     }
 }
 
-// The lemmas of the copy get the levels that they have now, and are retired where they are now.
+// The lemmas of the copy get the levels that they have now, and are retired where they are now. Those that are
+// the same are passed over four at a time.
 pub(crate) fn follow_levels(copy: &mut Lemmas, lemmas: &Lemmas)
     requires { IsOlder copy.old lemmas.now }
     ensures { copy.new ≡ take (length copy.old) lemmas.now }
 {
-    'lemmas: for n in 0..copy.len() {
+    let mut n = copy.next_change(lemmas, 0);
+    'changes: while n < copy.len() {
         follow_at(copy, lemmas, n);
+        n = copy.next_change(lemmas, n + 1);
     }
 }
 

@@ -97,7 +97,7 @@ impl<'a> FrameSolver<'a> {
     /// Whether the clause is inductive relative to the frame below the level: whether a step leads from a
     /// state of that frame that meets the clause to one that does not; at level 1, from an initial state.
     ///
-    /// First states meet the clause. At most one query is asked, and the tickets drawn are its own, after
+    /// Initial states meet the clause. At most one query is asked, and the tickets drawn are its own, after
     /// each way out. `Spent` comes only where the purse refused a ticket; out of memory is the only error.
     pub fn relative<Q: Purse>(
         &mut self,

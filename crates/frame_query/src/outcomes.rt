@@ -6,7 +6,7 @@ use frame_core::{Clear, Found, Proved, Step};
 /// What a query about steps finds.
 #[derive(Drop)]
 pub enum Relative<'a> {
-    /// First states meet the clause, and a step from the frame below that meets it ends in it.
+    /// Initial states meet the clause, and a step from the frame below that meets it ends in it.
     Proved(Proved<'a>),
     /// A step from a state of the frame below that meets the clause, to one that does not.
     Step(Step<'a>),

@@ -1,4 +1,4 @@
-use Rattle.std.proofs.Common.{◌≡◌, ◌<◌, List, Bool, true, false, take, length, get_or, subst, arith, refl}
+use Rattle.std.proofs.Common.{◌≡◌, List, true, false, take, get_or, subst, arith, refl}
 use Rattle.std.specs.List.{All, Contains}
 use Rattle.std.proofs.lemmas.List.{take_all}
 use Rattle.std.proofs.lemmas.List.Elements.{All-more}

@@ -1,4 +1,4 @@
-use Rattle.std.proofs.Common.{◌≡◌, ◌<◌, length, arith}
+use Rattle.std.proofs.Common.{◌<◌, length, arith}
 use Rattle.frame_query.proofs.Looked.{same_signs, other_signs, sign_more, sign_skip}
 use Rattle.frame_query.proofs.lookups.mark.Goals as goal
 use Rattle.frame_query.proofs.lookups.mark.Goals.{else-l-sign-via-then-l-sign+else-l-len, else-l-sign-via-else-l-sign}

@@ -13,11 +13,11 @@ returns c = λ clause is part.
     let words : List ℕ = c.self.inside.signatures.items in
     let word : ℕ = get_or words n 0 in
     let lt : n < length ls = subst (λ (z : List Lemma). n < length z) (sym c.self.view_is) c.requires in
-    let many = c.self.invariant.as_many in
+    let many = c.self.invariant.0.as_many in
     let low : n < length words = omega arith in
     let here : IsPart (lemma_at ls n).clause clause = subst (λ (z : List Lemma). IsPart (lemma_at z n).clause clause) (sym c.self.view_is) part in
     let same : bit_and word c.args.signature ≡ word =
-    part_has_bits (lemma_at ls n).clause clause word c.args.signature (c.self.invariant.each n lt) is here in
+    part_has_bits (lemma_at ls n).clause clause word c.args.signature (c.self.invariant.0.each n lt) is here in
     let a : c.index.result.now ≡ word = get_or_read words n c.index.result.now low c.index.ensures 0 in
     let b : c.index-2.result.now ≡ word = get_or_read words n c.index-2.result.now low c.index-2.ensures 0 in
     eq-eqb _ _ (ap (λ (z : ℕ). bit_and z c.args.signature) a ∙ same ∙ sym b)
