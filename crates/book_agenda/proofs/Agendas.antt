@@ -3,6 +3,7 @@ use Rattle.std.proofs.Common.{◌≡◌, inl, inr, ℕ, ◌+◌, ◌*◌, ◌/�
 use Rattle.std.proofs.Math.ListN.{get_or-append}
 use Rattle.std.proofs.lemmas.List.{get_or_push}
 use Rattle.std.proofs.lemmas.Bool.{cases_eq, cases_lt}
+use Rattle.clause_core.specs.declared.literal.Lit.{Lit}
 use Rattle.clause_core.specs.Assignments.{assignment_of}
 use Rattle.frame_core.specs.declared.parts.Lemma.{Lemma}
 use Rattle.frame_core.specs.declared.parts.Obligation.{Obligation}
@@ -15,19 +16,40 @@ use Rattle.frame_core.specs.declared.outcomes.Opening.TheVariants as opening
 use Rattle.frame_core.specs.Facts.{ProvedClause, ClearLevel}
 use Rattle.frame_core.specs.Changes.{InsertsSame, RaisesSame, OpensSame}
 use Rattle.frame_core.specs.FrameLaw.{FrameState, obligation_at}
+use Rattle.book_agenda.specs.Tables.{Table, Has, HoldsClauses}
 use Rattle.book_agenda.specs.Values.{IsLifted, AreMetBelow, AreFloors, IsAgenda, blocked_at}
 
+-- no obligation, and tables that say nothing
+pub agenda_begins : (lemmas : List Lemma) (obligations : List Obligation) (bs floors : List ℕ) (clauses states : Table) → obligations ≡ [] → bs ≡ [] → floors ≡ [] →
+    ((row : ℕ) (l : Lit) → Has clauses row l → ⊥) → ((row : ℕ) (l : Lit) → Has states row l → ⊥) → IsAgenda lemmas obligations bs floors clauses states
+agenda_begins lemmas obligations bs floors clauses states none no_levels no_floors no_clauses no_states =
+    let many : length obligations ≡ 0 = ap length none in
+    let levels : length bs ≡ 0 = ap length no_levels in
+    let parts : length floors ≡ 0 = ap length no_floors in
+    record {
+      follow = record { as_many = omega arith; each = λ o lt. absurd (omega arith) };
+      floors' = record { enough = omega arith; tight = omega arith; low = λ c o lt begin end below. absurd (omega arith) };
+      clauses' = λ n l has. absurd (no_clauses n l has);
+      states' = λ o l has. absurd (no_states o l has);
+    }
+
 -- frames that stay the same
-pub agenda_same : (f now : FrameState) (bs floors : List ℕ) → now ≡ f → IsAgenda f.lemmas f.obligations bs floors →
-    IsAgenda now.lemmas now.obligations bs floors
-agenda_same f now bs floors e h = subst (λ (z : FrameState). IsAgenda z.lemmas z.obligations bs floors) (sym e) h
+pub agenda_same : (f now : FrameState) (bs floors : List ℕ) (clauses states : Table) → now ≡ f → IsAgenda f.lemmas f.obligations bs floors clauses states →
+    IsAgenda now.lemmas now.obligations bs floors clauses states
+agenda_same f now bs floors clauses states e h = subst (λ (z : FrameState). IsAgenda z.lemmas z.obligations bs floors clauses states) (sym e) h
 
 -- the same where the levels and floors are in other lists, which are equal
-pub agenda_kept : (f now : FrameState) (bs bs' floors floors' : List ℕ) → now ≡ f → bs' ≡ bs → floors' ≡ floors → IsAgenda f.lemmas f.obligations bs floors →
-    IsAgenda now.lemmas now.obligations bs' floors'
-agenda_kept f now bs bs' floors floors' e eb ef h =
-    subst (λ (z : List ℕ). IsAgenda now.lemmas now.obligations z floors') (sym eb)
-    (subst (IsAgenda now.lemmas now.obligations bs) (sym ef) (agenda_same f now bs floors e h))
+pub agenda_kept : (f now : FrameState) (bs bs' floors floors' : List ℕ) (clauses states : Table) → now ≡ f → bs' ≡ bs → floors' ≡ floors →
+    IsAgenda f.lemmas f.obligations bs floors clauses states → IsAgenda now.lemmas now.obligations bs' floors' clauses states
+agenda_kept f now bs bs' floors floors' clauses states e eb ef h =
+    subst (λ (z : List ℕ). IsAgenda now.lemmas now.obligations z floors' clauses states) (sym eb)
+    (subst (λ (z : List ℕ). IsAgenda now.lemmas now.obligations bs z clauses states) (sym ef) (agenda_same f now bs floors clauses states e h))
+
+-- another table of clauses
+pub agenda_tabled : (lemmas : List Lemma) (obligations : List Obligation) (bs floors : List ℕ) (clauses clauses' states : Table) → HoldsClauses lemmas clauses' →
+    IsAgenda lemmas obligations bs floors clauses states → IsAgenda lemmas obligations bs floors clauses' states
+agenda_tabled lemmas obligations bs floors clauses clauses' states holds h =
+    record { follow = h.follow; floors' = h.floors'; clauses' = holds; states' = h.states' }
 
 -- where no lemma is added the frames stay the same
 pub not_added : (f now : FrameState) (p : ProvedClause) (r : Insertion) → ((n : ℕ) → r ≡ insertion.Added n → ⊥) → InsertsSame f p r now → now ≡ f
@@ -44,12 +66,13 @@ not_raised f now n p (raising.Behind k level) none h = h.2
 not_raised f now n p (raising.OtherSystem place) none h = absurd h
 
 -- a top that is opened changes no lemma and no obligation
-pub agenda_opened : (f now : FrameState) (j : ℕ) (k : ClearLevel) (r : Opening) (bs floors : List ℕ) → OpensSame f j k r now →
-    IsAgenda f.lemmas f.obligations bs floors → IsAgenda now.lemmas now.obligations bs floors
-agenda_opened f now j k opening.Opened bs floors h a = subst (λ (z : FrameState). IsAgenda z.lemmas z.obligations bs floors) (sym h.2) a
-agenda_opened f now j k opening.Dropped bs floors h a = agenda_same f now bs floors h.1 a
-agenda_opened f now j k (opening.Behind n level) bs floors h a = agenda_same f now bs floors h.2 a
-agenda_opened f now j k (opening.OtherSystem place) bs floors h a = absurd h
+pub agenda_opened : (f now : FrameState) (j : ℕ) (k : ClearLevel) (r : Opening) (bs floors : List ℕ) (clauses states : Table) → OpensSame f j k r now →
+    IsAgenda f.lemmas f.obligations bs floors clauses states → IsAgenda now.lemmas now.obligations bs floors clauses states
+agenda_opened f now j k opening.Opened bs floors clauses states h a =
+    subst (λ (z : FrameState). IsAgenda z.lemmas z.obligations bs floors clauses states) (sym h.2) a
+agenda_opened f now j k opening.Dropped bs floors clauses states h a = agenda_same f now bs floors clauses states h.1 a
+agenda_opened f now j k (opening.Behind n level) bs floors clauses states h a = agenda_same f now bs floors clauses states h.2 a
+agenda_opened f now j k (opening.OtherSystem place) bs floors clauses states h a = absurd h
 
 lifted_low : (l : Lemma) (x : ℕ → Bool) (b c : ℕ) → IsLifted l x b c → b ≤ c
 lifted_low l x b c h = elim h [ inl s ↦ let e = s.0 in omega arith | inr s ↦ let e = s.0 in let f = s.1 in omega arith ]

@@ -142,6 +142,18 @@ blocked_raised ls os n level bs cs h lt higher len each =
           (each o (let e = h.as_many in omega arith));
     }
 
+pub raised_length : (ls : List Lemma) (n level : ℕ) → length (raised_at ls n level) ≡ length ls
+raised_length ls n level = length-set ls n record { clause = (lemma_at ls n).clause; level = level; live = (lemma_at ls n).live }
+
+pub raised_clause : (ls : List Lemma) (n level : ℕ) → n < length ls → (k : ℕ) → (lemma_at (raised_at ls n level) k).clause ≡ (lemma_at ls k).clause
+raised_clause ls n level lt k =
+    let l : Lemma = record { clause = (lemma_at ls n).clause; level = level; live = (lemma_at ls n).live } in
+    elim (cases_eq k n) [
+      | inl e ↦
+          ap (λ (z : Lemma). z.clause) (ap (lemma_at (raised_at ls n level)) e ∙ get_or-set_same ls n l no_lemma lt) ∙ ap (λ (m : ℕ). (lemma_at ls m).clause) (sym e)
+      | inr ne ↦ ap (λ (z : Lemma). z.clause) (get_or-set_other ls n k l no_lemma ne)
+    ]
+
 -- a lemma is retired
 pub retired_clause : (ls : List Lemma) (n k : ℕ) → n < length ls → ((lemma_at (retired_at ls n) k).clause ≡ (lemma_at ls k).clause) × ((lemma_at (retired_at ls n) k).level ≡ (lemma_at ls k).level)
 retired_clause ls n k lt =

@@ -2,3 +2,4 @@ mod Agendas
 pub mod Blocked
 pub mod Orderly
 mod Retired
+mod Tabled

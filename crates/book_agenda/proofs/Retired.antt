@@ -1,12 +1,12 @@
 -- Retired lemmas need not be looked at, since a live one covers each of them.
-use Rattle.std.proofs.Common.{◌≡◌, inl, inr, ℕ, ◌+◌, ◌<◌, ◌≤◌, Bool, true, false, List, length, sym, subst, ◌∙◌, arith}
-use Rattle.std.proofs.lemmas.Bool.{cases_Bool, cases_eq}
+use Rattle.std.proofs.Common.{◌≡◌, inl, inr, ℕ, ◌+◌, ◌-◌, ◌*◌, ◌<◌, ◌≤◌, Bool, true, false, List, length, refl, sym, ap, subst, ◌∙◌, arith}
+use Rattle.std.proofs.lemmas.Bool.{cases_Bool, cases_eq, cases_lt}
+use Rattle.std.proofs.lemmas.List.{get_or_past}
 use Rattle.clause_core.specs.Assignments.{ClauseTrue}
-use Rattle.clause_core.specs.Systems.{TransitionSystem}
 use Rattle.frame_core.specs.declared.parts.Lemma.{Lemma}
-use Rattle.frame_core.specs.FrameLaw.{FrameState, FramesHold, LemmasHold, MeetsFrom, lemma_at, system_at}
+use Rattle.frame_core.specs.FrameLaw.{FrameState, FramesHold, MeetsFrom, no_lemma, lemma_at}
 use Rattle.frame_core.proofs.Changing.{ClauseTrue-part}
-use Rattle.book_agenda.specs.Values.{IsBlockedLive, IsBlockedTo, IsLifted, MeetsLive}
+use Rattle.book_agenda.specs.Values.{IsBlockedLive, IsBlockedTo, IsLifted, MeetsAt, MeetsLive}
 
 module _ (f : FrameState) (h : FramesHold f) (x : ℕ → Bool) where
   -- who meets the live lemmas of this level or more meets all of them
@@ -70,3 +70,39 @@ module _ (ls : List Lemma) (n level now : ℕ) (x : ℕ → Bool) (h : IsBlocked
           | inr s ↦ inr (n, omega arith, sym s.0, s.2)
         ];
       }
+
+  -- a lemma more, which is met
+  pub met_one : ClauseTrue x (lemma_at ls n).clause → now ≡ level → IsBlockedLive ls (n + 1) now x
+  met_one met e = lifted_more (inl (e, inl met))
+
+module _ (ls : List Lemma) (n level : ℕ) (x : ℕ → Bool) where
+  -- there is no lemma to be met
+  pub none_left : length ls ≤ n → IsBlockedLive ls n level x → IsBlockedLive ls (n + 1) level x
+  none_left past h = passed ls n level level x h (ap (λ (z : Lemma). z.live) (get_or_past ls n no_lemma past)) refl
+
+  -- some lemmas more, all of which are met
+  pub met_many : (count : ℕ) → ((b : ℕ) → b < count → ClauseTrue x (lemma_at ls (n + b)).clause) → IsBlockedLive ls n level x → IsBlockedLive ls (n + count) level x
+  met_many count met h =
+      record {
+        above = λ k lt on high. elim (cases_lt k n) [
+          | inl old ↦ h.above k old on high
+          | inr new ↦
+              let e : n + (k - n) ≡ k = omega arith in
+              subst (λ (i : ℕ). ClauseTrue x (lemma_at ls i).clause) e (met (k - n) (omega arith))
+        ];
+        at' = elim h.at' [
+          | inl z ↦ inl z
+          | inr w ↦ inr (w.0, omega (arith, w.1), w.2, w.3)
+        ];
+      }
+
+-- a part of 64 lemmas more is met
+pub part_more : (ls : List Lemma) (c level : ℕ) (x : ℕ → Bool) → ((n : ℕ) → n < c * 64 → MeetsAt (lemma_at ls n) level x) →
+    ((b : ℕ) → b < 64 → MeetsAt (lemma_at ls (c * 64 + b)) level x) → (n : ℕ) → n < (c + 1) * 64 → MeetsAt (lemma_at ls n) level x
+part_more ls c level x before more n lt = elim (cases_lt n (c * 64)) [
+  | inl old ↦ before n old
+  | inr new ↦
+      let b : ℕ = n - c * 64 in
+      let e : c * 64 + b ≡ n = omega arith in
+      subst (λ (i : ℕ). MeetsAt (lemma_at ls i) level x) e (more b (omega arith))
+]

@@ -4,6 +4,7 @@ use Rattle.clause_core.specs.Assignments.{ClauseTrue, assignment_of}
 use Rattle.frame_core.specs.declared.parts.Lemma.{Lemma}
 use Rattle.frame_core.specs.declared.parts.Obligation.{Obligation}
 use Rattle.frame_core.specs.FrameLaw.{FrameState, lemma_at, obligation_at}
+use Rattle.book_agenda.specs.Tables.{Table, HoldsClauses, HoldsStates}
 
 -- x meets each of the first lemmas above this level, and does not meet one of this level, where that is not 0
 pub record IsBlockedBelow (lemmas : List Lemma) (bound : ℕ) (level : ℕ) (x : ℕ → Bool) : Type 0 where
@@ -18,6 +19,10 @@ IsBlockedTo lemmas level x = IsBlockedBelow lemmas (length lemmas) level x
 pub record IsBlockedLive (lemmas : List Lemma) (bound : ℕ) (level : ℕ) (x : ℕ → Bool) : Type 0 where
   pub above : (n : ℕ) → n < bound → (lemma_at lemmas n).live ≡ true → level < (lemma_at lemmas n).level → ClauseTrue x (lemma_at lemmas n).clause
   pub at' : (level ≡ 0) ⊎ ((n : ℕ) × (n < bound) × ((lemma_at lemmas n).level ≡ level) × (ClauseTrue x (lemma_at lemmas n).clause → ⊥))
+
+-- x meets the lemma, if it is live and of this level or more
+abbrev pub MeetsAt : Lemma → ℕ → (ℕ → Bool) → Type 0
+MeetsAt lemma level x = lemma.live ≡ true → level ≤ lemma.level → ClauseTrue x lemma.clause
 
 -- x meets each live lemma of this level or more
 abbrev pub MeetsLive : List Lemma → ℕ → (ℕ → Bool) → Type 0
@@ -50,7 +55,10 @@ pub record AreFloors (floors : List ℕ) (blocked : List ℕ) : Type 0 where
   pub tight : length floors * 64 < length blocked + 64
   pub low : (c o : ℕ) → c < length floors → c * 64 ≤ o → o < c * 64 + 64 → o < length blocked → slice_index_or floors c 0 ≤ blocked_at blocked o
 
--- what is kept of the obligations: the level to which each is blocked, and floors
-pub record IsAgenda (lemmas : List Lemma) (obligations : List Obligation) (blocked floors : List ℕ) : Type 0 where
+-- what is kept of the obligations: the level to which each is blocked, and floors; and tables of the literals of clauses,
+-- and of those that are true in the obligations' states
+pub record IsAgenda (lemmas : List Lemma) (obligations : List Obligation) (blocked floors : List ℕ) (clauses states : Table) : Type 0 where
   pub follow : AreBlocked lemmas obligations blocked
   pub floors' : AreFloors floors blocked
+  pub clauses' : HoldsClauses lemmas clauses
+  pub states' : HoldsStates obligations states

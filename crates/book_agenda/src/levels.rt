@@ -2,7 +2,8 @@
 
 ghost use Rattle.std.specs.Prelude.{◌≡◌, ◌<◌, length, vec_len, vec_capacity, OnOk};
 
-use crate::values::{blocked_to, lift, lower};
+use crate::literal_table::LiteralTable;
+use crate::values::{add_clauses, add_states, blocked_to, lift, lower, meets_from};
 use clause_core::Clause;
 use frame_core::{Clear, Found, Frames, Insertion, Noting, Opening, Proved, Raising};
 use std::alloc::{AllocError, Global};
@@ -17,6 +18,10 @@ pub struct Levels<'a> {
     blocked: Vec<u32>,
     // for each 64 obligations a level below which none of them is blocked
     floors: Vec<u32>,
+    // the literals of the clauses of the first lemmas; a lemma for whose row there was no memory is looked at each time
+    clauses: LiteralTable,
+    // the literals over state bits that are true in the states of the first obligations, likewise
+    states: LiteralTable,
 }
 
 impl<'a> Model for Levels<'a> {
@@ -27,13 +32,13 @@ impl<'a> Model for Levels<'a> {
 
     ghost view = { λ l. l.frames };
 
-    ghost invariant = { λ l. IsAgenda l.frames.lemmas l.frames.obligations l.blocked.items l.floors.items };
+    ghost invariant = { λ l. IsAgenda l.frames.lemmas l.frames.obligations l.blocked.items l.floors.items l.clauses l.states };
 }
 
 impl<'a> Levels<'a> {
-    ghost use Rattle.std.specs.Prelude.{◌≡◌, ◌<◌, ◌≤◌, ◌+◌, ◌*◌, ◌^◌, [], ℕ, List, is_none, length, false, true, IfOk, OnErr};
+    ghost use Rattle.std.specs.Prelude.{◌≡◌, ◌↔◌, ◌<◌, ◌≤◌, ◌+◌, ◌*◌, ◌^◌, [], ℕ, List, is_none, length, false, true, IfOk, OnErr, IsTrue};
     ghost use Rattle.clause_core.specs.Assignments.{assignment_of};
-    ghost use Rattle.frame_core.specs.FrameLaw.{FrameState, top_at, lemma_at, obligation_at};
+    ghost use Rattle.frame_core.specs.FrameLaw.{FrameState, MeetsFrom, top_at, lemma_at, obligation_at};
     ghost use Rattle.frame_core.specs.Changes.{IsOfSystem, InsertsSame, RaisesSame, IsCovered, with_retired, OpensSame, MayHaveParent, NotesSame};
     ghost use Rattle.book_agenda.specs.Values.{IsBlockedTo, AreBlocked};
 
@@ -42,10 +47,13 @@ impl<'a> Levels<'a> {
         requires { frames.obligations ≡ [] }
         ensures { result ≡ frames.entry }
     {
+        let vars = state_bits(&frames);
         Levels {
             frames,
             blocked: Vec::new(alloc),
             floors: Vec::new(alloc),
+            clauses: LiteralTable::new(alloc, vars),
+            states: LiteralTable::new(alloc, vars),
         }
     }
 
@@ -64,6 +72,8 @@ impl<'a> Levels<'a> {
             frames,
             blocked: _,
             floors: _,
+            clauses: _,
+            states: _,
         } = self;
         frames
     }
@@ -96,6 +106,16 @@ impl<'a> Levels<'a> {
         }
     }
 
+    /// Whether the state meets each lemma of this level or more. Takes no memory.
+    ///
+    /// It ends at the first live lemma that the state does not meet. A table tells most of those that it meets, 64
+    /// at a time, by a word for each state bit up to the one that leaves none. The others are looked at.
+    pub fn meets_from(&self, level: u32, values: &[bool]) -> bool
+        ensures { IsTrue result ↔ MeetsFrom self.now.lemmas level (assignment_of values.now) }
+    {
+        meets_from(&self.frames, &self.clauses, level, values)
+    }
+
     /// Says what the type keeps.
     pub fn follow(&self)
         ensures { (blocked : List ℕ) × AreBlocked self.now.lemmas self.now.obligations blocked }
@@ -104,7 +124,8 @@ impl<'a> Levels<'a> {
     }
 
     /// As `insert_same` of the frames. Where a lemma is added it is tried at each obligation that is blocked
-    /// below its level. No part of the obligations is looked at whose floor is not below it.
+    /// below its level. No part of the obligations is looked at whose floor is not below it. In the others a
+    /// table tells most of those that meet the lemma, 64 at a time, by a word for each of its literals.
     pub fn insert(&mut self, proved: &Proved, clause: Clause) -> Result<Insertion, AllocError>
         requires same { IsOfSystem self.old 0 false proved.now.system }
         requires copy { clause ≡ proved.now.clause }
@@ -113,7 +134,15 @@ impl<'a> Levels<'a> {
     {
         let insertion = self.frames.insert_same(proved, clause)?;
         if let Insertion::Added(n) = insertion {
-            lift(&mut self.blocked, &mut self.floors, &self.frames, n, 0);
+            lift(
+                &mut self.blocked,
+                &mut self.floors,
+                &self.frames,
+                &self.states,
+                n,
+                0,
+            );
+            add_clauses(&mut self.clauses, self.frames.all_lemmas());
         }
         Ok(insertion)
     }
@@ -129,7 +158,14 @@ impl<'a> Levels<'a> {
         let from = self.frames.lemma(n).level;
         let raising = self.frames.raise_same(n, proved);
         if let Raising::Raised = raising {
-            lift(&mut self.blocked, &mut self.floors, &self.frames, n, from);
+            lift(
+                &mut self.blocked,
+                &mut self.floors,
+                &self.frames,
+                &self.states,
+                n,
+                from,
+            );
         }
         raising
     }
@@ -146,7 +182,7 @@ impl<'a> Levels<'a> {
         Ok(opening)
     }
 
-    /// As `add_obligation_same` of the frames. Looks at each lemma once.
+    /// As `add_obligation_same` of the frames. Looks at the lemmas as `meets_from` does.
     pub fn note(
         &mut self,
         j: usize,
@@ -160,10 +196,12 @@ impl<'a> Levels<'a> {
         ensures err { OnErr result (self.new ≡ self.old) }
     {
         reserve_one(&mut self.blocked, &mut self.floors)?;
-        let level = blocked_to(&self.frames, found.values().as_slice());
+        add_clauses(&mut self.clauses, self.frames.all_lemmas());
+        let level = blocked_to(&self.frames, &self.clauses, found.values().as_slice());
         let noting = self.frames.add_obligation_same(j, found, parent)?;
         lower(&mut self.floors, &self.blocked, level);
         self.blocked.push_reserved(level);
+        add_states(&mut self.states, &self.frames);
         Ok(noting)
     }
 
@@ -175,6 +213,11 @@ impl<'a> Levels<'a> {
     {
         self.frames.retire(n);
     }
+}
+
+// How many state bits the systems have.
+fn state_bits(frames: &Frames) -> usize {
+    frames.systems()[0].state_bits()
 }
 
 // Makes room for one obligation more.

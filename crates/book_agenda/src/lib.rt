@@ -4,9 +4,9 @@
 
 mod latest;
 pub mod levels;
+mod literal_table;
 pub mod register;
-pub mod values;
+mod values;
 
 pub use levels::Levels;
 pub use register::Register;
-pub use values::meets_from;

@@ -18,10 +18,10 @@ ghost use Rattle.frame_book.specs.Pages.{FitsIn};
 ghost use Rattle.frame_book.specs.Steps.{adds, Comes, Retires, IsCoveredBy, AreSameLemmas, HasSettled};
 
 use crate::claim::{Claim, Outcome};
-use book_agenda::{Levels, meets_from};
+use book_agenda::Levels;
 use clause_core::{Bits, Clause};
 use frame_core::{
-    Clear, Found, Frames, Insertion, Noting, Opening, Parent, Proved, ProvedParts, Raising, Step,
+    Clear, Found, Insertion, Noting, Opening, Parent, Proved, ProvedParts, Raising, Step,
 };
 use frame_history::{Change, Lag, Made, Subject};
 use std::alloc::{AllocError, Global};
@@ -128,7 +128,7 @@ pub(crate) fn leave<'a>(levels: &Levels<'a>, made: &Made, n: usize, step: Step<'
 {
     let level = made.level - 1;
     let _system = step.system();
-    if meets_from(levels.frames(), level, step.values().as_slice()) {
+    if levels.meets_from(level, step.values().as_slice()) {
         Change::PushFailed { lemma: n, level }
     } else {
         Change::Behind(Lag::State(step.into_values()))
@@ -166,14 +166,14 @@ pub(crate) fn clear<'a>(
 }
 
 // Whether the state found is in the frame of this level.
-fn is_inside(frames: &Frames, level: u32, found: &Found) -> bool
-    ensures { IsTrue result ↔ InFrame found.now.system frames.now.lemmas level (assignment_of found.now.values) }
+fn is_inside<'a>(levels: &Levels<'a>, level: u32, found: &Found) -> bool
+    ensures { IsTrue result ↔ InFrame found.now.system levels.now.lemmas level (assignment_of found.now.values) }
 {
     let _system = found.system();
     if level == 0 {
         found.is_first()
     } else {
-        meets_from(frames, level, found.values().as_slice())
+        levels.meets_from(level, found.values().as_slice())
     }
 }
 
@@ -238,7 +238,7 @@ fn note_inside<'a>(
     ensures done { IfOk result (λ d. ((InFrame found.entry.system levels.old.lemmas level (assignment_of found.entry.values) → ⊥) × (d ≡ Change.Behind (lag_of.State found.entry.values)) × (levels.new ≡ levels.old)) ⊎ (InFrame found.entry.system levels.old.lemmas level (assignment_of found.entry.values) × (d ≡ Change.Note j found.entry.values parent found.entry.first) × (levels.new ≡ with_obligation levels.old j found.entry parent))) }
     ensures err { IfErr result (λ r. (r ≡ Outcome.Found found.entry) × (levels.new ≡ levels.old)) }
 {
-    if !is_inside(levels.frames(), level, &found) {
+    if !is_inside(levels, level, &found) {
         return Ok(Change::Behind(Lag::State(found.into_values())));
     }
     match note(alloc, levels, j, found, parent) {

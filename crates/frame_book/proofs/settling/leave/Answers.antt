@@ -1,6 +1,5 @@
-use Rattle.std.proofs.Common.{◌≡◌, ◌-◌, Bool, List, refl, ap, subst, ◌∙◌, arith}
+use Rattle.std.proofs.Common.{◌≡◌, ◌-◌, Bool, List, refl, subst, ◌∙◌, arith}
 use Rattle.clause_core.specs.Assignments.{assignment_of}
-use Rattle.frame_core.specs.declared.parts.Lemma.{Lemma}
 use Rattle.frame_core.specs.Facts.{FoundStep}
 use Rattle.frame_core.specs.FrameLaw.{FrameState, MeetsFrom}
 use Rattle.frame_book.proofs.Accepted.{left_is}
@@ -10,12 +9,10 @@ pub returns-then-meets_from : goal.returns-then-meets_from
 returns-then-meets_from c =
     let f : FrameState = c.args.levels.now in
     let s : FoundStep = c.args.step in
-    let ls : c.frames.result.now.lemmas ≡ f.lemmas = ap (λ (z : FrameState). z.lemmas) c.frames.ensures in
     let vs : c.as_slice.result.now ≡ s.values = c.as_slice.ensures ∙ c.values.ensures in
     let meets : MeetsFrom f.lemmas (c.args.made.now.level - 1) (assignment_of s.values) =
     subst (λ (v : List Bool). MeetsFrom f.lemmas (c.args.made.now.level - 1) (assignment_of v)) vs
-    (subst (λ (z : List Lemma). MeetsFrom z (c.args.made.now.level - 1) (assignment_of c.as_slice.result.now)) ls
-    (c.meets_from.ensures.0 c.if-meets_from.true)) in
+    (c.meets_from.ensures.0 c.if-meets_from.true) in
     let above = c.requires.above in
     record {
       accepted = left_is f c.args.made.now c.args.n (c.args.made.now.level - 1) s c.requires.subject (omega arith) (omega arith)

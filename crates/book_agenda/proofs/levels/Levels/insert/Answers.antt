@@ -8,7 +8,9 @@ use Rattle.frame_core.specs.FrameLaw.{FrameState, lemma_at, obligation_at}
 use Rattle.frame_core.specs.Changes.{IsOfSystem, InsertsSame}
 use Rattle.book_agenda.specs.Values.{AreBlocked, IsLifted, blocked_at}
 use Rattle.book_agenda.proofs.Agendas.{agenda_same, not_added}
+use Rattle.book_agenda.specs.Tables.{HoldsClauses, HoldsStates}
 use Rattle.book_agenda.proofs.Blocked.{blocked_added, lemma_last}
+use Rattle.book_agenda.proofs.Tabled.{clauses_pushed}
 use Rattle.book_agenda.proofs.levels.Levels.insert.Goals as goal
 
 pub invariant_of-self-in-Added : goal.invariant_of-self-in-Added
@@ -29,7 +31,27 @@ invariant_of-self-in-Added c =
       follow = subst (λ (z : FrameState). AreBlocked z.lemmas z.obligations cs) (sym done.3)
           (blocked_added f.lemmas f.obligations l bs cs c.self.invariant.follow c.lift.ensures.length each);
       floors' = c.lift.ensures.floors;
+      clauses' = subst (λ (z : List Lemma). HoldsClauses z c.add_clauses.new.clauses) c.all_lemmas.ensures.value c.add_clauses.ensures;
+      states' = subst (λ (z : FrameState). HoldsStates z.obligations c.self.inside.states) (sym done.3) c.self.invariant.states';
     }
+
+pub add_clauses-requires : goal.add_clauses-requires
+add_clauses-requires c =
+    let f : FrameState = c.self.inside.frames in
+    let p : ProvedClause = c.args.proved.now in
+    let l : Lemma = record { clause = p.clause; level = p.level; live = true } in
+    let done : InsertsSame f p (Added c.in-Added.n) c.insert_same.new.self =
+    subst (λ (r : Insertion). InsertsSame f p r c.insert_same.new.self) c.in-Added.is c.in_ok-insertion.ensures.done in
+    subst (λ (z : List Lemma). HoldsClauses z c.self.inside.clauses) (sym (c.all_lemmas.ensures.value ∙ ap (λ (z : FrameState). z.lemmas) done.3))
+    (clauses_pushed f.lemmas l c.self.inside.clauses c.self.invariant.clauses')
+
+pub lift-requires-clause-table : goal.lift-requires-clause-table
+lift-requires-clause-table c =
+    let f : FrameState = c.self.inside.frames in
+    let p : ProvedClause = c.args.proved.now in
+    let done : InsertsSame f p (Added c.in-Added.n) c.insert_same.new.self =
+    subst (λ (r : Insertion). InsertsSame f p r c.insert_same.new.self) c.in-Added.is c.in_ok-insertion.ensures.done in
+    subst (λ (z : FrameState). HoldsStates z.obligations c.self.inside.states) (sym done.3) c.self.invariant.states'
 
 pub returns-in-Added-clause-done : goal.returns-in-Added-clause-done
 returns-in-Added-clause-done c =
@@ -46,11 +68,11 @@ lift-requires-clause-met c = λ o lt below. absurd (omega (arith, below))
 
 pub invariant_of-self : goal.invariant_of-self
 invariant_of-self c =
-    agenda_same c.self.inside.frames c.insert_same.new.self c.self.inside.blocked.items c.self.inside.floors.items c.in_err-insertion.ensures.err c.self.invariant
+    agenda_same c.self.inside.frames c.insert_same.new.self c.self.inside.blocked.items c.self.inside.floors.items c.self.inside.clauses c.self.inside.states c.in_err-insertion.ensures.err c.self.invariant
 
 pub invariant_of-self-in_default : goal.invariant_of-self-in_default
 invariant_of-self-in_default c =
     let f : FrameState = c.self.inside.frames in
     let now : FrameState = c.insert_same.new.self in
-    agenda_same f now c.self.inside.blocked.items c.self.inside.floors.items
+    agenda_same f now c.self.inside.blocked.items c.self.inside.floors.items c.self.inside.clauses c.self.inside.states
     (not_added f now c.args.proved.now c.in_ok-insertion.insertion c.in_default.not-Added c.in_ok-insertion.ensures.done) c.self.invariant

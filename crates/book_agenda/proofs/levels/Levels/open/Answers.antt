@@ -9,9 +9,10 @@ open_same-requires-clause-same c = subst (λ (z : FrameState). IsOfSystem z c.ar
 
 pub invariant_of-self : goal.invariant_of-self
 invariant_of-self c =
-    agenda_same c.self.inside.frames c.open_same.new.self c.self.inside.blocked.items c.self.inside.floors.items c.in_err-opening.ensures.err c.self.invariant
+    agenda_same c.self.inside.frames c.open_same.new.self c.self.inside.blocked.items c.self.inside.floors.items c.self.inside.clauses c.self.inside.states c.in_err-opening.ensures.err
+    c.self.invariant
 
 pub invariant_of-self-2 : goal.invariant_of-self-2
 invariant_of-self-2 c =
-    agenda_opened c.self.inside.frames c.open_same.new.self c.args.j c.args.clear.now c.in_ok-opening.opening c.self.inside.blocked.items c.self.inside.floors.items
-    c.in_ok-opening.ensures.done c.self.invariant
+    agenda_opened c.self.inside.frames c.open_same.new.self c.args.j c.args.clear.now c.in_ok-opening.opening c.self.inside.blocked.items c.self.inside.floors.items c.self.inside.clauses
+    c.self.inside.states c.in_ok-opening.ensures.done c.self.invariant

@@ -7,8 +7,9 @@ use Rattle.frame_core.specs.FrameLaw.{FrameState, lemma_at, obligation_at, raise
 use Rattle.frame_core.specs.Changes.{IsOfSystem, RaisesSame}
 use Rattle.book_agenda.specs.Values.{AreBlocked, IsLifted, blocked_at}
 use Rattle.book_agenda.proofs.Agendas.{agenda_same, not_raised}
-use Rattle.book_agenda.proofs.Blocked.{blocked_raised}
-use Rattle.book_agenda.proofs.Blocked.{is_lower}
+use Rattle.book_agenda.specs.Tables.{HoldsClauses, HoldsStates}
+use Rattle.book_agenda.proofs.Blocked.{blocked_raised, is_lower, raised_clause, raised_length}
+use Rattle.book_agenda.proofs.Tabled.{clauses_same}
 use Rattle.book_agenda.proofs.levels.Levels.raise.Goals as goal
 
 pub invariant_of-self : goal.invariant_of-self
@@ -29,6 +30,10 @@ invariant_of-self c =
       follow = subst (λ (z : FrameState). AreBlocked z.lemmas z.obligations cs) (sym done.2)
           (blocked_raised f.lemmas f.obligations n p.level bs cs c.self.invariant.follow lt lower c.lift.ensures.length each);
       floors' = c.lift.ensures.floors;
+      clauses' = subst (λ (z : FrameState). HoldsClauses z.lemmas c.self.inside.clauses) (sym done.2)
+          (clauses_same f.lemmas (raised_at f.lemmas n p.level) c.self.inside.clauses (raised_length f.lemmas n p.level) (raised_clause f.lemmas n p.level lt)
+          c.self.invariant.clauses');
+      states' = subst (λ (z : FrameState). HoldsStates z.obligations c.self.inside.states) (sym done.2) c.self.invariant.states';
     }
 
 pub raise_same-raising-requires-clause-same : goal.raise_same-raising-requires-clause-same
@@ -38,5 +43,5 @@ pub invariant_of-self-in_default : goal.invariant_of-self-in_default
 invariant_of-self-in_default c =
     let f : FrameState = c.self.inside.frames in
     let now : FrameState = c.raise_same-raising.new.self in
-    agenda_same f now c.self.inside.blocked.items c.self.inside.floors.items
+    agenda_same f now c.self.inside.blocked.items c.self.inside.floors.items c.self.inside.clauses c.self.inside.states
     (not_raised f now c.args.n c.args.proved.now c.raise_same-raising.result c.in_default.not-Raised c.raise_same-raising.ensures) c.self.invariant

@@ -1,8 +1,10 @@
 use Rattle.std.proofs.Common.{◌<◌, length, sym, subst}
-use Rattle.frame_core.specs.FrameLaw.{FrameState}
+use Rattle.frame_core.specs.FrameLaw.{FrameState, retired_at}
 use Rattle.frame_core.specs.Changes.{IsCovered}
 use Rattle.book_agenda.specs.Values.{AreBlocked}
-use Rattle.book_agenda.proofs.Blocked.{blocked_retired}
+use Rattle.book_agenda.specs.Tables.{HoldsClauses, HoldsStates}
+use Rattle.book_agenda.proofs.Blocked.{blocked_retired, retired_clause, retired_length}
+use Rattle.book_agenda.proofs.Tabled.{clauses_same}
 use Rattle.book_agenda.proofs.levels.Levels.retire.Goals as goal
 
 pub retire-requires-clause-covered : goal.retire-requires-clause-covered
@@ -16,4 +18,8 @@ invariant_of-self c =
       follow = subst (λ (z : FrameState). AreBlocked z.lemmas z.obligations c.self.inside.blocked.items) (sym c.retire.ensures)
           (blocked_retired f.lemmas f.obligations c.args.n c.self.inside.blocked.items c.self.invariant.follow lt);
       floors' = c.self.invariant.floors';
+      clauses' = subst (λ (z : FrameState). HoldsClauses z.lemmas c.self.inside.clauses) (sym c.retire.ensures)
+          (clauses_same f.lemmas (retired_at f.lemmas c.args.n) c.self.inside.clauses (retired_length f.lemmas c.args.n)
+          (λ k. (retired_clause f.lemmas c.args.n k lt).0) c.self.invariant.clauses');
+      states' = subst (λ (z : FrameState). HoldsStates z.obligations c.self.inside.states) (sym c.retire.ensures) c.self.invariant.states';
     }
