@@ -1,22 +1,33 @@
 -- Types of one declaration more, and of one instance more.
 use Rattle.std.proofs.Common.{◌≡◌, ℕ, zero, suc, ◌+◌, ◌<◌, List, [], ◌∷◌, ◌++◌, length, get_or, take, subst, refl, sym, ap, ◌∙◌, append_assoc, arith}
+use Rattle.std.specs.Prelude.{Some, slice_get}
+use Rattle.std.proofs.lemmas.Option.{slice_get-get_or}
 use Rattle.std.specs.List.{flat_map}
 use Rattle.std.proofs.lemmas.List.{append-nil, take_more}
+use Rattle.std.proofs.lemmas.List.Sums.{sum_by-append}
 use Rattle.std.proofs.lemmas.List.Concat.{flat_map-append}
 use Rattle.smv_tree.specs.declared.tree.Program.{Program}
 use Rattle.smv_tree.specs.declared.tree.Section.{Section}
 use Rattle.smv_tree.specs.declared.tree.Variable.{Variable}
 use Rattle.smv_tree.specs.declared.tree.VariableKind.{VariableKind}
 use Rattle.smv_scope.specs.declared.instance.Instance.{Instance}
+use Rattle.smv_scope.specs.Instances.{instances_of, module_at, module_in}
 use Rattle.smv_scope.specs.Modules.{sections_of, variables_in}
 use Rattle.smv_declared.specs.declared.variable_type.VariableType.{VariableType}
 use Rattle.smv_declared.specs.declared.tally.Tally.{Tally}
-use Rattle.smv_declared.specs.Types.{types_below, types_in, types_with}
+use Rattle.smv_declared.specs.Types.{most_slots, size_of, slots_in, types_below, types_in, types_with}
 use Rattle.smv_declared.specs.Tally.{Tallies}
 
 -- the same types are counted
 pub same_types : (a b : List VariableType) (t : Tally) → a ≡ b → Tallies a t → Tallies b t
 same_types a b t e h = subst (λ (all : List VariableType). Tallies all t) e h
+
+-- more types change nothing where there are too many slots
+pub full_more : (all more : List VariableType) (t : Tally) → most_slots < t.slots → Tallies all t → Tallies (all ++ more) t
+full_more all more t full h =
+    let both : slots_in (all ++ more) ≡ slots_in all + slots_in more = sum_by-append (λ (t : VariableType). size_of t.dimensions) all more in
+    let so_far = h.0 in
+    (omega (arith, both, so_far, full), λ few. absurd (omega (arith, few, full)))
 
 -- those of nothing
 pub none_yet : {A : Type 0} (f : A → List VariableType) (xs : List A) (all : List VariableType) (t : Tally) → Tallies all t → Tallies (all ++ flat_map f (take 0 xs)) t
@@ -31,6 +42,10 @@ one_further f xs i x all t within is h =
     ∙ ap (λ y. flat_map f (take i xs) ++ f y) (sym is) in
     same_types ((all ++ flat_map f (take i xs)) ++ f x) (all ++ flat_map f (take (i + 1) xs)) t
     (append_assoc all (flat_map f (take i xs)) (f x) ∙ ap (λ ys. all ++ ys) (sym one)) h
+
+-- the module of an instance
+pub module_found : (p : Program) (tree items : List Instance) (i : ℕ) (d : Instance) → tree ≡ instances_of p → items ≡ tree → i < length items → module_at p i ≡ Some (get_or items i d).of_module
+module_found p tree items i d of_program same within = sym (ap (λ (xs : List Instance). module_in (slice_get xs i)) (same ∙ of_program)) ∙ ap module_in (slice_get-get_or items i d within)
 
 -- the types of one instance more
 

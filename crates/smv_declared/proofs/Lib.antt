@@ -5,3 +5,5 @@ pub mod Sizes
 pub mod Joined
 pub mod Found
 pub mod Adding
+pub mod Instances
+pub mod ClosedNames

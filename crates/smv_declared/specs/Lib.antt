@@ -4,3 +4,4 @@ pub mod Refusals
 pub mod Limits
 pub mod Tally
 pub mod Seen
+pub mod Closed

@@ -1,12 +1,16 @@
 //! The types of the variables of a program.
 
-ghost use Rattle.std.specs.Prelude.{◌≡◌, ◌++◌, List, map, IfOk, OnOk};
+ghost use Rattle.std.specs.Prelude.{◌≡◌, ◌++◌, List, Some, map, nat_eq, IfOk, OnOk};
+ghost use Rattle.std.specs.HashMap.{get};
 ghost use Rattle.std.specs.List.{flat_map};
 ghost use Rattle.smv_tree.specs.declared.tree.Variable.{Variable};
+ghost use Rattle.smv_scope.specs.Instances.{module_at};
+ghost use Rattle.smv_scope.specs.Modules.{sections_of};
 ghost use Rattle.smv_verdicts.specs.Verdicts.{Judges, first_of};
 ghost use Rattle.value_types.specs.declared.value_type.Element.{Element};
 ghost use Rattle.smv_declared.specs.declared.limits.ElementLimits.{ElementLimits};
 ghost use Rattle.smv_declared.specs.declared.variable_type.VariableType.{VariableType};
+ghost use Rattle.smv_declared.specs.Closed.{AreJudged, read, refusal_of};
 ghost use Rattle.smv_declared.specs.Limits.{high_in, low_in, type_from, width_in};
 ghost use Rattle.smv_declared.specs.Refusals.{declared_refusal, dimension_limits, element_limits, instance_refusal, limits_refusal, repeated, types_refusal_in, variable_refusal, wide_element, written_elements};
 ghost use Rattle.smv_declared.specs.Tally.{Tallies};
@@ -14,17 +18,19 @@ ghost use Rattle.smv_declared.specs.Types.{Tells, element_of, types_in, types_wi
 
 use crate::bounds::{bounds_of, range_in, width_in};
 use crate::elements::elements_of;
+use crate::judged::{none_judged, note};
 use crate::limits::{
     ElementLimits, Limits, dimension_limits, element_limits, judge_constants,
     judge_element_constants, judge_element_order, judge_orders,
 };
-use crate::tally::{Tally, add, declared_by, no_types};
+use crate::tally::{Tally, add, declared_by, is_full, no_types};
 use crate::{Declared, VariableType};
 use smv_scope::{Scope, holds, sections_of, variables_in};
 use smv_tree::{Rule, Section, TextStop, TypeExpr, Variable, VariableKind, WrittenElement};
 use smv_verdicts::refused;
 use sqlite_items::Items;
 use std::alloc::Global;
+use std::collections::HashMap;
 use value_types::{Element, ValueType};
 
 /// The type of each variable that holds values, in the order of the numbers of `NameTarget::Variable`, where the declarations
@@ -45,7 +51,9 @@ use value_types::{Element, ValueType};
 /// A constant is an integer that literals give by `-`, `+`, `*`, `/` and `mod`, through the names of definitions and parameters,
 /// and without a division by 0. It is a whole number of any size, as each part of it is.
 ///
-/// Linear in the text of the declarations of all instances, and in what their bounds name. The size of arrays costs nothing.
+/// Linear in the text of the declarations of all instances, and in what their bounds name. Where there are too many slots already,
+/// a declaration whose type names nothing but definitions that are literals counts once for its module. The size of arrays costs
+/// nothing.
 ///
 /// `NoMemory` comes where memory was refused, which may be at any time.
 #[tactic(auto, unfolding(crate::specs::Refusals::declared_refusal, crate::specs::Types::variable_types_of))]
@@ -54,11 +62,86 @@ pub fn declared_types(alloc: Global, scope: &Scope) -> Result<Declared, TextStop
     ensures types { IfOk result (λ declared. Tells (variable_types_of scope.now.program) declared) }
 {
     let mut tally = no_types(alloc);
+    let mut judged = none_judged(alloc);
     for (at, x) in scope.tree.as_slice().iter().enumerate() {
-        let sections = sections_of(&scope.program, x.of_module);
-        add_sections(alloc, scope, &mut tally, at, sections)?;
+        add_instance(alloc, scope, &mut tally, &mut judged, at, x.of_module)?;
     }
     Ok(declared_by(tally))
+}
+
+// Adds the types of the variables of an instance of the module of this number. Where there are too many slots, only those
+// variables are judged again that may be of other types than in an instance before.
+fn add_instance<'a>(
+    alloc: Global,
+    scope: &'a Scope,
+    tally: &mut Tally,
+    judged: &mut HashMap<usize, Vec<(VariableKind, &'a Variable)>>,
+    at: usize,
+    m: usize,
+) -> Result<(), TextStop>
+    requires is { module_at scope.now.program at ≡ Some m }
+    requires judged { AreJudged scope.now.program (get nat_eq judged.old) }
+    ensures noted { OnOk result (AreJudged scope.now.program (get nat_eq judged.new)) }
+    ensures judged { Judges result (first_of (types_refusal_in scope.now.program at) (sections_of scope.now.program m)) }
+    ensures types { (all : List VariableType) → Tallies all tally.old → OnOk result (Tallies (all ++ flat_map (types_in scope.now.program at) (sections_of scope.now.program m)) tally.new) }
+{
+    if is_full(tally) {
+        if let Some(again) = judged.get(&m) {
+            return judge_variables(alloc, scope, at, again.as_slice());
+        }
+        return add_first(alloc, scope, tally, judged, at, m);
+    }
+    add_sections(alloc, scope, tally, at, sections_of(&scope.program, m))
+}
+
+// The same of the first instance of a module that is judged where there are too many slots.
+fn add_first<'a>(
+    alloc: Global,
+    scope: &'a Scope,
+    tally: &mut Tally,
+    judged: &mut HashMap<usize, Vec<(VariableKind, &'a Variable)>>,
+    at: usize,
+    m: usize,
+) -> Result<(), TextStop>
+    requires is { module_at scope.now.program at ≡ Some m }
+    requires judged { AreJudged scope.now.program (get nat_eq judged.old) }
+    ensures noted { OnOk result (AreJudged scope.now.program (get nat_eq judged.new)) }
+    ensures judged { Judges result (first_of (types_refusal_in scope.now.program at) (sections_of scope.now.program m)) }
+    ensures types { (all : List VariableType) → Tallies all tally.old → OnOk result (Tallies (all ++ flat_map (types_in scope.now.program at) (sections_of scope.now.program m)) tally.new) }
+{
+    let sections = sections_of(&scope.program, m);
+    add_sections(alloc, scope, tally, at, sections)?;
+    note(alloc, scope, judged, at, m, sections)?;
+    Ok(())
+}
+
+// These variables break no rule.
+fn judge_variables(
+    alloc: Global,
+    scope: &Scope,
+    at: usize,
+    variables: &[(VariableKind, &Variable)],
+) -> Result<(), TextStop>
+    ensures { Judges result (first_of (refusal_of scope.now.program at) (read variables.now)) }
+{
+    for x in variables {
+        judge_variable(alloc, scope, at, x.0, x.1)?;
+    }
+    Ok(())
+}
+
+fn judge_variable(
+    alloc: Global,
+    scope: &Scope,
+    at: usize,
+    kind: VariableKind,
+    variable: &Variable,
+) -> Result<(), TextStop>
+    ensures { Judges result (variable_refusal scope.now.program at kind variable.now) }
+{
+    judge_instance(kind, variable)?;
+    variable_type(alloc, scope, at, variable)?;
+    Ok(())
 }
 
 // Adds the types of the variables of an instance, whose module has these sections.

@@ -3,10 +3,12 @@
 #![tactic(auto)]
 
 mod bounds;
+mod closed;
 mod constant;
 mod constants;
 mod declarations;
 mod elements;
+mod judged;
 mod limits;
 mod place;
 mod tally;

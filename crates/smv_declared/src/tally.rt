@@ -1,6 +1,6 @@
 //! Types of variables that are counted as they come, and kept while they have few slots.
 
-ghost use Rattle.std.specs.Prelude.{◌≡◌, ◌+◌, [], ◌∷◌, ◌++◌, List, min, OnOk};
+ghost use Rattle.std.specs.Prelude.{◌≡◌, ◌+◌, [], ◌∷◌, ◌++◌, List, true, min, OnOk};
 ghost use Rattle.smv_declared.specs.declared.variable_type.VariableType.{VariableType};
 ghost use Rattle.smv_declared.specs.Tally.{Tallies};
 ghost use Rattle.smv_declared.specs.Types.{Tells, most_slots, size_of};
@@ -37,6 +37,13 @@ pub(crate) fn add(tally: &mut Tally, declared: VariableType) -> Result<(), Alloc
         tally.types.push(declared)?;
     }
     Ok(())
+}
+
+// Whether they have more slots than a program may have. More types change nothing then.
+pub(crate) fn is_full(tally: &Tally) -> bool
+    ensures { result ≡ true → (all more : List VariableType) → Tallies all tally.now → Tallies (all ++ more) tally.now }
+{
+    tally.slots > MOST_SLOTS
 }
 
 // How many elements an array of these dimensions has, if those are few.
