@@ -1,5 +1,5 @@
 -- Bytes are a model of one program at most, and are not refused where they are one.
-use Rattle.std.proofs.Common.{◌≡◌, inl, inr, ℕ, List, [], ◌∷◌, Option, None, Some, Result, Err, sym, subst, ap, ◌∙◌, ◌≤◌, ◌<◌, arith}
+use Rattle.std.proofs.Common.{◌≡◌, inl, inr, ℕ, List, [], ◌∷◌, Option, None, Some, Result, Ok, Err, IfOk, IfErr, sym, subst, ap, ◌∙◌, ◌≤◌, ◌<◌, arith}
 use Rattle.digraph.specs.Cycles.{Acyclic, IsCycle}
 use Rattle.smv_tree.specs.declared.token.Tokens.{Tokens}
 use Rattle.smv_tree.specs.declared.refusal.Refusal.{Refusal}
@@ -11,8 +11,12 @@ use Rattle.smv_text.specs.Texts.{IsText, IsTextStop}
 use Rattle.smv_text.proofs.Cuts as text
 use Rattle.smv_parse.proofs.ParsedOnce as parse
 use Rattle.smv_parse.specs.Spelling.{IsSpelling, IsRefusedTokens, IsParseStop}
-use Rattle.smv_types.specs.Rules.{types_verdict}
-use Rattle.smv_verdicts.specs.Verdicts.{Gives}
+use Rattle.smv_names.specs.Reached.{too_many_instances}
+use Rattle.smv_names.specs.Rules.{module_rules_verdict, instance_names_verdict}
+use Rattle.smv_types.specs.Kinds.{too_deep}
+use Rattle.smv_types.specs.Rules.{kinds_refusal, types_verdict}
+use Rattle.smv_types.proofs.Ordered.{modules_refuse, instances_refuse, names_refuse, depth_refuses, kinds_refuse, none_refuses}
+use Rattle.smv_verdicts.specs.Verdicts.{Gives, Judges}
 use Rattle.smv_types.proofs.Once.{judged_once}
 use Rattle.smv_flat.specs.declared.time.Time.{Time}
 use Rattle.smv_flat.specs.declared.time.Time.TheVariants as when
@@ -29,29 +33,90 @@ pub grammar_stop : (bytes : List ℕ) (tokens : Tokens) (stop : TextStop) → Is
 grammar_stop bytes tokens (Refused r) t h = in_grammar tokens t h
 grammar_stop bytes tokens NoMemory t h = h
 
-pub types_stop : (A : Type 0) (bytes : List ℕ) (tokens : Tokens) (p : Program) (stop : TextStop) → IsText bytes tokens → IsSpelling tokens.items p
-    → (let answer : Result A TextStop = Err stop in Gives answer (types_verdict p)) → IsSourceStop bytes stop
-types_stop A bytes tokens p (Refused r) t s h = in_types tokens p (record { text = t; spelled = s }) h
-types_stop A bytes tokens p NoMemory t s h = h
+-- Bytes whose tokens spell this program.
+module _ (bytes : List ℕ) (tokens : Tokens) (p : Program) (text : IsText bytes tokens) (spelled : IsSpelling tokens.items p) where
+  is_spelled : Spells bytes tokens p
+  is_spelled = record { text = text; spelled = spelled }
 
-pub assignments_stop : (bytes : List ℕ) (tokens : Tokens) (p q : Program) (stop : TextStop) → IsText bytes tokens → IsSpelling tokens.items p → types_verdict p None → q ≡ p → IsAssignmentStop q stop → IsSourceStop bytes stop
-assignments_stop bytes tokens p q (Refused r) t s n e h = in_assignments tokens p (record { text = t; spelled = s }) n (subst (λ (u : Program). IsRefusedByAssignments u r) e h)
-assignments_stop bytes tokens p q NoMemory t s n e h = h
+  refused_by_types : (r : Refusal) → types_verdict p (Some r) → IsSourceStop bytes (Refused r)
+  refused_by_types r h = in_types tokens p is_spelled h
 
-pub bits_stop : (bytes : List ℕ) (tokens : Tokens) (p q : Program) (stop : TextStop) → IsText bytes tokens → IsSpelling tokens.items p → types_verdict p None → q ≡ p → AreAssignable q
-    → IsWidthStop q stop → IsSourceStop bytes stop
-bits_stop bytes tokens p q (Refused r) t s n e a h =
-    in_bits tokens q (record { text = t; spelled = subst (IsSpelling tokens.items) (sym e) s }) (subst (λ (u : Program). types_verdict u None) (sym e) n) a h.0 h.1
-bits_stop bytes tokens p q NoMemory t s n e a h = h
+  pub modules_stop : (A : Type 0) (stop : TextStop) → (let answer : Result A TextStop = Err stop in Gives answer (module_rules_verdict p)) → IsSourceStop bytes stop
+  modules_stop A (Refused r) h = refused_by_types r (modules_refuse p r h)
+  modules_stop A NoMemory h = tt
 
-pub model_read : (bytes : List ℕ) (tokens : Tokens) (p q : Program) → IsText bytes tokens → IsSpelling tokens.items p → types_verdict p None → q ≡ p → AreAssignable q → bits_of q ≤ bit_limit → IsModel bytes q
-model_read bytes tokens p q t s n e a w = record {
-  tokens = tokens;
-  spelled = record { text = t; spelled = subst (IsSpelling tokens.items) (sym e) s };
-  typed = subst (λ (u : Program). types_verdict u None) (sym e) n;
-  assignable = a;
-  narrow = w;
-}
+  -- The modules break no rule.
+  module _ (modules : module_rules_verdict p None) where
+    pub instances_stop : (A : Type 0) (stop : TextStop) → (let answer : Result A TextStop = Err stop in Judges answer (too_many_instances p)) → IsSourceStop bytes stop
+    instances_stop A (Refused r) h = refused_by_types r (instances_refuse p r modules h)
+    instances_stop A NoMemory h = tt
+
+    -- There are not too many instances, and these are of the program.
+    module _ (few : too_many_instances p ≡ None) (q : Program) (same : q ≡ p) where
+      pub names_stop : (A : Type 0) (stop : TextStop) → (let answer : Result A TextStop = Err stop in Gives answer (instance_names_verdict q)) → IsSourceStop bytes stop
+      names_stop A (Refused r) h = refused_by_types r (names_refuse p r modules few (subst (λ (u : Program). instance_names_verdict u (Some r)) same h))
+      names_stop A NoMemory h = tt
+
+      -- Names break no rule.
+      module _ (named : instance_names_verdict q None) where
+        named_here : instance_names_verdict p None
+        named_here = subst (λ (u : Program). instance_names_verdict u None) same named
+
+        pub depth_stop : (A : Type 0) (stop : TextStop) → (let answer : Result A TextStop = Err stop in Judges answer (too_deep q)) → IsSourceStop bytes stop
+        depth_stop A (Refused r) h = refused_by_types r (depth_refuses p r modules few named_here (subst (λ (u : Program). too_deep u ≡ Some r) same h))
+        depth_stop A NoMemory h = tt
+
+        -- No item nests too deep.
+        module _ (shallow : too_deep q ≡ None) where
+          shallow_here : too_deep p ≡ None
+          shallow_here = subst (λ (u : Program). too_deep u ≡ None) same shallow
+
+          pub kinds_stop : (A : Type 0) (stop : TextStop) → (let answer : Result A TextStop = Err stop in Judges answer (kinds_refusal q)) → IsSourceStop bytes stop
+          kinds_stop A (Refused r) h = refused_by_types r (kinds_refuse p r modules few named_here shallow_here (subst (λ (u : Program). kinds_refusal u ≡ Some r) same h))
+          kinds_stop A NoMemory h = tt
+
+          pub right_types : kinds_refusal q ≡ None → types_verdict p None
+          right_types h = none_refuses p modules few named_here shallow_here (subst (λ (u : Program). kinds_refusal u ≡ None) same h)
+
+-- Bytes whose tokens spell this program, which breaks no rule up to those of kinds. Its instances are of the program s,
+-- which is the same, and so is q.
+module _ (bytes : List ℕ) (tokens : Tokens) (p s q : Program) (text : IsText bytes tokens) (spelled : IsSpelling tokens.items p) (modules : module_rules_verdict p None)
+    (few : too_many_instances p ≡ None) (same : s ≡ p) (named : instance_names_verdict s None) (shallow : too_deep s ≡ None) (right : kinds_refusal s ≡ None) (as_laid : q ≡ s) where
+  typed_is : types_verdict p None
+  typed_is = right_types bytes tokens p text spelled modules few s same named shallow right
+
+  q_is_p : q ≡ p
+  q_is_p = as_laid ∙ same
+
+  pub assignments_stop : (stop : TextStop) → IsAssignmentStop q stop → IsSourceStop bytes stop
+  assignments_stop (Refused r) h =
+      in_assignments tokens p (record { text = text; spelled = spelled }) typed_is (subst (λ (u : Program). IsRefusedByAssignments u r) q_is_p h)
+  assignments_stop NoMemory h = h
+
+  spelled_q : Spells bytes tokens q
+  spelled_q = record { text = text; spelled = subst (IsSpelling tokens.items) (sym q_is_p) spelled }
+
+  typed_q : types_verdict q None
+  typed_q = subst (λ (u : Program). types_verdict u None) (sym q_is_p) typed_is
+
+  pub bits_stop : (stop : TextStop) → AreAssignable q → IsWidthStop q stop → IsSourceStop bytes stop
+  bits_stop (Refused r) a h = in_bits tokens q spelled_q typed_q a h.0 h.1
+  bits_stop NoMemory a h = h
+
+  pub model_read : AreAssignable q → bits_of q ≤ bit_limit → IsModel bytes q
+  model_read a w = record { tokens = tokens; spelled = spelled_q; typed = typed_q; assignable = a; narrow = w }
+
+-- What is given on is a model where what it is made of is.
+pub told_model : (A : Type 0) (program_of : A → Program) (bytes : List ℕ) (x : A) (result : Result A TextStop) → (bits_of (program_of x) ≤ bit_limit → IsModel bytes (program_of x))
+    → IfOk result (λ r. r ≡ x) → IfOk result (λ r. bits_of (program_of x) ≤ bit_limit) → IfOk result (λ r. IsModel bytes (program_of r))
+told_model A program_of bytes x (Ok r) model same narrow = subst (λ (y : A). IsModel bytes (program_of y)) (sym same) (model narrow)
+told_model A program_of bytes x (Err e) model same narrow = tt
+
+-- and it is refused where that is
+pub told_stop : (A : Type 0) (bytes : List ℕ) (q : Program) (result : Result A TextStop) → ((stop : TextStop) → IsWidthStop q stop → IsSourceStop bytes stop)
+    → IfErr result (IsWidthStop q) → IfErr result (IsSourceStop bytes)
+told_stop A bytes q (Ok r) stops wide = tt
+told_stop A bytes q (Err e) stops wide = stops e wide
 
 -- a graph without cycles has no round
 round_apart : (g : List (List ℕ)) (round : List ℕ) → Acyclic g → IsCycle g round → ⊥

@@ -1,4 +1,5 @@
-//! Reads a source: tokens, grammar, names and kinds, assignments, and the number of bits, in this order.
+//! Reads a source: tokens, grammar, modules, instances, names, depth, types and kinds, assignments, and the number of
+//! bits, in this order.
 
 ghost use Rattle.std.specs.Prelude.{◌≡◌, ◌≤◌, IfOk, IfErr};
 ghost use Rattle.bit_states.specs.Layouts.{bit_limit, bits_of};
@@ -6,10 +7,11 @@ ghost use Rattle.smv_front.specs.Sources.{IsModel, IsSourceStop, IsWidthStop};
 
 use bit_states::is_narrow;
 use smv_flat::{Flat, flatten};
+use smv_names::{check_modules, check_names, lay_out_instances};
 use smv_parse::parse;
 use smv_text::tokens;
 use smv_tree::{Place, Refusal, Rule, TextStop};
-use smv_types::check;
+use smv_types::{check, resolve_items};
 use std::alloc::Global;
 
 // The model, where a state and the inputs of a step have no more bits than they may have.
@@ -34,7 +36,10 @@ fn narrow(alloc: Global, flat: Flat) -> Result<Flat, TextStop>
 /// Bytes that are none are refused by the first rule that they break, at that rule's first place, in this order:
 /// - the rules of tokens: 105, then 101 to 104;
 /// - the rules of the grammar: 203, then 201 and 202;
-/// - the rules of names: 303, 301, 302, 305, 306, 308, 307, 311, 304 and 309, and then 310, of depth;
+/// - the rules of modules: 303, 301, 302, 305, 306, 308 and 307;
+/// - 311, of how many instances there are;
+/// - the rules of names: 304 and 309;
+/// - 310, of depth;
 /// - the rules of declarations: 401, 404, 403, 402, 410 and 409, declaration by declaration, and then 312, of how many
 ///   slots there are;
 /// - the rules of expressions: 406, 407, 408, 405, 401, 402, 404, 412, 413, 411 and 409, item by item;
@@ -42,14 +47,18 @@ fn narrow(alloc: Global, flat: Flat) -> Result<Flat, TextStop>
 /// - 511, of how many bits there are.
 ///
 /// Memory may be refused at any time.
-#[tactic(auto, using(crate::proofs::OfSources::text_stop, crate::proofs::OfSources::grammar_stop, crate::proofs::OfSources::types_stop, crate::proofs::OfSources::assignments_stop, crate::proofs::OfSources::bits_stop, crate::proofs::OfSources::model_read))]
+#[tactic(auto, using(crate::proofs::OfSources::text_stop, crate::proofs::OfSources::grammar_stop, crate::proofs::OfSources::assignments_stop))]
 pub fn read_model(alloc: Global, text: &[u8]) -> Result<Flat, TextStop>
     ensures model { IfOk result (λ flat. IsModel text.now flat.typed.scope.program) }
     ensures refused { IfErr result (IsSourceStop text.now) }
 {
     let tokens = tokens(alloc, text)?;
     let program = parse(alloc, &tokens)?;
-    let typed = check(alloc, program)?;
+    let main = check_modules(alloc, &program)?;
+    let scope = lay_out_instances(alloc, program, main)?;
+    check_names(alloc, &scope)?;
+    let resolution = resolve_items(alloc, &scope)?;
+    let typed = check(alloc, scope, &resolution)?;
     let flat = flatten(alloc, typed)?;
     narrow(alloc, flat)
 }

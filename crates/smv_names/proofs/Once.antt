@@ -16,7 +16,9 @@ use Rattle.smv_verdicts.specs.Verdicts.{Verdict, Exactly, Claim, Then, Each}
 use Rattle.smv_names.specs.Declarations.{declared_refusal}
 use Rattle.smv_names.specs.Reached.{named_type, use_verdict, section_verdict, modules_verdict, uses_verdict}
 use Rattle.smv_names.specs.Defined.{Entry, entry_verdict, entries_verdict, entry_graph, entries_of, definitions_verdict}
-use Rattle.smv_names.specs.Rules.{named_refusal, names_verdict}
+use Rattle.smv_names.specs.Named.{unknown_names}
+use Rattle.smv_names.specs.Reached.{too_many_instances}
+use Rattle.smv_names.specs.Rules.{module_rules_verdict, instance_names_verdict, names_verdict}
 
 -- at most one thing is right
 abbrev pub One : Verdict → Type 0
@@ -79,13 +81,26 @@ one_entries g n (x ∷ xs) r s a b = one_then (entry_verdict g n x) (entries_ver
 one_uses : (which : UseRule) (p : Program) → One (uses_verdict which p)
 one_uses which p = one_modules which p 0 p.modules
 
+-- of the modules of a program one thing is right to say
+modules_judged_once : (p : Program) → One (module_rules_verdict p)
+unfolding module_rules_verdict
+modules_judged_once p =
+    one_then (Exactly (declared_refusal p)) _ (one_known (declared_refusal p))
+    (one_then (uses_verdict asked.Unknown p) _ (one_uses asked.Unknown p)
+    (one_then (uses_verdict asked.Cyclic p) _ (one_uses asked.Cyclic p)
+    (one_uses asked.Miscounted p)))
+
+-- and of the names of its instances
+instances_judged_once : (p : Program) → One (instance_names_verdict p)
+unfolding instance_names_verdict
+instances_judged_once p =
+    one_then (Exactly (unknown_names p)) (definitions_verdict p) (one_known (unknown_names p))
+    (one_entries (entry_graph p) 0 (entries_of p))
+
 -- of the names of a program one thing is right to say
 pub names_judged_once : (p : Program) → One (names_verdict p)
 unfolding names_verdict
 names_judged_once p =
-    one_then (Exactly (declared_refusal p)) _ (one_known (declared_refusal p))
-    (one_then (uses_verdict asked.Unknown p) _ (one_uses asked.Unknown p)
-    (one_then (uses_verdict asked.Cyclic p) _ (one_uses asked.Cyclic p)
-    (one_then (uses_verdict asked.Miscounted p) _ (one_uses asked.Miscounted p)
-    (one_then (Exactly (named_refusal p)) (definitions_verdict p) (one_known (named_refusal p))
-    (one_entries (entry_graph p) 0 (entries_of p))))))
+    one_then (module_rules_verdict p) _ (modules_judged_once p)
+    (one_then (Exactly (too_many_instances p)) (instance_names_verdict p) (one_known (too_many_instances p))
+    (instances_judged_once p))

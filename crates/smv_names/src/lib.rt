@@ -15,5 +15,5 @@ mod order;
 mod reached;
 
 pub use one_judgement::are_names_judged_once;
-pub use order::check_names;
+pub use order::{check_modules, check_names, lay_out_instances};
 pub use smv_verdicts::{START, refused};

@@ -1,10 +1,11 @@
-//! The rules in the order in which they are judged.
+//! The rules of names, in three parts, in the order in which they are judged: of modules, of how many instances there
+//! are, and of the names in them.
 
 ghost use Rattle.std.specs.Prelude.{◌≡◌, IfOk};
 ghost use Rattle.smv_scope.specs.Modules.{main_number};
 ghost use Rattle.smv_scope.specs.Symbols.{AreNumbered};
 ghost use Rattle.smv_names.specs.Reached.{place_of_main, too_many_instances, uses_verdict};
-ghost use Rattle.smv_names.specs.Rules.{named_refusal, names_verdict};
+ghost use Rattle.smv_names.specs.Rules.{instance_names_verdict, module_rules_verdict};
 ghost use Rattle.smv_verdicts.specs.Verdicts.{Gives, Judges, Then};
 ghost use Rattle.smv_names.specs.declared.reached.UseRule.TheVariants as asked;
 
@@ -18,8 +19,8 @@ use smv_tree::{Place, Program, Rule, TextStop};
 use smv_verdicts::{START, refused};
 use std::alloc::Global;
 
-/// The program with its instances, where it breaks no rule of names; else the first rule that it breaks, at that
-/// rule's first place.
+/// The place of the name of `main`, where the modules break no rule of names; else the first rule that they break, at
+/// that rule's first place.
 ///
 /// The rules, in the order in which they are judged, which is an own choice of this project as their numbers and places
 /// are (NuSMV 2.6 User Manual, chapter 2, says what is asked, and not in which order). Of each module of the text:
@@ -39,25 +40,13 @@ use std::alloc::Global;
 /// - `ArgumentCount`: an instance, or the instances of an array, are given more or fewer expressions than their module
 ///   has parameters (2.3.11). At the module's name; it is the detail.
 ///
-/// Of the instances, in preorder, and in each in the order of the text:
-///
-/// - `TooManyInstances`: there are more than 100000. At the name of `main`, with no detail.
-/// - `UnknownName`: an identifier of a name leads nowhere, or one before others to no instance (2.3.13). At the
-///   identifier; it is the detail. Names stand in expressions, in what instances are given, and in the bounds and
-///   widths of types, those of arrays before the types of their elements. The elements of an enumeration are no names.
-/// - `DefineCycle`: a definition leads to itself, by definitions and by what parameters were given (2.3.2). At the
-///   definition; the detail is its name.
-///
 /// `NoMemory` comes where memory was refused, which may be at any time.
-pub fn check_names(alloc: Global, program: Program) -> Result<Scope, TextStop>
-    ensures same { IfOk result (λ scope. scope.program ≡ program) }
-    ensures judged { Gives result (names_verdict program) }
+pub fn check_modules(alloc: Global, program: &Program) -> Result<Place, TextStop>
+    ensures place { IfOk result (λ place. place ≡ place_of_main program.now (main_number program.now)) }
+    ensures judged { Gives result (module_rules_verdict program.now) }
 {
-    declared(alloc, &program)?;
-    let place = used(alloc, &program)?;
-    let scope = named(alloc, program, place)?;
-    definitions(alloc, &scope)?;
-    Ok(scope)
+    declared(alloc, program)?;
+    used(alloc, program)
 }
 
 // The place of the name of `main`, where the uses of modules break no rule.
@@ -81,28 +70,38 @@ fn uses(alloc: Global, program: &Program, numbers: &ModuleNumbers) -> Result<(),
     judge_uses(alloc, &uses, UseRule::Miscounted)
 }
 
-// The program laid out, where it has not too many instances and each name leads somewhere; the place is that of the
-// name of `main`.
-fn named(alloc: Global, program: Program, place: Place) -> Result<Scope, TextStop>
-    requires { place ≡ place_of_main program (main_number program) }
-    ensures same { IfOk result (λ scope. scope.program ≡ program) }
-    ensures judged { Judges result (named_refusal program) }
-{
-    let scope = laid_out(alloc, program, place)?;
-    unknown_names(alloc, &scope)?;
-    Ok(scope)
-}
-
-fn laid_out(alloc: Global, program: Program, place: Place) -> Result<Scope, TextStop>
-    requires { place ≡ place_of_main program (main_number program) }
+/// The program with its instances, where there are not too many; `main` is the place of the name of `main`.
+///
+/// - `TooManyInstances`: there are more than 100000. At the name of `main`, with no detail.
+///
+/// `NoMemory` comes where memory was refused, which may be at any time.
+pub fn lay_out_instances(alloc: Global, program: Program, main: Place) -> Result<Scope, TextStop>
+    requires { main ≡ place_of_main program (main_number program) }
     ensures same { IfOk result (λ scope. scope.program ≡ program) }
     ensures judged { Judges result (too_many_instances program) }
 {
     match lay_out(alloc, program) {
         Ok(scope) => Ok(scope),
-        Err(LayoutStop::TooManyInstances) => Err(refused(Rule::TooManyInstances, place)),
+        Err(LayoutStop::TooManyInstances) => Err(refused(Rule::TooManyInstances, main)),
         Err(LayoutStop::NoMemory) => Err(TextStop::NoMemory),
     }
+}
+
+/// Whether the names of the instances break no rule; else the first rule that they break, at that rule's first place.
+/// Of the instances, in preorder, and in each in the order of the text:
+///
+/// - `UnknownName`: an identifier of a name leads nowhere, or one before others to no instance (2.3.13). At the
+///   identifier; it is the detail. Names stand in expressions, in what instances are given, and in the bounds and
+///   widths of types, those of arrays before the types of their elements. The elements of an enumeration are no names.
+/// - `DefineCycle`: a definition leads to itself, by definitions and by what parameters were given (2.3.2). At the
+///   definition; the detail is its name.
+///
+/// `NoMemory` comes where memory was refused, which may be at any time.
+pub fn check_names(alloc: Global, scope: &Scope) -> Result<(), TextStop>
+    ensures { Gives result (instance_names_verdict scope.now.program) }
+{
+    unknown_names(alloc, scope)?;
+    definitions(alloc, scope)
 }
 
 // The place of the name of `main`.

@@ -1,6 +1,6 @@
-//! The rules of names, types and kinds: a program whose names all lead to what they may, or the first rule that it
-//! breaks. The rules of names are those of `smv_names`, those of declared types of `smv_declared`; those of depth,
-//! kinds and contexts are here. The definitions are in `specs/`.
+//! The rules of types and kinds: a program whose names lead to what they may, or the first rule that it breaks. They
+//! come after those of names, which are those of `smv_names`. Those of declared types are of `smv_declared`; those of
+//! depth, kinds and contexts are here. The definitions are in `specs/`.
 #![tactic(auto)]
 
 mod items;
@@ -14,4 +14,4 @@ mod order;
 mod told;
 
 pub use one_judgement::is_judged_once;
-pub use order::check;
+pub use order::{check, resolve_items};

@@ -1,12 +1,12 @@
-//! The rules in the order in which they are judged.
+//! The rules of depth, types and kinds, in the order in which they are judged.
 
 ghost use Rattle.std.specs.Prelude.{◌≡◌, map, IfOk};
 ghost use Rattle.smv_resolve.specs.Items.{item_by, items_of as resolved_items};
 ghost use Rattle.smv_layout.specs.Layout.{items_of};
 ghost use Rattle.smv_slots.specs.Slots.{slots_of, types_of};
-ghost use Rattle.smv_verdicts.specs.Verdicts.{Gives, Judges, first_of};
+ghost use Rattle.smv_verdicts.specs.Verdicts.{Judges, first_of};
 ghost use Rattle.smv_types.specs.Kinds.{item_refusal, misused, too_deep};
-ghost use Rattle.smv_types.specs.Rules.{kinds_refusal, types_verdict};
+ghost use Rattle.smv_types.specs.Rules.{kinds_refusal};
 
 use crate::items::misused;
 use crate::kinds::judge_nodes;
@@ -14,8 +14,7 @@ use crate::limits::variable_types;
 use smv_declared::constants_of;
 use smv_layout::lay_out_items;
 use smv_meaning::Typed;
-use smv_names::check_names;
-use smv_resolve::{Resolution, ResolveStop, resolve_items};
+use smv_resolve::{Resolution, ResolveStop};
 use smv_scope::Scope;
 use smv_slots::{Slot, slots_of, types_of};
 use smv_tree::{Program, Rule, TextStop};
@@ -23,15 +22,30 @@ use smv_verdicts::refused;
 use std::alloc::Global;
 use value_types::ValueType;
 
-/// The program with its instances, its slots, their types and its items, where it breaks no rule of names, types and
-/// kinds; else the first rule that it breaks, at that rule's first place.
-///
-/// First the rules of names are judged, as `smv_names::check_names` says; then these, of the items of all instances, in
-/// preorder and in the order of the text. Their order is an own choice of this project, as their numbers and places are
-/// (NuSMV 2.6 User Manual, chapter 2, says what is asked, and not in which order).
+/// The items of the program, with what their names lead to, where none nests too deep.
 ///
 /// - `UnfoldedDepth`: more than 2000 levels are open in an expression, where names are followed. At the item that it
 ///   stands in, with no detail.
+///
+/// `NoMemory` comes where memory was refused, which may be at any time.
+pub fn resolve_items(alloc: Global, scope: &Scope) -> Result<Resolution, TextStop>
+    ensures right { IfOk result (λ r. map (item_by r.nodes) r.items ≡ resolved_items scope.now.program) }
+    ensures judged { Judges result (too_deep scope.now.program) }
+{
+    match smv_resolve::resolve_items(alloc, scope) {
+        Ok(resolution) => Ok(resolution),
+        Err(ResolveStop::Stuck(place)) => Err(refused(Rule::UnfoldedDepth, place)),
+        Err(ResolveStop::NoMemory) => Err(TextStop::NoMemory),
+    }
+}
+
+/// The program with its instances, its slots, their types and its items, where it breaks no rule of types and kinds;
+/// else the first rule that it breaks, at that rule's first place. These are judged where no rule of names is broken
+/// and no item nests too deep.
+///
+/// Their order is an own choice of this project, as their numbers and places are (NuSMV 2.6 User Manual, chapter 2, says
+/// what is asked, and not in which order). Of the items of all instances, in preorder and in the order of the text:
+///
 /// - The rules of declared types, as `smv_declared::declared_types` says.
 /// - `TooManySlots`: there are more than 65536 variables and elements of arrays. At the first byte, with no detail.
 ///
@@ -63,24 +77,15 @@ use value_types::ValueType;
 /// Linear in the nodes of all expressions, where what several items name counts once.
 ///
 /// `NoMemory` comes where memory was refused, which may be at any time.
-pub fn check(alloc: Global, program: Program) -> Result<Typed, TextStop>
-    ensures typed { IfOk result (λ t. t.scope.program ≡ program) }
-    ensures judged { Gives result (types_verdict program) }
-{
-    let scope = check_names(alloc, program)?;
-    with_kinds(alloc, scope)
-}
-
-// The program with its types and items, where these break no rule of depth, types and kinds.
-fn with_kinds(alloc: Global, scope: Scope) -> Result<Typed, TextStop>
+pub fn check(alloc: Global, scope: Scope, resolution: &Resolution) -> Result<Typed, TextStop>
+    requires { map (item_by resolution.now.nodes) resolution.now.items ≡ resolved_items scope.program }
     ensures same { IfOk result (λ t. t.scope.program ≡ scope.program) }
     ensures judged { Judges result (kinds_refusal scope.program) }
 {
-    let resolution = resolved(alloc, &scope)?;
     let variables = variable_types(alloc, &scope)?;
     let slots = slots_of(alloc, &scope, variables.as_slice())?;
     let types = types_of(alloc, variables.as_slice())?;
-    let laid = lay_out_items(alloc, variables.as_slice(), &resolution)?;
+    let laid = lay_out_items(alloc, variables.as_slice(), resolution)?;
     no_misuse(alloc, &scope, slots.as_slice(), types.as_slice(), &laid)?;
     Ok(Typed {
         scope,
@@ -90,18 +95,6 @@ fn with_kinds(alloc: Global, scope: Scope) -> Result<Typed, TextStop>
         nodes: laid.nodes,
         items: laid.items,
     })
-}
-
-// The items of the program, where none nests too deep.
-fn resolved(alloc: Global, scope: &Scope) -> Result<Resolution, TextStop>
-    ensures right { IfOk result (λ r. map (item_by r.nodes) r.items ≡ resolved_items scope.now.program) }
-    ensures judged { Judges result (too_deep scope.now.program) }
-{
-    match resolve_items(alloc, scope) {
-        Ok(resolution) => Ok(resolution),
-        Err(ResolveStop::Stuck(place)) => Err(refused(Rule::UnfoldedDepth, place)),
-        Err(ResolveStop::NoMemory) => Err(TextStop::NoMemory),
-    }
 }
 
 // The items of the program, which are laid out, break no rule of kinds.
