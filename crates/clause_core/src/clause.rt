@@ -54,7 +54,7 @@ impl Clause {
     }
 }
 
-// Where a clause lies in a buffer of literals.
+/// Where a clause lies in a buffer of literals.
 #[derive(Clone, Copy, Drop)]
 pub struct Span {
     pub from: usize,

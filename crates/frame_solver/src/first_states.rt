@@ -23,7 +23,7 @@ use std::alloc::{AllocError, Global};
 /// What a query about initial states finds.
 #[derive(Drop)]
 pub enum Firsts {
-    /// First states meet this part of the clause.
+    /// Initial states meet this part of the clause.
     Meet(Clause),
     /// The state bits of an initial state that does not meet the clause.
     First(Bits),

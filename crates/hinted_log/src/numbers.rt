@@ -5,7 +5,7 @@ ghost use Rattle.std.specs.Prelude.{◌≡◌, ◌<◌, List, [], ◌∷◌, ◌
 use std::alloc::{AllocError, Global};
 use std::marker::Model;
 
-// Where a list lies in a buffer of numbers.
+/// Where a list lies in a buffer of numbers.
 #[derive(Clone, Copy, Drop)]
 pub struct Place {
     pub from: usize,
