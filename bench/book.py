@@ -28,8 +28,8 @@ SECONDS = 1800
 
 PROGRAM = r"""//! Prints what a claim and a settlement of a book cost, by kind: over the first thousand rounds and over the last.
 use clause_core::{Bits, Clause, Clauses, Lit, System};
-use frame_book::{Book, Claim, Claiming, Outcome, Returning, Settling, Unsettled};
-use frame_core::{Clear, Found, Frames, Proved, Step};
+use frame_book::{Book, Claim, ClaimOutcome, Claiming, Returning, Settling, Unsettled};
+use frame_core::{Clear, Frames, Proved, StateWitness, Step};
 use frame_history::{Limits, Subject};
 use std::alloc::{AllocError, Global};
 use std::io;
@@ -134,23 +134,23 @@ fn proof<'a>(alloc: Global, system: &'a System, random: &mut Random, claim: &Cla
 }
 
 // What is answered to a claim: a state without its proof, a clause, a step; or, where `clear` says so, no bad state.
-fn outcome_of<'a>(alloc: Global, system: &'a System, random: &mut Random, claim: &Claim, clear: bool) -> Result<Outcome<'a>, AllocError> {
+fn outcome_of<'a>(alloc: Global, system: &'a System, random: &mut Random, claim: &Claim, clear: bool) -> Result<ClaimOutcome<'a>, AllocError> {
     match claim.subject() {
         Subject::Bad(_) => {
             if clear {
-                Ok(Outcome::Clear(Clear::new(system, claim.level(), Vec::new(alloc))))
+                Ok(ClaimOutcome::Clear(Clear::new(system, claim.level(), Vec::new(alloc))))
             } else {
                 let values = random_values(alloc, random)?;
-                Ok(Outcome::Found(Found::new(system, values, false, false)))
+                Ok(ClaimOutcome::Found(StateWitness::new(system, values, false, false)))
             }
         }
         Subject::Block(_) => {
             let proof = proof(alloc, system, random, claim)?;
-            Ok(Outcome::Proved(proof))
+            Ok(ClaimOutcome::Proved(proof))
         }
         Subject::Push(_) => {
             let values = random_values(alloc, random)?;
-            Ok(Outcome::Step(Step::new(system, values)))
+            Ok(ClaimOutcome::Step(Step::new(system, values)))
         }
     }
 }
@@ -163,7 +163,7 @@ fn is_back<L: Ledger>(book: &mut Book<L>, claim: Claim) -> bool {
     book.give_back(claim) == Returning::Back
 }
 
-fn settled<'a, L: Ledger, R: CpuClock>(rt: &R, book: &mut Book<'a, L>, claim: Claim, outcome: Outcome<'a>, share: &mut Share<L>) -> io::Result<u64> {
+fn settled<'a, L: Ledger, R: CpuClock>(rt: &R, book: &mut Book<'a, L>, claim: Claim, outcome: ClaimOutcome<'a>, share: &mut Share<L>) -> io::Result<u64> {
     let begun = rt.thread_cpu_time();
     match book.settle(claim, outcome, share) {
         Ok(Settling::Settled) => {

@@ -35,7 +35,7 @@ PROGRAM = r"""//! Plays a book alone over each system that is read, and prints w
 //! its state bits and of all bits, then of init, step and bad the number of clauses, and of each clause its length and its literals.
 use clause_core::{Clause, Clauses, Lit, Parts, System};
 use effort_purse::{Draw, PlainPurse, Purse};
-use frame_book::{Book, Claim, Claiming, Outcome, Unsettled};
+use frame_book::{Book, Claim, ClaimOutcome, Claiming, Unsettled};
 use frame_claims::ask;
 use frame_core::Frames;
 use frame_history::Limits;
@@ -107,7 +107,7 @@ fn note(tally: &mut Tally, from: u64, to: u64, nanos: u64) {
 
 // What was found for a claim, and how long that took.
 struct Asked<'a> {
-    outcome: Outcome<'a>,
+    outcome: ClaimOutcome<'a>,
     nanos: u64,
 }
 
@@ -130,7 +130,7 @@ fn settle<'a>(
     book: &mut Book<'a, Brand>,
     share: &mut Share<Brand>,
     claim: Claim,
-    outcome: Outcome<'a>,
+    outcome: ClaimOutcome<'a>,
 ) -> io::Result<()> {
     match book.settle(claim, outcome, share) {
         Ok(_) => Ok(()),

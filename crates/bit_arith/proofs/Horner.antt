@@ -3,12 +3,12 @@ use Rattle.std.proofs.Math.Nat.{pow-suc, add-mod-mod, mod-add-mod, add-mul-mod_s
 use Rattle.std.proofs.lemmas.Nat.{mul-mod_second}
 use Rattle.std.proofs.lemmas.List.Elements.{All-map}
 use Rattle.bit_graph.specs.declared.edge.Edge.{Edge}
-use Rattle.bit_graph.specs.declared.edge.Node.{Node}
+use Rattle.bit_graph.specs.declared.edge.GraphNode.{GraphNode}
 use Rattle.bit_graph.specs.Meaning.{edge_value, Stands}
 use Rattle.bit_arith.specs.Number.{bit, number, number_of, values_of, AllStand}
 use Rattle.bit_arith.proofs.Numbers.{number-take_lt}
 
-pub AllStand-constant : (g : List Node) (e : Edge) (a : List Edge) → Stands g e → AllStand g (map (λ _. e) a)
+pub AllStand-constant : (g : List GraphNode) (e : Edge) (a : List Edge) → Stands g e → AllStand g (map (λ _. e) a)
 AllStand-constant g e a h = All-map (Stands g) (λ (_ : Edge). e) a (λ k d l. h)
 
 pub number_of-zeros : (v : ℕ → Bool) (e : Edge) (a : List Edge) → edge_value v e ≡ false → number_of v (map (λ _. e) a) ≡ 0

@@ -5,7 +5,7 @@ use Rattle.std.proofs.lemmas.List.{take_more, length-take-le}
 use Rattle.std.proofs.lemmas.Nat.{mod-mul-add}
 use Rattle.std.proofs.lemmas.List.Elements.{All-weaker, All-map}
 use Rattle.bit_graph.specs.declared.edge.Edge.{Edge}
-use Rattle.bit_graph.specs.declared.edge.Node.{Node}
+use Rattle.bit_graph.specs.declared.edge.GraphNode.{GraphNode}
 use Rattle.bit_graph.specs.Growth.{Extends}
 use Rattle.bit_graph.specs.Meaning.{exclusive_or, Stands}
 use Rattle.bit_arith.specs.Number.{bit, number, number_of, flip, AllStand}
@@ -25,7 +25,7 @@ pub carry_step : (p s o a b c low high x y : ℕ) → s + p * o ≡ a + b + c �
 carry_step p s o a b c low high x y h k =
     let e : p * (low + 2 * high) ≡ p * (x + y + o) = ap (λ n. p * n) k in omega arith
 
-pub Extends-trans : {f g h : List Node} → Extends f g → Extends g h → Extends f h
+pub Extends-trans : {f g h : List GraphNode} → Extends f g → Extends g h → Extends f h
 Extends-trans p q = record {
   longer = omega (arith, p.longer, q.longer);
   kept = λ v c. p.kept v (q.kept v c);
@@ -33,7 +33,7 @@ Extends-trans p q = record {
   inputs = λ n i. q.inputs n (p.inputs n i);
 }
 
-pub AllStand-extends : (g h : List Node) (es : List Edge) → Extends g h → AllStand g es → AllStand h es
+pub AllStand-extends : (g h : List GraphNode) (es : List Edge) → Extends g h → AllStand g es → AllStand h es
 AllStand-extends g h es e s = All-weaker (Stands g) (Stands h) (λ x l. omega (arith, e.longer)) es s
 
 pub bit-le : (b : Bool) → bit b ≤ 1
@@ -66,7 +66,7 @@ number_of-flip v (e ∷ es) =
     let k = number_of-flip v es in
     rw (pow-suc 2 (length es)) (omega (arith, h, k))
 
-pub AllStand-flip : (g : List Node) (es : List Edge) → AllStand g es → AllStand g (map flip es)
+pub AllStand-flip : (g : List GraphNode) (es : List Edge) → AllStand g es → AllStand g (map flip es)
 AllStand-flip g es h = All-map (Stands g) flip es h
 
 apart : (p a b : ℕ) → (a < b) ⊎ (b < a) → a + p * 1 ≡ b + p * 1 → ⊥

@@ -1,7 +1,7 @@
 -- Lists of edges as numbers, the lowest bit first.
 use Rattle.std.specs.Prelude.{ℕ, ◌+◌, ◌*◌, Bool, true, false, not, map, List, [], ◌∷◌, All}
 use Rattle.bit_graph.specs.declared.edge.Edge.{Edge}
-use Rattle.bit_graph.specs.declared.edge.Node.{Node}
+use Rattle.bit_graph.specs.declared.edge.GraphNode.{GraphNode}
 use Rattle.bit_graph.specs.Meaning.{edge_value, Stands}
 
 -- 1 for a bit that is set
@@ -23,7 +23,7 @@ abbrev pub values_of : (ℕ → Bool) → List Edge → List Bool
 values_of v es = map (edge_value v) es
 
 -- each edge of the list leads to a node of the graph
-abbrev pub AllStand : List Node → List Edge → Type 0
+abbrev pub AllStand : List GraphNode → List Edge → Type 0
 AllStand g es = All (Stands g) es
 
 -- the edge with the opposite value

@@ -1,7 +1,7 @@
 //! Shifts by a variable amount: one stage for each bit of the amount (barrel shifter).
 
 ghost use Rattle.std.specs.Prelude.{◌≡◌, ◌<◌, ◌≤◌, ◌+◌, ◌-◌, ◌*◌, ◌^◌, ℕ, Bool, List, length, IfOk, replicate, take, drop, ◌++◌};
-ghost use Rattle.bit_graph.specs.declared.edge.Node.{Node as NodeOf};
+ghost use Rattle.bit_graph.specs.declared.edge.GraphNode.{GraphNode as NodeOf};
 ghost use Rattle.bit_graph.specs.Meaning.{edge_value, Consistent, Stands};
 ghost use Rattle.bit_graph.specs.Growth.{Extends};
 ghost use Rattle.bit_arith.specs.Number.{number_of, AllStand};

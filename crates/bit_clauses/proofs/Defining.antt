@@ -4,7 +4,7 @@ use Rattle.std.specs.Bool.{beq}
 use Rattle.std.specs.List.{All}
 use Rattle.std.proofs.lemmas.List.Elements.{All-nil, All-cons, All-head, All-tail}
 use Rattle.bit_graph.specs.declared.edge.Edge.{Edge}
-use Rattle.bit_graph.specs.declared.edge.Node.{Node}
+use Rattle.bit_graph.specs.declared.edge.GraphNode.{GraphNode}
 use Rattle.bit_graph.specs.Values.{value_under}
 use Rattle.clause_core.specs.declared.literal.Lit.{Lit}
 use Rattle.clause_core.specs.Assignments.{ClauseTrue, Agrees}
@@ -13,12 +13,12 @@ use Rattle.cnf_build.specs.Encoding.{lit}
 use Rattle.bit_clauses.specs.Deciding.{Defines}
 use Rattle.bit_clauses.specs.Gated.{DefinesAll, DefinesEdges, HasLiteral, IsGated}
 
-defines_all : (n : ℕ) (g : List Node) (name : ℕ → ℕ) (cs : List (List Lit)) (es : List Edge) → All (HasLiteral n g name cs) es → DefinesEdges n g es cs (map (lit name) es)
+defines_all : (n : ℕ) (g : List GraphNode) (name : ℕ → ℕ) (cs : List (List Lit)) (es : List Edge) → All (HasLiteral n g name cs) es → DefinesEdges n g es cs (map (lit name) es)
 unfolding DefinesAll
 defines_all n g name cs [] all = tt
 defines_all n g name cs (e ∷ es) all = (All-head (HasLiteral n g name cs) e es all, defines_all n g name cs es (All-tail (HasLiteral n g name cs) e es all))
 
-pub gates_define : (n : ℕ) (g : List Node) (es : List Edge) (cs : List (List Lit)) (lits : List Lit) → IsGated n g es cs lits → DefinesEdges n g es cs lits
+pub gates_define : (n : ℕ) (g : List GraphNode) (es : List Edge) (cs : List (List Lit)) (lits : List Lit) → IsGated n g es cs lits → DefinesEdges n g es cs lits
 gates_define n g es cs lits is = subst (λ (ls : List Lit). DefinesEdges n g es cs ls) (sym is.literals) (defines_all n g is.name cs es is.values)
 
 module _ (n : ℕ) (cs : List (List Lit)) where
@@ -46,6 +46,6 @@ module _ (n : ℕ) (cs : List (List Lit)) where
     one_way = λ a b agrees met_a met_b. (same_values lits fs defines a b agrees met_a met_b, (gives.one_way a b agrees met_a met_b).1);
   }
 
-pub gates_give : (n : ℕ) (g : List Node) (es : List Edge) (cs : List (List Lit)) (lits : List Lit) → IsGated n g es cs lits → Gives n lits cs
+pub gates_give : (n : ℕ) (g : List GraphNode) (es : List Edge) (cs : List (List Lit)) (lits : List Lit) → IsGated n g es cs lits → Gives n lits cs
 gates_give n g es cs lits is =
     gives_defined n cs lits (map (λ (e : Edge). λ (x : ℕ → Bool). value_under x g e) es) (gates_define n g es cs lits is) is.gives

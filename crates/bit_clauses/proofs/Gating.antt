@@ -6,8 +6,8 @@ use Rattle.std.proofs.lemmas.Simd.{map-map}
 use Rattle.std.proofs.lemmas.List.{get_or-map, get_or_default, length-map, map-append}
 use Rattle.std.proofs.lemmas.List.Elements.{All-nil, All-weaker, All-append, All-contains, All-map, Contains-get_or, Contains-append_left, Contains-append_right}
 use Rattle.bit_graph.specs.declared.edge.Edge.{Edge}
-use Rattle.bit_graph.specs.declared.edge.Node.{Node}
-use Rattle.bit_graph.specs.declared.edge.Node.TheVariants.{Input}
+use Rattle.bit_graph.specs.declared.edge.GraphNode.{GraphNode}
+use Rattle.bit_graph.specs.declared.edge.GraphNode.TheVariants.{Input}
 use Rattle.bit_graph.specs.Meaning.{edge_value, exclusive_or, HasInputs, Stands}
 use Rattle.bit_graph.specs.Values.{values, value_under}
 use Rattle.bit_graph.specs.Values.{Agrees as InputsAgree}
@@ -35,7 +35,7 @@ signed_of var true false = refl
 signed_of var false true = refl
 signed_of var false false = refl
 
-module _ (g : List Node) (roots : List Edge) (vars : ℕ) (cs : List (List Lit)) (lits : List Lit) (law : CnfLaw g roots vars cs lits) (n : ℕ) (inputs : HasInputs n g) where
+module _ (g : List GraphNode) (roots : List Edge) (vars : ℕ) (cs : List (List Lit)) (lits : List Lit) (law : CnfLaw g roots vars cs lits) (n : ℕ) (inputs : HasInputs n g) where
   abbrev name : ℕ → ℕ
   name = law.numbering.variable
 
@@ -85,7 +85,7 @@ module _ (g : List Node) (roots : List Edge) (vars : ℕ) (cs : List (List Lit))
           ap t (signed_of (name e.node) e.negated (values x g e.node)) ∙ law.spreads x t closed read e.node stands reached;
     }
 
-pub gated : (g : List Node) (es : List Edge) (vars : ℕ) (cs : List (List Lit)) (lits : List Lit) →
+pub gated : (g : List GraphNode) (es : List Edge) (vars : ℕ) (cs : List (List Lit)) (lits : List Lit) →
     CnfLaw g es vars cs lits → (n : ℕ) → HasInputs n g → All (Within vars) cs → All (Stands g) es → IsGated n g es cs lits
 gated g es vars cs lits law n inputs within stand = record {
   name = law.numbering.variable;
@@ -94,7 +94,7 @@ gated g es vars cs lits law n inputs within stand = record {
   values = λ k d lt. has_literal g es vars cs lits law n inputs (get_or es k d) (stand k d lt) (Contains-get_or es k d lt);
 }
 
-pub inputs_fit : (g : List Node) (roots : List Edge) (vars : ℕ) (cs : List (List Lit)) (lits : List Lit) → CnfLaw g roots vars cs lits → (n : ℕ) → HasInputs n g → n ≤ vars
+pub inputs_fit : (g : List GraphNode) (roots : List Edge) (vars : ℕ) (cs : List (List Lit)) (lits : List Lit) → CnfLaw g roots vars cs lits → (n : ℕ) → HasInputs n g → n ≤ vars
 inputs_fit g roots vars cs lits law zero inputs = omega arith
 inputs_fit g roots vars cs lits law (suc n) inputs =
     let at = inputs.at n (omega arith) in

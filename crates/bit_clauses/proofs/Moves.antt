@@ -7,7 +7,7 @@ use Rattle.std.proofs.lemmas.Simd.{map-map}
 use Rattle.std.proofs.lemmas.List.{get_or-map, length-map, map-append}
 use Rattle.std.proofs.lemmas.List.Elements.{All-nil, All-cons, All-head, All-tail, All-map, All-weaker}
 use Rattle.bit_graph.specs.declared.edge.Edge.{Edge}
-use Rattle.bit_graph.specs.declared.edge.Node.{Node}
+use Rattle.bit_graph.specs.declared.edge.GraphNode.{GraphNode}
 use Rattle.bit_graph.specs.Values.{value_under}
 use Rattle.clause_core.specs.declared.literal.Lit.{Lit}
 use Rattle.clause_core.specs.Literals.{negate, Within}
@@ -120,7 +120,7 @@ module _ (n by : ℕ) where
   }
 
 -- gates are gates with their variables moved
-pub gated_moved : (n by : ℕ) (g : List Node) (es : List Edge) (cs : List (List Lit)) (lits : List Lit) → IsGated n g es cs lits
+pub gated_moved : (n by : ℕ) (g : List GraphNode) (es : List Edge) (cs : List (List Lit)) (lits : List Lit) → IsGated n g es cs lits
     → IsGated n g es (moved_clauses n by cs) (moved_clause n by lits)
 gated_moved n by g es cs lits is =
     let name : ℕ → ℕ = λ k. moved_var n by (is.name k) in

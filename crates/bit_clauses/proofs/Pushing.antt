@@ -6,7 +6,7 @@ use Rattle.std.proofs.lemmas.List.{drop_more}
 use Rattle.std.proofs.lemmas.List.Folds.{list_all-append, list_any-append, list_any_at}
 use Rattle.std.proofs.lemmas.List.Elements.{All-push}
 use Rattle.bit_graph.specs.declared.edge.Edge.{Edge}
-use Rattle.bit_graph.specs.declared.edge.Node.{Node}
+use Rattle.bit_graph.specs.declared.edge.GraphNode.{GraphNode}
 use Rattle.bit_graph.specs.Meaning.{Stands, edge_value}
 use Rattle.clause_core.specs.declared.literal.Lit.{Lit}
 use Rattle.bit_clauses.specs.Nodes.{all_true, any_edge, any_true, edge_of, literal_of}
@@ -47,7 +47,7 @@ any_true_has v c e (k, lt, is) = elim (cases_Bool (edge_value v e)) [
 pub any_edge_more : (v : ℕ → Bool) (es : List Edge) (e : Edge) → any_edge v (es ++ e ∷ []) ≡ (any_edge v es || edge_value v e)
 any_edge_more v es e = list_any-append (edge_value v) es (e ∷ []) ∙ ap (λ b. any_edge v es || b) (or_false (edge_value v e))
 
-pub stand_more : (g : List Node) (es : List Edge) (e : Edge) → All (Stands g) es → Stands g e → All (Stands g) (es ++ e ∷ [])
+pub stand_more : (g : List GraphNode) (es : List Edge) (e : Edge) → All (Stands g) es → Stands g e → All (Stands g) (es ++ e ∷ [])
 stand_more g es e stand stands = All-push (Stands g) es e stand stands
 
 or_regroup : (a b c : Bool) → ((a || b) || c) ≡ (a || (b || c))

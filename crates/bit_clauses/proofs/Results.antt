@@ -5,7 +5,7 @@ use Rattle.std.proofs.lemmas.Simd.{map-map}
 use Rattle.std.proofs.lemmas.List.{length-map}
 use Rattle.std.proofs.lemmas.List.Elements.{All-append, All-cons, All-head, All-map, All-nil, All-tail}
 use Rattle.bit_graph.specs.declared.edge.Edge.{Edge}
-use Rattle.bit_graph.specs.declared.edge.Node.{Node}
+use Rattle.bit_graph.specs.declared.edge.GraphNode.{GraphNode}
 use Rattle.bit_graph.specs.Meaning.{Consistent, Stands}
 use Rattle.bit_graph.specs.Values.{OneWay, values, value_under}
 use Rattle.clause_core.specs.declared.literal.Lit.{Lit}
@@ -23,7 +23,7 @@ joined : (P : Lit → Type 0) (cs : List (List Lit)) → All (All P) cs → All 
 joined P [] all = All-nil P
 joined P (c ∷ cs) all = All-append P c (literals_in cs) (All-head (All P) c cs all) (joined P cs (All-tail (All P) c cs all))
 
-pub stand_of : (g : List Node) (cs : List (List Lit)) → All (Within (length g)) cs → All (Stands g) (map edge_of (literals_in cs))
+pub stand_of : (g : List GraphNode) (cs : List (List Lit)) → All (Within (length g)) cs → All (Stands g) (map edge_of (literals_in cs))
 stand_of g cs within = All-map (Stands g) edge_of (literals_in cs) (joined (λ (l : Lit). l.var < length g) cs within)
 
 -- and of all, each in another form
@@ -32,7 +32,7 @@ parts P f [] all = All-nil (All P)
 parts P f (c ∷ cs) all =
     All-cons (All P) (map f c) (map (map f) cs) (All-map P f c (all_left (λ l. P (f l)) c (literals_in cs) all)) (parts P f cs (all_right (λ l. P (f l)) c (literals_in cs) all))
 
-module _ (n : ℕ) (g : List Node) (conds : List (List Lit)) (es : List Edge) (cs : List (List Lit)) (lits : List Lit) (is : IsGated n g es cs lits) (es_are : es ≡ map edge_of (literals_in conds)) where
+module _ (n : ℕ) (g : List GraphNode) (conds : List (List Lit)) (es : List Edge) (cs : List (List Lit)) (lits : List Lit) (is : IsGated n g es cs lits) (es_are : es ≡ map edge_of (literals_in conds)) where
   to : Lit → Lit
   to l = lit is.name (edge_of l)
 

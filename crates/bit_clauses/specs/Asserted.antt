@@ -2,7 +2,7 @@
 use Rattle.std.specs.Prelude.{ℕ, Bool, ◌||◌, List, All}
 use Rattle.std.specs.List.{list_all}
 use Rattle.bit_graph.specs.declared.edge.Edge.{Edge}
-use Rattle.bit_graph.specs.declared.edge.Node.{Node}
+use Rattle.bit_graph.specs.declared.edge.GraphNode.{GraphNode}
 use Rattle.bit_graph.specs.Meaning.{edge_value, Stands}
 use Rattle.bit_clauses.specs.declared.either.Either.{Either}
 
@@ -15,8 +15,8 @@ abbrev pub all_hold : (ℕ → Bool) → List Either → Bool
 all_hold v es = list_all (holds v) es
 
 -- both edges lead to nodes of the graph
-abbrev pub EitherStands : List Node → Either → Type 0
+abbrev pub EitherStands : List GraphNode → Either → Type 0
 EitherStands g e = Stands g e.one × Stands g e.other
 
-abbrev pub EithersStand : List Node → List Either → Type 0
+abbrev pub EithersStand : List GraphNode → List Either → Type 0
 EithersStand g es = All (EitherStands g) es

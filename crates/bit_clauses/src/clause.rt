@@ -3,13 +3,13 @@
 ghost use Rattle.std.specs.Prelude.{◌≡◌, ◌<◌, ◌&&◌, ◌||◌, ℕ, Bool, List, true, length, All, Contains, IfOk, OnOk};
 ghost use Rattle.bit_graph.specs.Meaning.{Consistent, Stands, edge_value};
 ghost use Rattle.clause_core.specs.Literals.{Within};
-ghost use Rattle.bit_graph.specs.declared.edge.Node.{Node as NodeOf};
+ghost use Rattle.bit_graph.specs.declared.edge.GraphNode.{GraphNode as NodeOf};
 ghost use Rattle.bit_clauses.specs.Asserted.{holds};
 ghost use Rattle.bit_clauses.specs.Nodes.{all_true, any_edge, any_true};
 
 use crate::either::Either;
 use crate::splitting::{Split, halves};
-use bit_graph::{Edge, Graph, Node};
+use bit_graph::{Edge, Graph, GraphNode};
 use clause_core::{Clauses, Lit};
 use std::alloc::{AllocError, Global};
 
@@ -45,8 +45,8 @@ fn is_input(graph: &Graph, edge: Edge) -> bool
     requires { Stands graph.now edge }
 {
     match graph.node(edge.node) {
-        Node::Input => true,
-        Node::False | Node::And(..) | Node::Xor(..) | Node::Choice(..) => false,
+        GraphNode::Input => true,
+        GraphNode::False | GraphNode::And(..) | GraphNode::Xor(..) | GraphNode::Choice(..) => false,
     }
 }
 

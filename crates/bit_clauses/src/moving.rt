@@ -2,7 +2,7 @@
 
 ghost use Rattle.std.specs.Prelude.{◌≡◌, ◌+◌, ◌<◌, ◌^◌, ◌≤◌, List, IfOk, All};
 ghost use Rattle.clause_core.specs.Literals.{Within};
-ghost use Rattle.bit_graph.specs.declared.edge.Node.{Node};
+ghost use Rattle.bit_graph.specs.declared.edge.GraphNode.{GraphNode};
 ghost use Rattle.bit_graph.specs.declared.edge.Edge.{Edge};
 ghost use Rattle.bit_clauses.specs.Gated.{IsGated};
 ghost use Rattle.bit_clauses.specs.Moving.{Skips, moved_clause, moved_clauses, moved_lit};
@@ -74,7 +74,7 @@ pub fn moved_gates(
     requires within { All (Within gates.now.vars) gates.now.clauses }
     requires literals_within { Within gates.now.vars gates.now.literals.items }
     requires room { gates.now.vars + by < 2 ^ 64 }
-    ensures gates { IfOk result (λ r. (g : List Node) (es : List Edge) → IsGated from g es gates.now.clauses gates.now.literals.items → IsGated from g es r.clauses r.literals.items) }
+    ensures gates { IfOk result (λ r. (g : List GraphNode) (es : List Edge) → IsGated from g es gates.now.clauses gates.now.literals.items → IsGated from g es r.clauses r.literals.items) }
     ensures vars { IfOk result (λ r. r.vars ≡ gates.now.vars + by) }
     ensures skips { IfOk result (λ r. All (Skips from (from + by)) r.clauses) }
     ensures literals_skip { IfOk result (λ r. Skips from (from + by) r.literals.items) }

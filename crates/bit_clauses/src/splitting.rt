@@ -5,7 +5,7 @@ ghost use Rattle.bit_graph.specs.Meaning.{Consistent, IsBelow, NodeHolds, Stands
 ghost use Rattle.bit_clauses.specs.Splits.{SplitBelow, hold};
 
 use crate::either::Either;
-use bit_graph::{Edge, Graph, Node};
+use bit_graph::{Edge, Graph, GraphNode};
 
 /// One or two conditions, which are to hold together.
 #[derive(Clone, Copy, Drop)]
@@ -24,16 +24,16 @@ pub fn halves(graph: &Graph, edge: Edge) -> Option<Split>
     halves_of(node, edge.node, edge.negated)
 }
 
-fn halves_of(node: Node, number: usize, negated: bool) -> Option<Split>
+fn halves_of(node: GraphNode, number: usize, negated: bool) -> Option<Split>
     requires { IsBelow number node }
     ensures below { IfSome result (SplitBelow number) }
     ensures value { IfSome result (λ h. (v : ℕ → Bool) → NodeHolds v number node → exclusive_or negated (v number) ≡ hold v h) }
 {
     match node {
-        Node::False | Node::Input => None,
-        Node::And(a, b) => Some(halves_of_and(a, b, negated)),
-        Node::Xor(a, b) => Some(halves_of_xor(a, b, negated)),
-        Node::Choice(c, a, b) => Some(halves_of_choice(c, a, b, negated)),
+        GraphNode::False | GraphNode::Input => None,
+        GraphNode::And(a, b) => Some(halves_of_and(a, b, negated)),
+        GraphNode::Xor(a, b) => Some(halves_of_xor(a, b, negated)),
+        GraphNode::Choice(c, a, b) => Some(halves_of_choice(c, a, b, negated)),
     }
 }
 

@@ -8,13 +8,13 @@ use Rattle.smv_value.specs.declared.value.Value.{Value}
 use Rattle.smv_resolve.specs.declared.item.Item.{Item}
 use Rattle.smv_resolve.specs.declared.item.ItemKind.{ItemKind}
 use Rattle.smv_resolve.specs.declared.item.ItemKind.TheVariants as item
-use Rattle.smv_resolve.specs.declared.node.Node.{Node}
+use Rattle.smv_resolve.specs.declared.node.ExprNode.{ExprNode}
 use Rattle.smv_slots.specs.declared.slot.Slot.{Slot}
 use Rattle.smv_resolve.specs.Items.{ResolvedItem, item_by, target_by}
 use Rattle.smv_resolve.specs.Resolved.{Resolved, part_of, parts_of}
 use Rattle.value_types.proofs.Elements.{both_true}
-use Rattle.smv_meaning.specs.declared.outcome.Outcome.{Outcome}
-use Rattle.smv_meaning.specs.declared.outcome.Outcome.TheVariants.{Fault, Nothing, Values}
+use Rattle.smv_meaning.specs.declared.outcome.Evaluation.{Evaluation}
+use Rattle.smv_meaning.specs.declared.outcome.Evaluation.TheVariants.{Fault, Nothing, Values}
 use Rattle.smv_meaning.specs.Formulas.{is_known}
 use Rattle.smv_meaning.specs.Runs.{asks_always, asks_first, asks_step, is_given, is_known_by, is_known_item, is_single, outcome_of_target}
 use Rattle.smv_meaning.specs.Tables.{always_allowed, first_allowed, outcome_at, outcomes_of, step_allowed, target_at}
@@ -31,7 +31,7 @@ same_all : {A : Type 0} (f g : A → Bool) (xs : List A) → ((x : A) → f x �
 same_all f g [] same = refl
 same_all f g (x ∷ xs) same = λ i. same x i && same_all f g xs same i
 
-first_one : (x e : Outcome) (kind : ItemKind) → is_met (first_demand kind) x e ≡ asks_first x e kind
+first_one : (x e : Evaluation) (kind : ItemKind) → is_met (first_demand kind) x e ≡ asks_first x e kind
 first_one x e (item.Assignment side.Init) = refl
 first_one x e (item.Assignment side.Current) = refl
 first_one x e (item.Assignment side.Next) = refl
@@ -41,7 +41,7 @@ first_one x e (item.Constraint asked.Trans) = refl
 first_one x e (item.Constraint asked.Justice) = refl
 first_one x e (item.Specification kind) = refl
 
-always_one : (x e : Outcome) (kind : ItemKind) → is_met (always_demand kind) x e ≡ asks_always x e kind
+always_one : (x e : Evaluation) (kind : ItemKind) → is_met (always_demand kind) x e ≡ asks_always x e kind
 always_one x e (item.Assignment side.Init) = refl
 always_one x e (item.Assignment side.Current) = refl
 always_one x e (item.Assignment side.Next) = refl
@@ -51,7 +51,7 @@ always_one x e (item.Constraint asked.Trans) = refl
 always_one x e (item.Constraint asked.Justice) = refl
 always_one x e (item.Specification kind) = refl
 
-step_one : (x e : Outcome) (kind : ItemKind) → is_met (step_demand kind) x e ≡ asks_step x e kind
+step_one : (x e : Evaluation) (kind : ItemKind) → is_met (step_demand kind) x e ≡ asks_step x e kind
 step_one x e (item.Assignment side.Init) = refl
 step_one x e (item.Assignment side.Current) = refl
 step_one x e (item.Assignment side.Next) = refl
@@ -61,34 +61,34 @@ step_one x e (item.Constraint asked.Trans) = refl
 step_one x e (item.Constraint asked.Justice) = refl
 step_one x e (item.Specification kind) = refl
 
-pub first_met : (os : List Outcome) (items : List Item) → all_met First os os items ≡ first_allowed os items
+pub first_met : (os : List Evaluation) (items : List Item) → all_met First os os items ≡ first_allowed os items
 first_met os items =
     same_all (λ (x : Item). is_met (first_demand x.kind) (target_at os x.target) (outcome_at os x.value)) (λ (x : Item). asks_first (target_at os x.target) (outcome_at os x.value) x.kind) items
     (λ x. first_one (target_at os x.target) (outcome_at os x.value) x.kind)
 
-pub always_met : (os : List Outcome) (items : List Item) → all_met Always os os items ≡ always_allowed os items
+pub always_met : (os : List Evaluation) (items : List Item) → all_met Always os os items ≡ always_allowed os items
 always_met os items =
     same_all (λ (x : Item). is_met (always_demand x.kind) (target_at os x.target) (outcome_at os x.value)) (λ (x : Item). asks_always (target_at os x.target) (outcome_at os x.value) x.kind) items
     (λ x. always_one (target_at os x.target) (outcome_at os x.value) x.kind)
 
-pub step_met : (ps os : List Outcome) (items : List Item) → all_met Step ps os items ≡ step_allowed os ps items
+pub step_met : (ps os : List Evaluation) (items : List Item) → all_met Step ps os items ≡ step_allowed os ps items
 step_met ps os items =
     same_all (λ (x : Item). is_met (step_demand x.kind) (target_at ps x.target) (outcome_at os x.value)) (λ (x : Item). asks_step (target_at ps x.target) (outcome_at os x.value) x.kind) items
     (λ x. step_one (target_at ps x.target) (outcome_at os x.value) x.kind)
 
 -- what is known is given
 
-single_given : (o : Outcome) → is_single o ≡ true → is_given o ≡ true
+single_given : (o : Evaluation) → is_single o ≡ true → is_given o ≡ true
 single_given Nothing h = absurd cc
 single_given (Values vs) h = refl
 single_given (Fault rule place) h = refl
 
-pub known_given : (o : Outcome) → is_known o ≡ true → is_given o ≡ true
+pub known_given : (o : Evaluation) → is_known o ≡ true → is_given o ≡ true
 known_given Nothing h = absurd cc
 known_given (Values vs) h = refl
 known_given (Fault rule place) h = refl
 
-both_given : (x e : Outcome) → (is_single x && is_given e) ≡ true → (is_given x && is_given e) ≡ true
+both_given : (x e : Evaluation) → (is_single x && is_given e) ≡ true → (is_given x && is_given e) ≡ true
 both_given x e h =
     let both = and_parts (is_single x) (is_given e) h in
     both_true (is_given x) (is_given e) (single_given x both.0) both.1
@@ -129,7 +129,7 @@ module _ (slots : List Slot) (s u t : List Value) (target : Option Resolved) (e 
   step_clear (item.Constraint asked.Justice) there here = refl
   step_clear (item.Specification kind) there here = refl
 
-module _ (slots : List Slot) (nodes : List Node) where
+module _ (slots : List Slot) (nodes : List ExprNode) where
   target_at-map : (w : List Value) (target : Option ℕ) → target_at (outcomes_of slots w [] [] nodes) target ≡ outcome_of_target slots w (target_by nodes target)
   target_at-map w None = refl
   target_at-map w (Some k) = outcome_at-map slots w [] [] (parts_of nodes) k

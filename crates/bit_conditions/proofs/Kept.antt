@@ -1,7 +1,7 @@
 -- What is told in a graph is told as it grows.
 use Rattle.std.proofs.Common.{ℕ, Bool, List, get_or}
 use Rattle.bit_graph.specs.declared.edge.Edge.{Edge}
-use Rattle.bit_graph.specs.declared.edge.Node.{Node}
+use Rattle.bit_graph.specs.declared.edge.GraphNode.{GraphNode}
 use Rattle.bit_graph.specs.Growth.{Extends}
 use Rattle.bit_arith.specs.Number.{AllStand}
 use Rattle.bit_outcomes.specs.declared.told.Told.{Told}
@@ -15,7 +15,7 @@ use Rattle.bit_conditions.specs.declared.told.ToldState.{ToldState}
 use Rattle.bit_conditions.specs.declared.told.ToldInputs.{ToldInputs}
 use Rattle.bit_conditions.specs.Told.{Tells, TellsInputs, TellsJust, TellsMoment, TellsNowhere, TellsState, TellsStep}
 
-module _ (g h : List Node) (extends : Extends g h) where
+module _ (g h : List GraphNode) (extends : Extends g h) where
   pub edges_kept : (es : List Edge) → AllStand g es → AllStand h es
   edges_kept es s = λ i d lt. edge_kept g h extends (get_or es i d) (s i d lt)
 

@@ -11,15 +11,15 @@ use Rattle.smv_value.specs.declared.value.Value.{Value}
 use Rattle.smv_resolve.specs.declared.item.Item.{Item}
 use Rattle.smv_resolve.specs.declared.item.ItemKind.{ItemKind}
 use Rattle.smv_resolve.specs.declared.item.ItemKind.TheVariants as item
-use Rattle.smv_resolve.specs.declared.node.Node.{Node}
+use Rattle.smv_resolve.specs.declared.node.ExprNode.{ExprNode}
 use Rattle.smv_resolve.specs.Items.{ResolvedItem, item_by, target_by}
 use Rattle.smv_layout.specs.Layout.{items_of}
 use Rattle.smv_resolve.specs.Resolved.{Resolved, part_of, parts_of}
 use Rattle.smv_slots.specs.declared.slot.Slot.{Slot}
 use Rattle.smv_slots.specs.Slots.{slots_of}
 use Rattle.smv_meaning.specs.declared.typed.Typed.{Typed}
-use Rattle.smv_meaning.specs.declared.outcome.Outcome.{Outcome}
-use Rattle.smv_meaning.specs.declared.outcome.Outcome.TheVariants.{Nothing}
+use Rattle.smv_meaning.specs.declared.outcome.Evaluation.{Evaluation}
+use Rattle.smv_meaning.specs.declared.outcome.Evaluation.TheVariants.{Nothing}
 use Rattle.smv_meaning.specs.Runs.{are_inputs, is_among, is_claim, is_given, is_known_by, is_known_item, is_state, is_true, specifications_of}
 use Rattle.smv_meaning.specs.Tables.{outcome_at, outcomes_of}
 use Rattle.smv_meaning.specs.Values.{outcome_in}
@@ -62,7 +62,7 @@ map_more f xs made i d lt before =
 
 -- the formulas of JUSTICE, by nodes and as they are resolved
 
-module _ (slots : List Slot) (nodes : List Node) (s u t : List Value) where
+module _ (slots : List Slot) (nodes : List ExprNode) (s u t : List Value) where
   just_given : (target : Option Resolved) (e : Resolved) (kind : ItemKind) → is_justice kind ≡ true → is_known_by slots s u t target e kind ≡ true → is_given (outcome_in slots s e) ≡ true
   just_given target e (item.Constraint asked.Justice) j h = known_given (outcome_in slots s e) h
   just_given target e (item.Constraint asked.Init) j h = absurd cc
@@ -71,7 +71,7 @@ module _ (slots : List Slot) (nodes : List Node) (s u t : List Value) where
   just_given target e (item.Assignment which) j h = absurd cc
   just_given target e (item.Specification kind) j h = absurd cc
 
-  abbrev os : List Outcome
+  abbrev os : List Evaluation
   os = outcomes_of slots s [] [] nodes
 
   abbrev given : Item → Bool
@@ -99,7 +99,7 @@ module _ (slots : List Slot) (nodes : List Node) (s u t : List Value) where
     just_one : (x : Item) (items : List Item) (rest : List ResolvedItem) → map by_node items ≡ map by_value rest
         → (b : Bool) → map by_node (cond b (x ∷ items) items) ≡ map by_value (cond b (item_by nodes x ∷ rest) rest)
     just_one x items rest same true =
-        ap (λ (o : Outcome). (valid && is_true o) ∷ map by_node items) (outcome_at-map slots s [] [] (parts_of nodes) x.value)
+        ap (λ (o : Evaluation). (valid && is_true o) ∷ map by_node items) (outcome_at-map slots s [] [] (parts_of nodes) x.value)
         ∙ ap (λ (bs : List Bool). by_value (item_by nodes x) ∷ bs) same
     just_one x items rest same false = same
 
@@ -157,7 +157,7 @@ pub spec_value : (typed : Typed) (s : List Value) (spec : Item) →
 spec_value typed s spec = ap is_false (outcome_at-map (slots_of typed.scope.program) s [] [] (parts_of typed.nodes) spec.value)
 
 -- a node that is not there gives nothing
-pub nothing_past : (os : List Outcome) (k : ℕ) → length os ≤ k → outcome_at os k ≡ Nothing
+pub nothing_past : (os : List Evaluation) (k : ℕ) → length os ≤ k → outcome_at os k ≡ Nothing
 nothing_past [] k past = refl
 nothing_past (o ∷ os) zero past = absurd (let no : ⊥ = omega (arith, past) in no)
 nothing_past (o ∷ os) (suc k) past = nothing_past os k (omega (arith, past))

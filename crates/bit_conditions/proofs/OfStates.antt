@@ -9,7 +9,7 @@ use Rattle.smv_resolve.specs.Items.{item_by}
 use Rattle.smv_layout.specs.Layout.{items_of}
 use Rattle.smv_slots.specs.Slots.{slots_of}
 use Rattle.smv_meaning.specs.declared.typed.Typed.{Typed}
-use Rattle.smv_meaning.specs.declared.outcome.Outcome.{Outcome}
+use Rattle.smv_meaning.specs.declared.outcome.Evaluation.{Evaluation}
 use Rattle.smv_meaning.specs.Runs.{allows_always, allows_first, allows_step, are_inputs, is_known_item, is_state, meets_invariants}
 use Rattle.smv_meaning.specs.Tables.{outcomes_of}
 use Rattle.smv_meaning.proofs.Items.{always_asked, first_asked, step_asked}
@@ -46,7 +46,7 @@ module _ (typed : Typed) where
   module _ (v : ℕ → Bool) (here : List Told) (items : List Item) (items_is : items ≡ typed.items) (old new : Bool) where
     -- an initial state
     pub first_told : (s u : List Value) → is_state program s ≡ true → are_inputs program u ≡ true → TellsAll v here (outcomes_of (slots_of program) s [] [] typed.nodes) →
-        ((ps os : List Outcome) → TellsAll v here ps → TellsAll v here os → all_clear First ps os items ≡ true → new ≡ (old && all_met First ps os items)) →
+        ((ps os : List Evaluation) → TellsAll v here ps → TellsAll v here os → all_clear First ps os items ≡ true → new ≡ (old && all_met First ps os items)) →
         new ≡ (old && list_all (allows_first (slots_of program) s) (items_of program))
     first_told s u a b tells asked =
         let os = outcomes_of (slots_of program) s [] [] typed.nodes in
@@ -56,7 +56,7 @@ module _ (typed : Typed) where
 
     -- each state of a step
     pub always_told : (s u : List Value) → is_state program s ≡ true → are_inputs program u ≡ true → TellsAll v here (outcomes_of (slots_of program) s [] [] typed.nodes) →
-        ((ps os : List Outcome) → TellsAll v here ps → TellsAll v here os → all_clear Always ps os items ≡ true → new ≡ (old && all_met Always ps os items)) →
+        ((ps os : List Evaluation) → TellsAll v here ps → TellsAll v here os → all_clear Always ps os items ≡ true → new ≡ (old && all_met Always ps os items)) →
         new ≡ (old && meets_invariants program s)
     always_told s u a b tells asked =
         let os = outcomes_of (slots_of program) s [] [] typed.nodes in
@@ -67,7 +67,7 @@ module _ (typed : Typed) where
     -- a step
     pub step_told : (there : List Told) (s u t : List Value) → is_state program s ≡ true → are_inputs program u ≡ true → is_state program t ≡ true →
         TellsAll v there (outcomes_of (slots_of program) t [] [] typed.nodes) → TellsAll v here (outcomes_of (slots_of program) s u t typed.nodes) →
-        ((ps os : List Outcome) → TellsAll v there ps → TellsAll v here os → all_clear Step ps os items ≡ true → new ≡ (old && all_met Step ps os items)) →
+        ((ps os : List Evaluation) → TellsAll v there ps → TellsAll v here os → all_clear Step ps os items ≡ true → new ≡ (old && all_met Step ps os items)) →
         new ≡ (old && list_all (allows_step (slots_of program) s u t) (items_of program))
     step_told there s u t a b c later tells asked =
         let ps = outcomes_of (slots_of program) t [] [] typed.nodes in

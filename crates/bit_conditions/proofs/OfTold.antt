@@ -2,11 +2,11 @@
 use Rattle.std.proofs.Common.{◌≡◌, ◌∙◌, ℕ, Bool, true, List, [], length, sym, subst}
 use Rattle.smv_tree.specs.declared.tree.Program.{Program}
 use Rattle.smv_value.specs.declared.value.Value.{Value}
-use Rattle.smv_resolve.specs.declared.node.Node.{Node}
+use Rattle.smv_resolve.specs.declared.node.ExprNode.{ExprNode}
 use Rattle.smv_slots.specs.declared.slot.Slot.{Slot}
 use Rattle.smv_slots.specs.Slots.{slots_of}
 use Rattle.smv_meaning.specs.declared.typed.Typed.{Typed}
-use Rattle.smv_meaning.specs.declared.outcome.Outcome.{Outcome}
+use Rattle.smv_meaning.specs.declared.outcome.Evaluation.{Evaluation}
 use Rattle.smv_meaning.specs.Runs.{are_inputs, is_state}
 use Rattle.smv_meaning.specs.Tables.{outcomes_of}
 use Rattle.value_types.specs.declared.value_type.ValueType.{ValueType}
@@ -23,14 +23,14 @@ use Rattle.bit_conditions.proofs.OfStates.{input_codes, state_codes}
 
 -- outcomes of the program's nodes
 
-module _ (typed : Typed) (v : ℕ → Bool) (slots : List Slot) (nodes : List Node) (slots_is : slots ≡ typed.slots) (nodes_is : nodes ≡ typed.nodes) where
+module _ (typed : Typed) (v : ℕ → Bool) (slots : List Slot) (nodes : List ExprNode) (slots_is : slots ≡ typed.slots) (nodes_is : nodes ≡ typed.nodes) where
   same_outcomes : (s u t : List Value) → outcomes_of slots s u t nodes ≡ outcomes_of (slots_of typed.scope.program) s u t typed.nodes
   same_outcomes s u t =
       let laid : slots ≡ slots_of typed.scope.program = slots_is ∙ typed.laid_out in
       λ i. outcomes_of (laid i) s u t (nodes_is i)
 
   pub told_as : (ts : List Told) (s u t : List Value) → TellsAll v ts (outcomes_of slots s u t nodes) → TellsAll v ts (outcomes_of (slots_of typed.scope.program) s u t typed.nodes)
-  told_as ts s u t = subst (λ (os : List Outcome). TellsAll v ts os) (same_outcomes s u t)
+  told_as ts s u t = subst (λ (os : List Evaluation). TellsAll v ts os) (same_outcomes s u t)
 
   pub table_told : (state inputs values given : List Symbolic) (later next ts : List Told) → values ≡ state → given ≡ inputs → next ≡ later →
       ((s u t : List Value) → AreDenoted v values s → AreDenoted v given u → TellsAll v next (outcomes_of slots t [] [] nodes) → TellsAll v ts (outcomes_of slots s u t nodes)) →
@@ -41,7 +41,7 @@ module _ (typed : Typed) (v : ℕ → Bool) (slots : List Slot) (nodes : List No
       (made s u t
       (subst (λ (ss : List Symbolic). AreDenoted v ss s) (sym values_is) ds)
       (subst (λ (ss : List Symbolic). AreDenoted v ss u) (sym given_is) du)
-      (subst (λ (os : List Outcome). TellsAll v next os) (sym (same_outcomes t [] []))
+      (subst (λ (os : List Evaluation). TellsAll v next os) (sym (same_outcomes t [] []))
       (subst (λ (ks : List Told). TellsAll v ks (outcomes_of (slots_of typed.scope.program) t [] [] typed.nodes)) (sym next_is) tells)))
 
 -- states and inputs by their edges

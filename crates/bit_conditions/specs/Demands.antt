@@ -6,7 +6,7 @@ use Rattle.smv_tree.specs.declared.tree.ConstraintKind.TheVariants as asked
 use Rattle.smv_resolve.specs.declared.item.Item.{Item}
 use Rattle.smv_resolve.specs.declared.item.ItemKind.{ItemKind}
 use Rattle.smv_resolve.specs.declared.item.ItemKind.TheVariants as item
-use Rattle.smv_meaning.specs.declared.outcome.Outcome.{Outcome}
+use Rattle.smv_meaning.specs.declared.outcome.Evaluation.{Evaluation}
 use Rattle.smv_meaning.specs.Runs.{is_given, is_true, takes}
 use Rattle.smv_meaning.specs.Tables.{outcome_at, target_at}
 use Rattle.bit_conditions.specs.declared.demands.Demand.{Demand}
@@ -52,20 +52,20 @@ demand_of Always kind = always_demand kind
 demand_of Step kind = step_demand kind
 
 -- the outcomes of what is assigned and of the value are as demanded
-abbrev pub is_met : Demand → Outcome → Outcome → Bool
+abbrev pub is_met : Demand → Evaluation → Evaluation → Bool
 is_met Nothing x e = true
 is_met Takes x e = takes x e
 is_met IsTrue x e = is_true e
 
 -- the outcomes that are spoken of are values or faults
-abbrev pub is_clear : Demand → Outcome → Outcome → Bool
+abbrev pub is_clear : Demand → Evaluation → Evaluation → Bool
 is_clear Nothing x e = true
 is_clear Takes x e = is_given x && is_given e
 is_clear IsTrue x e = is_given e
 
 -- the same of all items, where the nodes have these outcomes where what is assigned stands, and where the values do
-abbrev pub all_met : When → List Outcome → List Outcome → List Item → Bool
+abbrev pub all_met : When → List Evaluation → List Evaluation → List Item → Bool
 all_met when there here items = list_all (λ (x : Item). is_met (demand_of when x.kind) (target_at there x.target) (outcome_at here x.value)) items
 
-abbrev pub all_clear : When → List Outcome → List Outcome → List Item → Bool
+abbrev pub all_clear : When → List Evaluation → List Evaluation → List Item → Bool
 all_clear when there here items = list_all (λ (x : Item). is_clear (demand_of when x.kind) (target_at there x.target) (outcome_at here x.value)) items

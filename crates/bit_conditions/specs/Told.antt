@@ -1,7 +1,7 @@
 -- What edges of a graph tell of states, of inputs and of the nodes of a program there.
 use Rattle.std.specs.Prelude.{◌≡◌, ℕ, Bool, true, List, [], length, map}
 use Rattle.bit_graph.specs.declared.edge.Edge.{Edge}
-use Rattle.bit_graph.specs.declared.edge.Node.{Node}
+use Rattle.bit_graph.specs.declared.edge.GraphNode.{GraphNode}
 use Rattle.bit_graph.specs.Meaning.{Consistent, Denotes, Stands, edge_value}
 use Rattle.bit_arith.specs.Number.{AllStand, values_of}
 use Rattle.bit_numbers.specs.Counts.{AllStandIn, AreDenoted}
@@ -36,7 +36,7 @@ pub record SomeInputs (p : Program) : Type 0 where
 -- What is told of a state: its edges, whether they are those of a state, and, where they are, its values and the
 -- outcome of each node there. Inputs that a step from it may have are there, so that what is known of steps is known of
 -- states.
-pub record TellsState (g : List Node) (typed : Typed) (state : ToldState) : Type 0 where
+pub record TellsState (g : List GraphNode) (typed : Typed) (state : ToldState) : Type 0 where
   pub inputs : SomeInputs typed.scope.program
   pub bits : AllStand g state.bits
   pub width : length state.bits ≡ state_width typed.scope.program
@@ -50,7 +50,7 @@ pub record TellsState (g : List Node) (typed : Typed) (state : ToldState) : Type
       TellsAll v state.told (outcomes_of (slots_of typed.scope.program) (state_under typed.scope.program v state.bits) [] [] typed.nodes)
 
 -- the same of inputs, which have no nodes of their own
-pub record TellsInputs (g : List Node) (typed : Typed) (inputs : ToldInputs) : Type 0 where
+pub record TellsInputs (g : List GraphNode) (typed : Typed) (inputs : ToldInputs) : Type 0 where
   pub bits : AllStand g inputs.bits
   pub width : length inputs.bits ≡ input_width typed.scope.program
   pub valid_stands : Stands g inputs.valid
@@ -60,12 +60,12 @@ pub record TellsInputs (g : List Node) (typed : Typed) (inputs : ToldInputs) : T
       AreDenoted v inputs.values (inputs_under typed.scope.program v inputs.bits)
 
 -- the outcome of each node where there is no state
-pub record TellsNowhere (g : List Node) (typed : Typed) (ts : List Told) : Type 0 where
+pub record TellsNowhere (g : List GraphNode) (typed : Typed) (ts : List Told) : Type 0 where
   pub stand : AllTold g ts
   pub told : (v : ℕ → Bool) → Consistent v g → TellsAll v ts (outcomes_of (slots_of typed.scope.program) [] [] [] typed.nodes)
 
 -- the outcome of each node in a step between states
-pub record TellsStep (g : List Node) (typed : Typed) (from : ToldState) (inputs : ToldInputs) (to : ToldState) (ts : List Told) : Type 0 where
+pub record TellsStep (g : List GraphNode) (typed : Typed) (from : ToldState) (inputs : ToldInputs) (to : ToldState) (ts : List Told) : Type 0 where
   pub stand : AllTold g ts
   pub told : (v : ℕ → Bool) → Consistent v g → is_state typed.scope.program (state_under typed.scope.program v from.bits) ≡ true →
       are_inputs typed.scope.program (inputs_under typed.scope.program v inputs.bits) ≡ true →
@@ -74,18 +74,18 @@ pub record TellsStep (g : List Node) (typed : Typed) (from : ToldState) (inputs 
       (state_under typed.scope.program v to.bits) typed.nodes)
 
 -- the outcome of each node in a state with inputs, of which no step is spoken
-pub record TellsMoment (g : List Node) (typed : Typed) (state : ToldState) (inputs : ToldInputs) (ts : List Told) : Type 0 where
+pub record TellsMoment (g : List GraphNode) (typed : Typed) (state : ToldState) (inputs : ToldInputs) (ts : List Told) : Type 0 where
   pub stand : AllTold g ts
   pub told : (v : ℕ → Bool) → Consistent v g → is_state typed.scope.program (state_under typed.scope.program v state.bits) ≡ true →
       are_inputs typed.scope.program (inputs_under typed.scope.program v inputs.bits) ≡ true →
       TellsAll v ts (outcomes_of (slots_of typed.scope.program) (state_under typed.scope.program v state.bits) (inputs_under typed.scope.program v inputs.bits) [] typed.nodes)
 
 -- in the graph, all conditions hold exactly where the valuation's nodes pass the test
-pub record Tells (g : List Node) (es : List Either) (f : (ℕ → Bool) → Bool) : Type 0 where
+pub record Tells (g : List GraphNode) (es : List Either) (f : (ℕ → Bool) → Bool) : Type 0 where
   pub stand : EithersStand g es
   pub holds : (v : ℕ → Bool) → Consistent v g → all_hold v es ≡ f v
 
 -- an edge for each formula of JUSTICE, in the order of the items, that is true where the formula is
-pub record TellsJust (g : List Node) (p : Program) (state : (ℕ → Bool) → List Value) (edges : List Edge) : Type 0 where
+pub record TellsJust (g : List GraphNode) (p : Program) (state : (ℕ → Bool) → List Value) (edges : List Edge) : Type 0 where
   pub stand : AllStand g edges
   pub told : (v : ℕ → Bool) → Consistent v g → map (edge_value v) edges ≡ map (is_just_in p (state v)) (justices_of p)

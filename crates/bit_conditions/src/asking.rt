@@ -4,7 +4,7 @@ ghost use Rattle.std.specs.Prelude.{◌≡◌, ◌&&◌, ℕ, Bool, List, true, 
 ghost use Rattle.bit_graph.specs.Growth.{Extends};
 ghost use Rattle.bit_graph.specs.Meaning.{Consistent, Stands, edge_value};
 ghost use Rattle.bit_clauses.specs.Asserted.{EithersStand, all_hold};
-ghost use Rattle.smv_meaning.specs.declared.outcome.Outcome.{Outcome};
+ghost use Rattle.smv_meaning.specs.declared.outcome.Evaluation.{Evaluation};
 ghost use Rattle.smv_meaning.specs.Runs.{is_given, is_true, takes};
 ghost use Rattle.smv_meaning.specs.Tables.{outcome_at, target_at};
 ghost use Rattle.bit_outcomes.specs.Asked.{is_false};
@@ -24,7 +24,7 @@ pub fn true_at(graph: &mut Graph, told: &[Told], k: usize) -> Result<Edge, Alloc
     requires { AllTold graph.old told.now }
     ensures extends { Extends graph.old graph.new }
     ensures stands { IfOk result (λ e. Stands graph.new e) }
-    ensures value { IfOk result (λ e. (v : ℕ → Bool) (os : List Outcome) → Consistent v graph.new → TellsAll v told.now os → is_given (outcome_at os k) ≡ true →
+    ensures value { IfOk result (λ e. (v : ℕ → Bool) (os : List Evaluation) → Consistent v graph.new → TellsAll v told.now os → is_given (outcome_at os k) ≡ true →
         edge_value v e ≡ is_true (outcome_at os k)) }
 {
     if k < told.len() {
@@ -40,7 +40,7 @@ pub fn false_at(graph: &mut Graph, told: &[Told], k: usize) -> Result<Edge, Allo
     requires { AllTold graph.old told.now }
     ensures extends { Extends graph.old graph.new }
     ensures stands { IfOk result (λ e. Stands graph.new e) }
-    ensures value { IfOk result (λ e. (v : ℕ → Bool) (os : List Outcome) → Consistent v graph.new → TellsAll v told.now os → is_given (outcome_at os k) ≡ true →
+    ensures value { IfOk result (λ e. (v : ℕ → Bool) (os : List Evaluation) → Consistent v graph.new → TellsAll v told.now os → is_given (outcome_at os k) ≡ true →
         edge_value v e ≡ is_false (outcome_at os k)) }
 {
     if k < told.len() {
@@ -64,7 +64,7 @@ fn takes_at(
     requires here { AllTold graph.old here.now }
     ensures extends { Extends graph.old graph.new }
     ensures stands { IfOk result (λ e. Stands graph.new e) }
-    ensures value { IfOk result (λ e. (v : ℕ → Bool) (ps os : List Outcome) → Consistent v graph.new → TellsAll v there.now ps → TellsAll v here.now os →
+    ensures value { IfOk result (λ e. (v : ℕ → Bool) (ps os : List Evaluation) → Consistent v graph.new → TellsAll v there.now ps → TellsAll v here.now os →
         is_given (outcome_at ps target) ≡ true → is_given (outcome_at os value) ≡ true → edge_value v e ≡ takes (outcome_at ps target) (outcome_at os value)) }
 {
     if target >= there.len() {
@@ -90,7 +90,7 @@ fn demand_edge(
     requires here { AllTold graph.old here.now }
     ensures extends { Extends graph.old graph.new }
     ensures stands { IfOk result (λ e. Stands graph.new e) }
-    ensures value { IfOk result (λ e. (v : ℕ → Bool) (ps os : List Outcome) → Consistent v graph.new → TellsAll v there.now ps → TellsAll v here.now os →
+    ensures value { IfOk result (λ e. (v : ℕ → Bool) (ps os : List Evaluation) → Consistent v graph.new → TellsAll v there.now ps → TellsAll v here.now os →
         is_clear demand (target_at ps item.target) (outcome_at os item.value) ≡ true → edge_value v e ≡ is_met demand (target_at ps item.target) (outcome_at os item.value)) }
 {
     match demand {
@@ -118,7 +118,7 @@ fn ask_item(
     requires stand { EithersStand graph.old asked.old.items }
     ensures extends { Extends graph.old graph.new }
     ensures stand { OnOk result (EithersStand graph.new asked.new.items) }
-    ensures holds { OnOk result ((v : ℕ → Bool) (ps os : List Outcome) → Consistent v graph.new → TellsAll v there.now ps → TellsAll v here.now os →
+    ensures holds { OnOk result ((v : ℕ → Bool) (ps os : List Evaluation) → Consistent v graph.new → TellsAll v there.now ps → TellsAll v here.now os →
         is_clear (demand_of when item.kind) (target_at ps item.target) (outcome_at os item.value) ≡ true →
         all_hold v asked.new.items ≡ (all_hold v asked.old.items && is_met (demand_of when item.kind) (target_at ps item.target) (outcome_at os item.value))) }
 {
@@ -143,7 +143,7 @@ pub fn ask_items(
     requires stand { EithersStand graph.old asked.old.items }
     ensures extends { Extends graph.old graph.new }
     ensures stand { OnOk result (EithersStand graph.new asked.new.items) }
-    ensures holds { OnOk result ((v : ℕ → Bool) (ps os : List Outcome) → Consistent v graph.new → TellsAll v there.now ps → TellsAll v here.now os →
+    ensures holds { OnOk result ((v : ℕ → Bool) (ps os : List Evaluation) → Consistent v graph.new → TellsAll v there.now ps → TellsAll v here.now os →
         all_clear when ps os items.now ≡ true → all_hold v asked.new.items ≡ (all_hold v asked.old.items && all_met when ps os items.now)) }
 {
     for item in items {

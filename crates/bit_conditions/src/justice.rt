@@ -6,7 +6,7 @@ ghost use Rattle.bit_graph.specs.Growth.{Extends};
 ghost use Rattle.bit_graph.specs.Meaning.{Consistent, Stands, edge_value};
 ghost use Rattle.bit_arith.specs.Number.{AllStand};
 ghost use Rattle.smv_resolve.specs.declared.item.Item.{Item};
-ghost use Rattle.smv_meaning.specs.declared.outcome.Outcome.{Outcome};
+ghost use Rattle.smv_meaning.specs.declared.outcome.Evaluation.{Evaluation};
 ghost use Rattle.smv_meaning.specs.Runs.{is_given, is_true};
 ghost use Rattle.smv_meaning.specs.Tables.{outcome_at};
 ghost use Rattle.bit_outcomes.specs.Telling.{AllTold, TellsAll};
@@ -53,7 +53,7 @@ fn true_where(graph: &mut Graph, valid: Edge, told: &[Told], k: usize) -> Result
     requires told { AllTold graph.old told.now }
     ensures extends { Extends graph.old graph.new }
     ensures stands { IfOk result (λ e. Stands graph.new e) }
-    ensures value { IfOk result (λ e. (v : ℕ → Bool) (os : List Outcome) → Consistent v graph.new → (edge_value v valid ≡ true → TellsAll v told.now os) →
+    ensures value { IfOk result (λ e. (v : ℕ → Bool) (os : List Evaluation) → Consistent v graph.new → (edge_value v valid ≡ true → TellsAll v told.now os) →
         (edge_value v valid ≡ true → is_given (outcome_at os k) ≡ true) → edge_value v e ≡ (edge_value v valid && is_true (outcome_at os k))) }
 {
     let here = true_at(graph, told, k)?;
@@ -73,7 +73,7 @@ fn true_edges(
     requires told { AllTold graph.old told.now }
     ensures extends { Extends graph.old graph.new }
     ensures stand { IfOk result (λ r. AllStand graph.new r.items) }
-    ensures told { IfOk result (λ r. (v : ℕ → Bool) (os : List Outcome) → Consistent v graph.new → (edge_value v valid ≡ true → TellsAll v told.now os) →
+    ensures told { IfOk result (λ r. (v : ℕ → Bool) (os : List Evaluation) → Consistent v graph.new → (edge_value v valid ≡ true → TellsAll v told.now os) →
         (edge_value v valid ≡ true → list_all (λ (x : Item). is_given (outcome_at os x.value)) items.now ≡ true) →
         map (edge_value v) r.items ≡ map (λ (x : Item). edge_value v valid && is_true (outcome_at os x.value)) items.now) }
 {

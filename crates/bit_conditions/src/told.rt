@@ -1,7 +1,7 @@
 //! What edges tell of a state, of inputs, and of the nodes of a program there.
 
 ghost use Rattle.std.specs.Prelude.{◌≡◌, List, length, IfOk};
-ghost use Rattle.bit_graph.specs.declared.edge.Node.{Node};
+ghost use Rattle.bit_graph.specs.declared.edge.GraphNode.{GraphNode};
 ghost use Rattle.bit_graph.specs.Growth.{Extends};
 ghost use Rattle.bit_arith.specs.Number.{AllStand};
 ghost use Rattle.bit_states.specs.Layouts.{input_types, input_width, state_types, state_width};
@@ -44,7 +44,7 @@ pub struct ToldInputs {
 /// What is told of each node where there is no state: nothing, in whatever graph. No item that speaks of a state has a
 /// `next`, so no more is asked. The only error is running out of memory.
 pub fn nowhere(alloc: Global, typed: &Typed) -> Result<Items<Told>, AllocError>
-    ensures { IfOk result (λ r. (g : List Node) → TellsNowhere g typed.now r) }
+    ensures { IfOk result (λ r. (g : List GraphNode) → TellsNowhere g typed.now r) }
 {
     let told = untold(alloc, typed.nodes.as_slice())?;
     Ok(told)

@@ -8,7 +8,7 @@ use Rattle.std.proofs.lemmas.List.{get_or-map, length-map}
 use Rattle.std.proofs.lemmas.List.Elements.{All-cons, All-head, All-nil, All-tail}
 use Rattle.clause_core.specs.Assignments.{Agrees}
 use Rattle.bit_graph.specs.declared.edge.Edge.{Edge}
-use Rattle.bit_graph.specs.declared.edge.Node.{Node as Gate}
+use Rattle.bit_graph.specs.declared.edge.GraphNode.{GraphNode as Gate}
 use Rattle.bit_graph.specs.Meaning.{Consistent, HasInputs, Stands, edge_value, exclusive_or}
 use Rattle.bit_graph.specs.Values.{OneWay, value_under, values}
 use Rattle.bit_clauses.specs.declared.deciding.Decided.{Decided}

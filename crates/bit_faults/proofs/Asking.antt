@@ -11,7 +11,7 @@ use Rattle.smv_tree.specs.declared.tree.Program.{Program}
 use Rattle.smv_value.specs.declared.value.FaultRule.{FaultRule}
 use Rattle.smv_value.specs.declared.value.Value.{Value}
 use Rattle.smv_resolve.specs.declared.item.Item.{Item}
-use Rattle.smv_resolve.specs.declared.node.Node.{Node}
+use Rattle.smv_resolve.specs.declared.node.ExprNode.{ExprNode}
 use Rattle.smv_resolve.specs.Items.{ResolvedItem, item_by}
 use Rattle.smv_slots.specs.Slots.{slots_of}
 use Rattle.smv_slots.specs.Slots.{types_of}
@@ -50,7 +50,7 @@ module _ (p : Program) where
   }
 
   -- one item more of a list
-  pub questions_next : (nodes : List Node) (items : List Item) (i : ℕ) (d : Item) (qs : List (Option Decided)) (q : Option Decided) → i < length items →
+  pub questions_next : (nodes : List ExprNode) (items : List Item) (i : ℕ) (d : Item) (qs : List (Option Decided)) (q : Option Decided) → i < length items →
       AreQuestions p (map (item_by nodes) (take i items)) qs → IsFaultQuestion p (item_by nodes (get_or items i d)) q → AreQuestions p (map (item_by nodes) (take (i + 1) items)) (qs ++ q ∷ [])
   questions_next nodes items i d qs q lt are last =
       subst (λ (xs : List ResolvedItem). AreQuestions p xs (qs ++ q ∷ []))

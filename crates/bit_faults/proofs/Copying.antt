@@ -5,8 +5,8 @@ use Rattle.std.specs.Bool.{beq}
 use Rattle.std.proofs.lemmas.Bool.{eqb-true}
 use Rattle.std.proofs.lemmas.List.Elements.{All-contains, Contains-append_left, Contains-get_or, Contains-push}
 use Rattle.bit_graph.specs.declared.edge.Edge.{Edge}
-use Rattle.bit_graph.specs.declared.edge.Node.{Node}
-use Rattle.bit_graph.specs.declared.edge.Node.TheVariants.{False, Input, And, Xor, Choice}
+use Rattle.bit_graph.specs.declared.edge.GraphNode.{GraphNode}
+use Rattle.bit_graph.specs.declared.edge.GraphNode.TheVariants.{False, Input, And, Xor, Choice}
 use Rattle.bit_graph.specs.Growth.{Extends}
 use Rattle.bit_graph.specs.Meaning.{NodeHolds, exclusive_or}
 use Rattle.bit_graph.specs.Values.{OneWay, value_under, values}
@@ -15,7 +15,7 @@ use Rattle.bit_faults.specs.Formulas.{StandsIfAny}
 
 -- as the graph grows
 
-module _ (g h : List Node) (extends : Extends g h) (read : List ℕ) (f : (ℕ → Bool) → Bool) where
+module _ (g h : List GraphNode) (extends : Extends g h) (read : List ℕ) (f : (ℕ → Bool) → Bool) where
   pub copy_kept : (e : Edge) → IsCopy g read e f → IsCopy h read e f
   copy_kept e is = record {
     stands = omega (arith, is.stands, extends.longer);
@@ -36,7 +36,7 @@ first_agree read more a b agree = λ k d lt.
 pub last_agrees : (read : List ℕ) (k : ℕ) (a b : ℕ → Bool) → AgreeOn (read ++ k ∷ []) a b → a k ≡ b k
 last_agrees read k a b agree = All-contains (λ (i : ℕ). a i ≡ b i) (read ++ k ∷ []) k agree (Contains-push read k)
 
-pub takes_more : (g : List Node) (read more : List ℕ) (f : (ℕ → Bool) → Bool) (o : Option Edge) → Takes g read o f → Takes g (read ++ more) o f
+pub takes_more : (g : List GraphNode) (read more : List ℕ) (f : (ℕ → Bool) → Bool) (o : Option Edge) → Takes g read o f → Takes g (read ++ more) o f
 takes_more g read more f None is = tt
 takes_more g read more f (Some e) is = record {
   stands = is.stands;
@@ -44,12 +44,12 @@ takes_more g read more f (Some e) is = record {
   reads = λ a b agree. is.reads a b (first_agree read more a b agree);
 }
 
-pub takes_stand : (g : List Node) (read : List ℕ) (f : (ℕ → Bool) → Bool) (o : Option Edge) → Takes g read o f → StandsIfAny g o
+pub takes_stand : (g : List GraphNode) (read : List ℕ) (f : (ℕ → Bool) → Bool) (o : Option Edge) → Takes g read o f → StandsIfAny g o
 takes_stand g read f None is = tt
 takes_stand g read f (Some e) is = is.stands
 
 -- the same function
-pub takes_as : (g : List Node) (read : List ℕ) (f h : (ℕ → Bool) → Bool) (o : Option Edge) → ((a : ℕ → Bool) → f a ≡ h a) → Takes g read o f → Takes g read o h
+pub takes_as : (g : List GraphNode) (read : List ℕ) (f h : (ℕ → Bool) → Bool) (o : Option Edge) → ((a : ℕ → Bool) → f a ≡ h a) → Takes g read o f → Takes g read o h
 takes_as g read f h None same is = tt
 takes_as g read f h (Some e) same is = record {
   stands = is.stands;
@@ -69,7 +69,7 @@ twice false true false = refl
 twice false false true = refl
 twice false false false = refl
 
-pub negated_copy : (g : List Node) (read : List ℕ) (e r : Edge) (b : Bool) (f : (ℕ → Bool) → Bool) → r.node ≡ e.node → r.negated ≡ exclusive_or e.negated b → IsCopy g read e f →
+pub negated_copy : (g : List GraphNode) (read : List ℕ) (e r : Edge) (b : Bool) (f : (ℕ → Bool) → Bool) → r.node ≡ e.node → r.negated ≡ exclusive_or e.negated b → IsCopy g read e f →
     IsCopy g read r (λ a. exclusive_or b (f a))
 negated_copy g read e r b f node negated is = record {
   stands = subst (λ k. k < length g) (sym node) is.stands;
@@ -81,8 +81,8 @@ negated_copy g read e r b f node negated is = record {
 
 -- the values of nodes
 
-module _ (g : List Node) (law : OneWay g) (k : ℕ) (lt : k < length g) (a : ℕ → Bool) where
-  holds : (n : Node) → slice_index_or g k Input ≡ n → NodeHolds (values a g) k n
+module _ (g : List GraphNode) (law : OneWay g) (k : ℕ) (lt : k < length g) (a : ℕ → Bool) where
+  holds : (n : GraphNode) → slice_index_or g k Input ≡ n → NodeHolds (values a g) k n
   holds n is = subst (NodeHolds (values a g) k) is ((law.some a).0.holds k lt)
 
   pub at_false : slice_index_or g k Input ≡ False → values a g k ≡ false
@@ -101,7 +101,7 @@ module _ (g : List Node) (law : OneWay g) (k : ℕ) (lt : k < length g) (a : ℕ
   at_choice c x y is = holds (Choice c x y) is
 
 -- one node more that was taken over
-module _ (g : List Node) (read : List ℕ) (f : ℕ → (ℕ → Bool) → Bool) (node q : ℕ) (copy : Edge) (old : Option Edge) (is : IsCopy g read copy (f node)) (before : Takes g read old (f q)) where
+module _ (g : List GraphNode) (read : List ℕ) (f : ℕ → (ℕ → Bool) → Bool) (node q : ℕ) (copy : Edge) (old : Option Edge) (is : IsCopy g read copy (f node)) (before : Takes g read old (f q)) where
   put_by : (b : Bool) → (b ≡ true → node ≡ q) → Takes g read (cond b (Some copy) old) (f q)
   put_by true same = subst (λ (k : ℕ). IsCopy g read copy (f k)) (same refl) is
   put_by false same = before

@@ -4,7 +4,7 @@ use Rattle.std.specs.Prelude.{None, Option, Some}
 use Rattle.std.specs.Option.{is_some}
 use Rattle.clause_core.specs.Assignments.{Agrees}
 use Rattle.bit_graph.specs.declared.edge.Edge.{Edge}
-use Rattle.bit_graph.specs.declared.edge.Node.{Node as Gate}
+use Rattle.bit_graph.specs.declared.edge.GraphNode.{GraphNode as Gate}
 use Rattle.bit_graph.specs.Meaning.{Denotes, HasInputs}
 use Rattle.bit_graph.specs.Values.{OneWay, values}
 use Rattle.smv_tree.specs.declared.place.Place.{Place}

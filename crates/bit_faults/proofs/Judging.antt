@@ -7,7 +7,7 @@ use Rattle.std.proofs.lemmas.List.{map-append}
 use Rattle.std.proofs.lemmas.List.Folds.{list_all-append}
 use Rattle.smv_tree.specs.declared.tree.Program.{Program}
 use Rattle.smv_resolve.specs.declared.item.Item.{Item}
-use Rattle.smv_resolve.specs.declared.node.Node.{Node}
+use Rattle.smv_resolve.specs.declared.node.ExprNode.{ExprNode}
 use Rattle.smv_resolve.specs.Items.{ResolvedItem, item_by}
 use Rattle.smv_layout.specs.Layout.{items_of}
 use Rattle.smv_meaning.specs.declared.typed.Typed.{Typed}
@@ -23,17 +23,17 @@ is_other x = not (is_claim x.kind)
 abbrev is_other_item : Item → Bool
 is_other_item x = not (is_claim x.kind)
 
-picked : (nodes : List Node) (x : Item) (items : List Item) (there : List ResolvedItem) → map (item_by nodes) items ≡ there
+picked : (nodes : List ExprNode) (x : Item) (items : List Item) (there : List ResolvedItem) → map (item_by nodes) items ≡ there
     → (b : Bool) → map (item_by nodes) (cond b (x ∷ items) items) ≡ cond b (item_by nodes x ∷ there) there
 picked nodes x items there same true = ap (λ (l : List ResolvedItem). item_by nodes x ∷ l) same
 picked nodes x items there same false = same
 
-others : (nodes : List Node) (items : List Item) → map (item_by nodes) (filter is_other_item items) ≡ filter is_other (map (item_by nodes) items)
+others : (nodes : List ExprNode) (items : List Item) → map (item_by nodes) (filter is_other_item items) ≡ filter is_other (map (item_by nodes) items)
 others nodes [] = refl
 others nodes (x ∷ items) = picked nodes x (filter is_other_item items) (filter is_other (map (item_by nodes) items)) (others nodes items) (is_other_item x)
 
 -- the others, and then the claims
-pub judged_by : (p : Program) (nodes : List Node) (items plain claims : List Item) → map (item_by nodes) items ≡ items_of p → plain ≡ filter (λ (x : Item). not (is_claim x.kind)) items →
+pub judged_by : (p : Program) (nodes : List ExprNode) (items plain claims : List Item) → map (item_by nodes) items ≡ items_of p → plain ≡ filter (λ (x : Item). not (is_claim x.kind)) items →
     map (item_by nodes) claims ≡ specifications_of p → map (item_by nodes) (plain ++ claims) ≡ judged_items p
 judged_by p nodes items plain claims all are specs =
     map-append (item_by nodes) plain claims
@@ -93,7 +93,7 @@ module _ (test : ResolvedItem → Bool) where
 
 -- the outcome of each is known
 
-of_map : (nodes : List Node) (test : ResolvedItem → Bool) (items : List Item) (i : ℕ) (d : Item) → i < length items → list_all test (map (item_by nodes) items) ≡ true →
+of_map : (nodes : List ExprNode) (test : ResolvedItem → Bool) (items : List Item) (i : ℕ) (d : Item) → i < length items → list_all test (map (item_by nodes) items) ≡ true →
     test (item_by nodes (get_or items i d)) ≡ true
 of_map nodes test [] i d lt all = absurd (let no : ⊥ = omega (arith, lt) in no)
 of_map nodes test (x ∷ items) zero d lt all = (and_parts (test (item_by nodes x)) (list_all test (map (item_by nodes) items)) all).0

@@ -9,7 +9,7 @@ use Rattle.std.proofs.lemmas.List.Elements.{All-replicate}
 use Rattle.std.proofs.lemmas.List.Folds.{list_all_more, list_any_more}
 use Rattle.std.proofs.lemmas.Option.{slice_get-get_or}
 use Rattle.bit_graph.specs.declared.edge.Edge.{Edge}
-use Rattle.bit_graph.specs.declared.edge.Node.{Node as Gate}
+use Rattle.bit_graph.specs.declared.edge.GraphNode.{GraphNode as Gate}
 use Rattle.bit_graph.specs.Growth.{Extends}
 use Rattle.bit_graph.specs.Meaning.{edge_value}
 use Rattle.smv_tree.specs.declared.place.Place.{Place}
@@ -17,11 +17,11 @@ use Rattle.smv_value.specs.declared.operator.Operator.{Operator}
 use Rattle.smv_value.specs.declared.value.Value.{Value}
 use Rattle.smv_slots.specs.declared.slot.Slot.{Slot}
 use Rattle.smv_resolve.specs.declared.node.Naming.{Naming}
-use Rattle.smv_resolve.specs.declared.node.Node.{Node}
+use Rattle.smv_resolve.specs.declared.node.ExprNode.{ExprNode}
 use Rattle.smv_resolve.specs.Resolved.{Operands, Resolved, last_of, operands_of, part_at, part_of, parts_of, resolved_by}
 use Rattle.smv_resolve.proofs.Parts.{length-parts, part_is, parts_of-next}
-use Rattle.smv_meaning.specs.declared.outcome.Outcome.{Outcome}
-use Rattle.smv_meaning.specs.declared.outcome.Outcome.TheVariants.{Fault, Nothing, Values}
+use Rattle.smv_meaning.specs.declared.outcome.Evaluation.{Evaluation}
+use Rattle.smv_meaning.specs.declared.outcome.Evaluation.TheVariants.{Fault, Nothing, Values}
 use Rattle.smv_meaning.specs.Formulas.{are_known_formulas, fault_in, formula_fault, formula_faults, is_known, is_known_formula, is_over_formulas}
 use Rattle.smv_meaning.specs.Runs.{is_given}
 use Rattle.smv_meaning.specs.Tables.{outcome_at, outcomes_of}
@@ -31,7 +31,7 @@ use Rattle.bit_outcomes.proofs.Kept.{edge_kept}
 use Rattle.bit_faults.specs.Formulas.{AllStandIfAny, StandsIfAny, TellsFormula, TellsFormulas, TellsOwn, TellsSome}
 
 -- what is known is given
-pub known_given : (o : Outcome) → is_known o ≡ true → is_given o ≡ true
+pub known_given : (o : Evaluation) → is_known o ≡ true → is_given o ≡ true
 known_given Nothing known = cc
 known_given (Values vs) known = refl
 known_given (Fault rule place) known = refl
@@ -70,7 +70,7 @@ none_at zero k = refl
 none_at (suc n) zero = refl
 none_at (suc n) (suc k) = none_at n k
 
-pub none_tell : (v : ℕ → Bool) (slots : List Slot) (s u : List Value) (nodes : List Node) → TellsFormulas v slots s u (no_edges (length nodes)) (parts_of nodes)
+pub none_tell : (v : ℕ → Bool) (slots : List Slot) (s u : List Value) (nodes : List ExprNode) → TellsFormulas v slots s u (no_edges (length nodes)) (parts_of nodes)
 none_tell v slots s u nodes = record {
   long = length-replicate (length nodes) None ∙ sym (length-parts nodes);
   each = λ k. subst (λ (e : Option Edge). TellsFormula v slots s u e (part_at (parts_of nodes) k)) (sym (none_at (length nodes) k)) tt;
@@ -99,7 +99,7 @@ module _ (v : ℕ → Bool) (slots : List Slot) (s u : List Value) where
   abbrev faulty : Resolved → Bool
   faulty r = is_some (formula_fault slots s u r)
 
-  abbrev value : Resolved → Outcome
+  abbrev value : Resolved → Evaluation
   value r = outcome slots s u [] r
 
   -- one more
@@ -192,14 +192,14 @@ module _ (v : ℕ → Bool) (slots : List Slot) (s u : List Value) where
   unfolding parts_of
   none_told = record { long = refl; each = λ k. tt }
 
-  pub own_at : (nodes : List Node) (i : ℕ) (d : Node) (mine : Option Edge) → i < length nodes → TellsOwn v mine (outcome_at (outcomes_of slots s u [] nodes) i) →
+  pub own_at : (nodes : List ExprNode) (i : ℕ) (d : ExprNode) (mine : Option Edge) → i < length nodes → TellsOwn v mine (outcome_at (outcomes_of slots s u [] nodes) i) →
       TellsOwn v mine (value (resolved_by (parts_of (take i nodes)) (get_or nodes i d)))
   own_at nodes i d mine lt h =
       let n = get_or nodes i d in
       let part : part_of nodes i ≡ resolved_by (parts_of (take i nodes)) n = part_is nodes i n (slice_get-get_or nodes i d lt) in
       subst (TellsOwn v mine) (outcome_at-map slots s u [] (parts_of nodes) i ∙ ap value part) h
 
-  pub next_told : (nodes : List Node) (i : ℕ) (d : Node) (made : List (Option Edge)) (e : Option Edge) → i < length nodes → All_told made (parts_of (take i nodes)) →
+  pub next_told : (nodes : List ExprNode) (i : ℕ) (d : ExprNode) (made : List (Option Edge)) (e : Option Edge) → i < length nodes → All_told made (parts_of (take i nodes)) →
       Told e (resolved_by (parts_of (take i nodes)) (get_or nodes i d)) → All_told (made ++ e ∷ []) (parts_of (take (i + 1) nodes))
   next_told nodes i d made e lt so_far h =
       let parts = parts_of (take i nodes) in

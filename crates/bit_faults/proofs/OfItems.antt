@@ -16,9 +16,9 @@ use Rattle.smv_slots.specs.declared.slot.Slot.{Slot}
 use Rattle.smv_resolve.specs.declared.item.ItemKind.{ItemKind}
 use Rattle.smv_resolve.specs.declared.item.ItemKind.TheVariants as item
 use Rattle.smv_resolve.specs.Items.{ResolvedItem}
-use Rattle.smv_resolve.specs.declared.node.Node.{Node}
+use Rattle.smv_resolve.specs.declared.node.ExprNode.{ExprNode}
 use Rattle.smv_resolve.specs.Resolved.{Resolved, part_of, parts_of}
-use Rattle.smv_meaning.specs.declared.outcome.Outcome.{Outcome}
+use Rattle.smv_meaning.specs.declared.outcome.Evaluation.{Evaluation}
 use Rattle.smv_meaning.specs.Faults.{fault_of_value, is_outside, item_fault, slot_assigned, speaks_of_paths, type_assigned}
 use Rattle.smv_meaning.specs.Formulas.{fault_in, formula_fault, is_known_formula}
 use Rattle.smv_meaning.specs.Runs.{are_inputs, is_given, is_known_by, is_known_item, is_single, is_state, item_outcome, outcome_of_target, speaks_of_step}
@@ -35,7 +35,7 @@ some_if : {A : Type 0} (b : Bool) (x : A) (o : Option A) → is_some (if b then 
 some_if true x o = refl
 some_if false x o = refl
 
-pub value_fault : (declared : Option ValueType) (begins : Place) (o : Outcome) → is_some (fault_of_value declared begins o) ≡ (is_outside declared o || is_some (fault_in o))
+pub value_fault : (declared : Option ValueType) (begins : Place) (o : Evaluation) → is_some (fault_of_value declared begins o) ≡ (is_outside declared o || is_some (fault_in o))
 value_fault declared begins o = some_if {A = FaultRule × Place} (is_outside declared o) (fault.OutOfRange, begins) (fault_in o)
 
 -- the type of what is assigned is a type
@@ -98,7 +98,7 @@ of_types p v all =
 
 -- the outcome of an item's value, by the outcomes of nodes
 
-module _ (slots : List Slot) (s u t : List Value) (nodes : List Node) (k : ℕ) (kind : ItemKind) where
+module _ (slots : List Slot) (s u t : List Value) (nodes : List ExprNode) (k : ℕ) (kind : ItemKind) where
   pub outcome_of_step : speaks_of_step kind ≡ true → outcome_at (outcomes_of slots s u t nodes) k ≡ item_outcome slots s u t (part_of nodes k) kind
   outcome_of_step on =
       outcome_at-map slots s u t (parts_of nodes) k ∙ sym (ap (λ (b : Bool). if b then outcome slots s u t (part_of nodes k) else outcome_in slots s (part_of nodes k)) on)

@@ -8,7 +8,7 @@ use Rattle.std.proofs.lemmas.Simd.{map-map}
 use Rattle.bit_arith.specs.Number.{AllStand, values_of}
 use Rattle.bit_arith.proofs.Numbers.{AllStand-extends}
 use Rattle.bit_graph.specs.declared.edge.Edge.{Edge}
-use Rattle.bit_graph.specs.declared.edge.Node.{Node as Gate}
+use Rattle.bit_graph.specs.declared.edge.GraphNode.{GraphNode as Gate}
 use Rattle.bit_graph.specs.Growth.{Extends}
 use Rattle.bit_graph.specs.Meaning.{Consistent, Stands, edge_value}
 use Rattle.smv_tree.specs.declared.tree.Program.{Program}

@@ -3,7 +3,7 @@ use Rattle.std.specs.Prelude.{◌≡◌, ℕ, ◌<◌, ◌≤◌, Bool, true, no
 use Rattle.std.specs.List.{list_all}
 use Rattle.std.specs.Option.{is_some}
 use Rattle.bit_graph.specs.declared.edge.Edge.{Edge}
-use Rattle.bit_graph.specs.declared.edge.Node.{Node}
+use Rattle.bit_graph.specs.declared.edge.GraphNode.{GraphNode}
 use Rattle.bit_graph.specs.Values.{value_under}
 use Rattle.clause_core.specs.declared.literal.Lit.{Lit}
 use Rattle.clause_core.specs.Assignments.{ClauseTrue}
@@ -71,7 +71,7 @@ abbrev pub AreFaultQuestions : Program → List (Option Decided) → Type 0
 AreFaultQuestions p qs = AreQuestions p (judged_items p) qs
 
 -- Of a graph with n inputs, the clauses ask for the edge, and for the domains of the inputs that it reads.
-pub record IsAsked (n : ℕ) (g : List Node) (domains : List Edge) (e : Edge) (c : Decided) : Type 0 where
+pub record IsAsked (n : ℕ) (g : List GraphNode) (domains : List Edge) (e : Edge) (c : Decided) : Type 0 where
   pub read : List ℕ
   pub within_inputs : All (λ k. k < n) read
   pub reads : (a b : ℕ → Bool) → AgreeOn read a b → value_under a g e ≡ value_under b g e

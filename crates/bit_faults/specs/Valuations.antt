@@ -1,7 +1,7 @@
 -- What edges tell of a valuation of the declared types: a state, the inputs of a step from it, and the next state.
 use Rattle.std.specs.Prelude.{◌≡◌, ℕ, Bool, true, false, List, map}
 use Rattle.bit_graph.specs.declared.edge.Edge.{Edge}
-use Rattle.bit_graph.specs.declared.edge.Node.{Node}
+use Rattle.bit_graph.specs.declared.edge.GraphNode.{GraphNode}
 use Rattle.bit_arith.specs.Number.{AllStand}
 use Rattle.bit_graph.specs.Meaning.{Consistent, edge_value}
 use Rattle.std.specs.Option.{is_some}
@@ -29,7 +29,7 @@ abbrev pub edges_of : List ℕ → List Edge
 edges_of bits = map input bits
 
 -- two states and inputs, whose bits are the first inputs of the graph
-pub record TellsSides (g : List Node) (typed : Typed) (x : Sides) : Type 0 where
+pub record TellsSides (g : List GraphNode) (typed : Typed) (x : Sides) : Type 0 where
   pub from_bits : x.from.bits ≡ edges_of (layout_of typed.scope.program).state
   pub input_bits : x.inputs.bits ≡ edges_of (layout_of typed.scope.program).inputs
   pub to_bits : x.to.bits ≡ edges_of (layout_of typed.scope.program).next
@@ -38,7 +38,7 @@ pub record TellsSides (g : List Node) (typed : Typed) (x : Sides) : Type 0 where
   pub to : TellsState g typed x.to
 
 -- the outcomes of nodes there, and the faults of temporal formulas
-pub record TellsValuation (g : List Node) (typed : Typed) (x : Valuation) : Type 0 where
+pub record TellsValuation (g : List GraphNode) (typed : Typed) (x : Valuation) : Type 0 where
   pub sides : TellsSides g typed x.sides
   pub step : TellsStep g typed x.sides.from x.sides.inputs x.sides.to x.step
   pub formulas_stand : AllStandIfAny g x.formulas
@@ -47,12 +47,12 @@ pub record TellsValuation (g : List Node) (typed : Typed) (x : Valuation) : Type
       TellsFormulas v (slots_of typed.scope.program) (state_of typed.scope.program v) (inputs_of typed.scope.program v) x.formulas (parts_of typed.nodes)
 
 -- For each bit of a step the edge is true where the bits of its slot are a code, and each slot has values.
-pub record TellsDomains (g : List Node) (p : Program) (domains : List Edge) : Type 0 where
+pub record TellsDomains (g : List GraphNode) (p : Program) (domains : List Edge) : Type 0 where
   pub stand : AllStand g domains
   pub told : (v : ℕ → Bool) → Consistent v g → map (edge_value v) domains ≡ step_coded p v
   pub states : all_have_codes (state_types p) ≡ true
   pub inputs : all_have_codes (input_types p) ≡ true
 
 -- where the bits are a valuation, the edge is true just where the item faults
-abbrev pub TellsItem : List Node → Program → ResolvedItem → Edge → Type 0
+abbrev pub TellsItem : List GraphNode → Program → ResolvedItem → Edge → Type 0
 TellsItem g p x e = (v : ℕ → Bool) → Consistent v g → are_of_types p v ≡ true → edge_value v e ≡ is_some (fault_of_bits p x v)

@@ -1,14 +1,14 @@
 //! The part of a graph that edges read, as a graph of its own.
 
 ghost use Rattle.std.specs.Prelude.{◌<◌, ℕ, Bool, ◌&&◌, List, length, All, IfOk, OnOk, if◌then◌else◌};
-ghost use Rattle.bit_graph.specs.declared.edge.Node.{Node as Gate};
+ghost use Rattle.bit_graph.specs.declared.edge.GraphNode.{GraphNode as Gate};
 ghost use Rattle.bit_graph.specs.Growth.{Extends};
 ghost use Rattle.bit_graph.specs.Meaning.{HasInputs, IsBelow, Stands, exclusive_or};
 ghost use Rattle.bit_graph.specs.Values.{value_under, values};
 ghost use Rattle.bit_faults.specs.Cones.{Copies, IsCopy, Takes};
 ghost use Rattle.bit_faults.specs.Formulas.{StandsIfAny};
 
-use bit_graph::{Edge, Graph, Node};
+use bit_graph::{Edge, Graph, GraphNode};
 use std::alloc::{AllocError, Global};
 use std::collections::HashMap;
 
@@ -103,20 +103,20 @@ fn take_next(
 }
 
 // Adds the operands of a node.
-fn push_operands(rest: &mut Vec<usize>, node: Node) -> Result<(), AllocError>
+fn push_operands(rest: &mut Vec<usize>, node: GraphNode) -> Result<(), AllocError>
     ensures { OnOk result ((n k : ℕ) → IsBelow k node → k < n → All (λ i. i < n) rest.old.items → All (λ i. i < n) rest.new.items) }
 {
     match node {
-        Node::False | Node::Input => {}
-        Node::And(a, b) => {
+        GraphNode::False | GraphNode::Input => {}
+        GraphNode::And(a, b) => {
             rest.push(a.node)?;
             rest.push(b.node)?;
         }
-        Node::Xor(a, b) => {
+        GraphNode::Xor(a, b) => {
             rest.push(a)?;
             rest.push(b)?;
         }
-        Node::Choice(c, a, b) => {
+        GraphNode::Choice(c, a, b) => {
             rest.push(c)?;
             rest.push(a)?;
             rest.push(b.node)?;
@@ -141,24 +141,24 @@ fn copy_of(
 {
     graph.one_way();
     match graph.node(node) {
-        Node::False => Ok(Some(cone.graph.constant(false))),
-        Node::Input => {
+        GraphNode::False => Ok(Some(cone.graph.constant(false))),
+        GraphNode::Input => {
             cone.read.push(node)?;
             Ok(Some(Edge::to(node)))
         }
-        Node::And(a, b) => {
+        GraphNode::And(a, b) => {
             let one = taken(cone, a);
             let other = taken(cone, b);
             let copy = both(&mut cone.graph, one, other)?;
             Ok(copy)
         }
-        Node::Xor(a, b) => {
+        GraphNode::Xor(a, b) => {
             let one = taken(cone, Edge::to(a));
             let other = taken(cone, Edge::to(b));
             let copy = just_one(&mut cone.graph, one, other)?;
             Ok(copy)
         }
-        Node::Choice(c, a, b) => {
+        GraphNode::Choice(c, a, b) => {
             let condition = taken(cone, Edge::to(c));
             let one = taken(cone, Edge::to(a));
             let other = taken(cone, b);

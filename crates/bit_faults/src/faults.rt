@@ -9,7 +9,7 @@ ghost use Rattle.value_types.specs.Types.{is_type};
 ghost use Rattle.smv_tree.specs.declared.place.Place.{Place};
 ghost use Rattle.smv_resolve.specs.Items.{item_by};
 ghost use Rattle.smv_resolve.specs.Resolved.{parts_of};
-ghost use Rattle.smv_meaning.specs.declared.outcome.Outcome.{Outcome};
+ghost use Rattle.smv_meaning.specs.declared.outcome.Evaluation.{Evaluation};
 ghost use Rattle.smv_meaning.specs.Faults.{fault_of_value, slot_assigned, speaks_of_paths};
 ghost use Rattle.smv_meaning.specs.Runs.{is_given, speaks_of_step};
 ghost use Rattle.bit_outcomes.specs.Telling.{Tells, ToldStands};
@@ -124,7 +124,7 @@ fn fault_of_value(
     requires stands { ToldStands graph.old e.now }
     ensures extends { Extends graph.old graph.new }
     ensures stands { IfOk result (λ r. Stands graph.new r) }
-    ensures value { IfOk result (λ r. (v : ℕ → Bool) (begins : Place) (o : Outcome) → Consistent v graph.new → Tells v e.now o → is_given o ≡ true →
+    ensures value { IfOk result (λ r. (v : ℕ → Bool) (begins : Place) (o : Evaluation) → Consistent v graph.new → Tells v e.now o → is_given o ≡ true →
         edge_value v r ≡ is_some (fault_of_value (option_copied declared.entry) begins o)) }
 {
     let fault = fault_edge(e)?;

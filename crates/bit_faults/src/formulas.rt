@@ -1,13 +1,13 @@
 //! Where temporal formulas fault, as edges: one pass over the nodes.
 
 ghost use Rattle.std.specs.Prelude.{◌≡◌, [], ℕ, Bool, List, None, IfOk, slice_index_or};
-ghost use Rattle.bit_graph.specs.declared.edge.Node.{Node as Gate};
+ghost use Rattle.bit_graph.specs.declared.edge.GraphNode.{GraphNode as Gate};
 ghost use Rattle.bit_graph.specs.Growth.{Extends};
 ghost use Rattle.bit_graph.specs.Meaning.{Consistent};
 ghost use Rattle.smv_value.specs.declared.value.Value.{Value};
 ghost use Rattle.smv_slots.specs.declared.slot.Slot.{Slot};
 ghost use Rattle.smv_resolve.specs.Resolved.{Resolved, parts_of, resolved_by};
-ghost use Rattle.smv_meaning.specs.declared.outcome.Outcome.{Outcome};
+ghost use Rattle.smv_meaning.specs.declared.outcome.Evaluation.{Evaluation};
 ghost use Rattle.smv_meaning.specs.Tables.{outcome_at, outcomes_of};
 ghost use Rattle.smv_meaning.specs.Values.{outcome};
 ghost use Rattle.bit_outcomes.specs.Telling.{AllTold, Tells, TellsAll, ToldStands};
@@ -16,7 +16,7 @@ ghost use Rattle.bit_faults.specs.Formulas.{AllStandIfAny, StandsIfAny, TellsFor
 use bit_graph::{Edge, Graph};
 use bit_outcomes::{Told, fault_edge};
 use smv_meaning::is_over_formulas;
-use smv_resolve::{Node, last};
+use smv_resolve::{ExprNode, last};
 use sqlite_items::Items;
 use std::alloc::{AllocError, Global};
 
@@ -27,7 +27,7 @@ use std::alloc::{AllocError, Global};
 pub fn formula_edges(
     alloc: Global,
     graph: &mut Graph,
-    nodes: &[Node],
+    nodes: &[ExprNode],
     here: &[Told],
 ) -> Result<Items<Option<Edge>>, AllocError>
     requires { AllTold graph.old here.now }
@@ -48,7 +48,7 @@ pub fn formula_edges(
 // The edge that is true where the node of this number faults, if something is told of it.
 fn own_fault(here: &[Told], k: usize) -> Option<Edge>
     ensures stands { (g : List Gate) → AllTold g here.now → StandsIfAny g result }
-    ensures told { (v : ℕ → Bool) (os : List Outcome) → TellsAll v here.now os → TellsOwn v result (outcome_at os k) }
+    ensures told { (v : ℕ → Bool) (os : List Evaluation) → TellsAll v here.now os → TellsOwn v result (outcome_at os k) }
 {
     if k < here.len() {
         fault_if_told(&here[k])
@@ -59,7 +59,7 @@ fn own_fault(here: &[Told], k: usize) -> Option<Edge>
 
 fn fault_if_told(told: &Told) -> Option<Edge>
     ensures stands { (g : List Gate) → ToldStands g told.now → StandsIfAny g result }
-    ensures told { (v : ℕ → Bool) (o : Outcome) → Tells v told.now o → TellsOwn v result o }
+    ensures told { (v : ℕ → Bool) (o : Evaluation) → Tells v told.now o → TellsOwn v result o }
 {
     match fault_edge(told) {
         Ok(edge) => Some(edge),
@@ -72,7 +72,7 @@ fn edge_of_node(
     graph: &mut Graph,
     mine: Option<Edge>,
     edges: &[Option<Edge>],
-    node: &Node,
+    node: &ExprNode,
 ) -> Result<Option<Edge>, AllocError>
     requires mine { StandsIfAny graph.old mine }
     requires edges { AllStandIfAny graph.old edges.now }
@@ -82,19 +82,19 @@ fn edge_of_node(
         TellsOwn v mine (outcome slots s u [] (resolved_by parts node.now)) → TellsFormula v slots s u r (resolved_by parts node.now)) }
 {
     match *node {
-        Node::Constant(..) => Ok(Some(graph.constant(false))),
-        Node::Slot(..) => Ok(Some(graph.constant(false))),
-        Node::Whole(..) => Ok(None),
-        Node::Named(..) => Ok(mine),
-        Node::Next(..) => Ok(None),
-        Node::Operand(a) => Ok(edge_at(edges, a)),
-        Node::Apply(_, operator, count) => if is_over_formulas(operator) {
+        ExprNode::Constant(..) => Ok(Some(graph.constant(false))),
+        ExprNode::Slot(..) => Ok(Some(graph.constant(false))),
+        ExprNode::Whole(..) => Ok(None),
+        ExprNode::Named(..) => Ok(mine),
+        ExprNode::Next(..) => Ok(None),
+        ExprNode::Operand(a) => Ok(edge_at(edges, a)),
+        ExprNode::Apply(_, operator, count) => if is_over_formulas(operator) {
             let some = some_fault(graph, last(edges, count))?;
             Ok(some)
         } else {
             Ok(mine)
         },
-        Node::Link(_, operator, a, b) => if is_over_formulas(operator) {
+        ExprNode::Link(_, operator, a, b) => if is_over_formulas(operator) {
             let some = some_fault(graph, &[edge_at(edges, a), edge_at(edges, b)])?;
             Ok(some)
         } else {

@@ -2,19 +2,19 @@
 
 ghost use Rattle.std.specs.Prelude.{◌≡◌, List, map, option_and_then, slice_get, IfOk};
 ghost use Rattle.std.specs.Option.{option_copied};
-ghost use Rattle.smv_resolve.specs.declared.node.Node.{Node};
+ghost use Rattle.smv_resolve.specs.declared.node.ExprNode.{ExprNode};
 ghost use Rattle.smv_resolve.specs.Items.{target_by};
 ghost use Rattle.smv_resolve.specs.Resolved.{parts_of};
 ghost use Rattle.smv_meaning.specs.Faults.{slot_assigned, type_assigned};
 ghost use Rattle.smv_meaning.specs.Tables.{slot_at, slot_by_node};
 
-use smv_resolve::Node;
+use smv_resolve::ExprNode;
 use sqlite_items::at;
 use std::alloc::{AllocError, Global};
 use value_types::ValueType;
 
 /// The slot that each node is, itself or as what a name stands for. The only error is running out of memory.
-pub fn slots_assigned(alloc: Global, nodes: &[Node]) -> Result<Vec<Option<usize>>, AllocError>
+pub fn slots_assigned(alloc: Global, nodes: &[ExprNode]) -> Result<Vec<Option<usize>>, AllocError>
     ensures { IfOk result (λ slots. slots.items ≡ map slot_assigned (parts_of nodes.now)) }
 {
     let mut made = Vec::new(alloc);
@@ -26,18 +26,18 @@ pub fn slots_assigned(alloc: Global, nodes: &[Node]) -> Result<Vec<Option<usize>
 }
 
 // The slot that a node is, where these are those that the nodes before it are.
-fn slot_by_node(slots: &[Option<usize>], node: &Node) -> Option<usize>
+fn slot_by_node(slots: &[Option<usize>], node: &ExprNode) -> Option<usize>
     ensures { result ≡ slot_by_node slots.now node.now }
 {
     match *node {
-        Node::Slot(_, n) => Some(n),
-        Node::Named(_, _, a) => slot_at(slots, a),
-        Node::Operand(a) => slot_at(slots, a),
-        Node::Constant(..) => None,
-        Node::Whole(..) => None,
-        Node::Next(..) => None,
-        Node::Apply(..) => None,
-        Node::Link(..) => None,
+        ExprNode::Slot(_, n) => Some(n),
+        ExprNode::Named(_, _, a) => slot_at(slots, a),
+        ExprNode::Operand(a) => slot_at(slots, a),
+        ExprNode::Constant(..) => None,
+        ExprNode::Whole(..) => None,
+        ExprNode::Next(..) => None,
+        ExprNode::Apply(..) => None,
+        ExprNode::Link(..) => None,
     }
 }
 
@@ -57,7 +57,7 @@ pub fn type_assigned<'a>(
     slots: &[Option<usize>],
     target: Option<usize>,
 ) -> Option<&'a ValueType>
-    ensures { (nodes : List Node) → slots.now ≡ map slot_assigned (parts_of nodes) → option_copied result ≡ type_assigned types.now (target_by nodes target) }
+    ensures { (nodes : List ExprNode) → slots.now ≡ map slot_assigned (parts_of nodes) → option_copied result ≡ type_assigned types.now (target_by nodes target) }
 {
     match target {
         None => None,

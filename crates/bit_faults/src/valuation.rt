@@ -3,7 +3,7 @@
 ghost use Rattle.std.specs.Prelude.{◌≡◌, ◌≤◌, ℕ, Bool, List, true, length, IfOk};
 ghost use Rattle.std.specs.List.{list_any};
 ghost use Rattle.bit_arith.specs.Number.{AllStand};
-ghost use Rattle.bit_graph.specs.declared.edge.Node.{Node as Gate};
+ghost use Rattle.bit_graph.specs.declared.edge.GraphNode.{GraphNode as Gate};
 ghost use Rattle.bit_graph.specs.Growth.{Extends};
 ghost use Rattle.bit_graph.specs.Meaning.{Consistent};
 ghost use Rattle.smv_value.specs.declared.value.Value.{Value};
@@ -28,7 +28,7 @@ use bit_graph::{Edge, Graph};
 use bit_outcomes::Told;
 use bit_states::Layout;
 use smv_meaning::Typed;
-use smv_resolve::{Item, Node};
+use smv_resolve::{ExprNode, Item};
 use sqlite_items::Items;
 use std::alloc::{AllocError, Global};
 use value_types::ValueType;
@@ -109,7 +109,7 @@ fn some_paths(items: &[Item]) -> bool
 }
 
 // Nothing of each node.
-fn no_formulas(alloc: Global, nodes: &[Node]) -> Result<Items<Option<Edge>>, AllocError>
+fn no_formulas(alloc: Global, nodes: &[ExprNode]) -> Result<Items<Option<Edge>>, AllocError>
     ensures stand { IfOk result (λ es. (g : List Gate) → AllStandIfAny g es) }
     ensures told { IfOk result (λ es. (v : ℕ → Bool) (slots : List Slot) (s u : List Value) → TellsFormulas v slots s u es (parts_of nodes.now)) }
 {

@@ -5,8 +5,8 @@ use Rattle.std.proofs.Math.Bool.{or-false}
 use Rattle.std.proofs.Math.ListN.{get_or-map}
 use Rattle.std.proofs.lemmas.List.{map-append, take_more}
 use Rattle.smv_slots.specs.declared.slot.Slot.{Slot}
-use Rattle.smv_resolve.specs.declared.node.Node.{Node}
-use Rattle.smv_resolve.specs.declared.node.Node.TheVariants as node
+use Rattle.smv_resolve.specs.declared.node.ExprNode.{ExprNode}
+use Rattle.smv_resolve.specs.declared.node.ExprNode.TheVariants as node
 use Rattle.smv_resolve.specs.Resolved.{Resolved, operands_of, last_of, part_at, part_of, parts_of, resolved_by}
 use Rattle.smv_resolve.proofs.Parts.{last_of-map, parts_of-push}
 use Rattle.smv_formulas.specs.Says.{atom_parts}
@@ -25,7 +25,7 @@ module _ (test : Option Slot → Bool) (slots : List Slot) where
   mark_at-parts : (parts : List Resolved) (k : ℕ) → mark_at (map reads parts) k ≡ reads (part_at parts k)
   mark_at-parts parts k = get_or-map reads parts k Resolved.Stuck
 
-  mark_by-resolved : (parts : List Resolved) (n : Node) → mark_by test slots (map reads parts) n ≡ reads (resolved_by parts n)
+  mark_by-resolved : (parts : List Resolved) (n : ExprNode) → mark_by test slots (map reads parts) n ≡ reads (resolved_by parts n)
   mark_by-resolved parts (node.Constant place b) = refl
   mark_by-resolved parts (node.Slot place k) = refl
   mark_by-resolved parts (node.Whole place i) = refl
@@ -44,7 +44,7 @@ module _ (test : Option Slot → Bool) (slots : List Slot) where
   marks_none = refl
 
   -- one node more of a list, by the marks of those before it
-  pub marks_next : (nodes : List Node) (made : List Bool) (i : ℕ) (d : Node) (mark : Bool) → i < length nodes
+  pub marks_next : (nodes : List ExprNode) (made : List Bool) (i : ℕ) (d : ExprNode) (mark : Bool) → i < length nodes
       → made ≡ marks_of test slots (take i nodes) → mark ≡ mark_by test slots made (get_or nodes i d) → made ++ mark ∷ [] ≡ marks_of test slots (take (i + 1) nodes)
   marks_next nodes made i d mark within so_far is =
       let first = take i nodes in
@@ -57,7 +57,7 @@ module _ (test : Option Slot → Bool) (slots : List Slot) where
       ∙ ap (marks_of test slots) (sym (take_more nodes i d within))
 
   -- the marks of atoms
-  pub marked_atoms : (nodes : List Node) (atoms : List ℕ) → list_any (λ (k : ℕ). mark_at (marks_of test slots nodes) k) atoms ≡ list_any reads (atom_parts nodes atoms)
+  pub marked_atoms : (nodes : List ExprNode) (atoms : List ℕ) → list_any (λ (k : ℕ). mark_at (marks_of test slots nodes) k) atoms ≡ list_any reads (atom_parts nodes atoms)
   marked_atoms nodes [] = refl
   marked_atoms nodes (a ∷ atoms) =
       ap (λ (b : Bool). b || list_any (λ (k : ℕ). mark_at (marks_of test slots nodes) k) atoms) (mark_at-parts (parts_of nodes) a)

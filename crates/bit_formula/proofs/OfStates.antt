@@ -11,14 +11,14 @@ use Rattle.smv_tree.specs.declared.tree.SpecificationKind.TheVariants as claim
 use Rattle.smv_value.specs.declared.value.Value.{Value}
 use Rattle.smv_slots.specs.declared.slot.Slot.{Slot}
 use Rattle.smv_slots.specs.Slots.{slots_of}
-use Rattle.smv_resolve.specs.declared.node.Node.{Node}
+use Rattle.smv_resolve.specs.declared.node.ExprNode.{ExprNode}
 use Rattle.smv_resolve.specs.declared.item.ItemKind.{ItemKind}
 use Rattle.smv_resolve.specs.declared.item.ItemKind.TheVariants as item
 use Rattle.smv_resolve.specs.Items.{ResolvedItem}
 use Rattle.smv_layout.specs.Layout.{items_of}
 use Rattle.smv_resolve.specs.Resolved.{Resolved, part_of, parts_of}
-use Rattle.smv_meaning.specs.declared.outcome.Outcome.{Outcome}
-use Rattle.smv_meaning.specs.declared.outcome.Outcome.TheVariants.{Fault, Nothing, Values}
+use Rattle.smv_meaning.specs.declared.outcome.Evaluation.{Evaluation}
+use Rattle.smv_meaning.specs.declared.outcome.Evaluation.TheVariants.{Fault, Nothing, Values}
 use Rattle.smv_meaning.specs.Formulas.{is_known, is_known_formula}
 use Rattle.smv_meaning.specs.Runs.{AllKnown, are_inputs, is_claim, is_given, is_known_by, is_known_item, is_state, specifications_of}
 use Rattle.smv_meaning.specs.Tables.{outcome_at, outcomes_of}
@@ -32,7 +32,7 @@ use Rattle.bit_formula.specs.Conditions.{AreGiven, defined_values, truths_in}
 use Rattle.bit_formula.specs.Standing.{atom_values, is_true_at, joint_just_values}
 
 -- what is known is given
-given_of : (o : Outcome) → is_known o ≡ true → is_given o ≡ true
+given_of : (o : Evaluation) → is_known o ≡ true → is_given o ≡ true
 given_of (Fault rule place) h = refl
 given_of (Values vs) h = refl
 given_of Nothing h = absurd (let no : ⊥ = cc in no)
@@ -68,7 +68,7 @@ module _ (p : Program) (known : AllKnown p) (spec : ResolvedItem) (among : Conta
 
 -- atoms by the outcomes of nodes, and by their parts
 
-pub atoms_at : {A : Type 0} (f : Outcome → A) (slots : List Slot) (s u : List Value) (nodes : List Node) (atoms : List ℕ)
+pub atoms_at : {A : Type 0} (f : Evaluation → A) (slots : List Slot) (s u : List Value) (nodes : List ExprNode) (atoms : List ℕ)
     → map (λ (a : ℕ). f (outcome_at (outcomes_of slots s u [] nodes) a)) atoms ≡ map (λ (e : Resolved). f (outcome slots s u [] e)) (atom_parts nodes atoms)
 atoms_at f slots s u nodes [] = refl
 atoms_at f slots s u nodes (a ∷ atoms) =
@@ -76,7 +76,7 @@ atoms_at f slots s u nodes (a ∷ atoms) =
     let rest = atoms_at f slots s u nodes atoms in
     λ i. here i ∷ rest i
 
-pub given_at : (slots : List Slot) (s u : List Value) (nodes : List Node) (atoms : List ℕ) → list_all (λ (e : Resolved). is_given (outcome slots s u [] e)) (atom_parts nodes atoms) ≡ true
+pub given_at : (slots : List Slot) (s u : List Value) (nodes : List ExprNode) (atoms : List ℕ) → list_all (λ (e : Resolved). is_given (outcome slots s u [] e)) (atom_parts nodes atoms) ≡ true
     → list_all (λ (a : ℕ). is_given (outcome_at (outcomes_of slots s u [] nodes) a)) atoms ≡ true
 given_at slots s u nodes atoms h =
     let all : List Bool → Bool = list_all (λ (b : Bool). b) in

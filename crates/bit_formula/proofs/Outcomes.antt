@@ -9,7 +9,7 @@ use Rattle.smv_value.specs.declared.value.Value.{Value}
 use Rattle.smv_slots.specs.declared.slot.Slot.{Slot}
 use Rattle.smv_slots.specs.Slots.{given_to, is_input, slots_of}
 use Rattle.smv_resolve.specs.Resolved.{Resolved, Operands}
-use Rattle.smv_meaning.specs.declared.outcome.Outcome.{Outcome}
+use Rattle.smv_meaning.specs.declared.outcome.Evaluation.{Evaluation}
 use Rattle.smv_meaning.specs.Outcomes.{applied, valued}
 use Rattle.smv_meaning.specs.Values.{outcome, outcomes}
 use Rattle.bit_formula.specs.Agreeing.{AreAllRead}
@@ -79,8 +79,8 @@ module _ (slots : List Slot) where
       outcomes_same : (s t : List Value) (rs : Operands) → Same (λ k. some_reads_slot (is_this_input k) slots rs) → outcomes slots s u t rs ≡ outcomes slots s v t rs
       outcomes_same s t Operands.End same = refl
       outcomes_same s t (Operands.With r rs) same =
-          ap (λ (x : Outcome). x ∷ outcomes slots s u t rs) (outcome_same s t r (λ k h. same k (or_left (is_read slots k r) (some_reads_slot (is_this_input k) slots rs) h)))
-          ∙ ap (λ (xs : List Outcome). outcome slots s v t r ∷ xs) (outcomes_same s t rs (λ k h. same k (or_right (is_read slots k r) (some_reads_slot (is_this_input k) slots rs) h)))
+          ap (λ (x : Evaluation). x ∷ outcomes slots s u t rs) (outcome_same s t r (λ k h. same k (or_left (is_read slots k r) (some_reads_slot (is_this_input k) slots rs) h)))
+          ∙ ap (λ (xs : List Evaluation). outcome slots s v t r ∷ xs) (outcomes_same s t rs (λ k h. same k (or_right (is_read slots k r) (some_reads_slot (is_this_input k) slots rs) h)))
 
 -- what one of the parts reads is read in them
 read_in : (slots : List Slot) (k : ℕ) (parts : List Resolved) (i : ℕ) (r : Resolved) → i < length parts → slice_index_or parts i r ≡ r → is_read slots k r ≡ true

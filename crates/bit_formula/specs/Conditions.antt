@@ -2,13 +2,13 @@
 use Rattle.std.specs.Prelude.{◌≡◌, ℕ, ◌&&◌, ◌++◌, Bool, true, List, [], length, map}
 use Rattle.std.specs.List.{list_all}
 use Rattle.bit_graph.specs.declared.edge.Edge.{Edge}
-use Rattle.bit_graph.specs.declared.edge.Node.{Node}
+use Rattle.bit_graph.specs.declared.edge.GraphNode.{GraphNode}
 use Rattle.bit_graph.specs.Meaning.{Consistent, HasInputs, edge_value}
 use Rattle.smv_tree.specs.declared.tree.Program.{Program}
 use Rattle.smv_resolve.specs.Resolved.{Resolved}
 use Rattle.smv_value.specs.declared.value.Value.{Value}
 use Rattle.smv_slots.specs.Slots.{slots_of}
-use Rattle.smv_meaning.specs.declared.outcome.Outcome.{Outcome}
+use Rattle.smv_meaning.specs.declared.outcome.Evaluation.{Evaluation}
 use Rattle.smv_meaning.specs.Runs.{are_inputs, is_given, is_state, is_true}
 use Rattle.smv_meaning.specs.Tables.{outcome_at}
 use Rattle.smv_meaning.specs.Values.{outcome}
@@ -28,13 +28,13 @@ AreGiven p parts =
     (s u : List Value) → is_state p s ≡ true → are_inputs p u ≡ true → list_all (λ (e : Resolved). is_given (outcome (slots_of p) s u [] e)) parts ≡ true
 
 -- the edges of inputs have the values of these bits
-pub record TellsRead (g : List Node) (p : Program) (inputs : ToldInputs) (bits : (ℕ → Bool) → List Bool) : Type 0 where
+pub record TellsRead (g : List GraphNode) (p : Program) (inputs : ToldInputs) (bits : (ℕ → Bool) → List Bool) : Type 0 where
   pub read : (v : ℕ → Bool) → Consistent v g → values_of v inputs.bits ≡ bits v
 
 -- An edge for each of these nodes, that is true where the node is TRUE and `valid` is. What is told there is so, and is
 -- a value or a fault.
-pub record TellsAtoms (g : List Node) (told : List Told) (valid : Edge) (atoms : List ℕ) (edges : List Edge) : Type 0 where
-  pub tells : (v : ℕ → Bool) (os : List Outcome) → Consistent v g
+pub record TellsAtoms (g : List GraphNode) (told : List Told) (valid : Edge) (atoms : List ℕ) (edges : List Edge) : Type 0 where
+  pub tells : (v : ℕ → Bool) (os : List Evaluation) → Consistent v g
       → (edge_value v valid ≡ true → TellsAll v told os × (list_all (λ (a : ℕ). is_given (outcome_at os a)) atoms ≡ true))
       → map (edge_value v) edges ≡ map (λ (a : ℕ). edge_value v valid && is_true (outcome_at os a)) atoms
 

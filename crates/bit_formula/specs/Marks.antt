@@ -2,8 +2,8 @@
 use Rattle.std.specs.Prelude.{ℕ, Bool, false, ◌||◌, List, map, Option, slice_get, slice_index_or}
 use Rattle.std.specs.List.{list_any}
 use Rattle.smv_slots.specs.declared.slot.Slot.{Slot}
-use Rattle.smv_resolve.specs.declared.node.Node.{Node}
-use Rattle.smv_resolve.specs.declared.node.Node.TheVariants as node
+use Rattle.smv_resolve.specs.declared.node.ExprNode.{ExprNode}
+use Rattle.smv_resolve.specs.declared.node.ExprNode.TheVariants as node
 use Rattle.smv_resolve.specs.Resolved.{last_of, parts_of}
 use Rattle.bit_formula.specs.declared.reading.Asked.{Asked}
 use Rattle.bit_formula.specs.declared.reading.Asked.TheVariants as asked
@@ -15,7 +15,7 @@ is_asked asked.Every = is_some_input
 is_asked (asked.One k) = is_this_input k
 
 -- whether the part of each node reads such a slot
-abbrev pub marks_of : (Option Slot → Bool) → List Slot → List Node → List Bool
+abbrev pub marks_of : (Option Slot → Bool) → List Slot → List ExprNode → List Bool
 marks_of test slots nodes = map (reads_slot test slots) (parts_of nodes)
 
 -- the mark of the node of this number
@@ -23,7 +23,7 @@ abbrev pub mark_at : List Bool → ℕ → Bool
 mark_at marks k = slice_index_or marks k false
 
 -- the mark of a node, where these are those of the nodes before it
-abbrev pub mark_by : (Option Slot → Bool) → List Slot → List Bool → Node → Bool
+abbrev pub mark_by : (Option Slot → Bool) → List Slot → List Bool → ExprNode → Bool
 mark_by test slots marks (node.Constant place b) = false
 mark_by test slots marks (node.Slot place n) = test (slice_get slots n)
 mark_by test slots marks (node.Whole place i) = false

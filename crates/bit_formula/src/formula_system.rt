@@ -44,7 +44,7 @@ pub struct FormulaSystem {
 
 impl Model for FormulaSystem {
     ghost use Rattle.std.specs.Coded.{codes};
-    ghost use Rattle.ltl_meaning.specs.contracts.node.Node as node;
+    ghost use Rattle.ltl_meaning.specs.contracts.node.FormulaNode as node;
     ghost use Rattle.ltl_meaning.specs.Temporal.{formula_of};
     ghost use Rattle.bit_formula.specs.Standing as standing;
     ghost use Rattle.bit_formula.specs.Stored.{formula_code};

@@ -9,7 +9,7 @@ ghost use Rattle.bit_formula.specs.Marks.{is_asked, mark_at, mark_by, marks_of};
 ghost use Rattle.bit_formula.specs.Reading.{is_read, reads_of, reads_slot};
 
 use smv_meaning::{Typed, slots};
-use smv_resolve::{Node, last};
+use smv_resolve::{ExprNode, last};
 use smv_slots::Slot;
 use smv_tree::VariableKind;
 use std::alloc::{AllocError, Global};
@@ -65,18 +65,18 @@ fn is_some_marked(marks: &[bool]) -> bool
 }
 
 // Whether a node reads an input that is asked for, by the marks of the nodes before it.
-fn mark_by(slots: &[Slot], asked: Asked, marks: &[bool], node: &Node) -> bool
+fn mark_by(slots: &[Slot], asked: Asked, marks: &[bool], node: &ExprNode) -> bool
     ensures { result ≡ mark_by (is_asked asked) slots.now marks.now node.now }
 {
     match *node {
-        Node::Constant(..) => false,
-        Node::Slot(_, n) => is_asked(slots, n, asked),
-        Node::Whole(..) => false,
-        Node::Named(_, _, a) => mark_at(marks, a),
-        Node::Next(..) => false,
-        Node::Operand(a) => mark_at(marks, a),
-        Node::Apply(_, _, count) => is_some_marked(last(marks, count)),
-        Node::Link(_, _, a, b) => mark_at(marks, a) || mark_at(marks, b),
+        ExprNode::Constant(..) => false,
+        ExprNode::Slot(_, n) => is_asked(slots, n, asked),
+        ExprNode::Whole(..) => false,
+        ExprNode::Named(_, _, a) => mark_at(marks, a),
+        ExprNode::Next(..) => false,
+        ExprNode::Operand(a) => mark_at(marks, a),
+        ExprNode::Apply(_, _, count) => is_some_marked(last(marks, count)),
+        ExprNode::Link(_, _, a, b) => mark_at(marks, a) || mark_at(marks, b),
     }
 }
 
@@ -84,7 +84,7 @@ fn mark_by(slots: &[Slot], asked: Asked, marks: &[bool], node: &Node) -> bool
 fn marks_of(
     alloc: Global,
     slots: &[Slot],
-    nodes: &[Node],
+    nodes: &[ExprNode],
     asked: Asked,
 ) -> Result<Vec<bool>, AllocError>
     ensures { IfOk result (λ marks. marks.items ≡ marks_of (is_asked asked) slots.now nodes.now) }
@@ -108,7 +108,7 @@ fn is_one_marked(marks: &[bool], nodes: &[usize]) -> bool
 fn is_read(
     alloc: Global,
     slots: &[Slot],
-    nodes: &[Node],
+    nodes: &[ExprNode],
     atoms: &[usize],
     asked: Asked,
 ) -> Result<bool, AllocError>
@@ -123,7 +123,7 @@ fn is_read(
 fn all_read(
     alloc: Global,
     slots: &[Slot],
-    nodes: &[Node],
+    nodes: &[ExprNode],
     atoms: &[usize],
     given: usize,
 ) -> Result<Vec<usize>, AllocError>

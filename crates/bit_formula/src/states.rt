@@ -8,7 +8,7 @@ ghost use Rattle.bit_outcomes.specs.Telling.{AllTold, TellsAll};
 ghost use Rattle.smv_resolve.specs.Resolved.{Resolved};
 ghost use Rattle.smv_slots.specs.Slots.{slots_of};
 ghost use Rattle.smv_formulas.specs.Says.{atom_parts};
-ghost use Rattle.smv_meaning.specs.declared.outcome.Outcome.{Outcome};
+ghost use Rattle.smv_meaning.specs.declared.outcome.Evaluation.{Evaluation};
 ghost use Rattle.smv_meaning.specs.Runs.{are_inputs, is_first_state, is_given, is_state, is_true};
 ghost use Rattle.smv_meaning.specs.Tables.{outcome_at};
 ghost use Rattle.smv_meaning.specs.Values.{outcome};
@@ -108,7 +108,7 @@ fn true_at(graph: &mut Graph, told: &[Told], k: usize) -> Result<Edge, AllocErro
     requires { AllTold graph.old told.now }
     ensures extends { Extends graph.old graph.new }
     ensures stands { IfOk result (λ e. Stands graph.new e) }
-    ensures value { IfOk result (λ e. (v : ℕ → Bool) (os : List Outcome) → Consistent v graph.new → TellsAll v told.now os → is_given (outcome_at os k) ≡ true →
+    ensures value { IfOk result (λ e. (v : ℕ → Bool) (os : List Evaluation) → Consistent v graph.new → TellsAll v told.now os → is_given (outcome_at os k) ≡ true →
         edge_value v e ≡ is_true (outcome_at os k)) }
 {
     if k < told.len() {
@@ -125,7 +125,7 @@ fn atom_edge(graph: &mut Graph, told: &[Told], valid: Edge, atom: usize) -> Resu
     requires valid { Stands graph.old valid }
     ensures extends { Extends graph.old graph.new }
     ensures stands { IfOk result (λ e. Stands graph.new e) }
-    ensures value { IfOk result (λ e. (v : ℕ → Bool) (os : List Outcome) → Consistent v graph.new → (edge_value v valid ≡ true → TellsAll v told.now os × (is_given (outcome_at os atom) ≡ true))
+    ensures value { IfOk result (λ e. (v : ℕ → Bool) (os : List Evaluation) → Consistent v graph.new → (edge_value v valid ≡ true → TellsAll v told.now os × (is_given (outcome_at os atom) ≡ true))
         → edge_value v e ≡ (edge_value v valid && is_true (outcome_at os atom))) }
 {
     let truth = true_at(graph, told, atom)?;

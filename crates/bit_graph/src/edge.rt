@@ -13,7 +13,7 @@ pub struct Edge {
 
 /// A node of a graph.
 #[derive(Clone, Copy, Debug, Drop, PartialEq, Eq, Hash)]
-pub enum Node {
+pub enum GraphNode {
     /// Always false.
     False,
     /// As the assignment says.

@@ -4,7 +4,7 @@ ghost use Rattle.std.specs.Prelude.{◌≡◌, ◌<◌, ℕ, false, length, IfOk
 ghost use Rattle.bit_graph.specs.Meaning.{IsBelow, edge_value};
 ghost use Rattle.bit_graph.specs.Values.{assigned, node_value, values};
 
-use crate::edge::{Edge, Node};
+use crate::edge::{Edge, GraphNode};
 use crate::graph::Graph;
 use std::alloc::{AllocError, Global};
 
@@ -22,21 +22,21 @@ pub fn evaluate(alloc: Global, graph: &Graph, inputs: &[bool]) -> Result<Vec<boo
     Ok(known)
 }
 
-fn value_at(node: Node, number: usize, known: &[bool], inputs: &[bool]) -> bool
+fn value_at(node: GraphNode, number: usize, known: &[bool], inputs: &[bool]) -> bool
     requires count { length known.now ≡ number }
     requires below { IsBelow number node }
     ensures { result ≡ node_value (assigned inputs.now) (assigned known.now) number node }
 {
     match node {
-        Node::False => false,
-        Node::Input => input_at(inputs, number),
-        Node::And(a, b) => {
+        GraphNode::False => false,
+        GraphNode::Input => input_at(inputs, number),
+        GraphNode::And(a, b) => {
             let first = edge_at(known, a);
             let second = edge_at(known, b);
             first && second
         }
-        Node::Xor(a, b) => { if known[a] { !known[b] } else { known[b] } }
-        Node::Choice(c, a, b) => {
+        GraphNode::Xor(a, b) => { if known[a] { !known[b] } else { known[b] } }
+        GraphNode::Choice(c, a, b) => {
             if known[c] {
                 known[a]
             } else {

@@ -2,13 +2,13 @@
 //! (Kuehlmann, Paruthi, Krohm and Ganai 2002).
 
 ghost use Rattle.std.specs.Prelude.{◌≡◌, ◌<◌, ◌≤◌, ◌+◌, ℕ, Bool, ◌&&◌, ◌||◌, ◌⊎◌, false, List, length, IfOk, IfSome, IsSome, ◌↔◌, slice_index_or, if◌then◌else◌, ◌++◌, ◌∷◌, [], replicate};
-ghost use Rattle.bit_graph.specs.declared.edge.Node.TheVariants.{False, Input};
+ghost use Rattle.bit_graph.specs.declared.edge.GraphNode.TheVariants.{False, Input};
 ghost use Rattle.bit_graph.specs.Meaning.{edge_value, exclusive_or, gate_value, IsGate, IsNode, Consistent, Stands, Acyclic, IsNew, Denotes, HasInputs, IsBelow};
 ghost use Rattle.bit_graph.specs.Growth.{Extends};
 ghost use Rattle.bit_graph.specs.Sharing.{IsConstant, IsFalse, Folded, IsReduced};
 ghost use Rattle.bit_graph.specs.Values.{OneWay};
 
-use crate::edge::{Edge, Node};
+use crate::edge::{Edge, GraphNode};
 use std::alloc::{AllocError, AllocFailed, Global};
 use std::collections::HashMap;
 use std::marker::Model;
@@ -19,21 +19,21 @@ use std::marker::Model;
 /// value (`one_way`), and no two gates are the same (`reduced`).
 #[derive(Drop)]
 pub struct Graph {
-    nodes: Vec<Node>,
+    nodes: Vec<GraphNode>,
     // the number of a node that is always false
     falsehood: usize,
     // the number of each gate
-    shared: HashMap<Node, usize>,
+    shared: HashMap<GraphNode, usize>,
 }
 
 impl Model for Graph {
     ghost use Rattle.std.specs.Prelude.{List};
-    ghost use Rattle.bit_graph.specs.declared.edge.Node.{Node};
-    ghost use Rattle.bit_graph.specs.declared.edge.Node.TheVariants.{False};
+    ghost use Rattle.bit_graph.specs.declared.edge.GraphNode.{GraphNode};
+    ghost use Rattle.bit_graph.specs.declared.edge.GraphNode.TheVariants.{False};
     ghost use Rattle.bit_graph.specs.Meaning.{Acyclic, IsNode};
     ghost use Rattle.bit_graph.specs.Sharing.{IsFolded, SharesIn};
 
-    ghost Value = { List Node };
+    ghost Value = { List GraphNode };
 
     ghost view = { λ g. g.nodes.items };
 
@@ -73,8 +73,9 @@ impl Graph {
         ensures value { IfSome result (λ b. Denotes self.now a (λ v. b)) }
     {
         match self.node(a.node) {
-            Node::False => Some(a.negated),
-            Node::Input | Node::And(..) | Node::Xor(..) | Node::Choice(..) => None,
+            GraphNode::False => Some(a.negated),
+            GraphNode::Input | GraphNode::And(..) | GraphNode::Xor(..) | GraphNode::Choice(..) =>
+                None,
         }
     }
 
@@ -100,9 +101,9 @@ impl Graph {
             None => {}
         }
         if a.node < b.node {
-            Ok(Edge::to(self.find_or_grow(Node::And(a, b))?))
+            Ok(Edge::to(self.find_or_grow(GraphNode::And(a, b))?))
         } else if b.node < a.node {
-            Ok(Edge::to(self.find_or_grow(Node::And(b, a))?))
+            Ok(Edge::to(self.find_or_grow(GraphNode::And(b, a))?))
         } else if a.negated == b.negated {
             Ok(a)
         } else {
@@ -142,10 +143,10 @@ impl Graph {
         }
         let negated = a.negated ^ b.negated;
         if a.node < b.node {
-            let node = self.find_or_grow(Node::Xor(a.node, b.node))?;
+            let node = self.find_or_grow(GraphNode::Xor(a.node, b.node))?;
             Ok(Edge { node, negated })
         } else if b.node < a.node {
-            let node = self.find_or_grow(Node::Xor(b.node, a.node))?;
+            let node = self.find_or_grow(GraphNode::Xor(b.node, a.node))?;
             Ok(Edge { node, negated })
         } else {
             Ok(self.constant(negated))
@@ -230,7 +231,7 @@ impl Graph {
         ensures value { IfOk result (λ e. Denotes self.new e (λ v. if v node then edge_value v a else edge_value v b)) }
     {
         let other = if a.negated { b.negation() } else { b };
-        let chosen = self.find_or_grow(Node::Choice(node, a.node, other))?;
+        let chosen = self.find_or_grow(GraphNode::Choice(node, a.node, other))?;
         Ok(Edge {
             node: chosen,
             negated: a.negated,
@@ -238,7 +239,7 @@ impl Graph {
     }
 
     /// The node with this number.
-    pub fn node(&self, number: usize) -> Node
+    pub fn node(&self, number: usize) -> GraphNode
         requires { number < length self.now }
         ensures value { result ≡ slice_index_or self.now number Input }
         ensures below { IsBelow number result }
@@ -276,7 +277,7 @@ impl Graph {
         let _ = &self.shared;
     }
 
-    fn find_or_grow(&mut self, gate: Node) -> Result<usize, AllocError>
+    fn find_or_grow(&mut self, gate: GraphNode) -> Result<usize, AllocError>
         requires gate { IsGate gate }
         requires below { IsBelow (length self.old) gate }
         requires folded { Folded self.old gate }
@@ -290,7 +291,7 @@ impl Graph {
         }
     }
 
-    fn grow(&mut self, gate: Node) -> Result<usize, AllocError>
+    fn grow(&mut self, gate: GraphNode) -> Result<usize, AllocError>
         requires gate { IsGate gate }
         requires below { IsBelow (length self.old) gate }
         requires folded { Folded self.old gate }
@@ -312,10 +313,10 @@ impl Graph {
 }
 
 // So many inputs, and behind them the node that is always false.
-fn first_nodes(alloc: Global, inputs: usize) -> Result<Vec<Node>, AllocError>
+fn first_nodes(alloc: Global, inputs: usize) -> Result<Vec<GraphNode>, AllocError>
     ensures { IfOk result (λ r. r.items ≡ replicate inputs Input ++ False ∷ []) }
 {
-    let mut nodes = vec![in alloc; Node::Input; inputs]?;
-    nodes.push(Node::False)?;
+    let mut nodes = vec![in alloc; GraphNode::Input; inputs]?;
+    nodes.push(GraphNode::False)?;
     Ok(nodes)
 }

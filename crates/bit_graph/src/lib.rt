@@ -14,6 +14,6 @@ mod edge;
 mod evaluation;
 mod graph;
 
-pub use edge::{Edge, Node};
+pub use edge::{Edge, GraphNode};
 pub use evaluation::evaluate;
 pub use graph::Graph;

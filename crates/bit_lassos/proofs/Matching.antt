@@ -27,8 +27,8 @@ use Rattle.smv_resolve.specs.Items.{ResolvedItem}
 use Rattle.smv_layout.specs.Layout.{items_of}
 use Rattle.smv_resolve.specs.Resolved.{Resolved, part_at}
 use Rattle.smv_slots.specs.Slots.{slots_of}
-use Rattle.smv_meaning.specs.declared.outcome.Outcome.{Outcome}
-use Rattle.smv_meaning.specs.declared.outcome.Outcome.TheVariants.{Fault, Nothing, Values}
+use Rattle.smv_meaning.specs.declared.outcome.Evaluation.{Evaluation}
+use Rattle.smv_meaning.specs.declared.outcome.Evaluation.TheVariants.{Fault, Nothing, Values}
 use Rattle.smv_meaning.specs.Lassos.{Holds, Lasso, MeetsJustice, place_at}
 use Rattle.smv_meaning.specs.Runs.{are_inputs, at_time, is_state, is_true}
 use Rattle.smv_meaning.specs.Outcomes.{one}
@@ -42,7 +42,7 @@ use Rattle.bit_formula.specs.Standing.{FormulaSystem, StandsForFormula, is_coded
 use Rattle.bit_formula.proofs.Joint.{inputs_apart}
 
 -- what is TRUE has the one value TRUE
-true_only : (o : Outcome) → is_true o ≡ true → o ≡ one (value.Bool true)
+true_only : (o : Evaluation) → is_true o ≡ true → o ≡ one (value.Bool true)
 true_only (Fault rule place) h = absurd (let no : ⊥ = cc in no)
 true_only Nothing h = absurd (let no : ⊥ = cc in no)
 true_only (Values []) h = absurd (let no : ⊥ = cc in no)
@@ -53,7 +53,7 @@ true_only (Values (value.Sym k ∷ [])) h = absurd (let no : ⊥ = cc in no)
 true_only (Values (value.Word s k b ∷ [])) h = absurd (let no : ⊥ = cc in no)
 true_only (Values (v ∷ u ∷ vs)) h = absurd (let no : ⊥ = cc in no)
 
-true_either : (o : Outcome) → (is_true o ≡ true) ↔ (o ≡ one (value.Bool true))
+true_either : (o : Evaluation) → (is_true o ≡ true) ↔ (o ≡ one (value.Bool true))
 true_either o = (true_only o, λ e. ap is_true e)
 
 -- formulas over atoms that are true at the same times, as far as they have them

@@ -11,10 +11,10 @@ use Rattle.std.proofs.lemmas.Nat.{pow_pos}
 use Rattle.std.proofs.lemmas.List.Sums.{count_by-le-length, count_by_more_no, count_by_more_yes}
 use Rattle.smv_value.specs.declared.value.Value.{Value}
 use Rattle.smv_value.specs.declared.value.Value.TheVariants as value
-use Rattle.smv_value.specs.Results.{counted, is_true, low_bits}
+use Rattle.smv_value.specs.Results.{number_of_word, is_true, low_bits}
 use Rattle.bit_graph.specs.declared.edge.Edge.{Edge}
 use Rattle.bit_graph.specs.Meaning.{edge_value}
-use Rattle.bit_graph.specs.declared.edge.Node.{Node}
+use Rattle.bit_graph.specs.declared.edge.GraphNode.{GraphNode}
 use Rattle.bit_arith.specs.Number.{AllStand, bit, number_of}
 use Rattle.bit_arith.specs.Words.{integer}
 use Rattle.bit_arith.proofs.Numbers.{bit-le}
@@ -28,7 +28,7 @@ use Rattle.bit_numbers.specs.Counts.{AllStandIn, AreDenoted, count_true}
 use Rattle.bit_numbers.proofs.OfIntegers.{integer_small}
 
 -- one edge as a number
-pub number_of_one : (v : ℕ → Bool) (e : Edge) (w : ℕ) → 0 < w → low_bits w (counted false 1 (number_of v (e ∷ []))) ≡ bit (edge_value v e)
+pub number_of_one : (v : ℕ → Bool) (e : Edge) (w : ℕ) → 0 < w → low_bits w (number_of_word false 1 (number_of v (e ∷ []))) ≡ bit (edge_value v e)
 number_of_one v e zero h = absurd (omega arith)
 number_of_one v e (suc w) h =
     let one : bit (edge_value v e) ≤ 1 = bit-le (edge_value v e) in
@@ -86,7 +86,7 @@ booleans_counted v ss es xs i h l d =
     let is : ss ≡ map symbolic.Boolean es = sym (take_all i ss l) ∙ h in
     sym (counted_from is_true xs) ∙ same_count v es xs (subst (λ ts. AreDenoted v ts xs) is d) ∙ counted_from (edge_value v) es
 
-pub booleans_stand : (g : List Node) (ss : List Symbolic) (es : List Edge) (i : ℕ) → take i ss ≡ map symbolic.Boolean es → length ss ≤ i → AllStandIn g ss → AllStand g es
+pub booleans_stand : (g : List GraphNode) (ss : List Symbolic) (es : List Edge) (i : ℕ) → take i ss ≡ map symbolic.Boolean es → length ss ≤ i → AllStandIn g ss → AllStand g es
 booleans_stand g ss es i h l s =
     let is : ss ≡ map symbolic.Boolean es = sym (take_all i ss l) ∙ h in
     let all : AllStandIn g (map symbolic.Boolean es) = subst (λ ts. AllStandIn g ts) is s in

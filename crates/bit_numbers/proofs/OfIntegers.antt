@@ -8,7 +8,7 @@ use Rattle.std.proofs.lemmas.Int.{ints}
 use Rattle.std.proofs.lemmas.Nat.{pow_pos}
 use mir.Syntax.{w64}
 use mir.Val.{SFits}
-use Rattle.smv_value.specs.Results.{counted, is_int, low_bits}
+use Rattle.smv_value.specs.Results.{number_of_word, is_int, low_bits}
 use Rattle.smv_value.proofs.Bits.{Near, near}
 use Rattle.value_types.proofs.Elements.{both_true, int_le_refl, same_int}
 use Rattle.bit_graph.specs.declared.edge.Edge.{Edge}

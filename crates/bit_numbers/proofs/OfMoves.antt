@@ -8,7 +8,7 @@ use Rattle.std.proofs.lemmas.Int.{ints}
 use Rattle.std.proofs.lemmas.Nat.{div-add-mod', div-mul-add, pow_pos}
 use Rattle.smv_value.specs.declared.operator.Shift.{Shift}
 use Rattle.smv_value.specs.declared.operator.Shift.TheVariants as shift
-use Rattle.smv_value.specs.Results.{counted, is_width, is_word, low_bits, moved, natural}
+use Rattle.smv_value.specs.Results.{number_of_word, is_width, is_word, low_bits, moved, natural}
 use Rattle.smv_value.proofs.Bits.{low_of_128, low_shifted}
 use Rattle.value_types.proofs.Elements.{both_true}
 use Rattle.bit_graph.specs.declared.edge.Edge.{Edge}
@@ -26,7 +26,7 @@ use Rattle.bit_numbers.specs.Shifts.{is_outside}
 word_is : (w a : ℕ) → is_width w ≡ true → a < 2 ^ w → IsTrue (is_word w a)
 word_is w a h l = both_true (is_width w) (nat_lt a (2 ^ w)) h (lt-ltb a (2 ^ w) l)
 
-pub left_low : (s : Bool) (w k a : ℕ) → is_width w ≡ true → a < 2 ^ w → shifted true w k false a ≡ low_bits w (counted s w a *ℤ pos (2 ^ k))
+pub left_low : (s : Bool) (w k a : ℕ) → is_width w ≡ true → a < 2 ^ w → shifted true w k false a ≡ low_bits w (number_of_word s w a *ℤ pos (2 ^ k))
 left_low s w k a h l =
     let e : 2 ^ k * a + 0 * (2 ^ k - 1) ≡ a * 2 ^ k = omega arith in
     ap (λ n. n % 2 ^ w) e ∙ sym (low_of_128 w (a * 2 ^ k) h) ∙ low_shifted s w a k (word_is w a h l)
@@ -67,7 +67,7 @@ right_at w k a false c l e = right_whole w k a l
 right_at w k a true zero l e = absurd (omega arith)
 right_at w k a true (suc d) l e = right_negative w k d a e
 
-pub right_low : (s : Bool) (w k a : ℕ) → a < 2 ^ w → shifted false w k (is_below_zero s w a) a ≡ low_bits w (int_shr (counted s w a) k)
+pub right_low : (s : Bool) (w k a : ℕ) → a < 2 ^ w → shifted false w k (is_below_zero s w a) a ≡ low_bits w (int_shr (number_of_word s w a) k)
 right_low false w k a l = right_at w k a false (2 ^ w - a) l (omega arith)
 right_low true w k a l = right_at w k a (is_negative w a) (2 ^ w - a) l (omega arith)
 
@@ -100,19 +100,19 @@ outside_is w z = grind (arith, ints)
 pub moved_left : (v : ℕ → Bool) (o : Shift) (s : Bool) (l m r : List Edge) (few : ℕ) (fill : Edge) → o ≡ shift.Left → few ≡ min (length m) (least_bits (length l + 1)) →
     edge_value v fill ≡ false → is_width (length l) ≡ true → is_outside (length l) (integer_of v m) ≡ false →
     number_of v r ≡ shifted true (length l) (number_of v (take few m)) (edge_value v fill) (number_of v l) →
-    number_of v r ≡ low_bits (length l) (moved o (counted s (length l) (number_of v l)) (natural (integer_of v m)))
+    number_of v r ≡ low_bits (length l) (moved o (number_of_word s (length l) (number_of v l)) (natural (integer_of v m)))
 moved_left v o s l m r few fill oe fe none w n h =
     let within_is = inside (length m) (number_of v m) (length l) (number-lt (edge_value v) m) n in
     let by : number_of v (take few m) ≡ natural (integer_of v m) = taken v m few (length l) fe within_is.1 ∙ sym within_is.0 in
     h ∙ (λ i. shifted true (length l) (by i) (none i) (number_of v l)) ∙ left_low s (length l) (natural (integer_of v m)) (number_of v l) w (number-lt (edge_value v) l)
-    ∙ ap (λ q. low_bits (length l) (moved q (counted s (length l) (number_of v l)) (natural (integer_of v m)))) (sym oe)
+    ∙ ap (λ q. low_bits (length l) (moved q (number_of_word s (length l) (number_of v l)) (natural (integer_of v m)))) (sym oe)
 
 pub moved_right : (v : ℕ → Bool) (o : Shift) (s : Bool) (l m r : List Edge) (few : ℕ) (fill : Edge) → o ≡ shift.Right → few ≡ min (length m) (least_bits (length l + 1)) →
     edge_value v fill ≡ is_below_zero s (length l) (number_of v l) → is_outside (length l) (integer_of v m) ≡ false →
     number_of v r ≡ shifted false (length l) (number_of v (take few m)) (edge_value v fill) (number_of v l) →
-    number_of v r ≡ low_bits (length l) (moved o (counted s (length l) (number_of v l)) (natural (integer_of v m)))
+    number_of v r ≡ low_bits (length l) (moved o (number_of_word s (length l) (number_of v l)) (natural (integer_of v m)))
 moved_right v o s l m r few fill oe fe fi n h =
     let within_is = inside (length m) (number_of v m) (length l) (number-lt (edge_value v) m) n in
     let by : number_of v (take few m) ≡ natural (integer_of v m) = taken v m few (length l) fe within_is.1 ∙ sym within_is.0 in
     h ∙ (λ i. shifted false (length l) (by i) (fi i) (number_of v l)) ∙ right_low s (length l) (natural (integer_of v m)) (number_of v l) (number-lt (edge_value v) l)
-    ∙ ap (λ q. low_bits (length l) (moved q (counted s (length l) (number_of v l)) (natural (integer_of v m)))) (sym oe)
+    ∙ ap (λ q. low_bits (length l) (moved q (number_of_word s (length l) (number_of v l)) (natural (integer_of v m)))) (sym oe)

@@ -9,7 +9,7 @@ use Rattle.smv_value.specs.declared.operator.Division.{Division}
 use Rattle.smv_value.specs.declared.operator.Shift.{Shift}
 use Rattle.smv_value.specs.declared.value.Value.{Value}
 use Rattle.smv_value.specs.declared.value.Value.TheVariants as value
-use Rattle.smv_value.specs.Results.{alike, amount, bits_from, constant_word, counted, divided, extended, is_beyond, is_int, is_too_far, is_value, is_width, is_word, is_zero, low_bits, moved, natural, of_integer, of_integers, of_number, of_numbers, selected, shifted, size, to_boolean, word, word_of}
+use Rattle.smv_value.specs.Results.{alike, amount, bits_from, constant_word, number_of_word, divided, extended, is_beyond, is_int, is_too_far, is_value, is_width, is_word, is_zero, low_bits, moved, natural, of_integer, of_integers, of_number, of_numbers, selected, shifted, size, to_boolean, word, word_of}
 use Rattle.bit_graph.specs.declared.edge.Edge.{Edge}
 use Rattle.bit_graph.specs.Meaning.{edge_value}
 use Rattle.bit_arith.specs.Number.{flip, number_of, values_of}
@@ -123,7 +123,7 @@ integers_two v f a b r d e l m x ia ib ld me er h =
 
 pub words_divided : (v : ℕ → Bool) (o : Division) (a b : Symbolic) (s t : Bool) (l m r u : List Edge) (e : Edge) → a ≡ symbolic.Word s l → b ≡ symbolic.Word t m → s ≡ t → length l ≡ length m →
     length r ≡ length l → edge_value v e ≡ eqb (number_of v m) 0 →
-    (eqb (number_of v m) 0 ≡ false → number_of v r ≡ low_bits (length l) (divided o (counted s (length l) (number_of v l)) (counted s (length l) (number_of v m)))) → u ≡ r →
+    (eqb (number_of v m) 0 ≡ false → number_of v r ≡ low_bits (length l) (divided o (number_of_word s (length l) (number_of v l)) (number_of_word s (length l) (number_of v m)))) → u ≡ r →
     ComputesUnless v (λ x y. is_zero y) (of_numbers (divided o)) a b (symbolic.Word s u) e
 words_divided v o a b s t l m r u e ia ib st lm rl ee h ur =
     let x : Value = value.Word s (length l) (number_of v l) in
@@ -134,7 +134,7 @@ words_divided v o a b s t l m r u e ia ib st lm rl ee h ur =
           (let c : x ≡ p = some_same x p (sym (ap (denoted v) ia) ∙ ep) in
           let d : y ≡ q = some_same y q (sym (ap (denoted v) ib) ∙ eq) in
           let some : eqb (number_of v m) 0 ≡ false = ap is_zero d ∙ tz in
-          sym (ap (λ b. cond b (Some (word s (length l) (divided o (counted s (length l) (number_of v l)) (counted s (length l) (number_of v m))))) None) (same_type s t (length l) (length m) st lm)
+          sym (ap (λ b. cond b (Some (word s (length l) (divided o (number_of_word s (length l) (number_of v l)) (number_of_word s (length l) (number_of v m))))) None) (same_type s t (length l) (length m) st lm)
           ∙ (λ i. Some (value.Word s (sym rl i) (sym (h some) i)))
           ∙ ap (λ es. Some (value.Word s (length es) (number_of v es))) (sym ur))
           ∙ (λ i. of_numbers (divided o) (c i) (d i)) ∙ fz);
@@ -171,14 +171,14 @@ integers_divided v o a b r d e l m x zero ia ib ld me er hz h =
 -- shifts
 
 moved_word : (v : ℕ → Bool) (o : Shift) (a : Symbolic) (s : Bool) (l r u : List Edge) (n k : ℤ) (z : Value) → a ≡ symbolic.Word s l → length r ≡ length l → u ≡ r → k ≡ n →
-    number_of v r ≡ low_bits (length l) (moved o (counted s (length l) (number_of v l)) (natural k)) →
-    Some (word s (length l) (moved o (counted s (length l) (number_of v l)) (natural n))) ≡ Some z → denoted v (symbolic.Word s u) ≡ Some z
+    number_of v r ≡ low_bits (length l) (moved o (number_of_word s (length l) (number_of v l)) (natural k)) →
+    Some (word s (length l) (moved o (number_of_word s (length l) (number_of v l)) (natural n))) ≡ Some z → denoted v (symbolic.Word s u) ≡ Some z
 moved_word v o a s l r u n k z ia rl ur kn h g =
-    (λ i. Some (value.Word s ((ap length ur ∙ rl) i) ((ap (number_of v) ur ∙ h ∙ ap (λ j. low_bits (length l) (moved o (counted s (length l) (number_of v l)) (natural j))) kn) i))) ∙ g
+    (λ i. Some (value.Word s ((ap length ur ∙ rl) i) ((ap (number_of v) ur ∙ h ∙ ap (λ j. low_bits (length l) (moved o (number_of_word s (length l) (number_of v l)) (natural j))) kn) i))) ∙ g
 
 pub shifted_by_word : (v : ℕ → Bool) (o : Shift) (a b : Symbolic) (s : Bool) (l m r u : List Edge) (k : ℤ) (far : Edge) → a ≡ symbolic.Word s l → b ≡ symbolic.Word false m →
     k ≡ pos (number_of v m) → edge_value v far ≡ is_outside (length l) k → length r ≡ length l →
-    (is_width (length l) ≡ true → is_outside (length l) k ≡ false → number_of v r ≡ low_bits (length l) (moved o (counted s (length l) (number_of v l)) (natural k))) → u ≡ r →
+    (is_width (length l) ≡ true → is_outside (length l) k ≡ false → number_of v r ≡ low_bits (length l) (moved o (number_of_word s (length l) (number_of v l)) (natural k))) → u ≡ r →
     ComputesUnless v is_too_far (shifted o) a b (symbolic.Word s u) far
 shifted_by_word v o a b s l m r u k far ia ib km ef rl h ur =
     let x : Value = value.Word s (length l) (number_of v l) in
@@ -200,7 +200,7 @@ far_test : (s : Bool) (w n : ℕ) → OfInteger (is_too_far (value.Word s w n)) 
 far_test s w n = record { integer = λ z. refl; symbol = λ k. refl }
 
 by_integer : (o : Shift) (x y z : Value) (s t : Bool) (w n : ℕ) (op : Option ℕ) (k : ℤ) → x ≡ value.Word s w n → value_by t op k ≡ Some y → shifted o x y ≡ Some z → is_too_far x y ≡ false →
-    (Some (word s w (moved o (counted s w n) (natural k))) ≡ Some z) × (is_outside w k ≡ false)
+    (Some (word s w (moved o (number_of_word s w n) (natural k))) ≡ Some z) × (is_outside w k ≡ false)
 by_integer o x y z s true w n None k e h g f = absurd cc
 by_integer o x y z s true w n (Some m) k e h g f =
     let d : value.Sym m ≡ y = some_same (value.Sym m) y h in
@@ -212,7 +212,7 @@ by_integer o x y z s false w n op k e h g f =
 pub shifted_by_integer : (v : ℕ → Bool) (o : Shift) (a b : Symbolic) (s : Bool) (d : Discrete) (l m r u : List Edge) (n past far : Edge) → a ≡ symbolic.Word s l → b ≡ symbolic.Discrete d →
     m ≡ d.number → n ≡ flip d.is_symbol → edge_value v past ≡ is_outside (length l) (integer_of v m) → edge_value v far ≡ (edge_value v n && edge_value v past) → length r ≡ length l →
     (is_width (length l) ≡ true → is_outside (length l) (integer_of v m) ≡ false →
-    number_of v r ≡ low_bits (length l) (moved o (counted s (length l) (number_of v l)) (natural (integer_of v m)))) → u ≡ r →
+    number_of v r ≡ low_bits (length l) (moved o (number_of_word s (length l) (number_of v l)) (natural (integer_of v m)))) → u ≡ r →
     ComputesUnless v is_too_far (shifted o) a b (symbolic.Word s u) far
 shifted_by_integer v o a b s d l m r u n past far ia ib md ni ep ef rl h ur =
     let x : Value = value.Word s (length l) (number_of v l) in
@@ -253,12 +253,12 @@ selected_word v a s l r u high low ia order within h ur =
     (word_of false n (pos (number_of v l / 2 ^ low))) z g))
 
 pub extended_word : (v : ℕ → Bool) (a : Symbolic) (s : Bool) (l r u : List Edge) (n : ℕ) → a ≡ symbolic.Word s l → length r ≡ length l + n →
-    number_of v r ≡ low_bits (length l + n) (counted s (length l) (number_of v l)) → u ≡ r → ComputesOne v (λ x. extended x (value.Int (pos n))) a (symbolic.Word s u)
+    number_of v r ≡ low_bits (length l + n) (number_of_word s (length l) (number_of v l)) → u ≡ r → ComputesOne v (λ x. extended x (value.Int (pos n))) a (symbolic.Word s u)
 extended_word v a s l r u n ia rl h ur =
     words_one v (λ x. extended x (value.Int (pos n))) a (symbolic.Word s u) s l ia
     (λ z w g.
     (λ i. Some (value.Word s ((ap length ur ∙ rl) i) ((ap (number_of v) ur ∙ h) i)))
-    ∙ given_is (is_width (length l + n)) (word s (length l + n) (counted s (length l) (number_of v l))) z g)
+    ∙ given_is (is_width (length l + n)) (word s (length l + n) (number_of_word s (length l) (number_of v l))) z g)
 
 pub boolean_of_word : (v : ℕ → Bool) (a : Symbolic) (s : Bool) (l : List Edge) (e : Edge) → a ≡ symbolic.Word s l → edge_value v e ≡ eqb (number_of v l) 1 →
     ComputesOne v to_boolean a (symbolic.Boolean e)

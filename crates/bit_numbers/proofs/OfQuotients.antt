@@ -7,7 +7,7 @@ use Rattle.std.proofs.lemmas.Int.{ints}
 use Rattle.std.proofs.lemmas.Nat.{pow_pos}
 use Rattle.smv_value.specs.declared.operator.Division.{Division}
 use Rattle.smv_value.specs.declared.operator.Division.TheVariants as division
-use Rattle.smv_value.specs.Results.{counted, divided, is_int, low_bits}
+use Rattle.smv_value.specs.Results.{number_of_word, divided, is_int, low_bits}
 use Rattle.bit_graph.specs.declared.edge.Edge.{Edge}
 use Rattle.bit_graph.specs.Meaning.{edge_value}
 use Rattle.bit_arith.specs.Number.{number_of}
@@ -46,30 +46,30 @@ abbrev pub circuit : Division → Bool → ℕ → ℕ → ℕ → ℕ
 circuit division.Quotient s w a b = quotient s w a b
 circuit division.Remainder s w a b = remainder s w a b
 
-quotient_low : (s : Bool) (w a b : ℕ) → a < 2 ^ w → eqb b 0 ≡ false → quotient s w a b ≡ low_bits w (int_div (counted s w a) (counted s w b))
+quotient_low : (s : Bool) (w a b : ℕ) → a < 2 ^ w → eqb b 0 ≡ false → quotient s w a b ≡ low_bits w (int_div (number_of_word s w a) (number_of_word s w b))
 quotient_low false w a b l z =
     let less : a / b < 2 ^ w = omega (arith, div-le_self a b) in
     ap (λ c. cond c (2 ^ w - 1) (a / b)) z ∙ sym (mod-eq_of_lt less)
 quotient_low true w a b l z =
     ap (λ c. cond c (cond (is_negative w a) 1 (2 ^ w - 1)) (code w (int_div (integer w a) (integer w b)))) z ∙ code_low w (int_div (integer w a) (integer w b))
 
-remainder_low : (s : Bool) (w a b : ℕ) → a < 2 ^ w → eqb b 0 ≡ false → remainder s w a b ≡ low_bits w (int_rem (counted s w a) (counted s w b))
+remainder_low : (s : Bool) (w a b : ℕ) → a < 2 ^ w → eqb b 0 ≡ false → remainder s w a b ≡ low_bits w (int_rem (number_of_word s w a) (number_of_word s w b))
 remainder_low false w a b l z =
     let less : a % b < 2 ^ w = omega (arith, mod-le a b) in
     ap (λ c. cond c a (a % b)) z ∙ sym (mod-eq_of_lt less)
 remainder_low true w a b l z =
     ap (λ c. cond c a (code w (int_rem (integer w a) (integer w b)))) z ∙ code_low w (int_rem (integer w a) (integer w b))
 
-pub circuit_low : (o : Division) (s : Bool) (w a b : ℕ) → a < 2 ^ w → eqb b 0 ≡ false → circuit o s w a b ≡ low_bits w (divided o (counted s w a) (counted s w b))
+pub circuit_low : (o : Division) (s : Bool) (w a b : ℕ) → a < 2 ^ w → eqb b 0 ≡ false → circuit o s w a b ≡ low_bits w (divided o (number_of_word s w a) (number_of_word s w b))
 circuit_low division.Quotient s w a b l z = quotient_low s w a b l z
 circuit_low division.Remainder s w a b l z = remainder_low s w a b l z
 
 -- the edges of a quotient or a remainder, by the circuit
 pub divided_bits_are : (v : ℕ → Bool) (o p : Division) (s : Bool) (l m r : List Edge) → p ≡ o → number_of v r ≡ circuit o s (length l) (number_of v l) (number_of v m) →
-    eqb (number_of v m) 0 ≡ false → number_of v r ≡ low_bits (length l) (divided p (counted s (length l) (number_of v l)) (counted s (length l) (number_of v m)))
+    eqb (number_of v m) 0 ≡ false → number_of v r ≡ low_bits (length l) (divided p (number_of_word s (length l) (number_of v l)) (number_of_word s (length l) (number_of v m)))
 divided_bits_are v o p s l m r po h z =
     h ∙ circuit_low o s (length l) (number_of v l) (number_of v m) (number-lt (edge_value v) l) z
-    ∙ ap (λ q. low_bits (length l) (divided q (counted s (length l) (number_of v l)) (counted s (length l) (number_of v m)))) (sym po)
+    ∙ ap (λ q. low_bits (length l) (divided q (number_of_word s (length l) (number_of v l)) (number_of_word s (length l) (number_of v m)))) (sym po)
 
 -- a quotient and a remainder are no larger than what is divided
 
@@ -109,7 +109,7 @@ divided_fits o m k x y l h =
 -- the integer of the edges, where both operands stand in this width
 pub divided_integer_is : (v : ℕ → Bool) (o : Division) (a b l m r : List Edge) (w : ℕ) → w ≡ bounded (max (length a) (length b) + 1) → length l ≡ w → length m ≡ w → length r ≡ w →
     number_of v l ≡ low_bits w (integer_of v a) → number_of v m ≡ low_bits w (integer_of v b) →
-    (eqb (number_of v m) 0 ≡ false → number_of v r ≡ low_bits (length l) (divided o (counted true (length l) (number_of v l)) (counted true (length l) (number_of v m)))) →
+    (eqb (number_of v m) 0 ≡ false → number_of v r ≡ low_bits (length l) (divided o (number_of_word true (length l) (number_of v l)) (number_of_word true (length l) (number_of v m)))) →
     is_int (integer_of v a) ≡ true → is_int (integer_of v b) ≡ true → (integer_of v b ≡ pos 0 → ⊥) → is_int (divided o (integer_of v a) (integer_of v b)) ≡ true →
     integer_of v r ≡ divided o (integer_of v a) (integer_of v b)
 divided_integer_is v o a b l m r w ew ll lm lr el em er ix iy some iz =
@@ -125,7 +125,7 @@ divided_integer_is v o a b l m r w ew ll lm lr el em er ix iy some iz =
     let nonzero : eqb (number_of v m) 0 ≡ false =
     false_from_ne_true (eqb (number_of v m) 0) (λ t. some (sym right ∙ ap (integer w) (eqb-true (number_of v m) 0 t) ∙ integer-zero w)) in
     let made : number_of v r ≡ low_bits w (divided o (integer w (number_of v l)) (integer w (number_of v m))) =
-    er nonzero ∙ ap (λ n. low_bits n (divided o (counted true n (number_of v l)) (counted true n (number_of v m)))) ll in
+    er nonzero ∙ ap (λ n. low_bits n (divided o (number_of_word true n (number_of v l)) (number_of_word true n (number_of v m)))) ll in
     ap (λ n. integer n (number_of v r)) lr
     ∙ low_integer w (number_of v r) (divided o x y) (below r lr) (made ∙ (λ i. low_bits w (divided o (left i) (right i))))
     (ap (λ n. fits n (divided o x y)) ew

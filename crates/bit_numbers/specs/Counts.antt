@@ -2,7 +2,7 @@
 use Rattle.std.specs.Prelude.{◌≡◌, ℕ, Bool, List, [], ◌∷◌, Some, All, count_by}
 use Rattle.smv_value.specs.declared.value.Value.{Value}
 use Rattle.bit_graph.specs.declared.edge.Edge.{Edge}
-use Rattle.bit_graph.specs.declared.edge.Node.{Node}
+use Rattle.bit_graph.specs.declared.edge.GraphNode.{GraphNode}
 use Rattle.bit_graph.specs.Meaning.{edge_value}
 use Rattle.bit_operators.specs.declared.symbolic.Symbolic.{Symbolic}
 use Rattle.bit_operators.specs.Denoting.{StandsIn, denoted}
@@ -15,7 +15,7 @@ AreDenoted v (s ∷ ss) [] = ⊥
 AreDenoted v (s ∷ ss) (x ∷ xs) = (denoted v s ≡ Some x) × AreDenoted v ss xs
 
 -- each operand's edges lead to nodes of the graph
-abbrev pub AllStandIn : List Node → List Symbolic → Type 0
+abbrev pub AllStandIn : List GraphNode → List Symbolic → Type 0
 AllStandIn g ss = All (StandsIn g) ss
 
 -- how many of the edges are true

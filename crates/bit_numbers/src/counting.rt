@@ -3,7 +3,7 @@
 ghost use Rattle.std.specs.Prelude.{◌≡◌, ◌<◌, ℕ, Bool, IfOk, IfSome, List, Some, count_by, is_some, length, pos};
 ghost use Rattle.std.specs.List.{list_all};
 ghost use Rattle.bit_graph.specs.Meaning.{Consistent, Stands, edge_value};
-ghost use Rattle.bit_graph.specs.declared.edge.Node.{Node};
+ghost use Rattle.bit_graph.specs.declared.edge.GraphNode.{GraphNode};
 ghost use Rattle.bit_graph.specs.Growth.{Extends};
 ghost use Rattle.bit_arith.specs.Number.{AllStand, bit, number_of};
 ghost use Rattle.smv_value.specs.declared.value.Value.{Value};
@@ -42,7 +42,7 @@ pub fn number_of_true(
 }
 
 fn booleans(alloc: Global, operands: &[Symbolic]) -> Result<Option<Vec<Edge>>, AllocError>
-    ensures stands { IfOk result (λ r. IfSome r (λ es. (g : List Node) → AllStandIn g operands.now → AllStand g es.items)) }
+    ensures stands { IfOk result (λ r. IfSome r (λ es. (g : List GraphNode) → AllStandIn g operands.now → AllStand g es.items)) }
     ensures value { IfOk result (λ r. IfSome r (λ es. (v : ℕ → Bool) (xs : List Value) → AreDenoted v operands.now xs → count_by is_true xs ≡ count_true v es.items)) }
     ensures kinds { IfOk result (λ r. is_some r ≡ list_all is_boolean operands.now) }
 {

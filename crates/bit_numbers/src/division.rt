@@ -5,7 +5,7 @@ ghost use Rattle.bit_graph.specs.Meaning.{Consistent, Stands, edge_value};
 ghost use Rattle.bit_graph.specs.Growth.{Extends};
 ghost use Rattle.bit_arith.specs.Number.{AllStand, number_of};
 ghost use Rattle.smv_value.specs.declared.value.Value.{Value};
-ghost use Rattle.smv_value.specs.Results.{counted, divided, is_int, is_zero, low_bits, of_numbers};
+ghost use Rattle.smv_value.specs.Results.{number_of_word, divided, is_int, is_zero, low_bits, of_numbers};
 ghost use Rattle.bit_operators.specs.Integers.{bounded};
 ghost use Rattle.bit_numbers.specs.Divisions.{division_rule};
 ghost use Rattle.bit_operators.specs.Denoting.{ComputesUnless, DiscreteStands, StandsIn, discrete_value, integer_of};
@@ -99,7 +99,7 @@ fn divided_bits(
     ensures stands { IfOk result (λ r. AllStand graph.new r.items) }
     ensures length { IfOk result (λ r. length r.items ≡ length a.now) }
     ensures value { IfOk result (λ r. (v : ℕ → Bool) → Consistent v graph.new → (number_of v b.now == 0) ≡ false →
-        number_of v r.items ≡ low_bits (length a.now) (divided o (counted signed (length a.now) (number_of v a.now)) (counted signed (length a.now) (number_of v b.now)))) }
+        number_of v r.items ≡ low_bits (length a.now) (divided o (number_of_word signed (length a.now) (number_of v a.now)) (number_of_word signed (length a.now) (number_of v b.now)))) }
 {
     match o {
         Division::Quotient => {

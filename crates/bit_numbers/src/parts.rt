@@ -1,13 +1,13 @@
 //! Parts of words, and words made of constants: `[ : ] extend bool sizeof uwconst swconst`.
 
 ghost use Rattle.std.specs.Prelude.{◌≡◌, ◌+◌, ◌-◌, ◌<◌, ◌≤◌, ◌&&◌, ℕ, Bool, IfOk, IfSome, List, Some, drop, int_le, is_some, length, pos, take};
-ghost use Rattle.bit_graph.specs.declared.edge.Node.{Node};
+ghost use Rattle.bit_graph.specs.declared.edge.GraphNode.{GraphNode};
 ghost use Rattle.bit_graph.specs.Meaning.{Consistent};
 ghost use Rattle.bit_graph.specs.Growth.{Extends};
 ghost use Rattle.smv_value.specs.declared.value.Value.{Value};
 ghost use Rattle.smv_value.specs.declared.value.Value.TheVariants.{Int};
 ghost use Rattle.bit_arith.specs.Number.{AllStand, number_of};
-ghost use Rattle.smv_value.specs.Results.{constant_word, counted, extended, low_bits, selected, size, to_boolean};
+ghost use Rattle.smv_value.specs.Results.{constant_word, number_of_word, extended, low_bits, selected, size, to_boolean};
 ghost use Rattle.bit_operators.specs.Denoting.{ComputesOne, StandsIn, denoted};
 ghost use Rattle.bit_operators.specs.Kinds.{has_bits, has_bits_from};
 
@@ -25,7 +25,7 @@ pub fn selected(
     high: i64,
     low: i64,
 ) -> Result<Option<Symbolic>, AllocError>
-    ensures stands { IfOk result (λ r. IfSome r (λ s. (g : List Node) → StandsIn g a.now → StandsIn g s)) }
+    ensures stands { IfOk result (λ r. IfSome r (λ s. (g : List GraphNode) → StandsIn g a.now → StandsIn g s)) }
     ensures value { IfOk result (λ r. IfSome r (λ s. (v : ℕ → Bool) → ComputesOne v (λ x. selected x (Int high) (Int low)) a.now s)) }
     ensures kinds { IfOk result (λ r. is_some r ≡ has_bits_from high low a.now) }
 {
@@ -96,7 +96,7 @@ fn wider(
     ensures stands { IfOk result (λ r. AllStand graph.now r.items) }
     ensures length { IfOk result (λ r. length r.items ≡ length bits.now + by) }
     ensures value { IfOk result (λ r. (v : ℕ → Bool) → Consistent v graph.now →
-        number_of v r.items ≡ low_bits (length bits.now + by) (counted signed (length bits.now) (number_of v bits.now))) }
+        number_of v r.items ≡ low_bits (length bits.now + by) (number_of_word signed (length bits.now) (number_of v bits.now))) }
 {
     let made = resized(alloc, graph, signed, bits, bits.len() + by as usize)?;
     Ok(made)

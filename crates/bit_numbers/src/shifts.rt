@@ -4,7 +4,7 @@ ghost use Rattle.std.specs.Prelude.{◌≡◌, ℕ, Bool, IfOk, IfSome, false, i
 ghost use Rattle.bit_graph.specs.Meaning.{Consistent, Denotes, Stands};
 ghost use Rattle.bit_graph.specs.Growth.{Extends};
 ghost use Rattle.bit_arith.specs.Number.{AllStand, number_of};
-ghost use Rattle.smv_value.specs.Results.{counted, is_too_far, is_width, low_bits, moved, natural, shifted};
+ghost use Rattle.smv_value.specs.Results.{number_of_word, is_too_far, is_width, low_bits, moved, natural, shifted};
 ghost use Rattle.bit_operators.specs.Denoting.{ComputesUnless, StandsIn, integer_of};
 ghost use Rattle.bit_operators.specs.Kinds.{can_shift};
 ghost use Rattle.bit_numbers.specs.Shifts.{is_outside};
@@ -115,7 +115,7 @@ fn moved(
     ensures stands { IfOk result (λ r. AllStand graph.new r.items) }
     ensures length { IfOk result (λ r. length r.items ≡ length a.now) }
     ensures value { IfOk result (λ r. (v : ℕ → Bool) → Consistent v graph.new → is_width (length a.now) ≡ true → is_outside (length a.now) (integer_of v amount.now) ≡ false →
-        number_of v r.items ≡ low_bits (length a.now) (moved o (counted signed (length a.now) (number_of v a.now)) (natural (integer_of v amount.now)))) }
+        number_of v r.items ≡ low_bits (length a.now) (moved o (number_of_word signed (length a.now) (number_of v a.now)) (natural (integer_of v amount.now)))) }
 {
     let few = amount.len().min(least_bits(a.len() as u64 + 1));
     match o {

@@ -5,7 +5,7 @@ use Rattle.std.proofs.Math.Nat.{mod-eq_of_lt, mod-lt}
 use Rattle.std.proofs.lemmas.Bool.{cases_Bool, cases_lt, le-leb, lt-leb, leb-true}
 use Rattle.std.proofs.lemmas.Int.{ints}
 use Rattle.std.proofs.lemmas.Nat.{mod-mul-add, div-add-mod', pow_pos}
-use Rattle.smv_value.specs.Results.{counted, is_int, low_bits}
+use Rattle.smv_value.specs.Results.{number_of_word, is_int, low_bits}
 use Rattle.smv_value.proofs.Bits.{Near, near, low_bits_is}
 use Rattle.bit_arith.specs.Words.{integer, is_negative}
 use Rattle.bit_operators.specs.Integers.{fits}
@@ -56,7 +56,7 @@ counted_at : (n m : ℕ) (b : Bool) → m < 2 ^ n → Near (2 ^ n) m (cond b (ne
 counted_at n m true l = near 1 0 (omega (arith, ints))
 counted_at n m false l = near 0 0 (omega (arith, ints))
 
-pub counted_near : (s : Bool) (n m : ℕ) → m < 2 ^ n → Near (2 ^ n) m (counted s n m)
+pub counted_near : (s : Bool) (n m : ℕ) → m < 2 ^ n → Near (2 ^ n) m (number_of_word s n m)
 counted_near false n m l = near 0 0 (omega (arith, ints))
 counted_near true n m l = counted_at n m (nat_le (2 ^ n) (2 * m)) l
 

@@ -7,7 +7,7 @@ use Rattle.smv_value.specs.declared.operator.Order.{Order}
 use Rattle.smv_value.specs.declared.operator.Order.TheVariants as order
 use Rattle.smv_value.specs.declared.value.Value.{Value}
 use Rattle.smv_value.specs.declared.value.Value.TheVariants as value
-use Rattle.smv_value.specs.Results.{alike, counted, integer, is_int, is_value, is_width, is_word, low_bits, of_numbers, order_truth, ordered, sum_of, word}
+use Rattle.smv_value.specs.Results.{alike, number_of_word, integer, is_int, is_value, is_width, is_word, low_bits, of_numbers, order_truth, ordered, sum_of, word}
 use Rattle.bit_graph.specs.declared.edge.Edge.{Edge}
 use Rattle.bit_graph.specs.Meaning.{edge_value}
 use Rattle.bit_arith.specs.Number.{flip, number_of}
@@ -62,20 +62,20 @@ numbers_only f = record { first = λ n y z h. cc; second = λ a n z h. cc }
 -- order
 
 pub words_less : (v : ℕ → Bool) (a b : Symbolic) (s t : Bool) (l m : List Edge) (e : Edge) → a ≡ symbolic.Word s l → b ≡ symbolic.Word t m → s ≡ t → length l ≡ length m →
-    edge_value v e ≡ int_lt (counted s (length l) (number_of v l)) (counted s (length l) (number_of v m)) → ComputesTwo v (ordered order.Less) a b (symbolic.Boolean e)
+    edge_value v e ≡ int_lt (number_of_word s (length l) (number_of v l)) (number_of_word s (length l) (number_of v m)) → ComputesTwo v (ordered order.Less) a b (symbolic.Boolean e)
 words_less v a b s t l m e ia ib st lm h =
     two_by v (ordered order.Less) a b (symbolic.Boolean e) (value.Word s (length l) (number_of v l)) (value.Word t (length m) (number_of v m)) (ap (denoted v) ia) (ap (denoted v) ib)
     (λ p q.
-    ap (λ c. cond c (Some (value.Bool (int_lt (counted s (length l) (number_of v l)) (counted s (length l) (number_of v m))))) None) (same_type s t (length l) (length m) st lm)
+    ap (λ c. cond c (Some (value.Bool (int_lt (number_of_word s (length l) (number_of v l)) (number_of_word s (length l) (number_of v m))))) None) (same_type s t (length l) (length m) st lm)
     ∙ ap (λ x. Some (value.Bool x)) (sym h))
 
 pub words_greater : (v : ℕ → Bool) (a b : Symbolic) (s t : Bool) (l m : List Edge) (e : Edge) → a ≡ symbolic.Word s l → b ≡ symbolic.Word t m → s ≡ t → length l ≡ length m →
-    edge_value v e ≡ int_lt (counted s (length l) (number_of v l)) (counted s (length l) (number_of v m)) → ComputesTwo v (ordered order.Greater) b a (symbolic.Boolean e)
+    edge_value v e ≡ int_lt (number_of_word s (length l) (number_of v l)) (number_of_word s (length l) (number_of v m)) → ComputesTwo v (ordered order.Greater) b a (symbolic.Boolean e)
 words_greater v a b s t l m e ia ib st lm h =
     two_by v (ordered order.Greater) b a (symbolic.Boolean e) (value.Word t (length m) (number_of v m)) (value.Word s (length l) (number_of v l)) (ap (denoted v) ib) (ap (denoted v) ia)
     (λ p q.
-    ap (λ c. cond c (Some (value.Bool (int_lt (counted t (length m) (number_of v l)) (counted t (length m) (number_of v m))))) None) (same_type t s (length m) (length l) (sym st) (sym lm))
-    ∙ (λ i. Some (value.Bool (int_lt (counted (sym st i) (sym lm i) (number_of v l)) (counted (sym st i) (sym lm i) (number_of v m)))))
+    ap (λ c. cond c (Some (value.Bool (int_lt (number_of_word t (length m) (number_of v l)) (number_of_word t (length m) (number_of v m))))) None) (same_type t s (length m) (length l) (sym st) (sym lm))
+    ∙ (λ i. Some (value.Bool (int_lt (number_of_word (sym st i) (sym lm i) (number_of v l)) (number_of_word (sym st i) (sym lm i) (number_of v m)))))
     ∙ ap (λ x. Some (value.Bool x)) (sym h))
 
 pub integers_less : (v : ℕ → Bool) (a b : Symbolic) (d f : Discrete) (e : Edge) → a ≡ symbolic.Discrete d → b ≡ symbolic.Discrete f →
@@ -115,7 +115,7 @@ at_least_at (value.Sym n) y z b h g = absurd cc
 at_least_at (value.Word s w n) (value.Bool y) z b h g = absurd cc
 at_least_at (value.Word s w n) (value.Int y) z b h g = absurd cc
 at_least_at (value.Word s w n) (value.Sym m) z b h g = absurd cc
-at_least_at (value.Word s w n) (value.Word t u m) z b h g = word_at (alike s w t u) (counted s w n) (counted s w m) z b h g
+at_least_at (value.Word s w n) (value.Word t u m) z b h g = word_at (alike s w t u) (number_of_word s w n) (number_of_word s w m) z b h g
 
 pub at_least : (v : ℕ → Bool) (a b : Symbolic) (e n : Edge) → n ≡ flip e → ComputesTwo v (ordered order.Less) a b (symbolic.Boolean e) → ComputesTwo v (ordered order.AtLeast) a b (symbolic.Boolean n)
 at_least v a b e n h less = record {
@@ -136,7 +136,7 @@ at_most_at (value.Sym n) y z b h g = absurd cc
 at_most_at (value.Word s w n) (value.Bool y) z b h g = absurd cc
 at_most_at (value.Word s w n) (value.Int y) z b h g = absurd cc
 at_most_at (value.Word s w n) (value.Sym m) z b h g = absurd cc
-at_most_at (value.Word s w n) (value.Word t u m) z b h g = word_at (alike s w t u) (counted s w m) (counted s w n) z b h g
+at_most_at (value.Word s w n) (value.Word t u m) z b h g = word_at (alike s w t u) (number_of_word s w m) (number_of_word s w n) z b h g
 
 pub at_most : (v : ℕ → Bool) (a b : Symbolic) (e n : Edge) → n ≡ flip e → ComputesTwo v (ordered order.Greater) b a (symbolic.Boolean e) → ComputesTwo v (ordered order.AtMost) b a (symbolic.Boolean n)
 at_most v a b e n h greater = record {
@@ -148,12 +148,12 @@ at_most v a b e n h greater = record {
 
 pub words_sum : (v : ℕ → Bool) (o : Arithmetic) (a b : Symbolic) (s t : Bool) (l m r u : List Edge) → a ≡ symbolic.Word s l → b ≡ symbolic.Word t m → s ≡ t → length l ≡ length m →
     length r ≡ length l →
-    (is_width (length l) ≡ true → number_of v r ≡ low_bits (length l) (sum_of o (counted s (length l) (number_of v l)) (counted s (length l) (number_of v m)))) → u ≡ r →
+    (is_width (length l) ≡ true → number_of v r ≡ low_bits (length l) (sum_of o (number_of_word s (length l) (number_of v l)) (number_of_word s (length l) (number_of v m)))) → u ≡ r →
     ComputesTwo v (of_numbers (sum_of o)) a b (symbolic.Word s u)
 words_sum v o a b s t l m r u ia ib st lm rl h ur =
     two_by v (of_numbers (sum_of o)) a b (symbolic.Word s u) (value.Word s (length l) (number_of v l)) (value.Word t (length m) (number_of v m)) (ap (denoted v) ia) (ap (denoted v) ib)
     (λ p q.
-    ap (λ c. cond c (Some (word s (length l) (sum_of o (counted s (length l) (number_of v l)) (counted s (length l) (number_of v m))))) None) (same_type s t (length l) (length m) st lm)
+    ap (λ c. cond c (Some (word s (length l) (sum_of o (number_of_word s (length l) (number_of v l)) (number_of_word s (length l) (number_of v m))))) None) (same_type s t (length l) (length m) st lm)
     ∙ (λ i. Some (value.Word s (sym rl i) (sym (h (and_left (is_width (length l)) _ p)) i)))
     ∙ ap (λ es. Some (value.Word s (length es) (number_of v es))) (sym ur))
 

@@ -4,7 +4,7 @@ use Rattle.std.proofs.Math.Nat.{mod-lt, pow-suc}
 use Rattle.std.proofs.lemmas.List.{length-replicate}
 use Rattle.std.proofs.lemmas.Int.{ints}
 use Rattle.std.proofs.lemmas.Nat.{div-add-mod', pow-add, pow_pos}
-use Rattle.smv_value.specs.Results.{counted, low_bits}
+use Rattle.smv_value.specs.Results.{number_of_word, low_bits}
 use Rattle.smv_value.proofs.Bits.{Near, near}
 use Rattle.bit_graph.specs.declared.edge.Edge.{Edge}
 use Rattle.bit_graph.specs.Meaning.{edge_value}
@@ -24,14 +24,14 @@ near_part p q m z some (near k j e) =
 
 -- fewer bits
 pub low_part : (v : ℕ → Bool) (s : Bool) (es : List Edge) (w : ℕ) → w ≤ length es →
-    number_of v (take w es) ≡ low_bits w (counted s (length es) (number_of v es))
+    number_of v (take w es) ≡ low_bits w (number_of_word s (length es) (number_of v es))
 low_part v s es w l =
     let n = length es in
     let m = number_of v es in
     let split : 2 ^ n ≡ 2 ^ (n - w) * 2 ^ w = (let e : (n - w) + w ≡ n = omega arith in ap (λ x. 2 ^ x) (sym e) ∙ pow-add 2 (n - w) w) in
-    let whole : Near (2 ^ (n - w) * 2 ^ w) m (counted s n m) = subst (λ p. Near p m (counted s n m)) split (counted_near s n m (number-lt (edge_value v) es)) in
+    let whole : Near (2 ^ (n - w) * 2 ^ w) m (number_of_word s n m) = subst (λ p. Near p m (number_of_word s n m)) split (counted_near s n m (number-lt (edge_value v) es)) in
     number-take_mod (edge_value v) w es l
-    ∙ low_bits_exact w (m % 2 ^ w) (counted s n m) (mod-lt m (pow_pos w)) (near_part (2 ^ w) (2 ^ (n - w)) m (counted s n m) (pow_pos w) whole)
+    ∙ low_bits_exact w (m % 2 ^ w) (number_of_word s n m) (mod-lt m (pow_pos w)) (near_part (2 ^ w) (2 ^ (n - w)) m (number_of_word s n m) (pow_pos w) whole)
 
 pub number-append : {A : Type 0} (f : A → Bool) (xs ys : List A) → number f (xs ++ ys) ≡ number f xs + 2 ^ length xs * number f ys
 number-append f [] ys = omega arith
@@ -48,13 +48,13 @@ wider_at : (n d m : ℕ) (b : Bool) → m < 2 ^ n → Near (2 ^ (n + d)) (m + 2 
 wider_at n d m true l = turned_near (2 ^ n) (2 ^ (n + d)) (2 ^ n * repeated true d) m l (filled (2 ^ n) (2 ^ d) (pow_pos d) ∙ sym (pow-add 2 n d))
 wider_at n d m false l = near 0 0 (omega (arith, ints))
 
-wider_near : (s : Bool) (n d m : ℕ) → m < 2 ^ n → Near (2 ^ (n + d)) (m + 2 ^ n * repeated (is_below_zero s n m) d) (counted s n m)
+wider_near : (s : Bool) (n d m : ℕ) → m < 2 ^ n → Near (2 ^ (n + d)) (m + 2 ^ n * repeated (is_below_zero s n m) d) (number_of_word s n m)
 wider_near false n d m l = near 0 0 (omega (arith, ints))
 wider_near true n d m l = wider_at n d m (is_negative n m) l
 
 -- more bits
 pub wider : (v : ℕ → Bool) (s : Bool) (es : List Edge) (e : Edge) (w : ℕ) → length es ≤ w → edge_value v e ≡ is_below_zero s (length es) (number_of v es) →
-    number_of v (es ++ replicate (w - length es) e) ≡ low_bits w (counted s (length es) (number_of v es))
+    number_of v (es ++ replicate (w - length es) e) ≡ low_bits w (number_of_word s (length es) (number_of v es))
 wider v s es e w l f =
     let n = length es in
     let m = number_of v es in
@@ -65,6 +65,6 @@ wider v s es e w l f =
     number-append (edge_value v) es (replicate (w - n) e)
     ∙ ap (λ x. m + 2 ^ n * x) (number-replicate (edge_value v) e (w - n) ∙ ap (λ b. repeated b (w - n)) f) in
     let small : number_of v whole < 2 ^ w = (let P : ℕ → Type 0 = λ x. number_of v whole < 2 ^ x in subst P long (number-lt (edge_value v) whole)) in
-    let near_n : Near (2 ^ (n + (w - n))) (number_of v whole) (counted s n m) =
-    subst (λ x. Near (2 ^ (n + (w - n))) x (counted s n m)) (sym is) (wider_near s n (w - n) m (number-lt (edge_value v) es)) in
-    low_bits_exact w (number_of v whole) (counted s n m) small (subst (λ x. Near (2 ^ x) (number_of v whole) (counted s n m)) up near_n)
+    let near_n : Near (2 ^ (n + (w - n))) (number_of v whole) (number_of_word s n m) =
+    subst (λ x. Near (2 ^ (n + (w - n))) x (number_of_word s n m)) (sym is) (wider_near s n (w - n) m (number-lt (edge_value v) es)) in
+    low_bits_exact w (number_of v whole) (number_of_word s n m) small (subst (λ x. Near (2 ^ x) (number_of v whole) (number_of_word s n m)) up near_n)

@@ -7,7 +7,7 @@ use Rattle.std.proofs.lemmas.Int.{ints}
 use Rattle.std.proofs.lemmas.Nat.{div-add-mod', pow-add, pow_pos}
 use Rattle.smv_value.specs.declared.operator.Arithmetic.{Arithmetic}
 use Rattle.smv_value.specs.declared.operator.Arithmetic.TheVariants as sum
-use Rattle.smv_value.specs.Results.{counted, is_int, is_width, is_word, low_bits, sum_of}
+use Rattle.smv_value.specs.Results.{number_of_word, is_int, is_width, is_word, low_bits, sum_of}
 use Rattle.smv_value.proofs.Bits.{Near, near, low_of_128, low_multiplied}
 use Rattle.bit_arith.specs.Words.{difference, integer, opposite}
 use Rattle.bit_arith.specs.Number.{number_of}
@@ -38,17 +38,17 @@ word_is : (w a : ℕ) → is_width w ≡ true → a < 2 ^ w → IsTrue (is_word 
 word_is w a h l = both_true (is_width w) (nat_lt a (2 ^ w)) h (lt-ltb a (2 ^ w) l)
 
 pub sum_low : (o : Arithmetic) (s : Bool) (w a b : ℕ) → is_width w ≡ true → a < 2 ^ w → b < 2 ^ w →
-    circuit o w a b ≡ low_bits w (sum_of o (counted s w a) (counted s w b))
+    circuit o w a b ≡ low_bits w (sum_of o (number_of_word s w a) (number_of_word s w b))
 sum_low sum.Add s w a b h l m =
-    sym (low_bits_near w (a + b) (counted s w a +ℤ counted s w b) (add_near (2 ^ w) a b (counted s w a) (counted s w b) (counted_near s w a l) (counted_near s w b m)))
+    sym (low_bits_near w (a + b) (number_of_word s w a +ℤ number_of_word s w b) (add_near (2 ^ w) a b (number_of_word s w a) (number_of_word s w b) (counted_near s w a l) (counted_near s w b m)))
 sum_low sum.Subtract s w a b h l m =
-    sym (low_bits_near w (a + 2 ^ w - b) (counted s w a -ℤ counted s w b)
-    (subtract_near (2 ^ w) a b (counted s w a) (counted s w b) (omega arith) (counted_near s w a l) (counted_near s w b m)))
+    sym (low_bits_near w (a + 2 ^ w - b) (number_of_word s w a -ℤ number_of_word s w b)
+    (subtract_near (2 ^ w) a b (number_of_word s w a) (number_of_word s w b) (omega arith) (counted_near s w a l) (counted_near s w b m)))
 sum_low sum.Multiply s w a b h l m =
     sym (low_of_128 w (a * b) h) ∙ low_multiplied s w a b (word_is w a h l) (word_is w b h m)
 
-pub negate_low : (s : Bool) (w b : ℕ) → b < 2 ^ w → opposite w b ≡ low_bits w (neg_ℤ (counted s w b))
-negate_low s w b m = sym (low_bits_near w (2 ^ w - b) (neg_ℤ (counted s w b)) (negate_near (2 ^ w) b (counted s w b) (omega arith) (counted_near s w b m)))
+pub negate_low : (s : Bool) (w b : ℕ) → b < 2 ^ w → opposite w b ≡ low_bits w (neg_ℤ (number_of_word s w b))
+negate_low s w b m = sym (low_bits_near w (2 ^ w - b) (neg_ℤ (number_of_word s w b)) (negate_near (2 ^ w) b (number_of_word s w b) (omega arith) (counted_near s w b m)))
 
 -- which integers so many bits hold
 
@@ -208,7 +208,7 @@ bounded_width n = both_true (nat_le 1 (bounded n)) (nat_le (bounded n) 128) (le-
 pub sum_integer : (o : Arithmetic) (m n : ℕ) (x y : ℤ) (a b r : ℕ) → fits m x ≡ true → fits n y ≡ true → is_int x ≡ true → is_int y ≡ true → is_int (sum_of o x y) ≡ true →
     a < 2 ^ bounded (sum_rule o m n) → b < 2 ^ bounded (sum_rule o m n) → r < 2 ^ bounded (sum_rule o m n) →
     a ≡ low_bits (bounded (sum_rule o m n)) x → b ≡ low_bits (bounded (sum_rule o m n)) y →
-    r ≡ low_bits (bounded (sum_rule o m n)) (sum_of o (counted true (bounded (sum_rule o m n)) a) (counted true (bounded (sum_rule o m n)) b)) →
+    r ≡ low_bits (bounded (sum_rule o m n)) (sum_of o (number_of_word true (bounded (sum_rule o m n)) a) (number_of_word true (bounded (sum_rule o m n)) b)) →
     integer (bounded (sum_rule o m n)) r ≡ sum_of o x y
 sum_integer o m n x y a b r fx fy ix iy iz la lb lr ea eb er =
     let w = bounded (sum_rule o m n) in
@@ -220,16 +220,16 @@ sum_integer o m n x y a b r fx fy ix iy iz la lb lr ea eb er =
 -- what the edges of a sum are, by its circuit
 pub sum_bits_are : (v : ℕ → Bool) (o p : Arithmetic) (s : Bool) (l m r : List Edge) → p ≡ o → length l ≡ length m → is_width (length l) ≡ true →
     number_of v r ≡ circuit o (length l) (number_of v l) (number_of v m) →
-    number_of v r ≡ low_bits (length l) (sum_of p (counted s (length l) (number_of v l)) (counted s (length l) (number_of v m)))
+    number_of v r ≡ low_bits (length l) (sum_of p (number_of_word s (length l) (number_of v l)) (number_of_word s (length l) (number_of v m)))
 sum_bits_are v o p s l m r po lm w h =
     let right : number_of v m < 2 ^ length l = (let P : ℕ → Type 0 = λ n. number_of v m < 2 ^ n in subst P (sym lm) (number-lt (edge_value v) m)) in
     h ∙ sum_low o s (length l) (number_of v l) (number_of v m) w (number-lt (edge_value v) l) right
-    ∙ ap (λ q. low_bits (length l) (sum_of q (counted s (length l) (number_of v l)) (counted s (length l) (number_of v m)))) (sym po)
+    ∙ ap (λ q. low_bits (length l) (sum_of q (number_of_word s (length l) (number_of v l)) (number_of_word s (length l) (number_of v m)))) (sym po)
 
 -- the integer of a sum's edges, where both operands stand in its width
 pub sum_integer_is : (v : ℕ → Bool) (o : Arithmetic) (a b l m r : List Edge) (w : ℕ) → w ≡ bounded (sum_rule o (length a) (length b)) → length l ≡ w → length m ≡ w → length r ≡ w →
     number_of v l ≡ low_bits w (integer_of v a) → number_of v m ≡ low_bits w (integer_of v b) →
-    (is_width (length l) ≡ true → number_of v r ≡ low_bits (length l) (sum_of o (counted true (length l) (number_of v l)) (counted true (length l) (number_of v m)))) →
+    (is_width (length l) ≡ true → number_of v r ≡ low_bits (length l) (sum_of o (number_of_word true (length l) (number_of v l)) (number_of_word true (length l) (number_of v m)))) →
     is_int (integer_of v a) ≡ true → is_int (integer_of v b) ≡ true → is_int (sum_of o (integer_of v a) (integer_of v b)) ≡ true →
     integer_of v r ≡ sum_of o (integer_of v a) (integer_of v b)
 sum_integer_is v o a b l m r w ew ll lm lr el em er ix iy iz =
@@ -239,8 +239,8 @@ sum_integer_is v o a b l m r w ew ll lm lr el em er ix iy iz =
     let fx : fits (length a) (integer_of v a) ≡ true = integer_fits (length a) (number_of v a) (number-lt (edge_value v) a) in
     let fy : fits (length b) (integer_of v b) ≡ true = integer_fits (length b) (number_of v b) (number-lt (edge_value v) b) in
     let wide : is_width (length l) ≡ true = ap is_width (ll ∙ ew) ∙ bounded_width (sum_rule o (length a) (length b)) in
-    let sum : number_of v r ≡ low_bits rule (sum_of o (counted true rule (number_of v l)) (counted true rule (number_of v m))) =
-    er wide ∙ ap (λ n. low_bits n (sum_of o (counted true n (number_of v l)) (counted true n (number_of v m)))) (ll ∙ ew) in
+    let sum : number_of v r ≡ low_bits rule (sum_of o (number_of_word true rule (number_of v l)) (number_of_word true rule (number_of v m))) =
+    er wide ∙ ap (λ n. low_bits n (sum_of o (number_of_word true n (number_of v l)) (number_of_word true n (number_of v m)))) (ll ∙ ew) in
     ap (λ n. integer n (number_of v r)) (lr ∙ ew)
     ∙ sum_integer o (length a) (length b) (integer_of v a) (integer_of v b) (number_of v l) (number_of v m) (number_of v r) fx fy ix iy iz
     (below l ll) (below m lm) (below r lr) (el ∙ ap (λ n. low_bits n (integer_of v a)) ew) (em ∙ ap (λ n. low_bits n (integer_of v b)) ew) sum

@@ -5,7 +5,7 @@ use Rattle.std.proofs.lemmas.List.{length-take-le}
 use Rattle.std.proofs.lemmas.Nat.{div-mul-add}
 use Rattle.smv_value.specs.declared.value.Value.{Value}
 use Rattle.smv_value.specs.declared.value.Value.TheVariants as value
-use Rattle.smv_value.specs.Results.{bits_from, counted, is_value, is_width, joined, low_bits, resized, selected, to_boolean, to_word, with_sign, word_of}
+use Rattle.smv_value.specs.Results.{bits_from, number_of_word, is_value, is_width, joined, low_bits, resized, selected, to_boolean, to_word, with_sign, word_of}
 use Rattle.smv_value.proofs.Bits.{Near, near}
 use Rattle.bit_graph.specs.declared.edge.Edge.{Edge}
 use Rattle.bit_graph.specs.Meaning.{edge_value}
@@ -58,11 +58,11 @@ joined_words v a b s t high low r u ia ib h ur =
 
 -- a word of another width
 pub resized_word : (v : ℕ → Bool) (a : Symbolic) (s : Bool) (es r u : List Edge) (n : ℕ) → a ≡ symbolic.Word s es → length r ≡ n →
-    number_of v r ≡ low_bits n (counted s (length es) (number_of v es)) → u ≡ r →
+    number_of v r ≡ low_bits n (number_of_word s (length es) (number_of v es)) → u ≡ r →
     ComputesOne v (λ x. resized x (value.Int (pos n))) a (symbolic.Word s u)
 resized_word v a s es r u n ia e h ur =
     one_given v (λ x. resized x (value.Int (pos n))) a (symbolic.Word s u) (value.Word s (length es) (number_of v es)) (ap (denoted v) ia)
-    (λ z fz. word_given v s n (counted s (length es) (number_of v es)) u z (ap length ur ∙ e) (ap (number_of v) ur ∙ h) fz)
+    (λ z fz. word_given v s n (number_of_word s (length es) (number_of v es)) u z (ap length ur ∙ e) (ap (number_of v) ur ∙ h) fz)
 
 pub word_with_sign : (v : ℕ → Bool) (a : Symbolic) (s t : Bool) (es u : List Edge) → a ≡ symbolic.Word s es → u ≡ es → ComputesOne v (with_sign t) a (symbolic.Word t u)
 word_with_sign v a s t es u ia ur =

@@ -5,7 +5,7 @@ use Rattle.smv_value.specs.declared.value.Value.{Value}
 use Rattle.smv_value.specs.declared.value.Value.TheVariants as value
 use Rattle.smv_value.specs.Results.{is_value}
 use Rattle.bit_graph.specs.declared.edge.Edge.{Edge}
-use Rattle.bit_graph.specs.declared.edge.Node.{Node}
+use Rattle.bit_graph.specs.declared.edge.GraphNode.{GraphNode}
 use Rattle.bit_graph.specs.Meaning.{Stands, edge_value}
 use Rattle.bit_arith.specs.Number.{AllStand, number_of}
 use Rattle.bit_arith.specs.Words.{integer}
@@ -27,13 +27,13 @@ denoted v (symbolic.Boolean e) = Some (value.Bool (edge_value v e))
 denoted v (symbolic.Word signed bits) = Some (value.Word signed (length bits) (number_of v bits))
 denoted v (symbolic.Discrete d) = discrete_value v d
 
-pub record DiscreteStands (g : List Node) (d : Discrete) : Type 0 where
+pub record DiscreteStands (g : List GraphNode) (d : Discrete) : Type 0 where
   pub is_symbol : Stands g d.is_symbol
   pub number : AllStand g d.number
   pub code : AllStand g d.code
 
 -- its edges lead to nodes of the graph
-abbrev pub StandsIn : List Node → Symbolic → Type 0
+abbrev pub StandsIn : List GraphNode → Symbolic → Type 0
 StandsIn g (symbolic.Boolean e) = Stands g e
 StandsIn g (symbolic.Word signed bits) = AllStand g bits
 StandsIn g (symbolic.Discrete d) = DiscreteStands g d

@@ -3,7 +3,7 @@
 ghost use Rattle.std.specs.Prelude.{◌≡◌, ◌||◌, ℕ, Bool, IfOk, IfSome, List, is_some, length, map, not};
 ghost use Rattle.std.specs.Bool.{beq};
 ghost use Rattle.bit_graph.specs.Meaning.{Consistent, Denotes, Stands, edge_value};
-ghost use Rattle.bit_graph.specs.declared.edge.Node.{Node};
+ghost use Rattle.bit_graph.specs.declared.edge.GraphNode.{GraphNode};
 ghost use Rattle.bit_graph.specs.Growth.{Extends};
 ghost use Rattle.bit_arith.specs.Number.{AllStand, flip, values_of};
 ghost use Rattle.smv_value.specs.Results.{inverted, logic_truth, logical};
@@ -19,7 +19,7 @@ use std::alloc::{AllocError, Global};
 
 /// `!a`; `None` where `a` is neither a boolean nor a word.
 pub fn inverted(alloc: Global, a: &Symbolic) -> Result<Option<Symbolic>, AllocError>
-    ensures stands { IfOk result (λ r. IfSome r (λ s. (g : List Node) → StandsIn g a.now → StandsIn g s)) }
+    ensures stands { IfOk result (λ r. IfSome r (λ s. (g : List GraphNode) → StandsIn g a.now → StandsIn g s)) }
     ensures value { IfOk result (λ r. IfSome r (λ s. (v : ℕ → Bool) → ComputesOne v inverted a.now s)) }
     ensures kinds { IfOk result (λ r. is_some r ≡ is_logical a.now) }
 {

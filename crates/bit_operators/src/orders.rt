@@ -5,7 +5,7 @@ ghost use Rattle.bit_graph.specs.Meaning.{Consistent, Denotes, Stands};
 ghost use Rattle.bit_graph.specs.Growth.{Extends};
 ghost use Rattle.bit_arith.specs.Number.{AllStand, number_of};
 ghost use Rattle.smv_value.specs.declared.operator.Order.TheVariants.{AtLeast, AtMost, Greater, Less};
-ghost use Rattle.smv_value.specs.Results.{counted, ordered};
+ghost use Rattle.smv_value.specs.Results.{number_of_word, ordered};
 ghost use Rattle.bit_operators.specs.declared.symbolic.Symbolic.TheVariants.{Boolean};
 ghost use Rattle.bit_operators.specs.Denoting.{ComputesTwo, StandsIn, integer_of};
 ghost use Rattle.bit_operators.specs.Kinds.{are_numeric};
@@ -106,7 +106,7 @@ fn word_below(graph: &mut Graph, signed: bool, a: &[Edge], b: &[Edge]) -> Result
     requires b_stand { AllStand graph.old b.now }
     ensures extends { Extends graph.old graph.new }
     ensures stands { IfOk result (λ e. Stands graph.new e) }
-    ensures value { IfOk result (λ e. Denotes graph.new e (λ v. int_lt (counted signed (length a.now) (number_of v a.now)) (counted signed (length a.now) (number_of v b.now)))) }
+    ensures value { IfOk result (λ e. Denotes graph.new e (λ v. int_lt (number_of_word signed (length a.now) (number_of v a.now)) (number_of_word signed (length a.now) (number_of v b.now)))) }
 {
     let (_, less) = compare(graph, a, b, signed)?;
     Ok(less)

@@ -3,7 +3,7 @@
 ghost use Rattle.std.specs.Prelude.{◌≡◌, ◌++◌, ◌≤◌, ℕ, Bool, IfOk, length, replicate, take};
 ghost use Rattle.bit_graph.specs.Meaning.{Consistent, Denotes, Stands, edge_value};
 ghost use Rattle.bit_arith.specs.Number.{AllStand, number_of};
-ghost use Rattle.smv_value.specs.Results.{counted, low_bits};
+ghost use Rattle.smv_value.specs.Results.{number_of_word, low_bits};
 ghost use Rattle.bit_arith.specs.Words.{is_negative};
 ghost use Rattle.bit_operators.specs.Resizing.{is_below_zero};
 
@@ -23,7 +23,7 @@ pub fn resized(
     ensures stands { IfOk result (λ r. AllStand graph.now r.items) }
     ensures length { IfOk result (λ r. length r.items ≡ width) }
     ensures value { IfOk result (λ r. (v : ℕ → Bool) → Consistent v graph.now →
-        number_of v r.items ≡ low_bits width (counted signed (length bits.now) (number_of v bits.now))) }
+        number_of v r.items ≡ low_bits width (number_of_word signed (length bits.now) (number_of v bits.now))) }
 {
     let fill = sign(graph, signed, bits);
     if width <= bits.len() {

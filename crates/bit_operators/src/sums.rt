@@ -4,7 +4,7 @@ ghost use Rattle.std.specs.Prelude.{◌≡◌, ◌+◌, ◌≤◌, ℕ, Bool, If
 ghost use Rattle.bit_graph.specs.Meaning.{Consistent};
 ghost use Rattle.bit_graph.specs.Growth.{Extends};
 ghost use Rattle.bit_arith.specs.Number.{AllStand, number_of};
-ghost use Rattle.smv_value.specs.Results.{counted, is_int, is_width, low_bits, of_number, of_numbers, sum_of};
+ghost use Rattle.smv_value.specs.Results.{number_of_word, is_int, is_width, low_bits, of_number, of_numbers, sum_of};
 ghost use Rattle.bit_operators.specs.Integers.{bounded, sum_rule};
 ghost use Rattle.bit_operators.specs.Kinds.{are_numeric};
 ghost use Rattle.bit_operators.specs.Denoting.{ComputesOne, ComputesTwo, StandsIn, integer_of};
@@ -72,7 +72,7 @@ fn sum_bits(
     ensures stands { IfOk result (λ r. AllStand graph.new r.items) }
     ensures length { IfOk result (λ r. length r.items ≡ length a.now) }
     ensures value { IfOk result (λ r. (v : ℕ → Bool) (s : Bool) → Consistent v graph.new → is_width (length a.now) ≡ true →
-        number_of v r.items ≡ low_bits (length a.now) (sum_of o (counted s (length a.now) (number_of v a.now)) (counted s (length a.now) (number_of v b.now)))) }
+        number_of v r.items ≡ low_bits (length a.now) (sum_of o (number_of_word s (length a.now) (number_of v a.now)) (number_of_word s (length a.now) (number_of v b.now)))) }
 {
     match o {
         Arithmetic::Add => {

@@ -1,7 +1,7 @@
 //! Words made of words: `:: resize signed unsigned word1`.
 
 ghost use Rattle.std.specs.Prelude.{◌≡◌, ◌++◌, ℕ, Bool, IfOk, IfSome, List, is_some, pos};
-ghost use Rattle.bit_graph.specs.declared.edge.Node.{Node};
+ghost use Rattle.bit_graph.specs.declared.edge.GraphNode.{GraphNode};
 ghost use Rattle.bit_graph.specs.Meaning.{Consistent};
 ghost use Rattle.smv_value.specs.declared.value.Value.TheVariants.{Int};
 ghost use Rattle.smv_value.specs.Results.{joined, resized, to_word, with_sign};
@@ -16,7 +16,7 @@ use std::alloc::{AllocError, Global};
 
 /// `a :: b`; `None` where they are not two words.
 pub fn joined(alloc: Global, a: &Symbolic, b: &Symbolic) -> Result<Option<Symbolic>, AllocError>
-    ensures stands { IfOk result (λ r. IfSome r (λ s. (g : List Node) → StandsIn g a.now → StandsIn g b.now → StandsIn g s)) }
+    ensures stands { IfOk result (λ r. IfSome r (λ s. (g : List GraphNode) → StandsIn g a.now → StandsIn g b.now → StandsIn g s)) }
     ensures value { IfOk result (λ r. IfSome r (λ s. (v : ℕ → Bool) → ComputesTwo v joined a.now b.now s)) }
     ensures kinds { IfOk result (λ r. is_some r ≡ have_bits a.now b.now) }
 {
@@ -67,7 +67,7 @@ pub fn resized_to(
 
 /// `signed(a)`, and `unsigned(a)`; `None` where `a` is no word.
 pub fn with_sign(alloc: Global, signed: bool, a: &Symbolic) -> Result<Option<Symbolic>, AllocError>
-    ensures stands { IfOk result (λ r. IfSome r (λ s. (g : List Node) → StandsIn g a.now → StandsIn g s)) }
+    ensures stands { IfOk result (λ r. IfSome r (λ s. (g : List GraphNode) → StandsIn g a.now → StandsIn g s)) }
     ensures value { IfOk result (λ r. IfSome r (λ s. (v : ℕ → Bool) → ComputesOne v (with_sign signed) a.now s)) }
     ensures kinds { IfOk result (λ r. is_some r ≡ has_bits a.now) }
 {
@@ -82,7 +82,7 @@ pub fn with_sign(alloc: Global, signed: bool, a: &Symbolic) -> Result<Option<Sym
 
 /// `word1(a)`; `None` where `a` is no boolean.
 pub fn to_word(alloc: Global, a: &Symbolic) -> Result<Option<Symbolic>, AllocError>
-    ensures stands { IfOk result (λ r. IfSome r (λ s. (g : List Node) → StandsIn g a.now → StandsIn g s)) }
+    ensures stands { IfOk result (λ r. IfSome r (λ s. (g : List GraphNode) → StandsIn g a.now → StandsIn g s)) }
     ensures value { IfOk result (λ r. IfSome r (λ s. (v : ℕ → Bool) → ComputesOne v to_word a.now s)) }
     ensures kinds { IfOk result (λ r. is_some r ≡ is_boolean a.now) }
 {

@@ -2,7 +2,7 @@
 use Rattle.std.proofs.Common.{List, get_or, arith}
 use Rattle.std.specs.Prelude.{All}
 use Rattle.bit_graph.specs.declared.edge.Edge.{Edge}
-use Rattle.bit_graph.specs.declared.edge.Node.{Node}
+use Rattle.bit_graph.specs.declared.edge.GraphNode.{GraphNode}
 use Rattle.bit_graph.specs.Growth.{Extends}
 use Rattle.bit_graph.specs.Meaning.{Stands}
 use Rattle.bit_operators.specs.declared.symbolic.Symbolic.{Symbolic}
@@ -15,7 +15,7 @@ use Rattle.bit_outcomes.specs.declared.told.Which.{Which}
 use Rattle.bit_outcomes.specs.declared.told.Which.TheVariants as which
 use Rattle.bit_outcomes.specs.Telling.{AllTold, MemberStands, MembersStand, ToldStands, WhichStands}
 
-pub extends_trans : (f g h : List Node) → Extends f g → Extends g h → Extends f h
+pub extends_trans : (f g h : List GraphNode) → Extends f g → Extends g h → Extends f h
 extends_trans f g h first second = record {
   longer = omega (arith, first.longer, second.longer);
   kept = λ v c. first.kept v (second.kept v c);
@@ -23,10 +23,10 @@ extends_trans f g h first second = record {
   inputs = λ n x. second.inputs n (first.inputs n x);
 }
 
-pub extends_refl : (g : List Node) → Extends g g
+pub extends_refl : (g : List GraphNode) → Extends g g
 extends_refl g = record { longer = omega arith; kept = λ v c. c; values = λ a e b x. x; inputs = λ n x. x }
 
-module _ (g h : List Node) (extends : Extends g h) where
+module _ (g h : List GraphNode) (extends : Extends g h) where
   pub edge_kept : (e : Edge) → Stands g e → Stands h e
   edge_kept e s = omega (arith, s, extends.longer)
 

@@ -17,8 +17,8 @@ use Rattle.value_types.specs.declared.value_type.ValueType.{ValueType}
 use Rattle.value_types.specs.Types.{is_of_type}
 use Rattle.value_types.proofs.Elements.{int_le_refl, same_int}
 use Rattle.value_sets.specs.Members.{run}
-use Rattle.smv_meaning.specs.declared.outcome.Outcome.{Outcome}
-use Rattle.smv_meaning.specs.declared.outcome.Outcome.TheVariants.{Fault, Nothing, Values}
+use Rattle.smv_meaning.specs.declared.outcome.Evaluation.{Evaluation}
+use Rattle.smv_meaning.specs.declared.outcome.Evaluation.TheVariants.{Fault, Nothing, Values}
 use Rattle.smv_meaning.specs.Faults.{is_outside}
 use Rattle.smv_meaning.specs.Formulas.{fault_in}
 use Rattle.smv_meaning.specs.Outcomes.{truth, truth_of}
@@ -211,13 +211,13 @@ module _ (v : ℕ → Bool) where
 
   module _ (f g d n any r : Edge) (x : Symbolic) (ms : List Member) (failed : edge_value v d ≡ (edge_value v f || edge_value v g)) (turned : n ≡ flip d)
       (whole : edge_value v r ≡ (edge_value v n && edge_value v any)) (k : (w : Value) → denoted v x ≡ Some w → All (IsThere v) ms → edge_value v any ≡ list_any (is_member v w) ms) where
-    of_one : (w : Value) (q : Outcome) → edge_value v f ≡ false → denoted v x ≡ Some w → TellsSet v g ms q → is_given q ≡ true → edge_value v r ≡ is_among (Some w) q
+    of_one : (w : Value) (q : Evaluation) → edge_value v f ≡ false → denoted v x ≡ Some w → TellsSet v g ms q → is_given q ≡ true → edge_value v r ≡ is_among (Some w) q
     of_one w Nothing a e b i = absurd cc
     of_one w (Fault rule place) a e b i = failed_not d any r (and_said d n any r turned whole) (failed ∙ or_right v (edge_value v f) (edge_value v g) b)
     of_one w (Values ws) a e b i =
         given_not d any r (and_said d n any r turned whole) (failed ∙ or_none (edge_value v f) (edge_value v g) a b.0) ∙ k w e b.1.there ∙ sym (b.1.same w)
 
-    pub takes_told : (p q : Outcome) → TellsOne v f x p → TellsSet v g ms q → is_given p ≡ true → is_given q ≡ true → edge_value v r ≡ takes p q
+    pub takes_told : (p q : Evaluation) → TellsOne v f x p → TellsSet v g ms q → is_given p ≡ true → is_given q ≡ true → edge_value v r ≡ takes p q
     takes_told Nothing q a b i j = absurd cc
     takes_told (Fault rule place) q a b i j = failed_not d any r (and_said d n any r turned whole) (failed ∙ ap (λ (c : Bool). c || edge_value v g) a)
     takes_told (Values vs) q a b i j =
@@ -243,14 +243,14 @@ module _ (v : ℕ → Bool) where
   run_out t m low high c e r k is q h =
       h ∙ ap (λ (b : Bool). edge_value v m.present && b) (q ∙ ap not is) ∙ sym (ap (λ (x : Which). edge_value v m.present && is_out_of v t x) k)
 
-  pub true_told : (f n b r : Edge) (o : Outcome) → n ≡ flip f → edge_value v r ≡ (edge_value v n && edge_value v b) → TellsOne v f (symbolic.Boolean b) o → is_given o ≡ true →
+  pub true_told : (f n b r : Edge) (o : Evaluation) → n ≡ flip f → edge_value v r ≡ (edge_value v n && edge_value v b) → TellsOne v f (symbolic.Boolean b) o → is_given o ≡ true →
       edge_value v r ≡ is_true o
   true_told f n b r Nothing is h a i = absurd cc
   true_told f n b r (Fault rule place) is h a i = failed_not f b r (and_said f n b r is h) a
   true_told f n b r (Values vs) is h a i =
       given_not f b r (and_said f n b r is h) a.0 ∙ sym (ap (λ (t : Option Bool). unwrap_or t false) (truth_is v b vs a.1.value a.1.only a.1.denotes))
 
-  pub false_told : (f n b m r : Edge) (o : Outcome) → n ≡ flip f → m ≡ flip b → edge_value v r ≡ (edge_value v n && edge_value v m) → TellsOne v f (symbolic.Boolean b) o → is_given o ≡ true →
+  pub false_told : (f n b m r : Edge) (o : Evaluation) → n ≡ flip f → m ≡ flip b → edge_value v r ≡ (edge_value v n && edge_value v m) → TellsOne v f (symbolic.Boolean b) o → is_given o ≡ true →
       edge_value v r ≡ is_false o
   false_told f n b m r Nothing is im h a i = absurd cc
   false_told f n b m r (Fault rule place) is im h a i = failed_not f m r (and_said f n m r is h) a
@@ -258,17 +258,17 @@ module _ (v : ℕ → Bool) where
       given_not f m r (and_said f n m r is h) a.0 ∙ ap (edge_value v) im ∙ flip_is b.negated (v b.node)
       ∙ sym (ap is_untrue (truth_is v b vs a.1.value a.1.only a.1.denotes))
 
-  pub fault_one : (f : Edge) (s : Symbolic) (o : Outcome) → TellsOne v f s o → is_given o ≡ true → edge_value v f ≡ is_some (fault_in o)
+  pub fault_one : (f : Edge) (s : Symbolic) (o : Evaluation) → TellsOne v f s o → is_given o ≡ true → edge_value v f ≡ is_some (fault_in o)
   fault_one f s Nothing a i = absurd cc
   fault_one f s (Fault rule place) a i = a
   fault_one f s (Values vs) a i = a.0
 
-  pub fault_set : (f : Edge) (ms : List Member) (o : Outcome) → TellsSet v f ms o → is_given o ≡ true → edge_value v f ≡ is_some (fault_in o)
+  pub fault_set : (f : Edge) (ms : List Member) (o : Evaluation) → TellsSet v f ms o → is_given o ≡ true → edge_value v f ≡ is_some (fault_in o)
   fault_set f ms Nothing a i = absurd cc
   fault_set f ms (Fault rule place) a i = a
   fault_set f ms (Values vs) a i = a.0
 
-  pub outside_told : (t : ValueType) (g n any r : Edge) (ms : List Member) (o : Outcome) → n ≡ flip g → edge_value v r ≡ (edge_value v n && edge_value v any) →
+  pub outside_told : (t : ValueType) (g n any r : Edge) (ms : List Member) (o : Evaluation) → n ≡ flip g → edge_value v r ≡ (edge_value v n && edge_value v any) →
       (All (IsThere v) ms → edge_value v any ≡ list_any (is_out v t) ms) → TellsSet v g ms o → is_given o ≡ true → edge_value v r ≡ is_outside (Some t) o
   outside_told t g n any r ms Nothing is h k a i = absurd cc
   outside_told t g n any r ms (Fault rule place) is h k a i = failed_not g any r (and_said g n any r is h) a
@@ -290,7 +290,7 @@ module _ (v : ℕ → Bool) where
   pub discrete_plain : (d : Discrete) (s : Symbolic) → s ≡ symbolic.Discrete d → (w : Value) → denoted v s ≡ Some w → truth_of w ≡ None
   discrete_plain d s is w e = plain_by (edge_value v d.is_symbol) (slice_get d.symbols (number_of v d.code)) (integer_of v d.number) w (ap (denoted v) (sym is) ∙ e)
 
-  pub plain_told : (f : Edge) (s : Symbolic) (o : Outcome) → ((w : Value) → denoted v s ≡ Some w → truth_of w ≡ None) → TellsOne v f s o → truth o ≡ None
+  pub plain_told : (f : Edge) (s : Symbolic) (o : Evaluation) → ((w : Value) → denoted v s ≡ Some w → truth_of w ≡ None) → TellsOne v f s o → truth o ≡ None
   plain_told f s Nothing k a = refl
   plain_told f s (Fault rule place) k a = refl
   plain_told f s (Values vs) k a = ap (λ (ws : List Value). truth (Values ws)) a.1.only ∙ k a.1.value a.1.denotes

@@ -8,8 +8,8 @@ use Rattle.bit_graph.specs.Meaning.{edge_value}
 use Rattle.smv_tree.specs.declared.place.Place.{Place}
 use Rattle.smv_value.specs.declared.value.FaultRule.{FaultRule}
 use Rattle.smv_value.specs.declared.value.Value.{Value}
-use Rattle.smv_meaning.specs.declared.outcome.Outcome.{Outcome}
-use Rattle.smv_meaning.specs.declared.outcome.Outcome.TheVariants.{Fault, Nothing, Values}
+use Rattle.smv_meaning.specs.declared.outcome.Evaluation.{Evaluation}
+use Rattle.smv_meaning.specs.declared.outcome.Evaluation.TheVariants.{Fault, Nothing, Values}
 use Rattle.smv_meaning.specs.Outcomes.{choice, taken, truth}
 use Rattle.bit_operators.specs.declared.symbolic.Symbolic.TheVariants as symbolic
 use Rattle.bit_outcomes.specs.declared.fronts.Front.{Front}
@@ -19,11 +19,11 @@ use Rattle.bit_outcomes.specs.Telling.{IsThere, TellsOne, TellsSet, is_member}
 use Rattle.bit_outcomes.proofs.OfChoices.{choice_pair, set_along, truth_is}
 
 -- what comes of the first conditions and branches, where the rest gives r
-abbrev pub front_of : List Outcome → ℕ → Outcome → Outcome
+abbrev pub front_of : List Evaluation → ℕ → Evaluation → Evaluation
 front_of os zero r = r
 front_of os (suc i) r = front_of os i (taken (truth (get_or os (2 * i) Nothing)) (get_or os (2 * i) Nothing) (get_or os (2 * i + 1) Nothing) r)
 
-pub front_choice : (rule : FaultRule) (p : Place) (os : List Outcome) (i : ℕ) → 2 * i ≤ length os → front_of os i (choice rule p (drop (2 * i) os)) ≡ choice rule p os
+pub front_choice : (rule : FaultRule) (p : Place) (os : List Evaluation) (i : ℕ) → 2 * i ≤ length os → front_of os i (choice rule p (drop (2 * i) os)) ≡ choice rule p os
 front_choice rule p os zero l = refl
 front_choice rule p os (suc i) l =
     let next : suc i ≡ i + 1 = omega arith in
@@ -55,21 +55,21 @@ module _ (v : ℕ → Bool) where
   guarded_on w h xs ys zs on none any = any ∙ (λ i. none i || (on i && list_any (is_member v w) ys))
 
   -- nothing is told of what has no outcome
-  none_told : (e : Edge) (zs : List Member) (o : Outcome) → o ≡ Nothing → TellsSet v e zs o
+  none_told : (e : Edge) (zs : List Member) (o : Evaluation) → o ≡ Nothing → TellsSet v e zs o
   none_told e zs o is = subst (TellsSet v e zs) (sym is) tt
 
   -- what the rest gives, or nothing
-  passed : (e : Edge) (zs : List Member) (f : Outcome → Outcome) (r : Outcome) → (f r ≡ r) ⊎ (f r ≡ Nothing) → TellsSet v e zs r → TellsSet v e zs (f r)
+  passed : (e : Edge) (zs : List Member) (f : Evaluation → Evaluation) (r : Evaluation) → (f r ≡ r) ⊎ (f r ≡ Nothing) → TellsSet v e zs r → TellsSet v e zs (f r)
   passed e zs f r is told = elim is [ inl same ↦ subst (TellsSet v e zs) (sym same) told | inr none ↦ none_told e zs (f r) none ]
 
-  module _ (x : Front) (f : Outcome → Outcome) (before : TellsFront v x f) where
+  module _ (x : Front) (f : Evaluation → Evaluation) (before : TellsFront v x f) where
     -- the rest
 
     module _ (g e : Edge) (ys zs : List Member) (e_is : edge_value v e ≡ (edge_value v x.fault || (edge_value v x.undecided && edge_value v g)))
         (there : (edge_value v x.undecided ≡ true → edge_value v g ≡ false) → All (IsThere v) x.members → (edge_value v x.undecided ≡ true → All (IsThere v) ys) → All (IsThere v) zs)
         (any : (w : Value) → (edge_value v x.undecided ≡ true → edge_value v g ≡ false) →
         list_any (is_member v w) zs ≡ (list_any (is_member v w) x.members || (edge_value v x.undecided && list_any (is_member v w) ys)))
-        (r : Outcome) (told : TellsSet v g ys r) where
+        (r : Evaluation) (told : TellsSet v g ys r) where
       pub front_closed : TellsSet v e zs (f r)
       front_closed = elim (cases_Bool (edge_value v x.undecided)) [
         | inl on ↦
@@ -105,7 +105,7 @@ module _ (v : ℕ → Bool) where
           ∙ ap (λ q. edge_value v x.fault || q) quiet ∙ or_false (edge_value v x.fault)
 
       -- it was decided before
-      decided_before : edge_value v x.undecided ≡ false → (h : Outcome → Outcome) → TellsFront v y (λ r. f (h r))
+      decided_before : edge_value v x.undecided ≡ false → (h : Evaluation → Evaluation) → TellsFront v y (λ r. f (h r))
       decided_before off h =
           let here_off : edge_value v here ≡ false = here_is ∙ ap (λ q. q && edge_value v b) off in
           let no : edge_value v y.undecided ≡ false = n_is ∙ ap (λ q. (q && not (edge_value v failed)) && not (edge_value v b)) off in
@@ -126,7 +126,7 @@ module _ (v : ℕ → Bool) where
         next_as = n_is ∙ ap (λ q. (q && not (edge_value v failed)) && not (edge_value v b)) on
 
         -- it stays undecided
-        stays : (h : Outcome → Outcome) → edge_value v failed ≡ false → edge_value v b ≡ false → ((r : Outcome) → (f (h r) ≡ r) ⊎ (f (h r) ≡ Nothing)) → IsUndecided v y (λ r. f (h r))
+        stays : (h : Evaluation → Evaluation) → edge_value v failed ≡ false → edge_value v b ≡ false → ((r : Evaluation) → (f (h r) ≡ r) ⊎ (f (h r) ≡ Nothing)) → IsUndecided v y (λ r. f (h r))
         stays h quiet off rest =
             let here_off : edge_value v here ≡ false = here_as ∙ off in
             record {
@@ -142,9 +142,9 @@ module _ (v : ℕ → Bool) where
         not_parts false false h = (refl, refl)
 
         -- nothing comes of the condition
-        of_nothing : (h : Outcome → Outcome) → ((r : Outcome) → h r ≡ Nothing) → TellsFront v y (λ r. f (h r))
+        of_nothing : (h : Evaluation → Evaluation) → ((r : Evaluation) → h r ≡ Nothing) → TellsFront v y (λ r. f (h r))
         of_nothing h none =
-            let nothing : (r : Outcome) → f (h r) ≡ Nothing = λ r. ap f (none r) ∙ elim (is.rest Nothing) [ inl same ↦ same | inr same ↦ same ] in
+            let nothing : (r : Evaluation) → f (h r) ≡ Nothing = λ r. ap f (none r) ∙ elim (is.rest Nothing) [ inl same ↦ same | inr same ↦ same ] in
             record {
               undecided = λ next.
                   let parts = not_parts (edge_value v failed) (edge_value v b) (sym next_as ∙ next) in
@@ -153,7 +153,7 @@ module _ (v : ℕ → Bool) where
             }
 
         -- the condition faults
-        of_fault : (h : Outcome → Outcome) (o : Outcome) → edge_value v failed ≡ true → ((e : Edge) (ms : List Member) → edge_value v e ≡ true → TellsSet v e ms o) → ((r : Outcome) → h r ≡ o) →
+        of_fault : (h : Evaluation → Evaluation) (o : Evaluation) → edge_value v failed ≡ true → ((e : Edge) (ms : List Member) → edge_value v e ≡ true → TellsSet v e ms o) → ((r : Evaluation) → h r ≡ o) →
             TellsFront v y (λ r. f (h r))
         of_fault h o loud told same =
             let no : edge_value v y.undecided ≡ false = next_as ∙ ap (λ q. not q && not (edge_value v b)) loud in
@@ -161,11 +161,11 @@ module _ (v : ℕ → Bool) where
             e_is ∙ (λ i. (is.sound i || (on i && loud i)) || (edge_value v here && edge_value v g)) in
             record {
               undecided = λ next. absurd (differ (edge_value v y.undecided) next no);
-              decided = λ _ r. subst (λ (z : Outcome). TellsSet v y.fault y.members (f z)) (sym (same r)) (passed y.fault y.members f o (is.rest o) (told y.fault y.members fault));
+              decided = λ _ r. subst (λ (z : Evaluation). TellsSet v y.fault y.members (f z)) (sym (same r)) (passed y.fault y.members f o (is.rest o) (told y.fault y.members fault));
             }
 
         -- the condition has a truth
-        of_truth : (t : Bool) (c a : Outcome) → edge_value v failed ≡ false → edge_value v b ≡ t → TellsSet v g ys a → TellsFront v y (λ r. f (taken (Some t) c a r))
+        of_truth : (t : Bool) (c a : Evaluation) → edge_value v failed ≡ false → edge_value v b ≡ t → TellsSet v g ys a → TellsFront v y (λ r. f (taken (Some t) c a r))
         of_truth true c a quiet yes_it told =
             let here_on : edge_value v here ≡ true = here_as ∙ yes_it in
             let no : edge_value v y.undecided ≡ false = next_as ∙ (λ i. not (quiet i) && not (yes_it i)) in
@@ -184,13 +184,13 @@ module _ (v : ℕ → Bool) where
               decided = λ no r. absurd (differ (edge_value v y.undecided) next no);
             }
 
-      pub front_more : (c a : Outcome) → TellsOne v failed (symbolic.Boolean b) c → TellsSet v g ys a → TellsFront v y (λ r. f (taken (truth c) c a r))
+      pub front_more : (c a : Evaluation) → TellsOne v failed (symbolic.Boolean b) c → TellsSet v g ys a → TellsFront v y (λ r. f (taken (truth c) c a r))
       front_more c a one told = elim (cases_Bool (edge_value v x.undecided)) [
         | inr off ↦ decided_before off (taken (truth c) c a)
         | inl on ↦ by_outcome on c one
       ]
         where
-          by_outcome : edge_value v x.undecided ≡ true → (c : Outcome) → TellsOne v failed (symbolic.Boolean b) c → TellsFront v y (λ r. f (taken (truth c) c a r))
+          by_outcome : edge_value v x.undecided ≡ true → (c : Evaluation) → TellsOne v failed (symbolic.Boolean b) c → TellsFront v y (λ r. f (taken (truth c) c a r))
           by_outcome on Nothing one = of_nothing on (taken (truth Nothing) Nothing a) (λ r. refl)
           by_outcome on (Fault rule place) one =
               of_fault on (taken (truth (Fault rule place)) (Fault rule place) a) (Fault rule place) one (λ e ms h. h) (λ r. refl)

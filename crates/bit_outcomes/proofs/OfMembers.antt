@@ -10,8 +10,8 @@ use Rattle.bit_graph.specs.Meaning.{edge_value}
 use Rattle.smv_value.specs.declared.value.Value.{Value}
 use Rattle.smv_value.specs.Results.{same}
 use Rattle.value_types.specs.Types.{is_between}
-use Rattle.smv_meaning.specs.declared.outcome.Outcome.{Outcome}
-use Rattle.smv_meaning.specs.declared.outcome.Outcome.TheVariants.{Fault, Nothing, Values}
+use Rattle.smv_meaning.specs.declared.outcome.Evaluation.{Evaluation}
+use Rattle.smv_meaning.specs.declared.outcome.Evaluation.TheVariants.{Fault, Nothing, Values}
 use Rattle.smv_meaning.specs.Outcomes.{united}
 use Rattle.bit_operators.specs.declared.symbolic.Symbolic.{Symbolic}
 use Rattle.bit_operators.specs.Denoting.{denoted}
@@ -31,7 +31,7 @@ module _ (v : ℕ → Bool) where
   there_one e s x h zero d lt = λ p. (x, h)
   there_one e s x h (suc k) d lt = absurd (let no : ⊥ = omega (arith, lt) in no)
 
-  pub one_as_set : (f e : Edge) (s : Symbolic) (o : Outcome) → edge_value v e ≡ true → TellsOne v f s o → TellsSet v f (of_value e s ∷ []) o
+  pub one_as_set : (f e : Edge) (s : Symbolic) (o : Evaluation) → edge_value v e ≡ true → TellsOne v f s o → TellsSet v f (of_value e s ∷ []) o
   one_as_set f e s Nothing h t = tt
   one_as_set f e s (Fault rule place) h t = t
   one_as_set f e s (Values vs) h t = (
@@ -139,7 +139,7 @@ module _ (v : ℕ → Bool) where
 
   -- two sets together
 
-  pub sets_together : (f g r : Edge) (ms ns : List Member) (x o : Outcome) → edge_value v r ≡ (edge_value v f || edge_value v g) → TellsSet v f ms x → TellsSet v g ns o →
+  pub sets_together : (f g r : Edge) (ms ns : List Member) (x o : Evaluation) → edge_value v r ≡ (edge_value v f || edge_value v g) → TellsSet v f ms x → TellsSet v g ns o →
       TellsSet v r (ms ++ ns) (both x o)
   sets_together f g r ms ns Nothing o h a b = tt
   sets_together f g r ms ns (Fault rule place) o h a b = h ∙ ap (λ (x : Bool). x || edge_value v g) a
@@ -162,7 +162,7 @@ module _ (v : ℕ → Bool) where
 -- the outcomes of all operands
 
 -- one operand more
-pub united_push : (vs : List Value) (os : List Outcome) (o : Outcome) → united vs (os ++ o ∷ []) ≡ both (united vs os) o
+pub united_push : (vs : List Value) (os : List Evaluation) (o : Evaluation) → united vs (os ++ o ∷ []) ≡ both (united vs os) o
 united_push vs [] Nothing = refl
 united_push vs [] (Fault rule place) = refl
 united_push vs [] (Values ws) = refl
@@ -170,11 +170,11 @@ united_push vs (Nothing ∷ os) o = refl
 united_push vs (Fault rule place ∷ os) o = refl
 united_push vs (Values ws ∷ os) o = united_push (vs ++ ws) os o
 
-pub united_more : (os : List Outcome) (i : ℕ) → i < length os → united [] (take (i + 1) os) ≡ both (united [] (take i os)) (get_or os i Nothing)
+pub united_more : (os : List Evaluation) (i : ℕ) → i < length os → united [] (take (i + 1) os) ≡ both (united [] (take i os)) (get_or os i Nothing)
 united_more os i lt = ap (united []) (take_more os i Nothing lt) ∙ united_push [] (take i os) (get_or os i Nothing)
 
 -- a set of one operand is that operand
-pub united_single : (v : ℕ → Bool) (t : Told) (os : List Outcome) → TellsAll v (t ∷ []) os → Tells v t (united [] os)
+pub united_single : (v : ℕ → Bool) (t : Told) (os : List Evaluation) → TellsAll v (t ∷ []) os → Tells v t (united [] os)
 united_single v t [] h = absurd (let no : ⊥ = omega (arith, h.long) in no)
 united_single v t (Nothing ∷ []) h = h.each 0
 united_single v t (Fault rule place ∷ []) h = h.each 0

@@ -14,8 +14,8 @@ use Rattle.smv_value.specs.Results.{fault_of, is_value, result_of, same, unless,
 use Rattle.value_types.specs.Types.{is_between}
 use Rattle.value_sets.specs.Members.{only, run}
 use Rattle.value_sets.proofs.Runs.{in_run_is, none_in_run}
-use Rattle.smv_meaning.specs.declared.outcome.Outcome.{Outcome}
-use Rattle.smv_meaning.specs.declared.outcome.Outcome.TheVariants.{Fault, Nothing, Values}
+use Rattle.smv_meaning.specs.declared.outcome.Evaluation.{Evaluation}
+use Rattle.smv_meaning.specs.declared.outcome.Evaluation.TheVariants.{Fault, Nothing, Values}
 use Rattle.smv_meaning.specs.Outcomes.{given, included, operated, over, ranged}
 use Rattle.bit_operators.specs.declared.symbolic.Symbolic.{Symbolic}
 use Rattle.bit_operators.specs.declared.symbolic.Symbolic.TheVariants as symbolic
@@ -30,28 +30,28 @@ use Rattle.bit_outcomes.proofs.OfMembers.{or_right, or_same}
 
 -- one operand more
 
-push_by : (vs ws : List Value) (os : List Outcome) (o : Outcome) → ((w : Value) → operated Values (vs ++ w ∷ []) (os ++ o ∷ []) ≡ beside (operated Values (vs ++ w ∷ []) os) o) →
+push_by : (vs ws : List Value) (os : List Evaluation) (o : Evaluation) → ((w : Value) → operated Values (vs ++ w ∷ []) (os ++ o ∷ []) ≡ beside (operated Values (vs ++ w ∷ []) os) o) →
     (m : Option Value) → over (Values ws) m (λ w. operated Values (vs ++ w ∷ []) (os ++ o ∷ [])) ≡ beside (over (Values ws) m (λ w. operated Values (vs ++ w ∷ []) os)) o
 push_by vs ws os o next None = refl
 push_by vs ws os o next (Some w) = next w
 
-operated_push : (vs : List Value) (os : List Outcome) (o : Outcome) → operated Values vs (os ++ o ∷ []) ≡ beside (operated Values vs os) o
+operated_push : (vs : List Value) (os : List Evaluation) (o : Evaluation) → operated Values vs (os ++ o ∷ []) ≡ beside (operated Values vs os) o
 operated_push vs [] o = refl
 operated_push vs (Nothing ∷ os) o = refl
 operated_push vs (Fault rule place ∷ os) o = refl
 operated_push vs (Values ws ∷ os) o = push_by vs ws os o (λ w. operated_push (vs ++ w ∷ []) os o) (only ws)
 
-pub operated_more : (os : List Outcome) (i : ℕ) → i < length os → operated Values [] (take (i + 1) os) ≡ beside (operated Values [] (take i os)) (get_or os i Nothing)
+pub operated_more : (os : List Evaluation) (i : ℕ) → i < length os → operated Values [] (take (i + 1) os) ≡ beside (operated Values [] (take i os)) (get_or os i Nothing)
 operated_more os i lt = ap (operated Values []) (take_more os i Nothing lt) ∙ operated_push [] (take i os) (get_or os i Nothing)
 
 -- an operator by the values of its operands
 
-bound_by : (f : List Value → Outcome) (vs ws : List Value) (os : List Outcome) → ((w : Value) → operated f (vs ++ w ∷ []) os ≡ bound f (operated Values (vs ++ w ∷ []) os)) →
+bound_by : (f : List Value → Evaluation) (vs ws : List Value) (os : List Evaluation) → ((w : Value) → operated f (vs ++ w ∷ []) os ≡ bound f (operated Values (vs ++ w ∷ []) os)) →
     (m : Option Value) → over (Values ws) m (λ w. operated f (vs ++ w ∷ []) os) ≡ bound f (over (Values ws) m (λ w. operated Values (vs ++ w ∷ []) os))
 bound_by f vs ws os next None = refl
 bound_by f vs ws os next (Some w) = next w
 
-pub bound_is : (f : List Value → Outcome) (vs : List Value) (os : List Outcome) → operated f vs os ≡ bound f (operated Values vs os)
+pub bound_is : (f : List Value → Evaluation) (vs : List Value) (os : List Evaluation) → operated f vs os ≡ bound f (operated Values vs os)
 bound_is f vs [] = refl
 bound_is f vs (Nothing ∷ os) = refl
 bound_is f vs (Fault rule place ∷ os) = refl
@@ -64,7 +64,7 @@ module _ (v : ℕ → Bool) where
   denoted_push (t ∷ ss) [] s w d h = absurd d
   denoted_push (t ∷ ss) (x ∷ xs) s w d h = (d.0, denoted_push ss xs s w d.1 h)
 
-  pub each_together : (f g r : Edge) (ss : List Symbolic) (s : Symbolic) (x o : Outcome) → edge_value v r ≡ (edge_value v f || edge_value v g) → TellsEach v f ss x → TellsOne v g s o →
+  pub each_together : (f g r : Edge) (ss : List Symbolic) (s : Symbolic) (x o : Evaluation) → edge_value v r ≡ (edge_value v f || edge_value v g) → TellsEach v f ss x → TellsOne v g s o →
       TellsEach v r (ss ++ s ∷ []) (beside x o)
   each_together f g r ss s Nothing o h a b = tt
   each_together f g r ss s (Fault rule place) o h a b = h ∙ ap (λ (x : Bool). x || edge_value v g) a
@@ -76,16 +76,16 @@ module _ (v : ℕ → Bool) where
 
   -- one operand, and two
 
-  pub one_each : (f : Edge) (s : Symbolic) (o : Outcome) → TellsOne v f s o → TellsEach v f (s ∷ []) (operated Values [] (o ∷ []))
+  pub one_each : (f : Edge) (s : Symbolic) (o : Evaluation) → TellsOne v f s o → TellsEach v f (s ∷ []) (operated Values [] (o ∷ []))
   one_each f s Nothing a = tt
   one_each f s (Fault rule place) a = a
   one_each f s (Values ws) a =
       subst (λ (ws : List Value). TellsEach v f (s ∷ []) (operated Values [] (Values ws ∷ []))) (sym a.1.only) (a.0, (a.1.denotes, tt))
 
-  pub two_each : (f g r : Edge) (s t : Symbolic) (o p : Outcome) → edge_value v r ≡ (edge_value v f || edge_value v g) → TellsOne v f s o → TellsOne v g t p →
+  pub two_each : (f g r : Edge) (s t : Symbolic) (o p : Evaluation) → edge_value v r ≡ (edge_value v f || edge_value v g) → TellsOne v f s o → TellsOne v g t p →
       TellsEach v r (s ∷ t ∷ []) (operated Values [] (o ∷ p ∷ []))
   two_each f g r s t o p h a b =
-      subst (λ (x : Outcome). TellsEach v r (s ∷ t ∷ []) x) (sym (operated_push [] (o ∷ []) p)) (each_together f g r (s ∷ []) t (operated Values [] (o ∷ [])) p h (one_each f s o a) b)
+      subst (λ (x : Evaluation). TellsEach v r (s ∷ t ∷ []) x) (sym (operated_push [] (o ∷ []) p)) (each_together f g r (s ∷ []) t (operated Values [] (o ∷ [])) p h (one_each f s o a) b)
 
   -- no operand so far
   pub none_gathered : (f : Edge) → edge_value v f ≡ false → TellsEach v f [] (Values [])
@@ -119,7 +119,7 @@ module _ (v : ℕ → Bool) where
     )
     by_result xs (Err rule) a d is = h ∙ or_right v (edge_value v g) (edge_value v e) (k.faults xs d (are_values xs (Err rule) is refl) ∙ ap is_fault is)
 
-    pub computed_told : (x : Outcome) → TellsEach v g ss x → TellsOne v r z (bound (λ vs. given place (result_of o vs)) x)
+    pub computed_told : (x : Evaluation) → TellsEach v g ss x → TellsOne v r z (bound (λ vs. given place (result_of o vs)) x)
     computed_told Nothing a = tt
     computed_told (Fault rule p) a = h ∙ ap (λ (b : Bool). b || edge_value v e) a
     computed_told (Values xs) a = by_result xs (result_of o xs) a.0 a.1 refl
@@ -128,7 +128,7 @@ module _ (v : ℕ → Bool) where
 
   module _ (f g r e : Edge) (x : Symbolic) (ms : List Member) (h : edge_value v r ≡ (edge_value v f || edge_value v g))
       (k : (w : Value) → denoted v x ≡ Some w → All (IsThere v) ms → edge_value v e ≡ list_any (is_member v w) ms) where
-    of_one : (w : Value) (q : Outcome) → edge_value v f ≡ false → denoted v x ≡ Some w → TellsSet v g ms q → TellsOne v r (symbolic.Boolean e) (included (Values (w ∷ [])) q)
+    of_one : (w : Value) (q : Evaluation) → edge_value v f ≡ false → denoted v x ≡ Some w → TellsSet v g ms q → TellsOne v r (symbolic.Boolean e) (included (Values (w ∷ [])) q)
     of_one w Nothing a d b = tt
     of_one w (Fault rule place) a d b = h ∙ or_right v (edge_value v f) (edge_value v g) b
     of_one w (Values ws) a d b = (
@@ -140,7 +140,7 @@ module _ (v : ℕ → Bool) where
       },
     )
 
-    pub included_told : (p q : Outcome) → TellsOne v f x p → TellsSet v g ms q → TellsOne v r (symbolic.Boolean e) (included p q)
+    pub included_told : (p q : Evaluation) → TellsOne v f x p → TellsSet v g ms q → TellsOne v r (symbolic.Boolean e) (included p q)
     included_told Nothing q a b = tt
     included_told (Fault rule place) q a b = h ∙ ap (λ (c : Bool). c || edge_value v g) a
     included_told (Values vs) q a b =
@@ -183,14 +183,14 @@ module _ (v : ℕ → Bool) where
     is_integer : (s : Symbolic) (w : Value) (z : ℤ) → denoted v s ≡ Some (value.Int z) → denoted v s ≡ Some w → w ≡ value.Int z
     is_integer s w z p q = cc
 
-    second : (q : Outcome) → edge_value v f ≡ false → TellsOne v g y q → TellsSet v r (of_run e low high ∷ []) (ranged (Values (value.Int low ∷ [])) q)
+    second : (q : Evaluation) → edge_value v f ≡ false → TellsOne v g y q → TellsSet v r (of_run e low high ∷ []) (ranged (Values (value.Int low ∷ [])) q)
     second Nothing a b = tt
     second (Fault rule place) a b = h ∙ or_right v (edge_value v f) (edge_value v g) b
     second (Values ws) a b =
         let one : ws ≡ value.Int high ∷ [] = b.1.only ∙ ap (λ (w : Value). w ∷ []) (is_integer y b.1.value high is_high b.1.denotes) in
         subst (λ (ws : List Value). TellsSet v r (of_run e low high ∷ []) (ranged (Values (value.Int low ∷ [])) (Values ws))) (sym one) (run_told a b.0)
 
-    pub ranged_told : (p q : Outcome) → TellsOne v f x p → TellsOne v g y q → TellsSet v r (of_run e low high ∷ []) (ranged p q)
+    pub ranged_told : (p q : Evaluation) → TellsOne v f x p → TellsOne v g y q → TellsSet v r (of_run e low high ∷ []) (ranged p q)
     ranged_told Nothing q a b = tt
     ranged_told (Fault rule place) q a b = h ∙ ap (λ (c : Bool). c || edge_value v g) a
     ranged_told (Values vs) q a b =

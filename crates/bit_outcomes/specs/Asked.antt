@@ -6,7 +6,7 @@ use Rattle.smv_value.specs.declared.value.Value.{Value}
 use Rattle.value_types.specs.declared.value_type.ValueType.{ValueType}
 use Rattle.value_types.specs.Types.{is_of_type}
 use Rattle.value_sets.specs.Members.{run}
-use Rattle.smv_meaning.specs.declared.outcome.Outcome.{Outcome}
+use Rattle.smv_meaning.specs.declared.outcome.Evaluation.{Evaluation}
 use Rattle.smv_meaning.specs.Outcomes.{truth}
 use Rattle.bit_operators.specs.Denoting.{denoted}
 use Rattle.bit_outcomes.specs.declared.told.Member.{Member}
@@ -19,7 +19,7 @@ is_untrue None = false
 is_untrue (Some b) = not b
 
 -- the outcome is FALSE; a fault is not
-abbrev pub is_false : Outcome → Bool
+abbrev pub is_false : Evaluation → Bool
 is_false o = is_untrue (truth o)
 
 -- there is a value, and it is none of the type

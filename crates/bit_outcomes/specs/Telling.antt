@@ -2,13 +2,13 @@
 use Rattle.std.specs.Prelude.{◌≡◌, ℕ, Bool, true, false, ◌&&◌, List, [], ◌∷◌, ◌++◌, length, slice_index_or, Option, None, Some, All}
 use Rattle.std.specs.List.{list_any}
 use Rattle.bit_graph.specs.declared.edge.Edge.{Edge}
-use Rattle.bit_graph.specs.declared.edge.Node.{Node}
+use Rattle.bit_graph.specs.declared.edge.GraphNode.{GraphNode}
 use Rattle.bit_graph.specs.Meaning.{Stands, edge_value}
 use Rattle.smv_value.specs.declared.value.Value.{Value}
 use Rattle.smv_value.specs.Results.{same}
 use Rattle.value_types.specs.Types.{is_between}
-use Rattle.smv_meaning.specs.declared.outcome.Outcome.{Outcome}
-use Rattle.smv_meaning.specs.declared.outcome.Outcome.TheVariants.{Fault, Nothing, Values}
+use Rattle.smv_meaning.specs.declared.outcome.Evaluation.{Evaluation}
+use Rattle.smv_meaning.specs.declared.outcome.Evaluation.TheVariants.{Fault, Nothing, Values}
 use Rattle.bit_operators.specs.declared.symbolic.Symbolic.{Symbolic}
 use Rattle.bit_operators.specs.Denoting.{StandsIn, denoted}
 use Rattle.bit_outcomes.specs.declared.told.Told.{Told}
@@ -52,50 +52,50 @@ pub record IsSet (v : ℕ → Bool) (members : List Member) (vs : List Value) : 
   pub same : (w : Value) → list_any (same w) vs ≡ list_any (is_member v w) members
 
 -- A fault where the edge is true, and else the value that is denoted. Where kinds do not fit, nothing is told.
-abbrev pub TellsOne : (ℕ → Bool) → Edge → Symbolic → Outcome → Type 0
+abbrev pub TellsOne : (ℕ → Bool) → Edge → Symbolic → Evaluation → Type 0
 TellsOne v fault s Nothing = Unit {0}
 TellsOne v fault s (Fault rule place) = edge_value v fault ≡ true
 TellsOne v fault s (Values vs) = (edge_value v fault ≡ false) × IsOne v s vs
 
 -- a fault where the edge is true, and else the values of the members that are there
-abbrev pub TellsSet : (ℕ → Bool) → Edge → List Member → Outcome → Type 0
+abbrev pub TellsSet : (ℕ → Bool) → Edge → List Member → Evaluation → Type 0
 TellsSet v fault members Nothing = Unit {0}
 TellsSet v fault members (Fault rule place) = edge_value v fault ≡ true
 TellsSet v fault members (Values vs) = (edge_value v fault ≡ false) × IsSet v members vs
 
 -- What is told of an outcome is so. Of what is untold nothing is said.
-abbrev pub Tells : (ℕ → Bool) → Told → Outcome → Type 0
+abbrev pub Tells : (ℕ → Bool) → Told → Evaluation → Type 0
 Tells v told.Untold o = Unit {0}
 Tells v (told.One fault s) o = TellsOne v fault s o
 Tells v (told.Set fault members) o = TellsSet v fault members o
 
 -- what is told of each of these outcomes is so
-pub record TellsAll (v : ℕ → Bool) (ts : List Told) (os : List Outcome) : Type 0 where
+pub record TellsAll (v : ℕ → Bool) (ts : List Told) (os : List Evaluation) : Type 0 where
   pub long : length ts ≡ length os
   pub each : (k : ℕ) → Tells v (slice_index_or ts k told.Untold) (slice_index_or os k Nothing)
 
 -- the values of the one and then of the other, or the first that has none
-abbrev pub both : Outcome → Outcome → Outcome
+abbrev pub both : Evaluation → Evaluation → Evaluation
 both (Values vs) (Values ws) = Values (vs ++ ws)
 both (Values vs) o = o
 both x o = x
 
 -- edges lead to nodes of the graph
 
-abbrev pub WhichStands : List Node → Which → Type 0
+abbrev pub WhichStands : List GraphNode → Which → Type 0
 WhichStands g (which.Value s) = StandsIn g s
 WhichStands g (which.Run low high) = Unit {0}
 
-abbrev pub MemberStands : List Node → Member → Type 0
+abbrev pub MemberStands : List GraphNode → Member → Type 0
 MemberStands g m = Stands g m.present × WhichStands g m.which
 
-abbrev pub MembersStand : List Node → List Member → Type 0
+abbrev pub MembersStand : List GraphNode → List Member → Type 0
 MembersStand g members = All (MemberStands g) members
 
-abbrev pub ToldStands : List Node → Told → Type 0
+abbrev pub ToldStands : List GraphNode → Told → Type 0
 ToldStands g told.Untold = Unit {0}
 ToldStands g (told.One fault s) = Stands g fault × StandsIn g s
 ToldStands g (told.Set fault members) = Stands g fault × MembersStand g members
 
-abbrev pub AllTold : List Node → List Told → Type 0
+abbrev pub AllTold : List GraphNode → List Told → Type 0
 AllTold g ts = All (ToldStands g) ts

@@ -6,8 +6,8 @@ ghost use Rattle.bit_graph.specs.Meaning.{Consistent, Denotes, Stands, edge_valu
 ghost use Rattle.smv_tree.specs.declared.place.Place.{Place};
 ghost use Rattle.smv_value.specs.declared.value.FaultRule.{FaultRule};
 ghost use Rattle.smv_value.specs.declared.value.Value.{Value};
-ghost use Rattle.smv_meaning.specs.declared.outcome.Outcome.{Outcome};
-ghost use Rattle.smv_meaning.specs.declared.outcome.Outcome.TheVariants.{Fault};
+ghost use Rattle.smv_meaning.specs.declared.outcome.Evaluation.{Evaluation};
+ghost use Rattle.smv_meaning.specs.declared.outcome.Evaluation.TheVariants.{Fault};
 ghost use Rattle.smv_meaning.specs.Outcomes.{choice, taken, truth};
 ghost use Rattle.bit_operators.specs.declared.symbolic.Symbolic.TheVariants as symbolic;
 ghost use Rattle.bit_operators.specs.Denoting.{StandsIn, denoted};
@@ -29,7 +29,7 @@ pub fn choice(alloc: Global, graph: &mut Graph, operands: &[Told]) -> Result<Tol
     requires { AllTold graph.old operands.now }
     ensures extends { Extends graph.old graph.new }
     ensures stands { IfOk result (λ t. ToldStands graph.new t) }
-    ensures told { IfOk result (λ t. (rule : FaultRule) (place : Place) (v : ℕ → Bool) (os : List Outcome) → Consistent v graph.new → TellsAll v operands.now os → Tells v t (choice rule place os)) }
+    ensures told { IfOk result (λ t. (rule : FaultRule) (place : Place) (v : ℕ → Bool) (os : List Evaluation) → Consistent v graph.new → TellsAll v operands.now os → Tells v t (choice rule place os)) }
 {
     let tail = values_behind(alloc, graph, operands)?;
     if tail.from == 0 {
@@ -53,7 +53,7 @@ fn values_behind(alloc: Global, graph: &mut Graph, operands: &[Told]) -> Result<
     ensures extends { Extends graph.old graph.new }
     ensures stands { IfOk result (λ x. ToldStands graph.new x.told) }
     ensures from { IfOk result (λ x. 2 * x.from ≤ length operands.now) }
-    ensures told { IfOk result (λ x. (rule : FaultRule) (place : Place) (v : ℕ → Bool) (os : List Outcome) → Consistent v graph.new → TellsAll v operands.now os →
+    ensures told { IfOk result (λ x. (rule : FaultRule) (place : Place) (v : ℕ → Bool) (os : List Evaluation) → Consistent v graph.new → TellsAll v operands.now os →
         Tells v x.told (choice rule place (drop (2 * x.from) os))) }
 {
     let mut rest = last_branch(alloc, graph, operands)?;
@@ -95,7 +95,7 @@ fn with_front(
     requires from { 2 * tail.now.from ≤ length operands.now }
     ensures extends { Extends graph.old graph.new }
     ensures stands { IfOk result (λ t. ToldStands graph.new t) }
-    ensures told { IfOk result (λ t. (rule : FaultRule) (place : Place) (v : ℕ → Bool) (os : List Outcome) → Consistent v graph.new → TellsAll v operands.now os →
+    ensures told { IfOk result (λ t. (rule : FaultRule) (place : Place) (v : ℕ → Bool) (os : List Evaluation) → Consistent v graph.new → TellsAll v operands.now os →
         Tells v tail.now.told (choice rule place (drop (2 * tail.now.from) os)) → Tells v t (choice rule place os)) }
 {
     let mut front = Front::new(alloc, graph);
@@ -115,7 +115,7 @@ fn with_front(
 fn last_branch(alloc: Global, graph: &Graph, operands: &[Told]) -> Result<Told, AllocError>
     requires { AllTold graph.now operands.now }
     ensures stands { IfOk result (λ t. ToldStands graph.now t) }
-    ensures told { IfOk result (λ t. (rule : FaultRule) (place : Place) (v : ℕ → Bool) (os : List Outcome) → Consistent v graph.now → TellsAll v operands.now os →
+    ensures told { IfOk result (λ t. (rule : FaultRule) (place : Place) (v : ℕ → Bool) (os : List Evaluation) → Consistent v graph.now → TellsAll v operands.now os →
         Tells v t (choice rule place (drop (2 * (length operands.now / 2)) os))) }
 {
     let paired = 2 * (operands.len() / 2);
@@ -151,7 +151,7 @@ fn either(
     requires rest_stands { ToldStands graph.old rest.now }
     ensures extends { Extends graph.old graph.new }
     ensures stands { IfOk result (λ t. ToldStands graph.new t) }
-    ensures told { IfOk result (λ t. (v : ℕ → Bool) (c a r : Outcome) → Consistent v graph.new → Tells v condition.now c → Tells v branch.now a → Tells v rest.now r →
+    ensures told { IfOk result (λ t. (v : ℕ → Bool) (c a r : Evaluation) → Consistent v graph.new → Tells v condition.now c → Tells v branch.now a → Tells v rest.now r →
         Tells v t (taken (truth c) c a r)) }
 {
     match condition {
@@ -183,7 +183,7 @@ fn decided(
     requires rest_stands { ToldStands graph.old rest.now }
     ensures extends { Extends graph.old graph.new }
     ensures stands { IfOk result (λ t. ToldStands graph.new t) }
-    ensures told { IfOk result (λ t. (v : ℕ → Bool) (c a r : Outcome) → Consistent v graph.new → TellsOne v failed (symbolic.Boolean b) c → Tells v branch.now a → Tells v rest.now r →
+    ensures told { IfOk result (λ t. (v : ℕ → Bool) (c a r : Evaluation) → Consistent v graph.new → TellsOne v failed (symbolic.Boolean b) c → Tells v branch.now a → Tells v rest.now r →
         Tells v t (taken (truth c) c a r)) }
 {
     match (branch, rest) {
@@ -213,7 +213,7 @@ fn one_of_values(
     requires y_stands { StandsIn graph.old y.now }
     ensures extends { Extends graph.old graph.new }
     ensures stands { IfOk result (λ t. ToldStands graph.new t) }
-    ensures told { IfOk result (λ t. (v : ℕ → Bool) (c a r : Outcome) → Consistent v graph.new → TellsOne v failed (symbolic.Boolean b) c → TellsOne v f x.now a → TellsOne v g y.now r →
+    ensures told { IfOk result (λ t. (v : ℕ → Bool) (c a r : Evaluation) → Consistent v graph.new → TellsOne v failed (symbolic.Boolean b) c → TellsOne v f x.now a → TellsOne v g y.now r →
         Tells v t (taken (truth c) c a r)) }
 {
     match chosen(alloc, graph, b, f, x, g, y)? {

@@ -5,7 +5,7 @@ ghost use Rattle.std.specs.List.{list_any};
 ghost use Rattle.bit_graph.specs.Growth.{Extends};
 ghost use Rattle.bit_graph.specs.Meaning.{Consistent, Denotes, Stands, edge_value};
 ghost use Rattle.smv_value.specs.declared.value.Value.{Value};
-ghost use Rattle.smv_meaning.specs.declared.outcome.Outcome.{Outcome};
+ghost use Rattle.smv_meaning.specs.declared.outcome.Evaluation.{Evaluation};
 ghost use Rattle.smv_meaning.specs.Outcomes.{taken, truth};
 ghost use Rattle.bit_operators.specs.declared.symbolic.Symbolic.TheVariants as symbolic;
 ghost use Rattle.bit_outcomes.specs.Fronts.{FrontStands, TellsFront};
@@ -55,7 +55,7 @@ pub fn with_branch(
     requires branch_stands { ToldStands graph.old branch.now }
     ensures extends { Extends graph.old graph.new }
     ensures stands { IfOk result (λ r. IfSome r (λ x. FrontStands graph.new x)) }
-    ensures told { IfOk result (λ r. IfSome r (λ x. (v : ℕ → Bool) (f : Outcome → Outcome) (c a : Outcome) → Consistent v graph.new → TellsFront v front f → Tells v condition.now c →
+    ensures told { IfOk result (λ r. IfSome r (λ x. (v : ℕ → Bool) (f : Evaluation → Evaluation) (c a : Evaluation) → Consistent v graph.new → TellsFront v front f → Tells v condition.now c →
         Tells v branch.now a → TellsFront v x (λ r. f (taken (truth c) c a r)))) }
 {
     match condition {
@@ -90,7 +90,7 @@ fn with_row(
     requires row_stands { Stands graph.old row.fault × MembersStand graph.old row.members }
     ensures extends { Extends graph.old graph.new }
     ensures stands { IfOk result (λ x. FrontStands graph.new x) }
-    ensures told { IfOk result (λ x. (v : ℕ → Bool) (f : Outcome → Outcome) (c a : Outcome) → Consistent v graph.new → TellsFront v front f → TellsOne v failed (symbolic.Boolean b) c →
+    ensures told { IfOk result (λ x. (v : ℕ → Bool) (f : Evaluation → Evaluation) (c a : Evaluation) → Consistent v graph.new → TellsFront v front f → TellsOne v failed (symbolic.Boolean b) c →
         TellsSet v row.fault row.members a → TellsFront v x (λ r. f (taken (truth c) c a r))) }
 {
     let here = graph.and(front.undecided, b)?;
@@ -185,7 +185,7 @@ pub fn closed(
     requires rest_stands { ToldStands graph.old rest.now }
     ensures extends { Extends graph.old graph.new }
     ensures stands { IfOk result (λ t. ToldStands graph.new t) }
-    ensures told { IfOk result (λ t. (v : ℕ → Bool) (f : Outcome → Outcome) (r : Outcome) → Consistent v graph.new → TellsFront v front f → Tells v rest.now r → Tells v t (f r)) }
+    ensures told { IfOk result (λ t. (v : ℕ → Bool) (f : Evaluation → Evaluation) (r : Evaluation) → Consistent v graph.new → TellsFront v front f → Tells v rest.now r → Tells v t (f r)) }
 {
     match as_row(alloc, graph, rest)? {
         None => Ok(Told::Untold),

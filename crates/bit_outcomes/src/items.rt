@@ -3,12 +3,12 @@
 ghost use Rattle.std.specs.Prelude.{◌≡◌, List, ℕ, Bool, All, IfOk, IsTrue, Some, true};
 ghost use Rattle.std.specs.List.{list_all, list_any};
 ghost use Rattle.std.specs.Option.{is_some};
-ghost use Rattle.bit_graph.specs.declared.edge.Node.{Node};
+ghost use Rattle.bit_graph.specs.declared.edge.GraphNode.{GraphNode};
 ghost use Rattle.bit_graph.specs.Growth.{Extends};
 ghost use Rattle.bit_graph.specs.Meaning.{Consistent, Stands, edge_value};
 ghost use Rattle.value_types.specs.Types.{is_of_type, is_type};
 ghost use Rattle.value_sets.specs.Members.{run};
-ghost use Rattle.smv_meaning.specs.declared.outcome.Outcome.{Outcome};
+ghost use Rattle.smv_meaning.specs.declared.outcome.Evaluation.{Evaluation};
 ghost use Rattle.smv_meaning.specs.Faults.{is_outside};
 ghost use Rattle.smv_meaning.specs.Formulas.{fault_in};
 ghost use Rattle.smv_meaning.specs.Runs.{is_given, is_true, takes};
@@ -32,7 +32,7 @@ pub fn takes_edge(alloc: Global, graph: &mut Graph, x: &Told, e: &Told) -> Resul
     requires e_stands { ToldStands graph.old e.now }
     ensures extends { Extends graph.old graph.new }
     ensures stands { IfOk result (λ r. Stands graph.new r) }
-    ensures value { IfOk result (λ r. (v : ℕ → Bool) (p q : Outcome) → Consistent v graph.new → Tells v x.now p → Tells v e.now q → is_given p ≡ true → is_given q ≡ true →
+    ensures value { IfOk result (λ r. (v : ℕ → Bool) (p q : Evaluation) → Consistent v graph.new → Tells v x.now p → Tells v e.now q → is_given p ≡ true → is_given q ≡ true →
         edge_value v r ≡ takes p q) }
 {
     match x {
@@ -57,7 +57,7 @@ fn takes_value(
     requires e_stands { ToldStands graph.old e.now }
     ensures extends { Extends graph.old graph.new }
     ensures stands { IfOk result (λ r. Stands graph.new r) }
-    ensures value { IfOk result (λ r. (v : ℕ → Bool) (p q : Outcome) → Consistent v graph.new → TellsOne v f x.now p → Tells v e.now q → is_given p ≡ true → is_given q ≡ true →
+    ensures value { IfOk result (λ r. (v : ℕ → Bool) (p q : Evaluation) → Consistent v graph.new → TellsOne v f x.now p → Tells v e.now q → is_given p ≡ true → is_given q ≡ true →
         edge_value v r ≡ takes p q) }
 {
     match as_row(alloc, graph, e)? {
@@ -77,7 +77,7 @@ pub fn true_edge(graph: &mut Graph, e: &Told) -> Result<Edge, AllocError>
     requires { ToldStands graph.old e.now }
     ensures extends { Extends graph.old graph.new }
     ensures stands { IfOk result (λ r. Stands graph.new r) }
-    ensures value { IfOk result (λ r. (v : ℕ → Bool) (o : Outcome) → Consistent v graph.new → Tells v e.now o → is_given o ≡ true → edge_value v r ≡ is_true o) }
+    ensures value { IfOk result (λ r. (v : ℕ → Bool) (o : Evaluation) → Consistent v graph.new → Tells v e.now o → is_given o ≡ true → edge_value v r ≡ is_true o) }
 {
     match e {
         Told::One(f, value) => match value {
@@ -98,7 +98,7 @@ pub fn false_edge(graph: &mut Graph, e: &Told) -> Result<Edge, AllocError>
     requires { ToldStands graph.old e.now }
     ensures extends { Extends graph.old graph.new }
     ensures stands { IfOk result (λ r. Stands graph.new r) }
-    ensures value { IfOk result (λ r. (v : ℕ → Bool) (o : Outcome) → Consistent v graph.new → Tells v e.now o → is_given o ≡ true → edge_value v r ≡ is_false o) }
+    ensures value { IfOk result (λ r. (v : ℕ → Bool) (o : Evaluation) → Consistent v graph.new → Tells v e.now o → is_given o ≡ true → edge_value v r ≡ is_false o) }
 {
     match e {
         Told::One(f, value) => match value {
@@ -118,8 +118,8 @@ pub fn false_edge(graph: &mut Graph, e: &Told) -> Result<Edge, AllocError>
 
 /// The edge that is true where the outcome is a fault. Out of memory is answered where nothing is told.
 pub fn fault_edge(e: &Told) -> Result<Edge, AllocError>
-    ensures stands { IfOk result (λ r. (g : List Node) → ToldStands g e.now → Stands g r) }
-    ensures value { IfOk result (λ r. (v : ℕ → Bool) (o : Outcome) → Tells v e.now o → is_given o ≡ true → edge_value v r ≡ is_some (fault_in o)) }
+    ensures stands { IfOk result (λ r. (g : List GraphNode) → ToldStands g e.now → Stands g r) }
+    ensures value { IfOk result (λ r. (v : ℕ → Bool) (o : Evaluation) → Tells v e.now o → is_given o ≡ true → edge_value v r ≡ is_some (fault_in o)) }
 {
     match e {
         Told::One(f, _) => Ok(*f),
@@ -139,7 +139,7 @@ pub fn outside_edge(
     requires stands { ToldStands graph.old e.now }
     ensures extends { Extends graph.old graph.new }
     ensures stands { IfOk result (λ r. Stands graph.new r) }
-    ensures value { IfOk result (λ r. (v : ℕ → Bool) (o : Outcome) → Consistent v graph.new → Tells v e.now o → is_given o ≡ true → edge_value v r ≡ is_outside (Some declared.now) o) }
+    ensures value { IfOk result (λ r. (v : ℕ → Bool) (o : Evaluation) → Consistent v graph.new → Tells v e.now o → is_given o ≡ true → edge_value v r ≡ is_outside (Some declared.now) o) }
 {
     match as_row(alloc, graph, e)? {
         Some(row) => {

@@ -5,7 +5,7 @@ ghost use Rattle.std.specs.List.{list_any};
 ghost use Rattle.bit_graph.specs.Growth.{Extends};
 ghost use Rattle.bit_graph.specs.Meaning.{Consistent, Stands, edge_value};
 ghost use Rattle.smv_value.specs.declared.value.Value.{Value};
-ghost use Rattle.smv_meaning.specs.declared.outcome.Outcome.{Outcome};
+ghost use Rattle.smv_meaning.specs.declared.outcome.Evaluation.{Evaluation};
 ghost use Rattle.smv_meaning.specs.Outcomes.{united};
 ghost use Rattle.bit_operators.specs.Denoting.{StandsIn, denoted};
 ghost use Rattle.bit_outcomes.specs.Telling.{AllTold, IsThere, MemberStands, MembersStand, Tells, TellsAll, TellsSet, ToldStands, both, is_member};
@@ -30,7 +30,7 @@ pub struct Row {
 pub fn as_row(alloc: Global, graph: &Graph, told: &Told) -> Result<Option<Row>, AllocError>
     requires { ToldStands graph.now told.now }
     ensures stands { IfOk result (λ r. IfSome r (λ row. Stands graph.now row.fault × MembersStand graph.now row.members)) }
-    ensures told { IfOk result (λ r. IfSome r (λ row. (v : ℕ → Bool) (o : Outcome) → Consistent v graph.now → Tells v told.now o → TellsSet v row.fault row.members o)) }
+    ensures told { IfOk result (λ r. IfSome r (λ row. (v : ℕ → Bool) (o : Evaluation) → Consistent v graph.now → Tells v told.now o → TellsSet v row.fault row.members o)) }
 {
     match told {
         Told::Untold => Ok(None),
@@ -169,7 +169,7 @@ pub fn united(alloc: Global, graph: &mut Graph, operands: &[Told]) -> Result<Tol
     requires { AllTold graph.old operands.now }
     ensures extends { Extends graph.old graph.new }
     ensures stands { IfOk result (λ t. ToldStands graph.new t) }
-    ensures told { IfOk result (λ t. (v : ℕ → Bool) (os : List Outcome) → Consistent v graph.new → TellsAll v operands.now os → Tells v t (united [] os)) }
+    ensures told { IfOk result (λ t. (v : ℕ → Bool) (os : List Evaluation) → Consistent v graph.new → TellsAll v operands.now os → Tells v t (united [] os)) }
 {
     match operands {
         [a] => {
@@ -191,7 +191,7 @@ fn all_united(
     requires { AllTold graph.old operands.now }
     ensures extends { Extends graph.old graph.new }
     ensures stands { IfOk result (λ r. IfSome r (λ row. Stands graph.new row.fault × MembersStand graph.new row.members)) }
-    ensures told { IfOk result (λ r. IfSome r (λ row. (v : ℕ → Bool) (os : List Outcome) → Consistent v graph.new → TellsAll v operands.now os →
+    ensures told { IfOk result (λ r. IfSome r (λ row. (v : ℕ → Bool) (os : List Evaluation) → Consistent v graph.new → TellsAll v operands.now os →
         TellsSet v row.fault row.members (united [] os))) }
 {
     let mut made = Row {
@@ -218,7 +218,7 @@ fn with_row(
     requires operand_stands { ToldStands graph.old operand.now }
     ensures extends { Extends graph.old graph.new }
     ensures stands { IfOk result (λ r. IfSome r (λ row. Stands graph.new row.fault × MembersStand graph.new row.members)) }
-    ensures told { IfOk result (λ r. IfSome r (λ row. (v : ℕ → Bool) (x o : Outcome) → Consistent v graph.new → TellsSet v made.fault made.members x → Tells v operand.now o →
+    ensures told { IfOk result (λ r. IfSome r (λ row. (v : ℕ → Bool) (x o : Evaluation) → Consistent v graph.new → TellsSet v made.fault made.members x → Tells v operand.now o →
         TellsSet v row.fault row.members (both x o))) }
 {
     match as_row(alloc, graph, operand)? {

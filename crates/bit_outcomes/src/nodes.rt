@@ -1,14 +1,14 @@
 //! What is told of the nodes of a list.
 
 ghost use Rattle.std.specs.Prelude.{◌≡◌, ◌∷◌, [], ℕ, Bool, List, IfOk, length, slice_get};
-ghost use Rattle.bit_graph.specs.declared.edge.Node.{Node as Gate};
+ghost use Rattle.bit_graph.specs.declared.edge.GraphNode.{GraphNode as Gate};
 ghost use Rattle.bit_graph.specs.Growth.{Extends};
 ghost use Rattle.bit_graph.specs.Meaning.{Consistent};
 ghost use Rattle.smv_tree.specs.declared.place.Place.{Place};
 ghost use Rattle.smv_value.specs.declared.value.Value.{Value};
 ghost use Rattle.smv_slots.specs.Slots.{item_of};
 ghost use Rattle.smv_resolve.specs.Resolved.{last_of};
-ghost use Rattle.smv_meaning.specs.declared.outcome.Outcome.{Outcome};
+ghost use Rattle.smv_meaning.specs.declared.outcome.Evaluation.{Evaluation};
 ghost use Rattle.smv_meaning.specs.Outcomes.{applied, one, valued};
 ghost use Rattle.smv_meaning.specs.Tables.{outcome_at, outcome_by, outcomes_of};
 ghost use Rattle.bit_numbers.specs.Counts.{AllStandIn, AreDenoted};
@@ -19,7 +19,7 @@ use crate::told::{Told, copied, copied_value};
 use bit_graph::Graph;
 use bit_numbers::constant;
 use bit_operators::Symbolic;
-use smv_resolve::{Node, first, last};
+use smv_resolve::{ExprNode, first, last};
 use smv_slots::Slot;
 use smv_tree::VariableKind;
 use smv_value::{Operator, Value, is_value};
@@ -27,9 +27,9 @@ use sqlite_items::Items;
 use std::alloc::{AllocError, Global};
 
 /// Nothing of each node, which is so of whatever outcomes. The only error is running out of memory.
-pub fn untold(alloc: Global, nodes: &[Node]) -> Result<Items<Told>, AllocError>
+pub fn untold(alloc: Global, nodes: &[ExprNode]) -> Result<Items<Told>, AllocError>
     ensures stand { IfOk result (λ ts. (g : List Gate) → AllTold g ts) }
-    ensures told { IfOk result (λ ts. (v : ℕ → Bool) (os : List Outcome) → length os ≡ length nodes.now → TellsAll v ts os) }
+    ensures told { IfOk result (λ ts. (v : ℕ → Bool) (os : List Evaluation) → length os ≡ length nodes.now → TellsAll v ts os) }
 {
     let mut made = with_room(alloc, nodes.len())?;
     'nodes: for i in 0..nodes.len() {
@@ -52,7 +52,7 @@ pub fn table(
     alloc: Global,
     graph: &mut Graph,
     slots: &[Slot],
-    nodes: &[Node],
+    nodes: &[ExprNode],
     state: &[Symbolic],
     inputs: &[Symbolic],
     later: &[Told],
@@ -92,7 +92,7 @@ fn told_of_node(
     inputs: &[Symbolic],
     here: &[Told],
     later: &[Told],
-    node: &Node,
+    node: &ExprNode,
 ) -> Result<Told, AllocError>
     requires state { AllStandIn graph.old state.now }
     requires inputs { AllStandIn graph.old inputs.now }
@@ -100,18 +100,18 @@ fn told_of_node(
     requires later { AllTold graph.old later.now }
     ensures extends { Extends graph.old graph.new }
     ensures stands { IfOk result (λ r. ToldStands graph.new r) }
-    ensures told { IfOk result (λ r. (v : ℕ → Bool) (s u : List Value) (os ps : List Outcome) → Consistent v graph.new → AreDenoted v state.now s → AreDenoted v inputs.now u →
+    ensures told { IfOk result (λ r. (v : ℕ → Bool) (s u : List Value) (os ps : List Evaluation) → Consistent v graph.new → AreDenoted v state.now s → AreDenoted v inputs.now u →
         TellsAll v here.now os → TellsAll v later.now ps → Tells v r (outcome_by slots.now s u os ps node.now)) }
 {
     match *node {
-        Node::Constant(_, v) => of_constant(alloc, graph, v),
-        Node::Slot(_, n) => of_slot(alloc, graph, slots, state, inputs, n),
-        Node::Whole(..) => Ok(Told::Untold),
-        Node::Named(_, _, a) => told_at(alloc, here, a),
-        Node::Next(_, a) => told_at(alloc, later, a),
-        Node::Operand(a) => told_at(alloc, here, a),
-        Node::Apply(_, operator, count) => applied_at(alloc, graph, here, operator, count),
-        Node::Link(_, operator, a, b) => linked_at(alloc, graph, here, operator, a, b),
+        ExprNode::Constant(_, v) => of_constant(alloc, graph, v),
+        ExprNode::Slot(_, n) => of_slot(alloc, graph, slots, state, inputs, n),
+        ExprNode::Whole(..) => Ok(Told::Untold),
+        ExprNode::Named(_, _, a) => told_at(alloc, here, a),
+        ExprNode::Next(_, a) => told_at(alloc, later, a),
+        ExprNode::Operand(a) => told_at(alloc, here, a),
+        ExprNode::Apply(_, operator, count) => applied_at(alloc, graph, here, operator, count),
+        ExprNode::Link(_, operator, a, b) => linked_at(alloc, graph, here, operator, a, b),
     }
 }
 
@@ -169,7 +169,7 @@ fn value_at(alloc: Global, graph: &Graph, values: &[Symbolic], i: usize) -> Resu
 /// What is told of the node of this number.
 pub fn told_at(alloc: Global, told: &[Told], k: usize) -> Result<Told, AllocError>
     ensures stands { IfOk result (λ r. (g : List Gate) → AllTold g told.now → ToldStands g r) }
-    ensures told { IfOk result (λ r. (v : ℕ → Bool) (os : List Outcome) → TellsAll v told.now os → Tells v r (outcome_at os k)) }
+    ensures told { IfOk result (λ r. (v : ℕ → Bool) (os : List Evaluation) → TellsAll v told.now os → Tells v r (outcome_at os k)) }
 {
     if k < told.len() {
         let copy = copied(alloc, &told[k])?;
@@ -190,7 +190,7 @@ fn applied_at(
     requires { AllTold graph.old here.now }
     ensures extends { Extends graph.old graph.new }
     ensures stands { IfOk result (λ r. ToldStands graph.new r) }
-    ensures told { IfOk result (λ r. (place : Place) (v : ℕ → Bool) (os : List Outcome) → Consistent v graph.new → TellsAll v here.now os → Tells v r (applied operator place (last_of count os))) }
+    ensures told { IfOk result (λ r. (place : Place) (v : ℕ → Bool) (os : List Evaluation) → Consistent v graph.new → TellsAll v here.now os → Tells v r (applied operator place (last_of count os))) }
 {
     let told = applied(alloc, graph, operator, last(here, count))?;
     Ok(told)
@@ -208,7 +208,7 @@ fn linked_at(
     requires { AllTold graph.old here.now }
     ensures extends { Extends graph.old graph.new }
     ensures stands { IfOk result (λ r. ToldStands graph.new r) }
-    ensures told { IfOk result (λ r. (place : Place) (v : ℕ → Bool) (os : List Outcome) → Consistent v graph.new → TellsAll v here.now os →
+    ensures told { IfOk result (λ r. (place : Place) (v : ℕ → Bool) (os : List Evaluation) → Consistent v graph.new → TellsAll v here.now os →
         Tells v r (applied operator place (outcome_at os a ∷ outcome_at os b ∷ []))) }
 {
     let one = told_at(alloc, here, a)?;

@@ -6,8 +6,8 @@ ghost use Rattle.bit_graph.specs.Meaning.{Consistent, Stands, edge_value};
 ghost use Rattle.smv_tree.specs.declared.place.Place.{Place};
 ghost use Rattle.smv_value.specs.declared.value.Value.TheVariants.{Int};
 ghost use Rattle.smv_value.specs.Results.{result_of};
-ghost use Rattle.smv_meaning.specs.declared.outcome.Outcome.{Outcome};
-ghost use Rattle.smv_meaning.specs.declared.outcome.Outcome.TheVariants.{Values};
+ghost use Rattle.smv_meaning.specs.declared.outcome.Evaluation.{Evaluation};
+ghost use Rattle.smv_meaning.specs.declared.outcome.Evaluation.TheVariants.{Values};
 ghost use Rattle.smv_meaning.specs.Outcomes.{applied, given, included, operated, ranged, two};
 ghost use Rattle.bit_operators.specs.declared.symbolic.Symbolic.{Symbolic};
 ghost use Rattle.bit_operators.specs.Denoting.{StandsIn, denoted};
@@ -38,7 +38,7 @@ pub fn applied(
     requires { AllTold graph.old operands.now }
     ensures extends { Extends graph.old graph.new }
     ensures stands { IfOk result (λ t. ToldStands graph.new t) }
-    ensures told { IfOk result (λ t. (place : Place) (v : ℕ → Bool) (os : List Outcome) → Consistent v graph.new → TellsAll v operands.now os → Tells v t (applied operator place os)) }
+    ensures told { IfOk result (λ t. (place : Place) (v : ℕ → Bool) (os : List Evaluation) → Consistent v graph.new → TellsAll v operands.now os → Tells v t (applied operator place os)) }
 {
     match operator {
         Operator::Choice(_) => choice(alloc, graph, operands),
@@ -59,7 +59,7 @@ fn range(alloc: Global, graph: &mut Graph, operands: &[Told]) -> Result<Told, Al
     requires { AllTold graph.old operands.now }
     ensures extends { Extends graph.old graph.new }
     ensures stands { IfOk result (λ t. ToldStands graph.new t) }
-    ensures told { IfOk result (λ t. (v : ℕ → Bool) (os : List Outcome) → Consistent v graph.new → TellsAll v operands.now os → Tells v t (two ranged os)) }
+    ensures told { IfOk result (λ t. (v : ℕ → Bool) (os : List Evaluation) → Consistent v graph.new → TellsAll v operands.now os → Tells v t (two ranged os)) }
 {
     match operands {
         [a, b] => {
@@ -74,7 +74,7 @@ fn inclusion(alloc: Global, graph: &mut Graph, operands: &[Told]) -> Result<Told
     requires { AllTold graph.old operands.now }
     ensures extends { Extends graph.old graph.new }
     ensures stands { IfOk result (λ t. ToldStands graph.new t) }
-    ensures told { IfOk result (λ t. (v : ℕ → Bool) (os : List Outcome) → Consistent v graph.new → TellsAll v operands.now os → Tells v t (two included os)) }
+    ensures told { IfOk result (λ t. (v : ℕ → Bool) (os : List Evaluation) → Consistent v graph.new → TellsAll v operands.now os → Tells v t (two included os)) }
 {
     match operands {
         [a, b] => {
@@ -91,7 +91,7 @@ fn ranged(alloc: Global, graph: &mut Graph, a: &Told, b: &Told) -> Result<Told, 
     requires b_stands { ToldStands graph.old b.now }
     ensures extends { Extends graph.old graph.new }
     ensures stands { IfOk result (λ t. ToldStands graph.new t) }
-    ensures told { IfOk result (λ t. (v : ℕ → Bool) (p q : Outcome) → Consistent v graph.new → Tells v a.now p → Tells v b.now q → Tells v t (ranged p q)) }
+    ensures told { IfOk result (λ t. (v : ℕ → Bool) (p q : Evaluation) → Consistent v graph.new → Tells v a.now p → Tells v b.now q → Tells v t (ranged p q)) }
 {
     match (a, b) {
         (Told::One(f, x), Told::One(g, y)) => {
@@ -122,7 +122,7 @@ fn between(
     requires g_stands { Stands graph.old g }
     ensures extends { Extends graph.old graph.new }
     ensures stands { IfOk result (λ t. ToldStands graph.new t) }
-    ensures told { IfOk result (λ t. (v : ℕ → Bool) (x y : Symbolic) (p q : Outcome) → Consistent v graph.new → denoted v x ≡ Some (Int low) → denoted v y ≡ Some (Int high) →
+    ensures told { IfOk result (λ t. (v : ℕ → Bool) (x y : Symbolic) (p q : Evaluation) → Consistent v graph.new → denoted v x ≡ Some (Int low) → denoted v y ≡ Some (Int high) →
         TellsOne v f x p → TellsOne v g y q → Tells v t (ranged p q)) }
 {
     let fault = graph.or(f, g)?;
@@ -150,7 +150,7 @@ fn included(alloc: Global, graph: &mut Graph, a: &Told, b: &Told) -> Result<Told
     requires b_stands { ToldStands graph.old b.now }
     ensures extends { Extends graph.old graph.new }
     ensures stands { IfOk result (λ t. ToldStands graph.new t) }
-    ensures told { IfOk result (λ t. (v : ℕ → Bool) (p q : Outcome) → Consistent v graph.new → Tells v a.now p → Tells v b.now q → Tells v t (included p q)) }
+    ensures told { IfOk result (λ t. (v : ℕ → Bool) (p q : Evaluation) → Consistent v graph.new → Tells v a.now p → Tells v b.now q → Tells v t (included p q)) }
 {
     match a {
         Told::One(f, x) => {
@@ -174,7 +174,7 @@ fn is_among(
     requires b_stands { ToldStands graph.old b.now }
     ensures extends { Extends graph.old graph.new }
     ensures stands { IfOk result (λ t. ToldStands graph.new t) }
-    ensures told { IfOk result (λ t. (v : ℕ → Bool) (p q : Outcome) → Consistent v graph.new → TellsOne v f x.now p → Tells v b.now q → Tells v t (included p q)) }
+    ensures told { IfOk result (λ t. (v : ℕ → Bool) (p q : Evaluation) → Consistent v graph.new → TellsOne v f x.now p → Tells v b.now q → Tells v t (included p q)) }
 {
     match as_row(alloc, graph, b)? {
         None => Ok(Told::Untold),
@@ -196,7 +196,7 @@ fn operated(
     requires { AllTold graph.old operands.now }
     ensures extends { Extends graph.old graph.new }
     ensures stands { IfOk result (λ t. ToldStands graph.new t) }
-    ensures told { IfOk result (λ t. (place : Place) (v : ℕ → Bool) (os : List Outcome) → Consistent v graph.new → TellsAll v operands.now os →
+    ensures told { IfOk result (λ t. (place : Place) (v : ℕ → Bool) (os : List Evaluation) → Consistent v graph.new → TellsAll v operands.now os →
         Tells v t (operated (λ vs. given place (result_of operator vs)) [] os)) }
 {
     match operands {
@@ -225,7 +225,7 @@ fn of_one(
     requires { ToldStands graph.old a.now }
     ensures extends { Extends graph.old graph.new }
     ensures stands { IfOk result (λ t. ToldStands graph.new t) }
-    ensures told { IfOk result (λ t. (place : Place) (v : ℕ → Bool) (p : Outcome) → Consistent v graph.new → Tells v a.now p →
+    ensures told { IfOk result (λ t. (place : Place) (v : ℕ → Bool) (p : Evaluation) → Consistent v graph.new → Tells v a.now p →
         Tells v t (operated (λ vs. given place (result_of operator vs)) [] (p ∷ []))) }
 {
     match a {
@@ -251,7 +251,7 @@ fn of_two(
     requires b_stands { ToldStands graph.old b.now }
     ensures extends { Extends graph.old graph.new }
     ensures stands { IfOk result (λ t. ToldStands graph.new t) }
-    ensures told { IfOk result (λ t. (place : Place) (v : ℕ → Bool) (p q : Outcome) → Consistent v graph.new → Tells v a.now p → Tells v b.now q →
+    ensures told { IfOk result (λ t. (place : Place) (v : ℕ → Bool) (p q : Evaluation) → Consistent v graph.new → Tells v a.now p → Tells v b.now q →
         Tells v t (operated (λ vs. given place (result_of operator vs)) [] (p ∷ q ∷ []))) }
 {
     match (a, b) {
@@ -276,7 +276,7 @@ fn of_many(
     requires { AllTold graph.old operands.now }
     ensures extends { Extends graph.old graph.new }
     ensures stands { IfOk result (λ t. ToldStands graph.new t) }
-    ensures told { IfOk result (λ t. (place : Place) (v : ℕ → Bool) (os : List Outcome) → Consistent v graph.new → TellsAll v operands.now os →
+    ensures told { IfOk result (λ t. (place : Place) (v : ℕ → Bool) (os : List Evaluation) → Consistent v graph.new → TellsAll v operands.now os →
         Tells v t (operated (λ vs. given place (result_of operator vs)) [] os)) }
 {
     match gathered(alloc, graph, operands)? {
@@ -301,7 +301,7 @@ fn computed(
     requires values { AllStandIn graph.old values.now }
     ensures extends { Extends graph.old graph.new }
     ensures stands { IfOk result (λ t. ToldStands graph.new t) }
-    ensures told { IfOk result (λ t. (place : Place) (v : ℕ → Bool) (x : Outcome) → Consistent v graph.new → TellsEach v fault values.now x →
+    ensures told { IfOk result (λ t. (place : Place) (v : ℕ → Bool) (x : Evaluation) → Consistent v graph.new → TellsEach v fault values.now x →
         Tells v t (bound (λ vs. given place (result_of operator vs)) x)) }
 {
     let (value, edge) = apply(alloc, graph, operator, values)?;
@@ -320,7 +320,7 @@ fn gathered(alloc: Global, graph: &mut Graph, operands: &[Told]) -> Result<Optio
     requires { AllTold graph.old operands.now }
     ensures extends { Extends graph.old graph.new }
     ensures stands { IfOk result (λ r. IfSome r (λ each. Stands graph.new each.fault × AllStandIn graph.new each.values)) }
-    ensures told { IfOk result (λ r. IfSome r (λ each. (v : ℕ → Bool) (os : List Outcome) → Consistent v graph.new → TellsAll v operands.now os →
+    ensures told { IfOk result (λ r. IfSome r (λ each. (v : ℕ → Bool) (os : List Evaluation) → Consistent v graph.new → TellsAll v operands.now os →
         TellsEach v each.fault each.values (operated Values [] os))) }
 {
     let mut made = Each {
@@ -347,7 +347,7 @@ fn with_value(
     requires operand_stands { ToldStands graph.old operand.now }
     ensures extends { Extends graph.old graph.new }
     ensures stands { IfOk result (λ r. IfSome r (λ each. Stands graph.new each.fault × AllStandIn graph.new each.values)) }
-    ensures told { IfOk result (λ r. IfSome r (λ each. (v : ℕ → Bool) (x o : Outcome) → Consistent v graph.new → TellsEach v made.fault made.values x → Tells v operand.now o →
+    ensures told { IfOk result (λ r. IfSome r (λ each. (v : ℕ → Bool) (x o : Evaluation) → Consistent v graph.new → TellsEach v made.fault made.values x → Tells v operand.now o →
         TellsEach v each.fault each.values (beside x o))) }
 {
     match operand {

@@ -9,8 +9,8 @@ use Rattle.smv_value.specs.declared.value.Value.{Value}
 use Rattle.smv_value.specs.declared.value.Value.TheVariants as value
 use Rattle.smv_resolve.specs.Items.{ResolvedItem}
 use Rattle.smv_slots.specs.Slots.{slots_of}
-use Rattle.smv_meaning.specs.declared.outcome.Outcome.{Outcome}
-use Rattle.smv_meaning.specs.declared.outcome.Outcome.TheVariants.{Fault, Nothing, Values}
+use Rattle.smv_meaning.specs.declared.outcome.Evaluation.{Evaluation}
+use Rattle.smv_meaning.specs.declared.outcome.Evaluation.TheVariants.{Fault, Nothing, Values}
 use Rattle.smv_meaning.specs.Outcomes.{one}
 use Rattle.smv_meaning.specs.Values.{outcome_in}
 use Rattle.smv_meaning.specs.Runs.{Breaks, at_time, is_first_state, is_state, is_step}
@@ -24,7 +24,7 @@ use Rattle.bit_system.proofs.Frames.{decoded_moved, plain}
 use Rattle.bit_runs.specs.Running.{inputs_in, states_in}
 
 -- what is FALSE has the one value FALSE
-false_only : (o : Outcome) → is_false o ≡ true → o ≡ one (value.Bool false)
+false_only : (o : Evaluation) → is_false o ≡ true → o ≡ one (value.Bool false)
 false_only (Fault rule place) h = absurd (let never : ⊥ = cc in never)
 false_only Nothing h = absurd (let never : ⊥ = cc in never)
 false_only (Values []) h = absurd (let never : ⊥ = cc in never)

@@ -14,7 +14,7 @@ use Rattle.value_types.specs.Types.{is_type}
 use Rattle.value_types.specs.Codes.{HasCode, count, value_at}
 use Rattle.value_types.proofs.Coding.{coding}
 use Rattle.bit_graph.specs.declared.edge.Edge.{Edge}
-use Rattle.bit_graph.specs.declared.edge.Node.{Node}
+use Rattle.bit_graph.specs.declared.edge.GraphNode.{GraphNode}
 use Rattle.bit_graph.specs.Growth.{Extends}
 use Rattle.bit_graph.specs.Meaning.{edge_value}
 use Rattle.bit_arith.specs.Number.{number, number_of, values_of}
@@ -30,7 +30,7 @@ use Rattle.bit_states.proofs.Walking.{next_left, of_all}
 
 -- what stands in a graph stands in one that extends it
 
-stands_kept : (g h : List Node) (s : Symbolic) → Extends g h → StandsIn g s → StandsIn h s
+stands_kept : (g h : List GraphNode) (s : Symbolic) → Extends g h → StandsIn g s → StandsIn h s
 stands_kept g h (symbolic.Boolean e) x s = omega (arith, x.longer, s)
 stands_kept g h (symbolic.Word signed bits) x s = AllStand-extends g h bits x s
 stands_kept g h (symbolic.Discrete d) x s = record {
@@ -39,7 +39,7 @@ stands_kept g h (symbolic.Discrete d) x s = record {
   code = AllStand-extends g h d.code x s.code;
 }
 
-pub stand_more : (g h : List Node) (made new : List Symbolic) (s : Symbolic) → Extends g h → new ≡ made ++ s ∷ [] → AllStandIn g made → StandsIn h s → AllStandIn h new
+pub stand_more : (g h : List GraphNode) (made new : List Symbolic) (s : Symbolic) → Extends g h → new ≡ made ++ s ∷ [] → AllStandIn g made → StandsIn h s → AllStandIn h new
 stand_more g h made new s x new_is all one =
     subst (AllStandIn h) (sym new_is)
     (All-push (StandsIn h) made s (All-weaker (StandsIn g) (StandsIn h) (λ y k. stands_kept g h y x k) made all) one)

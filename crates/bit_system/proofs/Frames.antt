@@ -6,7 +6,7 @@ use Rattle.std.proofs.lemmas.List.{length-map}
 use Rattle.std.proofs.lemmas.List.Elements.{All-map}
 use Rattle.std.proofs.lemmas.List.FromFn.{length-range_with_len}
 use Rattle.bit_graph.specs.declared.edge.Edge.{Edge}
-use Rattle.bit_graph.specs.declared.edge.Node.{Node}
+use Rattle.bit_graph.specs.declared.edge.GraphNode.{GraphNode}
 use Rattle.bit_graph.specs.Meaning.{edge_value, Stands}
 use Rattle.bit_arith.specs.Number.{AllStand, values_of}
 use Rattle.value_types.specs.declared.value_type.ValueType.{ValueType}
@@ -23,7 +23,7 @@ range_below zero start end h j d lt = absurd (let none : ⊥ = omega (arith, lt)
 range_below (suc k) start end h zero d lt = omega (arith, h)
 range_below (suc k) start end h (suc j) d lt = range_below k (start + 1) end (omega (arith, h)) j d (omega (arith, lt))
 
-pub edges_stand : (g : List Node) (start k : ℕ) → start + k ≤ length g → AllStand g (edges_of (range_with_len start k))
+pub edges_stand : (g : List GraphNode) (start k : ℕ) → start + k ≤ length g → AllStand g (edges_of (range_with_len start k))
 edges_stand g start k h = All-map (Stands g) input (range_with_len start k) (range_below k start (length g) h)
 
 pub length_edges : (start k : ℕ) → length (edges_of (range_with_len start k)) ≡ k

@@ -4,7 +4,7 @@ use Rattle.smv_resolve.specs.Items.{ResolvedItem}
 use Rattle.clause_core.specs.Assignments.{Agrees}
 use Rattle.clause_core.specs.Literals.{Within}
 use Rattle.bit_graph.specs.declared.edge.Edge.{Edge}
-use Rattle.bit_graph.specs.declared.edge.Node.{Node}
+use Rattle.bit_graph.specs.declared.edge.GraphNode.{GraphNode}
 use Rattle.bit_graph.specs.Growth.{Extends}
 use Rattle.bit_graph.specs.Meaning.{Consistent, Denotes, HasInputs, Stands}
 use Rattle.bit_graph.specs.Values.{OneWay, value_under, values}
@@ -28,11 +28,11 @@ use Rattle.bit_system.specs.Sharing.{DecidesEdge, IsClaim}
 use Rattle.bit_system.specs.Standing.{just_values}
 use Rattle.bit_system.proofs.Frames.{decoded_same}
 
-pub tells_as : (g : List Node) (es : List Either) (f h : (ℕ → Bool) → Bool) → ((v : ℕ → Bool) → f v ≡ h v) → Tells g es f → Tells g es h
+pub tells_as : (g : List GraphNode) (es : List Either) (f h : (ℕ → Bool) → Bool) → ((v : ℕ → Bool) → f v ≡ h v) → Tells g es f → Tells g es h
 tells_as g es f h same tells = record { stand = tells.stand; holds = λ v c. tells.holds v c ∙ same v }
 
 -- conditions that tell a test of the inputs
-pub decides_told : (n : ℕ) (g : List Node) (es : List Either) (cs : List (List Lit)) (f : (ℕ → Bool) → Bool) → HasInputs n g → OneWay g
+pub decides_told : (n : ℕ) (g : List GraphNode) (es : List Either) (cs : List (List Lit)) (f : (ℕ → Bool) → Bool) → HasInputs n g → OneWay g
     → ((v : ℕ → Bool) → Consistent v g → all_hold v es ≡ f v) → ((a b : ℕ → Bool) → Agrees n a b → f a ≡ f b) → DecidesGroup n g es cs → Decides n cs f
 decides_told n g es cs f inputs law holds only decides =
     decides_as n cs (λ x. all_hold (values x g) es) f (λ x. holds (values x g) (law.some x).0 ∙ only (values x g) x (λ k lt. let at = inputs.at k lt in (law.some x).1 k at.0 at.1)) decides
@@ -75,13 +75,13 @@ module _ (p : Program) where
       ap (λ s. is_step p s (inputs_of p a) (next_of p a)) first ∙ ap (λ u. is_step p (state_of p b) u (next_of p a)) inputs ∙ ap (is_step p (state_of p b) (inputs_of p b)) second
 
   -- what conditions tell of states, their clauses decide
-  pub states_decide : (n : ℕ) (g : List Node) (es : List Either) (cs : List (List Lit)) (test : List Value → Bool) → n ≡ state_width p → HasInputs (state_width p) g → OneWay g
+  pub states_decide : (n : ℕ) (g : List GraphNode) (es : List Either) (cs : List (List Lit)) (test : List Value → Bool) → n ≡ state_width p → HasInputs (state_width p) g → OneWay g
       → Tells g es (λ v. test (state_of p v)) → DecidesGroup n g es cs → Decides (state_width p) cs (λ x. test (state_of p x))
   states_decide n g es cs test n_is inputs law tells decides =
       decides_told (state_width p) g es cs (λ x. test (state_of p x)) inputs law tells.holds (λ a b agrees. ap test (state_same a b agrees))
       (subst (λ k. DecidesGroup k g es cs) n_is decides)
 
-  pub steps_decide : (n : ℕ) (g : List Node) (es : List Either) (cs : List (List Lit)) → n ≡ named_width p → HasInputs (named_width p) g → OneWay g
+  pub steps_decide : (n : ℕ) (g : List GraphNode) (es : List Either) (cs : List (List Lit)) → n ≡ named_width p → HasInputs (named_width p) g → OneWay g
       → Tells g es (λ v. is_step p (state_of p v) (inputs_of p v) (next_of p v)) → DecidesGroup n g es cs
       → Decides (named_width p) cs (λ x. is_step p (state_of p x) (inputs_of p x) (next_of p x))
   steps_decide n g es cs n_is inputs law tells decides =
@@ -89,7 +89,7 @@ module _ (p : Program) where
       (subst (λ k. DecidesGroup k g es cs) n_is decides)
 
   -- the literals of the edges are those of the formulas of JUSTICE
-  pub justs_define : (n : ℕ) (g : List Node) (edges : List Edge) (cs : List (List Lit)) (lits : List Lit) → n ≡ state_width p → HasInputs (state_width p) g → OneWay g
+  pub justs_define : (n : ℕ) (g : List GraphNode) (edges : List Edge) (cs : List (List Lit)) (lits : List Lit) → n ≡ state_width p → HasInputs (state_width p) g → OneWay g
       → TellsJust g p (state_of p) edges → DefinesEdges n g edges cs lits → DefinesAll (state_width p) cs lits (just_values p)
   justs_define n g edges cs lits n_is inputs law tells defines =
       let same : (x : ℕ → Bool) → map (λ (e : Edge). value_under x g e) edges ≡ map (λ (y : ResolvedItem). is_just_in p (state_of p x) y) (justices_of p) =
@@ -100,7 +100,7 @@ module _ (p : Program) where
       (subst (λ k. DefinesEdges k g edges cs lits) n_is defines)
 
   -- clauses that decide an edge that is true in bad states decide these
-  pub bad_decided : (n : ℕ) (g : List Node) (spec : ResolvedItem) (e : Edge) (r : Claim) → n ≡ state_width p → HasInputs (state_width p) g → OneWay g
+  pub bad_decided : (n : ℕ) (g : List GraphNode) (spec : ResolvedItem) (e : Edge) (r : Claim) → n ≡ state_width p → HasInputs (state_width p) g → OneWay g
       → TellsBad g p (state_of p) spec e → DecidesEdge n g e r → IsClaim p spec r
   bad_decided n g spec e r n_is inputs law tells decides =
       let same : (x : ℕ → Bool) → value_under x g e ≡ is_bad_in p spec (state_of p x) =
@@ -116,14 +116,14 @@ module _ (p : Program) where
       }
 
 -- the edge of an invariant that is FALSE, and a constant where none is claimed
-pub bad_where : (g : List Node) (p : Program) (state : (ℕ → Bool) → List Value) (spec : ResolvedItem) (e : Edge) → is_invariant spec.kind ≡ true → Stands g e
+pub bad_where : (g : List GraphNode) (p : Program) (state : (ℕ → Bool) → List Value) (spec : ResolvedItem) (e : Edge) → is_invariant spec.kind ≡ true → Stands g e
     → Denotes g e (λ v. is_broken_in p spec (state v)) → TellsBad g p state spec e
 bad_where g p state spec e invariant stands value = record {
   stands = stands;
   value = λ v c. value v c ∙ sym (ap (λ (b : Bool). b && is_broken_in p spec (state v)) invariant);
 }
 
-pub bad_nowhere : (g : List Node) (p : Program) (state : (ℕ → Bool) → List Value) (spec : ResolvedItem) (e : Edge) → is_invariant spec.kind ≡ false → Stands g e
+pub bad_nowhere : (g : List GraphNode) (p : Program) (state : (ℕ → Bool) → List Value) (spec : ResolvedItem) (e : Edge) → is_invariant spec.kind ≡ false → Stands g e
     → Denotes g e (λ v. false) → TellsBad g p state spec e
 bad_nowhere g p state spec e other stands value = record {
   stands = stands;
@@ -131,15 +131,15 @@ bad_nowhere g p state spec e other stands value = record {
 }
 
 -- an edge that is true in bad states is so in a graph that grew
-pub bad_kept : (g h : List Node) → Extends g h → (p : Program) (state : (ℕ → Bool) → List Value) (spec : ResolvedItem) (e : Edge) → TellsBad g p state spec e → TellsBad h p state spec e
+pub bad_kept : (g h : List GraphNode) → Extends g h → (p : Program) (state : (ℕ → Bool) → List Value) (spec : ResolvedItem) (e : Edge) → TellsBad g p state spec e → TellsBad h p state spec e
 bad_kept g h extends p state spec e tells = record { stands = edge_kept g h extends e tells.stands; value = λ v c. tells.value v (extends.kept v c) }
 
 -- and so where the state is told in another way
-pub bad_as : (g : List Node) (p : Program) (one other : (ℕ → Bool) → List Value) (spec : ResolvedItem) (e : Edge) → ((v : ℕ → Bool) → one v ≡ other v) → TellsBad g p one spec e → TellsBad g p other spec e
+pub bad_as : (g : List GraphNode) (p : Program) (one other : (ℕ → Bool) → List Value) (spec : ResolvedItem) (e : Edge) → ((v : ℕ → Bool) → one v ≡ other v) → TellsBad g p one spec e → TellsBad g p other spec e
 bad_as g p one other spec e same tells = record { stands = tells.stands; value = λ v c. tells.value v c ∙ ap (is_bad_in p spec) (same v) }
 
 -- the same of the formulas of JUSTICE
-pub just_as : (g : List Node) (p : Program) (one other : (ℕ → Bool) → List Value) (es : List Edge) → ((v : ℕ → Bool) → one v ≡ other v) → TellsJust g p one es → TellsJust g p other es
+pub just_as : (g : List GraphNode) (p : Program) (one other : (ℕ → Bool) → List Value) (es : List Edge) → ((v : ℕ → Bool) → one v ≡ other v) → TellsJust g p one es → TellsJust g p other es
 just_as g p one other es same tells = record { stand = tells.stand; told = λ v c. tells.told v c ∙ ap (λ s. map (is_just_in p s) (justices_of p)) (same v) }
 
 -- literals that are within a number are within a greater one

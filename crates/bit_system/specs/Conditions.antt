@@ -1,7 +1,7 @@
 -- What conditions over the edges of a graph say of states whose bits are its inputs.
 use Rattle.std.specs.Prelude.{ℕ, Bool, false, ◌&&◌, List, [], ◌∷◌, map}
 use Rattle.bit_graph.specs.declared.edge.Edge.{Edge}
-use Rattle.bit_graph.specs.declared.edge.Node.{Node}
+use Rattle.bit_graph.specs.declared.edge.GraphNode.{GraphNode}
 use Rattle.bit_graph.specs.Meaning.{Denotes, HasInputs, Stands}
 use Rattle.smv_tree.specs.declared.tree.Program.{Program}
 use Rattle.smv_value.specs.declared.value.Value.{Value}
@@ -32,7 +32,7 @@ abbrev pub is_bad_in : Program → ResolvedItem → List Value → Bool
 is_bad_in p spec s = is_invariant spec.kind && is_broken_in p spec s
 
 -- the edge is true exactly where the state is bad
-pub record TellsBad (g : List Node) (p : Program) (state : (ℕ → Bool) → List Value) (spec : ResolvedItem) (e : Edge) : Type 0 where
+pub record TellsBad (g : List GraphNode) (p : Program) (state : (ℕ → Bool) → List Value) (spec : ResolvedItem) (e : Edge) : Type 0 where
   pub stands : Stands g e
   pub value : Denotes g e (λ v. is_bad_in p spec (state v))
 

@@ -6,7 +6,7 @@ use Rattle.smv_tree.specs.declared.tree.Program.{Program}
 use Rattle.smv_resolve.specs.Items.{ResolvedItem}
 use Rattle.smv_meaning.specs.Runs.{is_first_state, is_step}
 use Rattle.bit_graph.specs.declared.edge.Edge.{Edge}
-use Rattle.bit_graph.specs.declared.edge.Node.{Node}
+use Rattle.bit_graph.specs.declared.edge.GraphNode.{GraphNode}
 use Rattle.bit_graph.specs.Values.{value_under}
 use Rattle.bit_clauses.specs.declared.deciding.Decided.{Decided}
 use Rattle.bit_clauses.specs.Deciding.{Decides}
@@ -42,7 +42,7 @@ pub record DecidesBoth (width : ℕ) (question : (ℕ → Bool) → Bool) (r : C
   pub good_within : All (Within r.vars) r.good
 
 -- whether an edge is true
-abbrev pub DecidesEdge : ℕ → List Node → Edge → Claim → Type 0
+abbrev pub DecidesEdge : ℕ → List GraphNode → Edge → Claim → Type 0
 DecidesEdge width g e r = DecidesBoth width (λ x. value_under x g e) r
 
 -- the clauses of a specification

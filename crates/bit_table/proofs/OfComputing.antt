@@ -10,7 +10,7 @@ use Rattle.smv_value.specs.declared.value.FaultRule.{FaultRule}
 use Rattle.smv_value.specs.Results.{fault_if, fault_of, integer, is_int, is_true, is_value, of_integer, one, result_of, same, second_fault, three, two, unless, value_of}
 use Rattle.value_types.proofs.Elements.{and_left, and_right}
 use Rattle.bit_graph.specs.declared.edge.Edge.{Edge}
-use Rattle.bit_graph.specs.declared.edge.Node.{Node}
+use Rattle.bit_graph.specs.declared.edge.GraphNode.{GraphNode}
 use Rattle.bit_graph.specs.Meaning.{Consistent, Denotes, Stands, edge_value}
 use Rattle.bit_operators.specs.declared.symbolic.Discrete.{Discrete}
 use Rattle.bit_operators.specs.declared.symbolic.Symbolic.{Symbolic}
@@ -188,35 +188,35 @@ middle_known v f a b c s n d h = record {
 
 -- of results that may be missing, over all valuations
 
-pub given_one : (g : List Node) (o : Operator) (f : Value → Option Value) (a : Symbolic) (r : Option Symbolic) → value_of o ≡ one f → fault_of o ≡ (λ (xs : List Value). None) →
+pub given_one : (g : List GraphNode) (o : Operator) (f : Value → Option Value) (a : Symbolic) (r : Option Symbolic) → value_of o ≡ one f → fault_of o ≡ (λ (xs : List Value). None) →
     IfSome r (λ s. (v : ℕ → Bool) → Consistent v g → ComputesOne v f a s) → IfSome r (λ s. (v : ℕ → Bool) → Consistent v g → ComputesAlways v o (a ∷ []) s)
 given_one g o f a r ev ef h =
     some_map (λ s. (v : ℕ → Bool) → Consistent v g → ComputesOne v f a s) (λ s. (v : ℕ → Bool) → Consistent v g → ComputesAlways v o (a ∷ []) s) r
     (λ s k v q. always_one v o f a s ev ef (k v q)) h
 
-pub plain_one : (g : List Node) (o : Operator) (f : Value → Option Value) (a : Symbolic) (r : Option Symbolic) → value_of o ≡ one f → fault_of o ≡ (λ (xs : List Value). None) →
+pub plain_one : (g : List GraphNode) (o : Operator) (f : Value → Option Value) (a : Symbolic) (r : Option Symbolic) → value_of o ≡ one f → fault_of o ≡ (λ (xs : List Value). None) →
     IfSome r (λ s. (v : ℕ → Bool) → ComputesOne v f a s) → IfSome r (λ s. (v : ℕ → Bool) → Consistent v g → ComputesAlways v o (a ∷ []) s)
 plain_one g o f a r ev ef h =
     some_map (λ s. (v : ℕ → Bool) → ComputesOne v f a s) (λ s. (v : ℕ → Bool) → Consistent v g → ComputesAlways v o (a ∷ []) s) r (λ s k v q. always_one v o f a s ev ef (k v)) h
 
-pub given_two : (g : List Node) (o : Operator) (f : Value → Value → Option Value) (a b : Symbolic) (r : Option Symbolic) → value_of o ≡ two f → fault_of o ≡ (λ (xs : List Value). None) →
+pub given_two : (g : List GraphNode) (o : Operator) (f : Value → Value → Option Value) (a b : Symbolic) (r : Option Symbolic) → value_of o ≡ two f → fault_of o ≡ (λ (xs : List Value). None) →
     IfSome r (λ s. (v : ℕ → Bool) → Consistent v g → ComputesTwo v f a b s) → IfSome r (λ s. (v : ℕ → Bool) → Consistent v g → ComputesAlways v o (a ∷ b ∷ []) s)
 given_two g o f a b r ev ef h =
     some_map (λ s. (v : ℕ → Bool) → Consistent v g → ComputesTwo v f a b s) (λ s. (v : ℕ → Bool) → Consistent v g → ComputesAlways v o (a ∷ b ∷ []) s) r
     (λ s k v q. always_two v o f a b s ev ef (k v q)) h
 
-pub plain_two : (g : List Node) (o : Operator) (f : Value → Value → Option Value) (a b : Symbolic) (r : Option Symbolic) → value_of o ≡ two f → fault_of o ≡ (λ (xs : List Value). None) →
+pub plain_two : (g : List GraphNode) (o : Operator) (f : Value → Value → Option Value) (a b : Symbolic) (r : Option Symbolic) → value_of o ≡ two f → fault_of o ≡ (λ (xs : List Value). None) →
     IfSome r (λ s. (v : ℕ → Bool) → ComputesTwo v f a b s) → IfSome r (λ s. (v : ℕ → Bool) → Consistent v g → ComputesAlways v o (a ∷ b ∷ []) s)
 plain_two g o f a b r ev ef h =
     some_map (λ s. (v : ℕ → Bool) → ComputesTwo v f a b s) (λ s. (v : ℕ → Bool) → Consistent v g → ComputesAlways v o (a ∷ b ∷ []) s) r (λ s k v q. always_two v o f a b s ev ef (k v)) h
 
-pub given_three : (g : List Node) (o : Operator) (f : Value → Value → Value → Option Value) (a b c : Symbolic) (r : Option Symbolic) → value_of o ≡ three f → fault_of o ≡ (λ (xs : List Value). None) →
+pub given_three : (g : List GraphNode) (o : Operator) (f : Value → Value → Value → Option Value) (a b c : Symbolic) (r : Option Symbolic) → value_of o ≡ three f → fault_of o ≡ (λ (xs : List Value). None) →
     IfSome r (λ s. (v : ℕ → Bool) → Consistent v g → ComputesThree v f a b c s) → IfSome r (λ s. (v : ℕ → Bool) → Consistent v g → ComputesAlways v o (a ∷ b ∷ c ∷ []) s)
 given_three g o f a b c r ev ef h =
     some_map (λ s. (v : ℕ → Bool) → Consistent v g → ComputesThree v f a b c s) (λ s. (v : ℕ → Bool) → Consistent v g → ComputesAlways v o (a ∷ b ∷ c ∷ []) s) r
     (λ s k v q. always_three v o f a b c s ev ef (k v q)) h
 
-pub given_count : (g : List Node) (o : Operator) (ss : List Symbolic) (r : Option Symbolic) → o ≡ operator.Count →
+pub given_count : (g : List GraphNode) (o : Operator) (ss : List Symbolic) (r : Option Symbolic) → o ≡ operator.Count →
     IfSome r (λ s. (v : ℕ → Bool) (xs : List Value) → Consistent v g → AreDenoted v ss xs → denoted v s ≡ Some (value.Int (pos (count_by is_true xs)))) →
     IfSome r (λ s. (v : ℕ → Bool) → Consistent v g → ComputesAlways v o ss s)
 given_count g o ss r eo h =
@@ -224,20 +224,20 @@ given_count g o ss r eo h =
     (λ s. (v : ℕ → Bool) → Consistent v g → ComputesAlways v o ss s) r (λ s k v q. always_count v o ss s eo (λ xs d. k v xs q d)) h
 
 -- the second operand is a constant
-pub by_constant : (g : List Node) (f : Value → Value → Option Value) (a b : Symbolic) (r : Option Symbolic) (y n : ℤ) → y ≡ n → ((v : ℕ → Bool) → Consistent v g → denoted v b ≡ Some (value.Int n)) →
+pub by_constant : (g : List GraphNode) (f : Value → Value → Option Value) (a b : Symbolic) (r : Option Symbolic) (y n : ℤ) → y ≡ n → ((v : ℕ → Bool) → Consistent v g → denoted v b ≡ Some (value.Int n)) →
     IfSome r (λ s. (v : ℕ → Bool) → Consistent v g → ComputesOne v (λ x. f x (value.Int y)) a s) → IfSome r (λ s. (v : ℕ → Bool) → Consistent v g → ComputesTwo v f a b s)
 by_constant g f a b r y n e d h =
     some_map (λ s. (v : ℕ → Bool) → Consistent v g → ComputesOne v (λ x. f x (value.Int y)) a s) (λ s. (v : ℕ → Bool) → Consistent v g → ComputesTwo v f a b s) r
     (λ s k v q. second_known v f a b s (value.Int y) (d v q ∙ ap (λ z. Some (value.Int z)) (sym e)) (k v q)) h
 
 -- the bounds of a selection are constants
-pub by_top : (g : List Node) (f : Value → Value → Value → Option Value) (a b c : Symbolic) (r : Option Symbolic) (y n : ℤ) → y ≡ n → ((v : ℕ → Bool) → Consistent v g → denoted v b ≡ Some (value.Int n)) →
+pub by_top : (g : List GraphNode) (f : Value → Value → Value → Option Value) (a b c : Symbolic) (r : Option Symbolic) (y n : ℤ) → y ≡ n → ((v : ℕ → Bool) → Consistent v g → denoted v b ≡ Some (value.Int n)) →
     IfSome r (λ s. (v : ℕ → Bool) → Consistent v g → ComputesTwo v (λ x w. f x (value.Int y) w) a c s) → IfSome r (λ s. (v : ℕ → Bool) → Consistent v g → ComputesThree v f a b c s)
 by_top g f a b c r y n e d h =
     some_map (λ s. (v : ℕ → Bool) → Consistent v g → ComputesTwo v (λ x w. f x (value.Int y) w) a c s) (λ s. (v : ℕ → Bool) → Consistent v g → ComputesThree v f a b c s) r
     (λ s k v q. middle_known v f a b c s (value.Int y) (d v q ∙ ap (λ z. Some (value.Int z)) (sym e)) (k v q)) h
 
-pub by_bottom : (g : List Node) (f : Value → Value → Value → Option Value) (a b : Symbolic) (r : Option Symbolic) (m t y n : ℤ) → m ≡ t → y ≡ n →
+pub by_bottom : (g : List GraphNode) (f : Value → Value → Value → Option Value) (a b : Symbolic) (r : Option Symbolic) (m t y n : ℤ) → m ≡ t → y ≡ n →
     ((v : ℕ → Bool) → Consistent v g → denoted v b ≡ Some (value.Int n)) → IfSome r (λ s. (v : ℕ → Bool) → ComputesOne v (λ x. f x (value.Int m) (value.Int y)) a s) →
     IfSome r (λ s. (v : ℕ → Bool) → Consistent v g → ComputesTwo v (λ x w. f x (value.Int t) w) a b s)
 by_bottom g f a b r m t y n em e d h =
@@ -245,7 +245,7 @@ by_bottom g f a b r m t y n em e d h =
     (some_map (λ s. (v : ℕ → Bool) → ComputesOne v (λ x. f x (value.Int m) (value.Int y)) a s) (λ s. (v : ℕ → Bool) → Consistent v g → ComputesTwo v (λ x w. f x (value.Int m) w) a b s) r
     (λ s k v q. second_known v (λ x w. f x (value.Int m) w) a b s (value.Int y) (d v q ∙ ap (λ z. Some (value.Int z)) (sym e)) (k v)) h)
 
-pub of_constant : (g : List Node) (f : Value → Value → Option Value) (a : Symbolic) (r : Option Symbolic) (m n w t : ℤ) → m ≡ n → w ≡ t → ((v : ℕ → Bool) → Consistent v g → denoted v a ≡ Some (value.Int n)) →
+pub of_constant : (g : List GraphNode) (f : Value → Value → Option Value) (a : Symbolic) (r : Option Symbolic) (m n w t : ℤ) → m ≡ n → w ≡ t → ((v : ℕ → Bool) → Consistent v g → denoted v a ≡ Some (value.Int n)) →
     IfSome r (λ s. (v : ℕ → Bool) (x : Value) → Consistent v g → f (value.Int m) (value.Int w) ≡ Some x → denoted v s ≡ Some x) →
     IfSome r (λ s. (v : ℕ → Bool) → Consistent v g → ComputesOne v (λ x. f x (value.Int t)) a s)
 of_constant g f a r m n w t em ew d h =
@@ -254,17 +254,17 @@ of_constant g f a r m n w t em ew d h =
     (λ s. (v : ℕ → Bool) → Consistent v g → ComputesOne v (λ x. f x (value.Int w)) a s) r
     (λ s k v q. one_known v (λ x. f x (value.Int w)) a s (value.Int m) (d v q ∙ ap (λ z. Some (value.Int z)) (sym em)) (λ z e. k v z q e)) h)
 
-pub same_constant : (g : List Node) (f : Value → Value → Option Value) (a : Symbolic) (r : Option Symbolic) (m n : ℤ) → m ≡ n →
+pub same_constant : (g : List GraphNode) (f : Value → Value → Option Value) (a : Symbolic) (r : Option Symbolic) (m n : ℤ) → m ≡ n →
     IfSome r (λ s. (v : ℕ → Bool) → Consistent v g → ComputesOne v (λ x. f x (value.Int m)) a s) → IfSome r (λ s. (v : ℕ → Bool) → Consistent v g → ComputesOne v (λ x. f x (value.Int n)) a s)
 same_constant g f a r m n e h = subst (λ u. IfSome r (λ s. (v : ℕ → Bool) → Consistent v g → ComputesOne v (λ x. f x (value.Int u)) a s)) e h
 
 -- comparisons
 
-pub compared_is : (g : List Node) (v : ℕ → Bool) (a b : Symbolic) (e : Edge) →
+pub compared_is : (g : List GraphNode) (v : ℕ → Bool) (a b : Symbolic) (e : Edge) →
     ((x y : Value) → denoted v a ≡ Some x → denoted v b ≡ Some y → edge_value v e ≡ same x y) → ComputesTwo v (λ x y. Some (value.Bool (same x y))) a b (symbolic.Boolean e)
 compared_is g v a b e h = record { gives = λ x y z ea eb ix iy q. ap (λ t. Some (value.Bool t)) (h x y ea eb) ∙ q }
 
-pub differ_is : (g : List Node) (v : ℕ → Bool) (a b : Symbolic) (e n : Edge) → edge_value v n ≡ not (edge_value v e) →
+pub differ_is : (g : List GraphNode) (v : ℕ → Bool) (a b : Symbolic) (e n : Edge) → edge_value v n ≡ not (edge_value v e) →
     ((x y : Value) → denoted v a ≡ Some x → denoted v b ≡ Some y → edge_value v e ≡ same x y) → ComputesTwo v (λ x y. Some (value.Bool (not (same x y)))) a b (symbolic.Boolean n)
 differ_is g v a b e n en h = record { gives = λ x y z ea eb ix iy q. ap (λ t. Some (value.Bool t)) (en ∙ ap not (h x y ea eb)) ∙ q }
 
@@ -276,7 +276,7 @@ pair_is (x ∷ []) a b l m h k = absurd (omega arith)
 pair_is (x ∷ y ∷ []) a b l m h k = λ i. sym h i ∷ sym k i ∷ []
 pair_is (x ∷ y ∷ z ∷ xs) a b l m h k = absurd (omega arith)
 
-pub given_unless : {E : Type 0} (g : List Node) (o : Operator) (test : Value → Value → Bool) (rule : FaultRule) (f : Value → Value → Option Value) (ss : List Symbolic) (a b : Symbolic)
+pub given_unless : {E : Type 0} (g : List GraphNode) (o : Operator) (test : Value → Value → Bool) (rule : FaultRule) (f : Value → Value → Option Value) (ss : List Symbolic) (a b : Symbolic)
     (made : Option (Symbolic × Edge)) (r : Result (Symbolic × Edge) E) → ss ≡ a ∷ b ∷ [] → value_of o ≡ two f → fault_of o ≡ second_fault test rule → IfOk r (λ p. made ≡ Some p) →
     IfSome made (λ p. (v : ℕ → Bool) → Consistent v g → ComputesUnless v test f a b p.0 p.1) → IfOk r (λ p. (v : ℕ → Bool) → Consistent v g → Computes v o ss p.0 p.1)
 given_unless g o test rule f ss a b made (Err e) es ev ef h k = h
@@ -284,12 +284,12 @@ given_unless g o test rule f ss a b made (Ok p) es ev ef h k =
     let fact = subst (λ m. IfSome m (λ q. (v : ℕ → Bool) → Consistent v g → ComputesUnless v test f a b q.0 q.1)) h k in
     λ v c. subst (λ l. Computes v o l p.0 p.1) (sym es) (computes_unless v o test rule f a b p.0 p.1 ev ef (fact v c))
 
-pub always_stands : {E : Type 0} (g : List Node) (made : Option Symbolic) (r : Result (Symbolic × Edge) E) → IfOk r (λ p. made ≡ Some p.0) → IfOk r (λ p. Stands g p.1) → IfSome made (λ s. StandsIn g s) →
+pub always_stands : {E : Type 0} (g : List GraphNode) (made : Option Symbolic) (r : Result (Symbolic × Edge) E) → IfOk r (λ p. made ≡ Some p.0) → IfOk r (λ p. Stands g p.1) → IfSome made (λ s. StandsIn g s) →
     IfOk r (λ p. StandsIn g p.0 × Stands g p.1)
 always_stands g made (Err e) h k s = h
 always_stands g made (Ok p) h k s = (subst (λ m. IfSome m (λ q. StandsIn g q)) h s, k)
 
-pub always_value : {E : Type 0} (g : List Node) (o : Operator) (ss : List Symbolic) (made : Option Symbolic) (r : Result (Symbolic × Edge) E) → IfOk r (λ p. made ≡ Some p.0) →
+pub always_value : {E : Type 0} (g : List GraphNode) (o : Operator) (ss : List Symbolic) (made : Option Symbolic) (r : Result (Symbolic × Edge) E) → IfOk r (λ p. made ≡ Some p.0) →
     IfOk r (λ p. Denotes g p.1 (λ v. false)) → IfSome made (λ s. (v : ℕ → Bool) → Consistent v g → ComputesAlways v o ss s) → IfOk r (λ p. (v : ℕ → Bool) → Consistent v g → Computes v o ss p.0 p.1)
 always_value g o ss made (Err e) h k s = h
 always_value g o ss made (Ok p) h k s =

@@ -16,7 +16,7 @@ use Rattle.smv_value.specs.declared.operator.Operator.{Operator}
 use Rattle.smv_value.specs.declared.operator.Operator.TheVariants as operator
 use Rattle.smv_value.specs.declared.value.Value.{Value}
 use Rattle.smv_value.specs.declared.value.Value.TheVariants as value
-use Rattle.smv_value.specs.Results.{alike, amount, bits_from, constant_word, counted, divided, extended, inverted, is_int, is_true, is_value, is_width, is_word, joined, logic_bits, logic_truth, logical, low_bits, moved, natural, of_integer, of_integers, of_number, of_numbers, one, order_truth, ordered, resized, same, selected, shifted, shifted_by, size, sum_of, three, to_boolean, to_word, two, value_of, with_sign, word, word_of}
+use Rattle.smv_value.specs.Results.{alike, amount, bits_from, constant_word, number_of_word, divided, extended, inverted, is_int, is_true, is_value, is_width, is_word, joined, logic_bits, logic_truth, logical, low_bits, moved, natural, of_integer, of_integers, of_number, of_numbers, one, order_truth, ordered, resized, same, selected, shifted, shifted_by, size, sum_of, three, to_boolean, to_word, two, value_of, with_sign, word, word_of}
 use Rattle.value_types.proofs.Elements.{and_left, and_right, both_true}
 
 some_same : {A : Type 0} (x y : A) → Some x ≡ Some y → x ≡ y
@@ -102,14 +102,14 @@ ordered_stays o (value.Word s w a) (value.Bool b) z i j e = absurd cc
 ordered_stays o (value.Word s w a) (value.Int b) z i j e = absurd cc
 ordered_stays o (value.Word s w a) (value.Sym b) z i j e = absurd cc
 ordered_stays o (value.Word s w a) (value.Word t u b) z i j e =
-    let r = tested (alike s w t u) (Some (value.Bool (order_truth o (counted s w a) (counted s w b)))) z e in
-    truth_stays (order_truth o (counted s w a) (counted s w b)) z r.1
+    let r = tested (alike s w t u) (Some (value.Bool (order_truth o (number_of_word s w a) (number_of_word s w b)))) z e in
+    truth_stays (order_truth o (number_of_word s w a) (number_of_word s w b)) z r.1
 
 number_stays : (f : ℤ → ℤ) (x z : Value) → is_value x ≡ true → of_number f x ≡ Some z → is_value z ≡ true
 number_stays f (value.Bool a) z i e = absurd cc
 number_stays f (value.Int a) z i e = integer_stays (f a) z e
 number_stays f (value.Sym a) z i e = absurd cc
-number_stays f (value.Word s w a) z i e = is (word s w (f (counted s w a))) z e (low_word w (f (counted s w a)) (width_is w a i))
+number_stays f (value.Word s w a) z i e = is (word s w (f (number_of_word s w a))) z e (low_word w (f (number_of_word s w a)) (width_is w a i))
 
 numbers_stay : (f : ℤ → ℤ → ℤ) (x y z : Value) → is_value x ≡ true → is_value y ≡ true → of_numbers f x y ≡ Some z → is_value z ≡ true
 numbers_stay f (value.Bool a) y z i j e = absurd cc
@@ -122,8 +122,8 @@ numbers_stay f (value.Word s w a) (value.Bool b) z i j e = absurd cc
 numbers_stay f (value.Word s w a) (value.Int b) z i j e = absurd cc
 numbers_stay f (value.Word s w a) (value.Sym b) z i j e = absurd cc
 numbers_stay f (value.Word s w a) (value.Word t u b) z i j e =
-    let r = tested (alike s w t u) (Some (word s w (f (counted s w a) (counted s w b)))) z e in
-    is (word s w (f (counted s w a) (counted s w b))) z r.1 (low_word w (f (counted s w a) (counted s w b)) (width_is w a i))
+    let r = tested (alike s w t u) (Some (word s w (f (number_of_word s w a) (number_of_word s w b)))) z e in
+    is (word s w (f (number_of_word s w a) (number_of_word s w b))) z r.1 (low_word w (f (number_of_word s w a) (number_of_word s w b)) (width_is w a i))
 
 one_integer_stays : (f : ℤ → ℤ) (x z : Value) → is_value x ≡ true → of_integer f x ≡ Some z → is_value z ≡ true
 one_integer_stays f (value.Bool a) z i e = absurd cc
@@ -142,7 +142,7 @@ integers_stay f (value.Word s w a) y z i j e = absurd cc
 
 moved_stays : (o : Shift) (s : Bool) (w a : ℕ) (n : Option ℤ) (z : Value) → is_width w ≡ true → shifted_by o s w a n ≡ Some z → is_value z ≡ true
 moved_stays o s w a None z i e = absurd cc
-moved_stays o s w a (Some n) z i e = is (word s w (moved o (counted s w a) (natural n))) z e (low_word w (moved o (counted s w a) (natural n)) i)
+moved_stays o s w a (Some n) z i e = is (word s w (moved o (number_of_word s w a) (natural n))) z e (low_word w (moved o (number_of_word s w a) (natural n)) i)
 
 shifted_stays : (o : Shift) (x y z : Value) → is_value x ≡ true → is_value y ≡ true → shifted o x y ≡ Some z → is_value z ≡ true
 shifted_stays o (value.Bool a) y z i j e = absurd cc
@@ -178,7 +178,7 @@ extended_stays (value.Bool a) y z i j e = absurd cc
 extended_stays (value.Int a) y z i j e = absurd cc
 extended_stays (value.Sym a) y z i j e = absurd cc
 extended_stays (value.Word s w a) (value.Bool n) z i j e = absurd cc
-extended_stays (value.Word s w a) (value.Int n) z i j e = word_stays s (w + natural n) (counted s w a) z e
+extended_stays (value.Word s w a) (value.Int n) z i j e = word_stays s (w + natural n) (number_of_word s w a) z e
 extended_stays (value.Word s w a) (value.Sym n) z i j e = absurd cc
 extended_stays (value.Word s w a) (value.Word t u n) z i j e = absurd cc
 
@@ -187,7 +187,7 @@ resized_stays (value.Bool a) y z i j e = absurd cc
 resized_stays (value.Int a) y z i j e = absurd cc
 resized_stays (value.Sym a) y z i j e = absurd cc
 resized_stays (value.Word s w a) (value.Bool n) z i j e = absurd cc
-resized_stays (value.Word s w a) (value.Int n) z i j e = word_stays s (natural n) (counted s w a) z e
+resized_stays (value.Word s w a) (value.Int n) z i j e = word_stays s (natural n) (number_of_word s w a) z e
 resized_stays (value.Word s w a) (value.Sym n) z i j e = absurd cc
 resized_stays (value.Word s w a) (value.Word t u n) z i j e = absurd cc
 

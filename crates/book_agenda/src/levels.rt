@@ -5,7 +5,7 @@ ghost use Rattle.std.specs.Prelude.{◌≡◌, ◌<◌, length, vec_len, vec_cap
 use crate::literal_table::LiteralTable;
 use crate::values::{add_clauses, add_states, blocked_to, lift, lower, meets_from};
 use clause_core::Clause;
-use frame_core::{Clear, Found, Frames, Insertion, Noting, Opening, Proved, Raising};
+use frame_core::{Clear, Frames, Insertion, Noting, Opening, Proved, Raising, StateWitness};
 use std::alloc::{AllocError, Global};
 use std::marker::Model;
 
@@ -186,7 +186,7 @@ impl<'a> Levels<'a> {
     pub fn note(
         &mut self,
         j: usize,
-        found: Found,
+        found: StateWitness,
         parent: Option<usize>,
     ) -> Result<Noting, AllocError>
         requires in_range { j < length self.old.systems }

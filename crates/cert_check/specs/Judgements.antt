@@ -9,8 +9,8 @@ use Rattle.cert_core.specs.declared.form.Part.{Part}
 use Rattle.cert_core.specs.declared.form.Part.TheVariants.{Shared, First, Kept, Safe}
 use Rattle.cert_core.specs.Blocks.{Block, part_of}
 use Rattle.cert_core.specs.Certificates.{shared_steps, shared_clauses, first_clauses, kept_clauses, safe_clauses, Shows, SharedFollow, Certifies}
-use Rattle.cert_check.specs.declared.judging.Verdict.{Verdict}
-use Rattle.cert_check.specs.declared.judging.Verdict.TheVariants.{Yes, No}
+use Rattle.cert_check.specs.declared.judging.CertVerdict.{CertVerdict}
+use Rattle.cert_check.specs.declared.judging.CertVerdict.TheVariants.{Yes, No}
 
 -- the clause has state bits alone, and the part `first` of it shows what it is to show
 abbrev pub FirstHolds : TransitionSystem → Block → ℕ → Type 0
@@ -70,6 +70,6 @@ FailsFirst sys cert Safe =
     × (SafeHolds sys cert → ⊥)
 
 -- Yes: the certificate certifies; No: this part is the first that fails
-abbrev pub VerdictSays : TransitionSystem → Block → Verdict → Type 0
+abbrev pub VerdictSays : TransitionSystem → Block → CertVerdict → Type 0
 VerdictSays sys cert Yes = Certifies sys cert
 VerdictSays sys cert (No part) = FailsFirst sys cert part

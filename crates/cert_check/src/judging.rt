@@ -16,7 +16,7 @@ use std::alloc::{AllocError, Global};
 
 /// What a certificate's check says.
 #[derive(Clone, Copy, PartialEq, Eq, Debug)]
-pub enum Verdict {
+pub enum CertVerdict {
     /// The certificate certifies.
     Yes,
     /// This part is the first that fails. The parts are judged in the order `shared`, `first`, `kept`, `safe`; by
@@ -104,7 +104,7 @@ fn judge_rest(
     checker: &mut Checker,
     system: &System,
     cert: &Certificate,
-) -> Result<Verdict, AllocError>
+) -> Result<CertVerdict, AllocError>
     requires vars { checker.old ≡ system.now.all_bits }
     requires room { 2 * system.now.state_bits ≤ system.now.all_bits }
     requires begun { Begun system.now cert.now }
@@ -114,30 +114,30 @@ fn judge_rest(
     system.law();
     let given = kept_from(alloc, system.step(), cert)?;
     if let Some(k) = judge_kept(alloc, checker, system, cert, &given)? {
-        return Ok(Verdict::No {
+        return Ok(CertVerdict::No {
             part: Part::Kept(k),
         });
     }
     let given = joined(alloc, cert.clauses(), system.bad())?;
     if shows(alloc, checker, cert, Part::Safe, &given, &[])? {
-        Ok(Verdict::Yes)
+        Ok(CertVerdict::Yes)
     } else {
-        Ok(Verdict::No { part: Part::Safe })
+        Ok(CertVerdict::No { part: Part::Safe })
     }
 }
 
 /// Whether the certificate certifies: `Yes` exactly where it does, and `No` exactly with the first part that fails.
 /// By hints its time is that of a few looks at each literal of the certificate, of the system and of the clauses that
 /// the steps name; by unit propagation that of `Checker::check` for each part.
-pub fn check(alloc: Global, system: &System, cert: &Certificate) -> Result<Verdict, AllocError>
+pub fn check(alloc: Global, system: &System, cert: &Certificate) -> Result<CertVerdict, AllocError>
     ensures { IfOk result (VerdictSays system.now cert.now) }
 {
     let mut checker = Checker::new(alloc, system.all_bits())?;
     if let Some(part) = judge_shared(alloc, &mut checker, system, cert)? {
-        return Ok(Verdict::No { part });
+        return Ok(CertVerdict::No { part });
     }
     if let Some(k) = judge_first(alloc, &mut checker, system, cert)? {
-        return Ok(Verdict::No {
+        return Ok(CertVerdict::No {
             part: Part::First(k),
         });
     }

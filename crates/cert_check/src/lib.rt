@@ -9,5 +9,5 @@ pub mod lists;
 mod parts;
 pub mod upgrading;
 
-pub use judging::{Verdict, check};
+pub use judging::{CertVerdict, check};
 pub use upgrading::{Upgraded, upgrade};

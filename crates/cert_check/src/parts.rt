@@ -12,7 +12,7 @@ use crate::lists::{append, append_units, negate_all, negate_next};
 use cert_core::{Certificate, Form, Part};
 use clause_core::{Clauses, Lit, System, is_within};
 use hinted_log::Hinted;
-use rup_check::{Checker, Verdict};
+use rup_check::{Checker, LogVerdict};
 use std::alloc::{AllocError, Global};
 
 // Whether the steps derive the empty clause from the clauses and the units.
@@ -35,13 +35,13 @@ fn steps_show(
             append(&mut given, clauses)?;
             append_units(&mut given, units)?;
             match checker.check(&given, steps.steps()) {
-                Verdict::Yes => Ok(true),
-                Verdict::No { .. } => Ok(false),
+                LogVerdict::Yes => Ok(true),
+                LogVerdict::No { .. } => Ok(false),
             }
         }
         Form::Hinted => match checker.check_hinted_with(clauses, units, steps) {
-            Verdict::Yes => Ok(true),
-            Verdict::No { .. } => Ok(false),
+            LogVerdict::Yes => Ok(true),
+            LogVerdict::No { .. } => Ok(false),
         },
     }
 }
@@ -53,8 +53,8 @@ pub(crate) fn all_follow(checker: &mut Checker, clauses: &Clauses, steps: &Hinte
     ensures says { MatchBool result (IsHinted checker.old clauses.now steps.now) (IsHinted checker.old clauses.now steps.now → ⊥) }
 {
     match checker.check_hinted(clauses, steps) {
-        Verdict::Yes => true,
-        Verdict::No { step } => step == steps.len(),
+        LogVerdict::Yes => true,
+        LogVerdict::No { step } => step == steps.len(),
     }
 }
 

@@ -8,7 +8,7 @@ ghost use Rattle.cert_core.specs.Certificates.{Certifies};
 ghost use Rattle.cert_check.specs.Upgrades.{IsUpgrade, UpgradeSays};
 
 use crate::hinting::{hint_first, hint_kept, hint_safe};
-use crate::judging::{Verdict, check};
+use crate::judging::{CertVerdict, check};
 use crate::lists::joined;
 use cert_core::{Certificate, Form, MAX_VARS, Part};
 use clause_core::{Clauses, System};
@@ -76,8 +76,8 @@ pub fn upgrade(alloc: Global, system: &System, cert: &Certificate) -> Result<Upg
     ensures { IfOk result (UpgradeSays system.now cert.now) }
 {
     match check(alloc, system, cert)? {
-        Verdict::No { part } => Ok(Upgraded::No { part }),
-        Verdict::Yes => {
+        CertVerdict::No { part } => Ok(Upgraded::No { part }),
+        CertVerdict::Yes => {
             if system.all_bits() > MAX_VARS {
                 return Err(AllocError);
             }

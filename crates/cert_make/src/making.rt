@@ -15,7 +15,7 @@ use crate::parts::{discard, put_part};
 use crate::shared::{Learned, learn, put_shared_and_kept};
 use crate::trimming::trimmed;
 use cert_check::lists::{joined, negate_all};
-use cert_check::{Verdict, check};
+use cert_check::{CertVerdict, check};
 use cert_core::{Certificate, Form, MAX_VARS, Part};
 use clause_core::{Clauses, System};
 use effort_purse::Purse;
@@ -243,8 +243,8 @@ fn trimmed_or_whole(
     let given = cert.clauses().len().saturating_add(system.step().len());
     let less = trimmed(alloc, given, &cert)?;
     match check(alloc, system, &less)? {
-        Verdict::Yes => Ok(less),
-        Verdict::No { .. } => Ok(cert),
+        CertVerdict::Yes => Ok(less),
+        CertVerdict::No { .. } => Ok(cert),
     }
 }
 

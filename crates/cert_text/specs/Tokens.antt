@@ -30,8 +30,8 @@ abbrev pub number_of : List ℕ → Option ℕ
 number_of word = if is_number word then Some (number_after 0 word) else None
 
 -- a number of 64 bits, or one past them
-abbrev pub counted : ℕ → Token
-counted n = if nat_le n greatest then Number n else Past
+abbrev pub number_token : ℕ → Token
+number_token n = if nat_le n greatest then Number n else Past
 
 -- a number of 64 bits behind a minus sign
 abbrev pub negative_of : Option ℕ → Option Token
@@ -78,7 +78,7 @@ keyword_of word = either (kind_of word) (either (part_word word) (head_word word
 
 -- a number, a number behind a minus sign, or else a keyword
 abbrev pub number_or : Option ℕ → Option Token → Option Token
-number_or (Some n) other = Some (counted n)
+number_or (Some n) other = Some (number_token n)
 number_or None other = other
 
 abbrev pub signed_or : List ℕ → Option Token → Option Token

@@ -45,13 +45,13 @@ pub(crate) fn tokens(alloc: Global, line: &[u8]) -> Result<Option<Vec<Token>>, A
 
 // Literals, and how many words they take with the zero that ends them.
 #[derive(Drop)]
-pub(crate) struct Found {
+pub(crate) struct ReadLiterals {
     pub(crate) lits: Vec<Lit>,
     pub(crate) words: usize,
 }
 
 // The literals with which the words begin, up to a zero.
-pub(crate) fn literals(alloc: Global, tokens: &[Token]) -> Result<Option<Found>, AllocError>
+pub(crate) fn literals(alloc: Global, tokens: &[Token]) -> Result<Option<ReadLiterals>, AllocError>
     ensures says { IfOk result (λ o. MatchOption o (literals_of tokens.now ≡ None) (λ f. literals_of tokens.now ≡ Some record { lits = f.lits.items; rest = drop f.words tokens.now })) }
     ensures within { IfOk result (λ o. IfSome o (λ f. Within MAX_VARS f.lits.items)) }
     ensures words { IfOk result (λ o. IfSome o (λ f. f.words ≤ length tokens.now)) }
@@ -59,7 +59,7 @@ pub(crate) fn literals(alloc: Global, tokens: &[Token]) -> Result<Option<Found>,
     let mut lits = Vec::new(alloc);
     for (i, t) in tokens.iter().enumerate() {
         if is_zero(*t) {
-            return Ok(Some(Found { lits, words: i + 1 }));
+            return Ok(Some(ReadLiterals { lits, words: i + 1 }));
         }
         match literal_of(*t) {
             None => return Ok(None),

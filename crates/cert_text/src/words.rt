@@ -3,7 +3,7 @@
 ghost use Rattle.std.specs.Prelude.{◌≡◌, true, bytes_eq};
 ghost use Rattle.std.specs.List.{list_all};
 ghost use Rattle.std.specs.Char.{is_ascii_digit};
-ghost use Rattle.cert_text.specs.Tokens.{counted, number_after, number_of, negative_of, kind_of, part_word, head_word, keyword_of, signed_or, token_of};
+ghost use Rattle.cert_text.specs.Tokens.{number_token, number_after, number_of, negative_of, kind_of, part_word, head_word, keyword_of, signed_or, token_of};
 
 use crate::token::Token;
 
@@ -113,8 +113,8 @@ fn keyword(word: &[u8]) -> Option<Token>
 // The greatest number of 64 bits.
 const GREATEST: u128 = 18446744073709551615;
 
-fn counted(n: u128) -> Token
-    ensures { result ≡ counted n }
+fn number_token(n: u128) -> Token
+    ensures { result ≡ number_token n }
 {
     if n <= GREATEST {
         Token::Number(n as usize)
@@ -151,7 +151,7 @@ pub(crate) fn token(word: &[u8]) -> Option<Token>
     ensures { result ≡ token_of word.now }
 {
     match number(word) {
-        Some(n) => Some(counted(n)),
+        Some(n) => Some(number_token(n)),
         None => signed(word),
     }
 }

@@ -12,7 +12,7 @@ use Rattle.clause_core.specs.Literals.{Within}
 use Rattle.cert_core.specs.declared.form.TheConstants.{MAX_VARS}
 use Rattle.cert_text.specs.declared.token.Token.{Token}
 use Rattle.cert_text.specs.declared.token.Token.TheVariants.{Number, Past, Negative}
-use Rattle.cert_text.specs.Tokens.{and_then, ceiling, counted, either, greatest, keyword_of, negative_of, number_or, signed_or, token_of, tokens_of, words_of}
+use Rattle.cert_text.specs.Tokens.{and_then, ceiling, number_token, either, greatest, keyword_of, negative_of, number_or, signed_or, token_of, tokens_of, words_of}
 use Rattle.cert_text.specs.Lines.{Literals, hint_of, hints_of, is_zero, literal_before, literal_of, literals_of}
 use Rattle.cert_text.specs.Reading.{lines_of}
 use Rattle.cert_text.specs.Printed.{line_end, hints_text, literals_text, sign_text}
@@ -71,7 +71,7 @@ spaced_word w rest t ts h s = subst (λ (l : List ℕ). Says l (t ∷ ts)) (sym 
 
 -- Numbers.
 
-counted_word : (n : ℕ) → n ≤ ceiling → IsWord (decimal n) (counted n)
+counted_word : (n : ℕ) → n ≤ ceiling → IsWord (decimal n) (number_token n)
 counted_word n h = record {
   token = ap (λ (o : Option ℕ). number_or o (signed_or (decimal n) (keyword_of (decimal n)))) (number_read n h);
   no_space = digits_lack 32 (decimal n) (omega arith) (decimal_digits n h);

@@ -1,8 +1,8 @@
 use Rattle.std.proofs.Common.{◌≡◌, ℕ, ◌<◌, ◌≤◌, ◌⊎◌, Bool, true, false, ◌&&◌, ◌||◌, cond, List, length, get_or, refl, sym, ◌∙◌, ap, subst, arith, zero, suc, inl, inr, ⊎_elim, eqb}
 use Rattle.std.proofs.lemmas.Bool.{cases_Bool, cases_lt, cases_order, and_parts, eqb-true, eq-eqb}
 use Rattle.bit_graph.specs.declared.edge.Edge.{Edge}
-use Rattle.bit_graph.specs.declared.edge.Node.{Node}
-use Rattle.bit_graph.specs.declared.edge.Node.TheVariants.{False, Input, And, Xor, Choice}
+use Rattle.bit_graph.specs.declared.edge.GraphNode.{GraphNode}
+use Rattle.bit_graph.specs.declared.edge.GraphNode.TheVariants.{False, Input, And, Xor, Choice}
 use Rattle.clause_core.specs.declared.literal.Lit.{Lit}
 use Rattle.cnf_build.specs.Numbering.{HasVariable, Numbering, is_input, is_named, count_below}
 use Rattle.cnf_build.specs.CnfMeaning.{IsCnf}
@@ -89,7 +89,7 @@ module _ (test : ℕ → Bool) where
   all_pass n h zero l = refl
   all_pass n h (suc k) l = omega (arith, step_on k (h k (omega arith)), all_pass n h k (omega arith))
 
-input_is : (n : Node) → is_input n ≡ true → n ≡ Input
+input_is : (n : GraphNode) → is_input n ≡ true → n ≡ Input
 input_is False h = cc
 input_is Input h = refl
 input_is (And a b) h = cc
@@ -107,7 +107,7 @@ or_parts : (x y : Bool) → (x || y) ≡ true → (x ≡ true) ⊎ (y ≡ true)
 or_parts true y h = inl refl
 or_parts false y h = inr h
 
-module _ (g : List Node) (roots : List Edge) (vars : ℕ) (cs : List (List Lit)) (lits : List Lit) (h : IsCnf g roots vars cs lits) where
+module _ (g : List GraphNode) (roots : List Edge) (vars : ℕ) (cs : List (List Lit)) (lits : List Lit) (h : IsCnf g roots vars cs lits) where
   pub live_has : (k : ℕ) → k < length g → h.live k ≡ true → HasVariable g roots k
   live_has k l on = (l, inr (h.reached k on))
 

@@ -3,8 +3,8 @@ use Rattle.std.specs.List.{All, Any, Contains}
 use Rattle.std.proofs.lemmas.Bool.{not-true, not-false, cases_Bool}
 use Rattle.std.proofs.lemmas.List.Elements.{All-nil, All-cons, All-append, All-contains, Contains-append_left, Contains-append_right, Contains-get_or}
 use Rattle.bit_graph.specs.declared.edge.Edge.{Edge}
-use Rattle.bit_graph.specs.declared.edge.Node.{Node}
-use Rattle.bit_graph.specs.declared.edge.Node.TheVariants.{False, Input, And, Xor, Choice}
+use Rattle.bit_graph.specs.declared.edge.GraphNode.{GraphNode}
+use Rattle.bit_graph.specs.declared.edge.GraphNode.TheVariants.{False, Input, And, Xor, Choice}
 use Rattle.bit_graph.specs.Meaning.{edge_value, exclusive_or, NodeHolds}
 use Rattle.clause_core.specs.declared.literal.Lit.{Lit}
 use Rattle.clause_core.specs.Literals.{negate}
@@ -14,11 +14,11 @@ use Rattle.cnf_build.specs.Encoding.{lit, node_lit, down, forced, clauses_of, cn
 use Rattle.cnf_build.specs.CnfMeaning.{NodeSet, Forces, of_nodes}
 
 -- v has at each live node the value that the node gives it
-abbrev pub HoldsLive : (ℕ → Bool) → (ℕ → Bool) → List Node → Type 0
+abbrev pub HoldsLive : (ℕ → Bool) → (ℕ → Bool) → List GraphNode → Type 0
 HoldsLive live v g = (k : ℕ) → k < length g → live k ≡ true → NodeHolds v k (get_or g k Input)
 
 -- unit propagation sets each live node's variable once its operands are set
-abbrev pub SetLive : (ℕ → Bool) → (ℕ → ℕ) → (Lit → Bool) → List Node → Type 0
+abbrev pub SetLive : (ℕ → Bool) → (ℕ → ℕ) → (Lit → Bool) → List GraphNode → Type 0
 SetLive live name t g = (k : ℕ) → k < length g → live k ≡ true → NodeSet name t k (get_or g k Input)
 
 module _ {X : Type 0} (P : X → Type 0) where
@@ -144,7 +144,7 @@ module _ (name : ℕ → ℕ) (v : ℕ → Bool) where
       ]
 
   -- the clauses of a node hold exactly where its value is right
-  pub node_from : (k : ℕ) (n : Node) → All (ClauseTrue v) (clauses_of name k n) → NodeHolds (of_nodes name v) k n
+  pub node_from : (k : ℕ) (n : GraphNode) → All (ClauseTrue v) (clauses_of name k n) → NodeHolds (of_nodes name v) k n
   node_from k False h = any_one True (node_lit name k false) (h 0 [] (omega arith))
   node_from k Input h = tt
   node_from k (And a b) h =
@@ -189,7 +189,7 @@ module _ (name : ℕ → ℕ) (v : ℕ → Bool) where
             ])
       ]
 
-  pub node_to : (k : ℕ) (n : Node) → NodeHolds (of_nodes name v) k n → All (ClauseTrue v) (clauses_of name k n)
+  pub node_to : (k : ℕ) (n : GraphNode) → NodeHolds (of_nodes name v) k n → All (ClauseTrue v) (clauses_of name k n)
   node_to k False h = All-cons Met (node_lit name k false ∷ []) [] (any_head True (node_lit name k false) [] h) (All-nil Met)
   node_to k Input h = All-nil Met
   node_to k (And a b) h =
@@ -219,7 +219,7 @@ module _ (name : ℕ → ℕ) (v : ℕ → Bool) where
       (forced_met k false (node_lit name a false) (negate (lit name b)) (λ p q. h ∙ (λ i. cond (v (name c)) (p i) (off q i)) ∙ same_branches (v (name c)) false))
 
 -- the clauses of a live node are among the clauses
-pub node_in : (live : ℕ → Bool) (name : ℕ → ℕ) (j : ℕ) (g : List Node) (k : ℕ) (c : List Lit) → k < length g → live (j + k) ≡ true →
+pub node_in : (live : ℕ → Bool) (name : ℕ → ℕ) (j : ℕ) (g : List GraphNode) (k : ℕ) (c : List Lit) → k < length g → live (j + k) ≡ true →
     Contains (clauses_of name (j + k) (get_or g k Input)) c → Contains (cnf_from live name j g) c
 node_in live name j [] k c l on h = absurd (omega arith)
 node_in live name j (n ∷ ns) zero c l on h =
@@ -239,7 +239,7 @@ node_in live name j (n ∷ ns) (suc k) c l on h =
     (node_in live name (suc j) ns k c (omega arith) (subst P e on) (subst Q e h))
 
 -- what each live node's clauses meet, all clauses meet
-pub all_nodes : (P : List Lit → Type 0) (live : ℕ → Bool) (name : ℕ → ℕ) (j : ℕ) (g : List Node) →
+pub all_nodes : (P : List Lit → Type 0) (live : ℕ → Bool) (name : ℕ → ℕ) (j : ℕ) (g : List GraphNode) →
     ((k : ℕ) → k < length g → live (j + k) ≡ true → All P (clauses_of name (j + k) (get_or g k Input))) → All P (cnf_from live name j g)
 all_nodes P live name j [] h = All-nil P
 all_nodes P live name j (n ∷ ns) h =
@@ -259,7 +259,7 @@ all_nodes P live name j (n ∷ ns) h =
     subst Q f (h (suc k) (omega arith) (subst R (sym f) on))))
 
 -- P of each clause of each live node
-at_node : (P : List Lit → Type 0) (live : ℕ → Bool) (name : ℕ → ℕ) (g : List Node) → All P (cnf_from live name 0 g) →
+at_node : (P : List Lit → Type 0) (live : ℕ → Bool) (name : ℕ → ℕ) (g : List GraphNode) → All P (cnf_from live name 0 g) →
     (k : ℕ) → k < length g → live k ≡ true → (c : List Lit) → Contains (clauses_of name k (get_or g k Input)) c → P c
 at_node P live name g h k l on c in_c =
     let e : 0 + k ≡ k = omega arith in
@@ -267,7 +267,7 @@ at_node P live name g h k l on c in_c =
     let Q : ℕ → Type 0 = λ m. Contains (clauses_of name m (get_or g k Input)) c in
     All-contains P (cnf_from live name 0 g) c h (node_in live name 0 g k c l (subst R (sym e) on) (subst Q (sym e) in_c))
 
-pub clauses_hold : (live : ℕ → Bool) (name : ℕ → ℕ) (g : List Node) (v : ℕ → Bool) → All (ClauseTrue v) (cnf_from live name 0 g) ↔ HoldsLive live (of_nodes name v) g
+pub clauses_hold : (live : ℕ → Bool) (name : ℕ → ℕ) (g : List GraphNode) (v : ℕ → Bool) → All (ClauseTrue v) (cnf_from live name 0 g) ↔ HoldsLive live (of_nodes name v) g
 clauses_hold live name g v = (
   λ h k l on. node_from name v k (get_or g k Input)
       (λ i d m. at_node (ClauseTrue v) live name g h k l on (get_or (clauses_of name k (get_or g k Input)) i d) (Contains-get_or (clauses_of name k (get_or g k Input)) i d m)),
@@ -317,7 +317,7 @@ module _ (name : ℕ → ℕ) (t : Lit → Bool) where
       let l = node_lit name k false in
       rule l (first_in l [], All-cons (Off l) l [] (λ ne. absurd (ne refl)) (All-nil (Off l)))
 
-  node_set : (k : ℕ) (n : Node) → ((c : List Lit) → Contains (clauses_of name k n) c → Unit_rule c) → NodeSet name t k n
+  node_set : (k : ℕ) (n : GraphNode) → ((c : List Lit) → Contains (clauses_of name k n) c → Unit_rule c) → NodeSet name t k n
   node_set k False h = false_sets k (h (node_lit name k false ∷ []) (first_in (node_lit name k false ∷ []) []))
   node_set k Input h = tt
   node_set k (And a b) h =
@@ -347,6 +347,6 @@ module _ (name : ℕ → ℕ) (t : Lit → Bool) where
       )
 
 -- a closed set holds a node's literal once it holds those of the operands
-pub sets_live : (live : ℕ → Bool) (name : ℕ → ℕ) (g : List Node) (t : Lit → Bool) → Closed t (cnf_from live name 0 g) → SetLive live name t g
+pub sets_live : (live : ℕ → Bool) (name : ℕ → ℕ) (g : List GraphNode) (t : Lit → Bool) → Closed t (cnf_from live name 0 g) → SetLive live name t g
 sets_live live name g t closed k l on =
     node_set name t k (get_or g k Input) (at_node (λ c. (l : Lit) → UnitIn t c l → t l ≡ true) live name g closed k l on)

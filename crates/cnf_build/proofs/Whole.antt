@@ -1,8 +1,8 @@
 use Rattle.std.proofs.Common.{◌≡◌, ℕ, ◌<◌, ◌+◌, ◌↔◌, Bool, true, false, ◌&&◌, cond, List, [], ◌∷◌, length, get_or, refl, sym, ◌∙◌, ap, subst, arith, zero, suc, inl, inr}
 use Rattle.std.specs.List.{All}
 use Rattle.bit_graph.specs.declared.edge.Edge.{Edge}
-use Rattle.bit_graph.specs.declared.edge.Node.{Node}
-use Rattle.bit_graph.specs.declared.edge.Node.TheVariants.{False, Input, And, Xor, Choice}
+use Rattle.bit_graph.specs.declared.edge.GraphNode.{GraphNode}
+use Rattle.bit_graph.specs.declared.edge.GraphNode.TheVariants.{False, Input, And, Xor, Choice}
 use Rattle.bit_graph.specs.Meaning.{edge_value, exclusive_or, NodeHolds, IsBelow, Acyclic, Stands}
 use Rattle.bit_graph.specs.Values.{values, Agrees, OneWay}
 use Rattle.clause_core.specs.declared.literal.Lit.{Lit}
@@ -23,7 +23,7 @@ Same live v w k = (j : ℕ) → j < k → live j ≡ true → v j ≡ w j
 edge_value-same : (v w : ℕ → Bool) (e : Edge) → v e.node ≡ w e.node → edge_value v e ≡ edge_value w e
 edge_value-same v w e h = ap (exclusive_or e.negated) h
 
-node_same : (live v w : ℕ → Bool) (k : ℕ) (n : Node) → IsBelow k n → Reaches live n → Same live v w k → (n ≡ Input → v k ≡ w k) →
+node_same : (live v w : ℕ → Bool) (k : ℕ) (n : GraphNode) → IsBelow k n → Reaches live n → Same live v w k → (n ≡ Input → v k ≡ w k) →
     NodeHolds v k n → NodeHolds w k n → v k ≡ w k
 node_same live v w k False b r h i p q = p ∙ sym q
 node_same live v w k Input b r h i p q = i refl
@@ -34,7 +34,7 @@ node_same live v w k (Choice c x y) b r h i p q =
     p ∙ (λ j. cond (h c b.0 r.0 j) (h x b.1 r.1 j) (edge_value-same v w y (h y.node b.2 r.2) j)) ∙ sym q
 
 -- a node holds where it and its operands have the values that they have elsewhere
-holds_same : (live v w : ℕ → Bool) (k : ℕ) (n : Node) → IsBelow k n → Reaches live n → Same live v w k → v k ≡ w k →
+holds_same : (live v w : ℕ → Bool) (k : ℕ) (n : GraphNode) → IsBelow k n → Reaches live n → Same live v w k → v k ≡ w k →
     NodeHolds w k n → NodeHolds v k n
 holds_same live v w k False b r h e q = e ∙ q
 holds_same live v w k Input b r h e q = tt
@@ -82,7 +82,7 @@ choice_told name t k c x y true false z r s hc hx hy e = on_is t (name k) r fals
 choice_told name t k c x y false q true r s hc hx hy e = on_is t (name k) r true e (s.2 hc hy)
 choice_told name t k c x y false q false r s hc hx hy e = on_is t (name k) r false e (s.3 hc hy)
 
-node_told : (live : ℕ → Bool) (name : ℕ → ℕ) (t : Lit → Bool) (w : ℕ → Bool) (k : ℕ) (n : Node) → NodeSet name t k n → NodeHolds w k n →
+node_told : (live : ℕ → Bool) (name : ℕ → ℕ) (t : Lit → Bool) (w : ℕ → Bool) (k : ℕ) (n : GraphNode) → NodeSet name t k n → NodeHolds w k n →
     (n ≡ Input → t (node_lit name k (w k)) ≡ true) → IsBelow k n → Reaches live n →
     ((j : ℕ) → j < k → live j ≡ true → t (node_lit name j (w j)) ≡ true) → t (node_lit name k (w k)) ≡ true
 node_told live name t w k False s h i b r f = on_is t (name k) (w k) false h s
@@ -93,7 +93,7 @@ node_told live name t w k (Xor x y) s h i b r f = xor_told name t k x y (w x) (w
 node_told live name t w k (Choice c x y) s h i b r f =
     choice_told name t k c x y (w c) (w x) (edge_value w y) (w k) s (f c b.0 r.0) (f x b.1 r.1) (told name t y (w y.node) (f y.node b.2 r.2)) h
 
-module _ (live : ℕ → Bool) (g : List Node) (ok : Acyclic g) (cone : IsCone live g) where
+module _ (live : ℕ → Bool) (g : List GraphNode) (ok : Acyclic g) (cone : IsCone live g) where
   same_below : (v w : ℕ → Bool) → HoldsLive live v g → HoldsLive live w g →
       ((k : ℕ) → k < length g → get_or g k Input ≡ Input → live k ≡ true → v k ≡ w k) → (d k : ℕ) → k < d → k < length g → live k ≡ true → v k ≡ w k
   same_below v w p q i zero k h l on = absurd (omega arith)
@@ -110,11 +110,11 @@ module _ (live : ℕ → Bool) (g : List Node) (ok : Acyclic g) (cone : IsCone l
       (λ j n o. told_below name t w s h i d j (omega arith) (omega arith) o)
 
 -- an input asks nothing
-holds_input : (v : ℕ → Bool) (k : ℕ) (n : Node) → n ≡ Input → NodeHolds v k n
-holds_input v k n e = let P : Node → Type 0 = NodeHolds v k in subst P (sym e) tt
+holds_input : (v : ℕ → Bool) (k : ℕ) (n : GraphNode) → n ≡ Input → NodeHolds v k n
+holds_input v k n e = let P : GraphNode → Type 0 = NodeHolds v k in subst P (sym e) tt
 
-set_input : (name : ℕ → ℕ) (t : Lit → Bool) (k : ℕ) (n : Node) → n ≡ Input → NodeSet name t k n
-set_input name t k n e = let P : Node → Type 0 = NodeSet name t k in subst P (sym e) tt
+set_input : (name : ℕ → ℕ) (t : Lit → Bool) (k : ℕ) (n : GraphNode) → n ≡ Input → NodeSet name t k n
+set_input name t k n e = let P : GraphNode → Type 0 = NodeSet name t k in subst P (sym e) tt
 
 -- no literal is past the variables
 module _ (n : ℕ) where
@@ -127,7 +127,7 @@ module _ (n : ℕ) where
   forced_in : (name : ℕ → ℕ) (k : ℕ) (b : Bool) (l m : Lit) → name k < n → In l → In m → Within n (forced name k b l m)
   forced_in name k b l m h p q = All-cons In (node_lit name k b) (negate l ∷ negate m ∷ []) h (two_in (negate l) (negate m) p q)
 
-  node_within : (live : ℕ → Bool) (name : ℕ → ℕ) → (k : ℕ) (x : Node) → name k < n → IsBelow k x → Reaches live x →
+  node_within : (live : ℕ → Bool) (name : ℕ → ℕ) → (k : ℕ) (x : GraphNode) → name k < n → IsBelow k x → Reaches live x →
       ((j : ℕ) → j < k → live j ≡ true → name j < n) → All (Within n) (clauses_of name k x)
   node_within live name k False h b r f = All-cons (Within n) (node_lit name k false ∷ []) [] (All-cons In (node_lit name k false) [] h (All-nil In)) (All-nil (Within n))
   node_within live name k Input h b r f = All-nil (Within n)
@@ -158,7 +158,7 @@ module _ (n : ℕ) where
       (forced_in name k true (C true) (X true) h in_c in_x) (forced_in name k false (C true) (X false) h in_c in_x) (forced_in name k true (C false) Y h in_c in_y)
       (forced_in name k false (C false) (negate Y) h in_c in_y) (forced_in name k true (X true) Y h in_x in_y) (forced_in name k false (X false) (negate Y) h in_x in_y)
 
-module _ (g : List Node) (roots : List Edge) (vars : ℕ) (cs : List (List Lit)) (lits : List Lit) (ok : Acyclic g) (h : IsCnf g roots vars cs lits) where
+module _ (g : List GraphNode) (roots : List Edge) (vars : ℕ) (cs : List (List Lit)) (lits : List Lit) (ok : Acyclic g) (h : IsCnf g roots vars cs lits) where
   abbrev numbering : Numbering g roots vars
   numbering = numbering_of g roots vars cs lits h
 

@@ -1,8 +1,8 @@
 -- What the clauses of a graph say of its nodes.
 use Rattle.std.specs.Prelude.{◌≡◌, ℕ, ◌<◌, Bool, true, false, List, length, slice_index_or, All, map, ◌↔◌}
 use Rattle.bit_graph.specs.declared.edge.Edge.{Edge}
-use Rattle.bit_graph.specs.declared.edge.Node.{Node}
-use Rattle.bit_graph.specs.declared.edge.Node.TheVariants.{False, Input, And, Xor, Choice}
+use Rattle.bit_graph.specs.declared.edge.GraphNode.{GraphNode}
+use Rattle.bit_graph.specs.declared.edge.GraphNode.TheVariants.{False, Input, And, Xor, Choice}
 use Rattle.bit_graph.specs.Meaning.{edge_value, NodeHolds}
 use Rattle.bit_graph.specs.Values.{values, value_under, Agrees}
 use Rattle.clause_core.specs.declared.literal.Lit.{Lit}
@@ -19,7 +19,7 @@ Forces name t k b l m = t l ≡ true → t m ≡ true → t (node_lit name k b) 
 
 -- where the literals that t sets decide node k, which is n, t sets its literal too: a choice is decided by its
 -- condition and the branch that this takes, or by two branches that are alike
-abbrev pub NodeSet : (ℕ → ℕ) → (Lit → Bool) → ℕ → Node → Type 0
+abbrev pub NodeSet : (ℕ → ℕ) → (Lit → Bool) → ℕ → GraphNode → Type 0
 NodeSet name t k False = t (node_lit name k false) ≡ true
 NodeSet name t k Input = Unit {0}
 NodeSet name t k (And a b) =
@@ -40,11 +40,11 @@ NodeSet name t k (Choice c a b) =
     × Forces name t k false (node_lit name a false) (negate (lit name b))
 
 -- P of each input that the roots reach
-abbrev pub AllRead : List Node → List Edge → (ℕ → Type 0) → Type 0
+abbrev pub AllRead : List GraphNode → List Edge → (ℕ → Type 0) → Type 0
 AllRead g roots P = (k : ℕ) → k < length g → slice_index_or g k Input ≡ Input → Reached g roots k → P k
 
 -- t sets the literal of each input that the roots reach
-abbrev pub InputsSet : List Node → List Edge → (ℕ → ℕ) → (ℕ → Bool) → (Lit → Bool) → Type 0
+abbrev pub InputsSet : List GraphNode → List Edge → (ℕ → ℕ) → (ℕ → Bool) → (Lit → Bool) → Type 0
 InputsSet g roots name a t = AllRead g roots (λ k. t (node_lit name k (a k)) ≡ true)
 
 -- the values of the nodes, where v has those of the variables
@@ -52,11 +52,11 @@ abbrev pub of_nodes : (ℕ → ℕ) → (ℕ → Bool) → ℕ → Bool
 of_nodes name v k = v (name k)
 
 -- each variable has the value of its node, where the inputs have those of a
-abbrev pub HasValues : List Node → (ℕ → ℕ) → ℕ → (ℕ → Bool) → (ℕ → Bool) → Type 0
+abbrev pub HasValues : List GraphNode → (ℕ → ℕ) → ℕ → (ℕ → Bool) → (ℕ → Bool) → Type 0
 HasValues g node vars a v = (i : ℕ) → i < vars → v i ≡ values a g (node i)
 
 -- the clauses `cs` over the variables below `vars`, and the literals of the roots
-pub record CnfLaw (g : List Node) (roots : List Edge) (vars : ℕ) (cs : List (List Lit)) (lits : List Lit) : Type 0 where
+pub record CnfLaw (g : List GraphNode) (roots : List Edge) (vars : ℕ) (cs : List (List Lit)) (lits : List Lit) : Type 0 where
   -- the inputs and the nodes that the roots reach have one variable each
   pub numbering : Numbering g roots vars
   pub literals : lits ≡ map (lit numbering.variable) roots
@@ -81,7 +81,7 @@ pub record CnfLaw (g : List Node) (roots : List Edge) (vars : ℕ) (cs : List (L
 
 -- the clauses are those of the live nodes, which are the nodes that the roots reach; live nodes and inputs are numbered
 -- in their order
-pub record IsCnf (g : List Node) (roots : List Edge) (vars : ℕ) (cs : List (List Lit)) (lits : List Lit) : Type 0 where
+pub record IsCnf (g : List GraphNode) (roots : List Edge) (vars : ℕ) (cs : List (List Lit)) (lits : List Lit) : Type 0 where
   pub live : ℕ → Bool
   pub name : ℕ → ℕ
   pub clauses : cs ≡ cnf_from live name 0 g

@@ -1,8 +1,8 @@
 -- The clauses of a graph (Tseitin 1968), where `name` has the variables of the nodes.
 use Rattle.std.specs.Prelude.{ℕ, ◌++◌, Bool, true, false, not, cond, List, [], ◌∷◌, suc}
 use Rattle.bit_graph.specs.declared.edge.Edge.{Edge}
-use Rattle.bit_graph.specs.declared.edge.Node.{Node}
-use Rattle.bit_graph.specs.declared.edge.Node.TheVariants.{False, Input, And, Xor, Choice}
+use Rattle.bit_graph.specs.declared.edge.GraphNode.{GraphNode}
+use Rattle.bit_graph.specs.declared.edge.GraphNode.TheVariants.{False, Input, And, Xor, Choice}
 use Rattle.clause_core.specs.declared.literal.Lit.{Lit}
 use Rattle.clause_core.specs.Literals.{negate}
 
@@ -27,7 +27,7 @@ abbrev pub forced : (ℕ → ℕ) → ℕ → Bool → Lit → Lit → List Lit
 forced name k b l m = node_lit name k b ∷ negate l ∷ negate m ∷ []
 
 -- the clauses of node k, which is n
-abbrev pub clauses_of : (ℕ → ℕ) → ℕ → Node → List (List Lit)
+abbrev pub clauses_of : (ℕ → ℕ) → ℕ → GraphNode → List (List Lit)
 clauses_of name k False = (node_lit name k false ∷ []) ∷ []
 clauses_of name k Input = []
 clauses_of name k (And a b) = down name k a ∷ down name k b ∷ forced name k true (lit name a) (lit name b) ∷ []
@@ -47,6 +47,6 @@ clauses_of name k (Choice c a b) =
     ∷ []
 
 -- the clauses of the nodes that are live, where the list begins with node k
-abbrev pub cnf_from : (ℕ → Bool) → (ℕ → ℕ) → ℕ → List Node → List (List Lit)
+abbrev pub cnf_from : (ℕ → Bool) → (ℕ → ℕ) → ℕ → List GraphNode → List (List Lit)
 cnf_from live name k [] = []
 cnf_from live name k (n ∷ ns) = cond (live k) (clauses_of name k n) [] ++ cnf_from live name (suc k) ns

@@ -4,7 +4,7 @@ ghost use Rattle.std.specs.Prelude.{◌≡◌, ◌<◌, ◌≤◌, ℕ, Bool, tr
 ghost use Rattle.bit_graph.specs.Meaning.{Stands, IsBelow};
 ghost use Rattle.cnf_build.specs.Cone.{marked, IsCone, RootsLive, AllReached, Included, Reaches};
 
-use bit_graph::{Edge, Graph, Node};
+use bit_graph::{Edge, Graph, GraphNode};
 use std::alloc::{AllocError, Global};
 
 // Marks the nodes that the roots reach: an operand is before its node, so one pass down is enough.
@@ -39,7 +39,7 @@ fn mark(marks: &mut Vec<bool>, node: usize)
     marks[node] = true;
 }
 
-fn mark_operands(marks: &mut Vec<bool>, k: usize, node: Node)
+fn mark_operands(marks: &mut Vec<bool>, k: usize, node: GraphNode)
     requires size { k < length marks.old.items }
     requires below { IsBelow k node }
     ensures size { length marks.new.items ≡ length marks.old.items }
@@ -49,16 +49,16 @@ fn mark_operands(marks: &mut Vec<bool>, k: usize, node: Node)
     ensures least { (live : ℕ → Bool) → Reaches live node → Included (marked marks.old.items) live → Included (marked marks.new.items) live }
 {
     match node {
-        Node::False | Node::Input => {}
-        Node::And(a, b) => {
+        GraphNode::False | GraphNode::Input => {}
+        GraphNode::And(a, b) => {
             mark(marks, a.node);
             mark(marks, b.node);
         }
-        Node::Xor(a, b) => {
+        GraphNode::Xor(a, b) => {
             mark(marks, a);
             mark(marks, b);
         }
-        Node::Choice(c, a, b) => {
+        GraphNode::Choice(c, a, b) => {
             mark(marks, c);
             mark(marks, a);
             mark(marks, b.node);

@@ -4,7 +4,7 @@ ghost use Rattle.std.specs.Prelude.{◌≡◌, ◌≤◌, ◌+◌, length, IfOk,
 ghost use Rattle.cnf_build.specs.Cone.{marked};
 ghost use Rattle.cnf_build.specs.Numbering.{is_input, is_named, count_below, AreNumbers};
 
-use bit_graph::{Graph, Node};
+use bit_graph::{Graph, GraphNode};
 use std::alloc::{AllocError, Global};
 
 // For each node the number of inputs and marked nodes before it, and how many there are in all.
@@ -33,11 +33,11 @@ fn one_if(named: bool) -> usize
     if named { 1 } else { 0 }
 }
 
-fn is_input(node: Node) -> bool
+fn is_input(node: GraphNode) -> bool
     ensures { result ≡ is_input node }
 {
     match node {
-        Node::Input => true,
-        Node::False | Node::And(..) | Node::Xor(..) | Node::Choice(..) => false,
+        GraphNode::Input => true,
+        GraphNode::False | GraphNode::And(..) | GraphNode::Xor(..) | GraphNode::Choice(..) => false,
     }
 }

@@ -10,7 +10,7 @@ ghost use Rattle.cnf_build.specs.Numbering.{name_in};
 
 use crate::cone::cone;
 use crate::numbers::numbers;
-use bit_graph::{Edge, Graph, Node};
+use bit_graph::{Edge, Graph, GraphNode};
 use clause_core::{Clauses, Lit};
 use std::alloc::{AllocError, Global};
 
@@ -68,7 +68,7 @@ fn push_live(
     live: bool,
     names: &[usize],
     k: usize,
-    node: Node,
+    node: GraphNode,
 ) -> Result<(), AllocError>
     requires size { k < length names.now }
     requires below { IsBelow k node }
@@ -81,15 +81,20 @@ fn push_live(
 }
 
 // Adds the clauses of one node.
-fn push_node(clauses: &mut Clauses, names: &[usize], k: usize, node: Node) -> Result<(), AllocError>
+fn push_node(
+    clauses: &mut Clauses,
+    names: &[usize],
+    k: usize,
+    node: GraphNode,
+) -> Result<(), AllocError>
     requires size { k < length names.now }
     requires below { IsBelow k node }
     ensures { OnOk result (clauses.new ≡ clauses.old ++ clauses_of (name_in names.now) k node) }
 {
     match node {
-        Node::False => clauses.push(&[Lit::new(names[k], false)])?,
-        Node::Input => {}
-        Node::And(a, b) => {
+        GraphNode::False => clauses.push(&[Lit::new(names[k], false)])?,
+        GraphNode::Input => {}
+        GraphNode::And(a, b) => {
             let off = Lit::new(names[k], false);
             let a = literal(names, a);
             let b = literal(names, b);
@@ -97,7 +102,7 @@ fn push_node(clauses: &mut Clauses, names: &[usize], k: usize, node: Node) -> Re
             clauses.push(&[off, b])?;
             push_forced(clauses, names, k, true, a, b)?;
         }
-        Node::Xor(a, b) => {
+        GraphNode::Xor(a, b) => {
             let a = Lit::new(names[a], true);
             let b = Lit::new(names[b], true);
             push_forced(clauses, names, k, false, a, b)?;
@@ -105,7 +110,7 @@ fn push_node(clauses: &mut Clauses, names: &[usize], k: usize, node: Node) -> Re
             push_forced(clauses, names, k, true, a.negated(), b)?;
             push_forced(clauses, names, k, false, a.negated(), b.negated())?;
         }
-        Node::Choice(c, a, b) => {
+        GraphNode::Choice(c, a, b) => {
             let c = Lit::new(names[c], true);
             let yes = Lit::new(names[a], true);
             let no = literal(names, b);

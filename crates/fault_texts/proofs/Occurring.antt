@@ -3,7 +3,7 @@ use Rattle.std.proofs.Common.{◌≡◌, inl, inr, ℕ, zero, suc, ◌<◌, ◌�
 use Rattle.std.proofs.lemmas.List.{get_or_past, get_or-replicate, length-replicate}
 use Rattle.std.proofs.lemmas.Bool.{and_from, and_parts, cases_lt, eq-eqb, eqb-true, lt-ltb, or_right}
 use Rattle.std.proofs.lemmas.Option.{slice_get_cases}
-use Rattle.smv_resolve.specs.declared.node.Node.{Node}
+use Rattle.smv_resolve.specs.declared.node.ExprNode.{ExprNode}
 use Rattle.smv_resolve.specs.Resolved.{Resolved, part_of, parts_of}
 use Rattle.smv_resolve.proofs.Parts.{length-parts}
 use Rattle.smv_flat.specs.Assignments.{occurs}
@@ -17,7 +17,7 @@ same_tests false true to from = from refl
 same_tests false false to from = refl
 
 -- what occurs in a node stands in the list
-stands : (ahead : Bool) (y : ℕ) (nodes : List Node) (k : ℕ) → occurs ahead y (part_of nodes k) ≡ true → k < length nodes
+stands : (ahead : Bool) (y : ℕ) (nodes : List ExprNode) (k : ℕ) → occurs ahead y (part_of nodes k) ≡ true → k < length nodes
 stands ahead y nodes k h =
     elim (cases_lt k (length nodes)) [
       | inl less ↦ less
@@ -27,7 +27,7 @@ stands ahead y nodes k h =
           absurd cc
     ]
 
-some_node : (nodes : List Node) (k : ℕ) → k < length nodes → (x : Node) × (slice_get nodes k ≡ Some x)
+some_node : (nodes : List ExprNode) (k : ℕ) → k < length nodes → (x : ExprNode) × (slice_get nodes k ≡ Some x)
 some_node nodes k lt =
     elim (slice_get_cases nodes k).1 [
       | inl some ↦ (some.0, some.2)
@@ -35,14 +35,14 @@ some_node nodes k lt =
     ]
 
 -- a marked node that has it as its own
-pub record Holder (nodes : List Node) (marks : List Bool) (ahead : Bool) (y : ℕ) : Type 0 where
+pub record Holder (nodes : List ExprNode) (marks : List Bool) (ahead : Bool) (y : ℕ) : Type 0 where
   pub at : ℕ
-  pub node : Node
+  pub node : ExprNode
   pub marked : mark marks at ≡ true
   pub is : slice_get nodes at ≡ Some node
   pub own : Own ahead y nodes at node
 
-module _ (nodes : List Node) (old new : List Bool) (spreads : Spreads nodes old new) where
+module _ (nodes : List ExprNode) (old new : List Bool) (spreads : Spreads nodes old new) where
   -- from a marked node in which it occurs, marked nodes lead to one that has it as its own
   pub holder : (most k : ℕ) (ahead : Bool) (y : ℕ) → k < most → mark new k ≡ true → occurs ahead y (part_of nodes k) ≡ true → Holder nodes new ahead y
   holder zero k ahead y less marked h = absurd (omega (arith, less))
@@ -57,14 +57,14 @@ module _ (nodes : List Node) (old new : List Bool) (spreads : Spreads nodes old 
       ]
 
   -- what a marked node has as its own occurs in a node from which marks were spread
-  pub came_from : (ahead : Bool) (y at : ℕ) (x : Node) → mark new at ≡ true → slice_get nodes at ≡ Some x → Own ahead y nodes at x
+  pub came_from : (ahead : Bool) (y at : ℕ) (x : ExprNode) → mark new at ≡ true → slice_get nodes at ≡ Some x → Own ahead y nodes at x
       → (k : ℕ) × (mark old k ≡ true) × (occurs ahead y (part_of nodes k) ≡ true)
   came_from ahead y at x marked is own =
       let from = spreads.from at marked in
       (from.0, from.1, from.2 ahead y (own_in ahead y nodes at x is own))
 
 -- a node alone was marked
-pub record IsRoot (nodes : List Node) (root : ℕ) (marks : List Bool) : Type 0 where
+pub record IsRoot (nodes : List ExprNode) (root : ℕ) (marks : List Bool) : Type 0 where
   pub made : Marks (λ j. nat_lt j (length nodes) && j == root) (replicate (length nodes) false) marks
 
 none_of_none : (n j : ℕ) → mark (replicate n false) j ≡ false
@@ -74,21 +74,21 @@ none_of_none n j =
       | inr past ↦ let size = length-replicate n false in get_or_past (replicate n false) j false (omega (arith, size, past))
     ]
 
-root_alone : (nodes : List Node) (root : ℕ) (marks : List Bool) → IsRoot nodes root marks → (j : ℕ) → mark marks j ≡ true → j ≡ root
+root_alone : (nodes : List ExprNode) (root : ℕ) (marks : List Bool) → IsRoot nodes root marks → (j : ℕ) → mark marks j ≡ true → j ≡ root
 root_alone nodes root marks r j h =
     let test : ((mark (replicate (length nodes) false) j) || (nat_lt j (length nodes) && j == root)) ≡ true = sym (r.made.marks j) ∙ h in
     let second : (false || (nat_lt j (length nodes) && j == root)) ≡ true =
     ap (λ b. b || (nat_lt j (length nodes) && j == root)) (sym (none_of_none (length nodes) j)) ∙ test in
     eqb-true j root (and_parts (nat_lt j (length nodes)) (j == root) second).1
 
-root_marked : (nodes : List Node) (root : ℕ) (marks : List Bool) → IsRoot nodes root marks → root < length nodes → mark marks root ≡ true
+root_marked : (nodes : List ExprNode) (root : ℕ) (marks : List Bool) → IsRoot nodes root marks → root < length nodes → mark marks root ≡ true
 root_marked nodes root marks r inside =
     r.made.marks root
     ∙ or_right (mark (replicate (length nodes) false) root) (nat_lt root (length nodes) && root == root)
     (and_from (nat_lt root (length nodes)) (root == root) (lt-ltb root (length nodes) inside) (eq-eqb root root refl))
 
-module _ (nodes : List Node) (root slots : ℕ) (first here : List Bool) (is_root : IsRoot nodes root first) (spreads : Spreads nodes first here) where
-  at_root : (ahead : Bool) (y at : ℕ) (x : Node) → mark here at ≡ true → slice_get nodes at ≡ Some x → Own ahead y nodes at x → occurs ahead y (part_of nodes root) ≡ true
+module _ (nodes : List ExprNode) (root slots : ℕ) (first here : List Bool) (is_root : IsRoot nodes root first) (spreads : Spreads nodes first here) where
+  at_root : (ahead : Bool) (y at : ℕ) (x : ExprNode) → mark here at ≡ true → slice_get nodes at ≡ Some x → Own ahead y nodes at x → occurs ahead y (part_of nodes root) ≡ true
   at_root ahead y at x marked is own =
       let from = came_from nodes first here spreads ahead y at x marked is own in
       let P : ℕ → Type 0 = λ k. occurs ahead y (part_of nodes k) ≡ true in

@@ -6,8 +6,8 @@ use Rattle.std.proofs.lemmas.Option.{slice_get_within}
 use Rattle.std.proofs.lemmas.Bool.{and_from, and_parts, cases_lt, eq-eqb, eqb-true, le-leb, leb-true, le-ltb, lt-ltb, ltb-true, or_cases, or_left, or_right}
 use Rattle.smv_tree.specs.declared.place.Place.{Place}
 use Rattle.smv_value.specs.declared.operator.Operator.{Operator}
-use Rattle.smv_resolve.specs.declared.node.Node.{Node}
-use Rattle.smv_resolve.specs.declared.node.Node.TheVariants as node
+use Rattle.smv_resolve.specs.declared.node.ExprNode.{ExprNode}
+use Rattle.smv_resolve.specs.declared.node.ExprNode.TheVariants as node
 use Rattle.smv_resolve.specs.Resolved.{Resolved, last_of, operands_of, part_at, part_of, resolved_by}
 use Rattle.smv_resolve.proofs.Parts.{before, before_long, below_is, part_is}
 use Rattle.smv_flat.specs.Assignments.{occurs, occurs_in_some}
@@ -42,15 +42,15 @@ any_where p (r ∷ rs) d h =
     ]
 
 -- it occurs in a part that the node of number k reads
-abbrev pub ByPart : Bool → ℕ → List Resolved → ℕ → Node → Type 0
+abbrev pub ByPart : Bool → ℕ → List Resolved → ℕ → ExprNode → Type 0
 ByPart ahead y parts k x = (j : ℕ) × (reads k x j ≡ true) × (occurs ahead y (part_at parts j) ≡ true)
 
 -- it is the node's own: the slot that it is; or where it looks ahead, one under the `next` that it is
-abbrev pub OwnBy : Bool → ℕ → List Resolved → ℕ → Node → Type 0
+abbrev pub OwnBy : Bool → ℕ → List Resolved → ℕ → ExprNode → Type 0
 OwnBy false y parts k x = slot_of x ≡ Some y
 OwnBy true y parts k x = (a : ℕ) × (under_next k x ≡ Some a) × (occurs false y (part_at parts a) ≡ true)
 
-by_one : (ahead : Bool) (y : ℕ) (parts : List Resolved) (k a : ℕ) (x : Node) → length parts ≡ k → ((j : ℕ) → reads k x j ≡ (nat_lt j k && j == a))
+by_one : (ahead : Bool) (y : ℕ) (parts : List Resolved) (k a : ℕ) (x : ExprNode) → length parts ≡ k → ((j : ℕ) → reads k x j ≡ (nat_lt j k && j == a))
     → occurs ahead y (part_at parts a) ≡ true → ByPart ahead y parts k x
 by_one ahead y parts k a x long is h =
     let inside = stands_before ahead y parts a h in
@@ -102,7 +102,7 @@ own_next true y parts k place a long h =
     (a, ap (λ b. if b then Some a else None) (lt-ltb a k less), h)
 
 -- what occurs in a node is its own, or occurs in a part that it reads
-own_or_part : (ahead : Bool) (y : ℕ) (parts : List Resolved) (k : ℕ) (x : Node) → length parts ≡ k → occurs ahead y (resolved_by parts x) ≡ true
+own_or_part : (ahead : Bool) (y : ℕ) (parts : List Resolved) (k : ℕ) (x : ExprNode) → length parts ≡ k → occurs ahead y (resolved_by parts x) ≡ true
     → OwnBy ahead y parts k x ⊎ ByPart ahead y parts k x
 own_or_part ahead y parts k (node.Constant place v) long h = nothing h
 own_or_part ahead y parts k (node.Slot place n) long h = inl (own_slot ahead y parts k place n h)
@@ -116,7 +116,7 @@ own_or_part ahead y parts k (node.Apply place o count) long h =
 own_or_part ahead y parts k (node.Link place o a b) long h = inr (by_two ahead y parts k place o a b long h)
 
 -- what is a node's own occurs in it
-own_occurs : (ahead : Bool) (y : ℕ) (parts : List Resolved) (k : ℕ) (x : Node) → OwnBy ahead y parts k x → occurs ahead y (resolved_by parts x) ≡ true
+own_occurs : (ahead : Bool) (y : ℕ) (parts : List Resolved) (k : ℕ) (x : ExprNode) → OwnBy ahead y parts k x → occurs ahead y (resolved_by parts x) ≡ true
 own_occurs false y parts k (node.Slot place n) h = let e : n ≡ y = cc in eq-eqb n y e
 own_occurs false y parts k (node.Constant place v) h = absurd cc
 own_occurs false y parts k (node.Whole place i) h = absurd cc
@@ -148,7 +148,7 @@ one_is : (k a j : ℕ) → (nat_lt j k && j == a) ≡ true → j ≡ a
 one_is k a j h = eqb-true j a (and_parts (nat_lt j k) (j == a) h).1
 
 -- what occurs in a part that a node reads occurs in the node
-part_occurs : (ahead : Bool) (y : ℕ) (parts : List Resolved) (k : ℕ) (x : Node) (j : ℕ) → length parts ≡ k → reads k x j ≡ true → occurs ahead y (part_at parts j) ≡ true
+part_occurs : (ahead : Bool) (y : ℕ) (parts : List Resolved) (k : ℕ) (x : ExprNode) (j : ℕ) → length parts ≡ k → reads k x j ≡ true → occurs ahead y (part_at parts j) ≡ true
     → occurs ahead y (resolved_by parts x) ≡ true
 part_occurs ahead y parts k (node.Constant place v) j long r h = nothing r
 part_occurs ahead y parts k (node.Slot place n) j long r h = nothing r
@@ -178,7 +178,7 @@ part_occurs ahead y parts k (node.Link place o a b) j long r h =
           (or_left (occurs ahead y (part_at parts b)) false (subst P (eqb-true j b right) h))
     ]
 
-pub reads_less : (k : ℕ) (x : Node) (j : ℕ) → reads k x j ≡ true → j < k
+pub reads_less : (k : ℕ) (x : ExprNode) (j : ℕ) → reads k x j ≡ true → j < k
 reads_less k (node.Constant place v) j r = nothing r
 reads_less k (node.Slot place n) j r = nothing r
 reads_less k (node.Whole place i) j r = nothing r
@@ -188,7 +188,7 @@ reads_less k (node.Operand a) j r = ltb-true j k (and_parts (nat_lt j k) (j == a
 reads_less k (node.Apply place o count) j r = ltb-true j k (and_parts (nat_lt j k) (nat_le (k - count) j) r).0
 reads_less k (node.Link place o a b) j r = ltb-true j k (and_parts (nat_lt j k) (j == a || j == b) r).0
 
-under_less : (k : ℕ) (x : Node) (a : ℕ) → under_next k x ≡ Some a → a < k
+under_less : (k : ℕ) (x : ExprNode) (a : ℕ) → under_next k x ≡ Some a → a < k
 under_less k (node.Next place b) a e = go (cases_lt b k)
   where
     go : (b < k) ⊎ (k ≤ b) → a < k
@@ -208,37 +208,37 @@ under_less k (node.Apply place o count) a e = absurd cc
 under_less k (node.Link place o b c) a e = absurd cc
 
 -- the node of number k has it as its own
-abbrev pub Own : Bool → ℕ → List Node → ℕ → Node → Type 0
+abbrev pub Own : Bool → ℕ → List ExprNode → ℕ → ExprNode → Type 0
 Own false y nodes k x = slot_of x ≡ Some y
 Own true y nodes k x = (a : ℕ) × (under_next k x ≡ Some a) × (occurs false y (part_of nodes a) ≡ true)
 
 -- it occurs in a node that the node of number k reads
-abbrev pub InPart : Bool → ℕ → List Node → ℕ → Node → Type 0
+abbrev pub InPart : Bool → ℕ → List ExprNode → ℕ → ExprNode → Type 0
 InPart ahead y nodes k x = (j : ℕ) × (reads k x j ≡ true) × (j < k) × (occurs ahead y (part_of nodes j) ≡ true)
 
 -- what occurs in a node that another reads occurs in that
-pub within : (nodes : List Node) (k : ℕ) (x : Node) (j : ℕ) → slice_get nodes k ≡ Some x → reads k x j ≡ true → IsWithin nodes j k
+pub within : (nodes : List ExprNode) (k : ℕ) (x : ExprNode) (j : ℕ) → slice_get nodes k ≡ Some x → reads k x j ≡ true → IsWithin nodes j k
 within nodes k x j is r ahead y h =
     let inside : k < length nodes = slice_get_within nodes k x is in
     let less = reads_less k x j r in
     let there : occurs ahead y (part_at (before nodes k) j) ≡ true = ap (occurs ahead y) (below_is nodes k j less (omega (arith, inside))) ∙ h in
     ap (occurs ahead y) (part_is nodes k x is) ∙ part_occurs ahead y (before nodes k) k x j (before_long nodes k (omega (arith, inside))) r there
 
-to_own : (ahead : Bool) (y : ℕ) (nodes : List Node) (k : ℕ) (x : Node) → k ≤ length nodes → OwnBy ahead y (before nodes k) k x → Own ahead y nodes k x
+to_own : (ahead : Bool) (y : ℕ) (nodes : List ExprNode) (k : ℕ) (x : ExprNode) → k ≤ length nodes → OwnBy ahead y (before nodes k) k x → Own ahead y nodes k x
 to_own false y nodes k x inside h = h
 to_own true y nodes k x inside h = (h.0, h.1, ap (occurs false y) (sym (below_is nodes k h.0 (under_less k x h.0 h.1) inside)) ∙ h.2)
 
-from_own : (ahead : Bool) (y : ℕ) (nodes : List Node) (k : ℕ) (x : Node) → k ≤ length nodes → Own ahead y nodes k x → OwnBy ahead y (before nodes k) k x
+from_own : (ahead : Bool) (y : ℕ) (nodes : List ExprNode) (k : ℕ) (x : ExprNode) → k ≤ length nodes → Own ahead y nodes k x → OwnBy ahead y (before nodes k) k x
 from_own false y nodes k x inside h = h
 from_own true y nodes k x inside h = (h.0, h.1, ap (occurs false y) (below_is nodes k h.0 (under_less k x h.0 h.1) inside) ∙ h.2)
 
-pub own_in : (ahead : Bool) (y : ℕ) (nodes : List Node) (k : ℕ) (x : Node) → slice_get nodes k ≡ Some x → Own ahead y nodes k x → occurs ahead y (part_of nodes k) ≡ true
+pub own_in : (ahead : Bool) (y : ℕ) (nodes : List ExprNode) (k : ℕ) (x : ExprNode) → slice_get nodes k ≡ Some x → Own ahead y nodes k x → occurs ahead y (part_of nodes k) ≡ true
 own_in ahead y nodes k x is h =
     let inside : k < length nodes = slice_get_within nodes k x is in
     ap (occurs ahead y) (part_is nodes k x is) ∙ own_occurs ahead y (before nodes k) k x (from_own ahead y nodes k x (omega (arith, inside)) h)
 
 -- what occurs in a node is its own, or occurs in a node that it reads
-pub parted : (ahead : Bool) (y : ℕ) (nodes : List Node) (k : ℕ) (x : Node) → slice_get nodes k ≡ Some x → occurs ahead y (part_of nodes k) ≡ true
+pub parted : (ahead : Bool) (y : ℕ) (nodes : List ExprNode) (k : ℕ) (x : ExprNode) → slice_get nodes k ≡ Some x → occurs ahead y (part_of nodes k) ≡ true
     → Own ahead y nodes k x ⊎ InPart ahead y nodes k x
 parted ahead y nodes k x is h =
     let inside : k < length nodes = slice_get_within nodes k x is in

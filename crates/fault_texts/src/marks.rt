@@ -3,10 +3,10 @@
 ghost use Rattle.std.specs.Prelude.{◌≡◌, ◌≤◌, ◌-◌, ◌==◌, ◌||◌, ◌&&◌, length, nat_lt, nat_le};
 ghost use Rattle.fault_texts.specs.Marks.{Marks, Spreads, reads};
 
-use smv_resolve::Node;
+use smv_resolve::ExprNode;
 
 /// Marks all nodes that these lead to, outside of `next`. It takes the time of the nodes and their operands.
-pub fn spread(nodes: &[Node], marks: &mut Vec<bool>)
+pub fn spread(nodes: &[ExprNode], marks: &mut Vec<bool>)
     requires long { length marks.old.items ≡ length nodes.now }
     ensures { Spreads nodes.now marks.old.items marks.new.items }
 {
@@ -18,19 +18,19 @@ pub fn spread(nodes: &[Node], marks: &mut Vec<bool>)
 }
 
 // Marks the nodes that the node of number k reads.
-fn mark_read(marks: &mut Vec<bool>, k: usize, node: Node)
+fn mark_read(marks: &mut Vec<bool>, k: usize, node: ExprNode)
     requires within { k ≤ length marks.old.items }
     ensures { Marks (reads k node) marks.old.items marks.new.items }
 {
     match node {
-        Node::Constant(..) => {}
-        Node::Slot(..) => {}
-        Node::Whole(..) => {}
-        Node::Named(_, _, a) => mark_one(marks, k, a),
-        Node::Next(..) => {}
-        Node::Operand(a) => mark_one(marks, k, a),
-        Node::Apply(_, _, count) => mark_last(marks, k, count),
-        Node::Link(_, _, a, b) => mark_two(marks, k, a, b),
+        ExprNode::Constant(..) => {}
+        ExprNode::Slot(..) => {}
+        ExprNode::Whole(..) => {}
+        ExprNode::Named(_, _, a) => mark_one(marks, k, a),
+        ExprNode::Next(..) => {}
+        ExprNode::Operand(a) => mark_one(marks, k, a),
+        ExprNode::Apply(_, _, count) => mark_last(marks, k, count),
+        ExprNode::Link(_, _, a, b) => mark_two(marks, k, a, b),
     }
 }
 

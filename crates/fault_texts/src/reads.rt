@@ -5,7 +5,7 @@ ghost use Rattle.smv_resolve.specs.Resolved.{part_of};
 ghost use Rattle.fault_texts.specs.Marks.{Finds, TellsSlots, number_sought, slot_of, under_next};
 
 use crate::marks::{mark_one, spread};
-use smv_resolve::Node;
+use smv_resolve::ExprNode;
 use std::alloc::{AllocError, Global};
 
 /// Of each slot whether it occurs in an expression: outside of `next`, or under it.
@@ -27,7 +27,7 @@ pub enum Sought {
 /// Of each of so many slots whether it occurs in the node of this number. Each node is looked at three times at most.
 pub fn occurring(
     alloc: Global,
-    nodes: &[Node],
+    nodes: &[ExprNode],
     root: usize,
     slots: usize,
 ) -> Result<Occurrences, AllocError>
@@ -47,7 +47,7 @@ pub fn occurring(
 // Marks the numbers below `size` that marked nodes have.
 fn found(
     alloc: Global,
-    nodes: &[Node],
+    nodes: &[ExprNode],
     marks: &[bool],
     what: Sought,
     size: usize,
@@ -66,7 +66,7 @@ fn found(
     Ok(found)
 }
 
-fn number_sought(what: Sought, k: usize, node: Node) -> Option<usize>
+fn number_sought(what: Sought, k: usize, node: ExprNode) -> Option<usize>
     ensures { result ≡ number_sought what k node }
 {
     match what {
@@ -76,33 +76,33 @@ fn number_sought(what: Sought, k: usize, node: Node) -> Option<usize>
 }
 
 // The slot that the node is, if it is one.
-fn slot_of(node: Node) -> Option<usize>
+fn slot_of(node: ExprNode) -> Option<usize>
     ensures { result ≡ slot_of node }
 {
     match node {
-        Node::Slot(_, n) => Some(n),
-        Node::Constant(..) => None,
-        Node::Whole(..) => None,
-        Node::Named(..) => None,
-        Node::Next(..) => None,
-        Node::Operand(_) => None,
-        Node::Apply(..) => None,
-        Node::Link(..) => None,
+        ExprNode::Slot(_, n) => Some(n),
+        ExprNode::Constant(..) => None,
+        ExprNode::Whole(..) => None,
+        ExprNode::Named(..) => None,
+        ExprNode::Next(..) => None,
+        ExprNode::Operand(_) => None,
+        ExprNode::Apply(..) => None,
+        ExprNode::Link(..) => None,
     }
 }
 
 // The node under the `next` that the node of number k is, if it is one.
-fn under_next(k: usize, node: Node) -> Option<usize>
+fn under_next(k: usize, node: ExprNode) -> Option<usize>
     ensures { result ≡ under_next k node }
 {
     match node {
-        Node::Next(_, a) => if a < k { Some(a) } else { None },
-        Node::Constant(..) => None,
-        Node::Slot(..) => None,
-        Node::Whole(..) => None,
-        Node::Named(..) => None,
-        Node::Operand(_) => None,
-        Node::Apply(..) => None,
-        Node::Link(..) => None,
+        ExprNode::Next(_, a) => if a < k { Some(a) } else { None },
+        ExprNode::Constant(..) => None,
+        ExprNode::Slot(..) => None,
+        ExprNode::Whole(..) => None,
+        ExprNode::Named(..) => None,
+        ExprNode::Operand(_) => None,
+        ExprNode::Apply(..) => None,
+        ExprNode::Link(..) => None,
     }
 }

@@ -14,7 +14,7 @@ use Rattle.frame_core.specs.Differences.{IsSameSystem}
 use Rattle.frame_core.specs.FrameLaw.{FrameState, FramesHold, AreAlike, system_at, top_at, lemma_at, obligation_at, IsAsHigh, AllStand, InFrame, MeetsFrom}
 use Rattle.frame_core.specs.Looking.{IsHeldBy, CoversAt, AreCoveredBy}
 use Rattle.book_agenda.proofs.Blocked.{lemma_old, lemma_last}
-use Rattle.frame_book.specs.declared.claim.Outcome.TheVariants as outcome
+use Rattle.frame_book.specs.declared.claim.ClaimOutcome.TheVariants as outcome
 use Rattle.frame_core.specs.Changes.{InsertsSame, RaisesSame, OpensSame, with_lemma, with_level, with_top}
 use Rattle.frame_core.proofs.Changing.{Shown, shown}
 use Rattle.frame_core.proofs.States.{shown_same, first_same, step_same, bad_same, same_back}

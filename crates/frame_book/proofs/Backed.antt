@@ -24,7 +24,7 @@ use Rattle.frame_book.specs.Pages.{state_of, FitsIn, AreSane}
 use Rattle.frame_book.specs.Backed.{HasInFrame, IsBacked, AreBacked, IsWithin, spends, failed_after}
 use Rattle.book_agenda.proofs.Blocked.{obligation_old, obligation_last}
 use Rattle.frame_book.proofs.Accepted.{inside_by}
-use Rattle.frame_book.specs.declared.claim.Outcome.{Outcome}
+use Rattle.frame_book.specs.declared.claim.ClaimOutcome.{ClaimOutcome}
 use Rattle.frame_book.specs.Marked.{Marking, marks_of, marked, LimitIsLeft, NotesEach}
 use Rattle.frame_book.proofs.Entering.{growth_after}
 use Rattle.book_agenda.proofs.Orderly.{outs_some, claim_snoc, claim_set, some_is, was, Was, end_of}
@@ -517,7 +517,7 @@ bool_cases : (b : Bool) → (b ≡ true) ⊎ (b ≡ false)
 bool_cases true = inl refl
 bool_cases false = inr refl
 
-pub backed_settled : (limits : Limits) (s : BookState) (n : ℕ) (c : Made) (o : Outcome) (d : Change) (ds ls : List Change) (g f' : FrameState) (m' : Marking) →
+pub backed_settled : (limits : Limits) (s : BookState) (n : ℕ) (c : Made) (o : ClaimOutcome) (d : Change) (ds ls : List Change) (g f' : FrameState) (m' : Marking) →
     claim_at s.claims n ≡ Some c → c.out ≡ true → FramesHold s.frames → AreOrderly record { made = s.claims; growth = s.growth } →
     AreSane s.frames record { made = s.claims; growth = s.growth } → Comes s.frames c o d g → Retires g ds f' →
     NotesEach limits f' (marked (marks_of s) d) ls m' → ((j : ℕ) → LimitIsLeft limits f' m' j → ⊥) → AreBacked limits s →
@@ -568,7 +568,7 @@ backed_settled limits s n c o d ds ls g f' m' at out law orderly sane come ret n
       ];
     }
 
-pub backed_by : (limits : Limits) (s : BookState) (n : ℕ) (c : Made) (o : Outcome) (xs ls : List Change) (f' : FrameState) (m' : Marking) →
+pub backed_by : (limits : Limits) (s : BookState) (n : ℕ) (c : Made) (o : ClaimOutcome) (xs ls : List Change) (f' : FrameState) (m' : Marking) →
     claim_at s.claims n ≡ Some c → c.out ≡ true → FramesHold s.frames → AreOrderly record { made = s.claims; growth = s.growth } →
     AreSane s.frames record { made = s.claims; growth = s.growth } → HasSettled s.frames c o xs f' →
     NotesEach limits f' (marked (marks_of s) (head_of xs)) ls m' → ((j : ℕ) → LimitIsLeft limits f' m' j → ⊥) → AreBacked limits s →

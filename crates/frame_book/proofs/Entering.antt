@@ -10,7 +10,7 @@ use Rattle.frame_history.specs.declared.entries.Change.TheVariants.{Add, Raise, 
 use Rattle.frame_history.specs.declared.entries.Entry.{Entry}
 use Rattle.frame_history.specs.History.{BookState, start, after, changed, all_changed, ended, claim_at, is_behind, with_ended, AcceptsEach, AcceptsAll, IsLimitLeft, MayStand}
 use Rattle.frame_history.proofs.Keeping.{replay-append, lawful-append}
-use Rattle.frame_book.specs.declared.claim.Outcome.{Outcome}
+use Rattle.frame_book.specs.declared.claim.ClaimOutcome.{ClaimOutcome}
 use Rattle.frame_book.specs.Outcomes.{ComesOf}
 use Rattle.book_agenda.specs.Register.{Claims}
 use Rattle.frame_book.specs.Marked.{Marking, marks_of, marked, LimitIsLeft, NotesEach}
@@ -95,14 +95,14 @@ notes_is limits s (Spent ∷ ds) m' a = absurd a
 -- ---- A settlement
 
 -- what the changes of a settlement do, and that they are accepted
-pub record IsSettled (limits : Limits) (s : BookState) (c : Made) (o : Outcome) (f' : FrameState) (m' : Marking) (d : Change) (changes : List Change) : Type 0 where
+pub record IsSettled (limits : Limits) (s : BookState) (c : Made) (o : ClaimOutcome) (f' : FrameState) (m' : Marking) (d : Change) (changes : List Change) : Type 0 where
   pub rest : List Change
   pub are : changes ≡ d ∷ rest
   pub tells : ComesOf o d
   pub accepted : AcceptsAll limits s c changes
   pub leads : all_changed s changes ≡ state_of f' record { made = s.claims; growth = growth_after s.growth d } m'
 
-settled_from : (limits : Limits) (s : BookState) (c : Made) (o : Outcome) (d : Change) (ds ls : List Change) (g f' : FrameState) (m' : Marking) →
+settled_from : (limits : Limits) (s : BookState) (c : Made) (o : ClaimOutcome) (d : Change) (ds ls : List Change) (g f' : FrameState) (m' : Marking) →
     Comes s.frames c o d g → Retires g ds f' → NotesEach limits f' (marked (marks_of s) d) ls m' → ((j : ℕ) → LimitIsLeft limits f' m' j → ⊥) →
     IsSettled limits s c o f' m' d (d ∷ (ds ++ ls))
 settled_from limits s c o d ds ls g f' m' h r n none =
@@ -128,7 +128,7 @@ settled_from limits s c o d ds ls g f' m' h r n none =
       leads = e3;
     }
 
-pub settled : (limits : Limits) (s : BookState) (c : Made) (o : Outcome) (xs ls : List Change) (f' : FrameState) (m' : Marking) →
+pub settled : (limits : Limits) (s : BookState) (c : Made) (o : ClaimOutcome) (xs ls : List Change) (f' : FrameState) (m' : Marking) →
     HasSettled s.frames c o xs f' → NotesEach limits f' (marked (marks_of s) (head_of xs)) ls m' → ((j : ℕ) → LimitIsLeft limits f' m' j → ⊥) →
     IsSettled limits s c o f' m' (head_of xs) (xs ++ ls)
 settled limits s c o [] ls f' m' h n none = absurd h
@@ -148,7 +148,7 @@ behind_is (Limit j) ds = refl
 behind_is Spent ds = refl
 
 -- the state after a settlement of claim n
-pub ended_is : (limits : Limits) (s : BookState) (n : ℕ) (c : Made) (o : Outcome) (f' : FrameState) (m' : Marking) (d : Change) (changes : List Change) →
+pub ended_is : (limits : Limits) (s : BookState) (n : ℕ) (c : Made) (o : ClaimOutcome) (f' : FrameState) (m' : Marking) (d : Change) (changes : List Change) →
     claim_at s.claims n ≡ Some c → IsSettled limits s c o f' m' d changes →
     with_ended (all_changed s changes) n (is_behind changes)
     ≡ state_of f' record { made = set s.claims n (ended (lags d) (Some c)) ++ None ∷ []; growth = growth_after s.growth d } m'

@@ -5,8 +5,8 @@ use Rattle.std.proofs.lemmas.Bool.{cases_eq, cases_lt}
 use Rattle.clause_core.specs.Assignments.{assignment_of}
 use Rattle.clause_core.specs.Systems.{TransitionSystem}
 use Rattle.frame_core.specs.declared.parts.Lemma.{Lemma}
-use Rattle.frame_core.specs.declared.outcomes.Verdict.{Verdict}
-use Rattle.frame_core.specs.declared.outcomes.Verdict.TheVariants.{Invariant, Reached}
+use Rattle.frame_core.specs.declared.outcomes.FramesVerdict.{FramesVerdict}
+use Rattle.frame_core.specs.declared.outcomes.FramesVerdict.TheVariants.{Invariant, Reached}
 use Rattle.frame_core.specs.FrameLaw.{FrameState, FramesHold, system_at, top_at, lemma_at, obligation_at}
 use Rattle.frame_core.specs.Changes.{VerdictSays}
 use Rattle.frame_history.specs.declared.entries.Limits.{Limits}
@@ -17,7 +17,7 @@ use Rattle.frame_history.specs.declared.entries.Entry.TheVariants.{Claim, Settle
 use Rattle.frame_history.specs.History.{BookState, start, IsDecided, IsClosed, IsLeastLevel, IsNew}
 use Rattle.frame_history.proofs.Keeping.{same_systems}
 use Rattle.frame_book.specs.declared.picking.Task.{Task}
-use Rattle.frame_book.specs.declared.claim.Outcome.{Outcome}
+use Rattle.frame_book.specs.declared.claim.ClaimOutcome.{ClaimOutcome}
 use Rattle.frame_book.specs.declared.claim.Claiming.{Claiming}
 use Rattle.frame_book.specs.declared.claim.Claiming.TheVariants as claiming
 use Rattle.frame_book.specs.declared.claim.Settling.TheVariants as settling
@@ -29,7 +29,7 @@ use Rattle.frame_book.specs.Picking.{IsOpenSystem, IsOffered, IsNotOffered, HasN
 use Rattle.frame_book.specs.Book.{BookView, IsBook, Claims, SettlesBy, Settles, Returns, counts_as, settlements}
 use Rattle.frame_book.proofs.Accepted.{inside_by}
 
-says_none : (f : FrameState) (j : ℕ) (v : Verdict) → VerdictSays f j None → VerdictSays f j (Some v) → ⊥
+says_none : (f : FrameState) (j : ℕ) (v : FramesVerdict) → VerdictSays f j None → VerdictSays f j (Some v) → ⊥
 says_none f j (Invariant i) n h = let w = n.0 i h.0 h.1 in h.2 w.0 w.1 w.2 w.3
 says_none f j (Reached k) n h = n.1 k h.0 h.1 h.2
 
@@ -131,12 +131,12 @@ returns_counted b now v returning.Back h =
     ap (λ (z : BookView). settlements z.history) h.1 ∙ omega (arith, settlements-push b.history (Back v.worker v.number))
 returns_counted b now v (returning.NotOut n) h = ap (λ (z : BookView). settlements z.history) h.2
 
-settle_counts : (b : BookView) (v : ClaimView) (o : Outcome) (e : Entry) → SettlesBy b v o e → counts_as e ≡ suc zero
+settle_counts : (b : BookView) (v : ClaimView) (o : ClaimOutcome) (e : Entry) → SettlesBy b v o e → counts_as e ≡ suc zero
 settle_counts b v o (Settle worker n changes) h = refl
 settle_counts b v o (Claim worker subject level) h = absurd h
 settle_counts b v o (Back worker n) h = absurd h
 
-pub settles_counted : (b now : BookView) (v : ClaimView) (o : Outcome) → Settles b v o settling.Settled now → settlements now.history ≡ settlements b.history + 1
+pub settles_counted : (b now : BookView) (v : ClaimView) (o : ClaimOutcome) → Settles b v o settling.Settled now → settlements now.history ≡ settlements b.history + 1
 settles_counted b now v o h =
     let e : Entry = h.1.0 in
     let one = settle_counts b v o e h.1.1 in

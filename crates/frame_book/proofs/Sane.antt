@@ -14,7 +14,7 @@ use Rattle.frame_history.specs.declared.entries.Made.{Made}
 use Rattle.frame_history.specs.declared.entries.Change.{Change}
 use Rattle.frame_history.specs.declared.entries.Change.TheVariants.{Add, Raise, Held, Retire, Behind, Dropped, Note, Open, PushFailed, Limit, Spent}
 use Rattle.frame_history.specs.History.{claim_at, ended, Accepts}
-use Rattle.frame_book.specs.declared.claim.Outcome.{Outcome}
+use Rattle.frame_book.specs.declared.claim.ClaimOutcome.{ClaimOutcome}
 use Rattle.book_agenda.specs.Values.{IsBlockedTo}
 use Rattle.book_agenda.specs.Register.{Claims, AreOrderly}
 use Rattle.frame_book.specs.Steps.{framed, grows, head_of, Retires, HasSettled, AreSameLemmas}
@@ -121,7 +121,7 @@ retires_evolve f g (PushFailed n level ∷ ds) a = absurd a
 retires_evolve f g (Limit j ∷ ds) a = absurd a
 retires_evolve f g (Spent ∷ ds) a = absurd a
 
-pub settled_evolves : (f g : FrameState) (c : Made) (o : Outcome) (xs : List Change) → HasSettled f c o xs g →
+pub settled_evolves : (f g : FrameState) (c : Made) (o : ClaimOutcome) (xs : List Change) → HasSettled f c o xs g →
     Evolves f g × ((grows (head_of xs) ≡ false) → AreSameLemmas f.lemmas g.lemmas)
 settled_evolves f g c o [] h = absurd h
 settled_evolves f g c o (d ∷ ds) h =
@@ -163,7 +163,7 @@ low_still f g (Block o) level e s fits h =
     h b (subst (λ (z : Obligation). IsBlockedTo f.lemmas b (assignment_of z.values)) x.1 there)
 low_still f g (Push n) level e s fits h = let l = s.level n in omega (arith, l, h)
 
-pub sane_settled : (f g : FrameState) (c : Made) (o : Outcome) (xs : List Change) (claims : Claims) → HasSettled f c o xs g → AreOrderly claims →
+pub sane_settled : (f g : FrameState) (c : Made) (o : ClaimOutcome) (xs : List Change) (claims : Claims) → HasSettled f c o xs g → AreOrderly claims →
     AreSane f claims → AreSane g record { made = claims.made; growth = claims.growth + (if grows (head_of xs) then 1 else 0) }
 sane_settled f g c o xs claims h orderly sane =
     let e = settled_evolves f g c o xs h in

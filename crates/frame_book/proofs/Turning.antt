@@ -15,7 +15,7 @@ use Rattle.frame_history.specs.declared.entries.Change.{Change}
 use Rattle.frame_history.specs.declared.entries.Entry.{Entry}
 use Rattle.frame_history.specs.declared.entries.Entry.TheVariants.{Claim, Settle, Back}
 use Rattle.frame_history.specs.History.{BookState, after, claim_at, ended, IsOut, IsOpenTask, IsLawfulClaim, IsLawful}
-use Rattle.frame_book.specs.declared.claim.Outcome.{Outcome}
+use Rattle.frame_book.specs.declared.claim.ClaimOutcome.{ClaimOutcome}
 use Rattle.frame_book.specs.Claims.{ClaimView, IsClaimOf}
 use Rattle.book_agenda.specs.Values.{IsBlockedTo}
 use Rattle.book_agenda.specs.Register.{Claims, IsUpTo, AreOrderly, outs}
@@ -165,7 +165,7 @@ claimed b cap cap' rooms rooms' w u level claims history h law lawful is-level i
 
 -- ---- A claim is settled
 
-pub turned_by : (b : BookView) (cap cap' : ℕ) (rooms rooms' : Room) (v : ClaimView) (d : Made) (o : Outcome) (f : FrameState) (xs ls : List Change) (m : Marking)
+pub turned_by : (b : BookView) (cap cap' : ℕ) (rooms rooms' : Room) (v : ClaimView) (d : Made) (o : ClaimOutcome) (f : FrameState) (xs ls : List Change) (m : Marking)
     (claims : Claims) (changes : Vec Change Global) (history : List Entry) → ArePages b cap rooms → FramesHold b.state.frames → AreOrderly (claims_of b.state) →
     IsClaimOf b.state v d → HasSettled b.state.frames d o xs f →
     changes.items ≡ xs ++ ls → NotesEach b.limits f (marked (marks_of b.state) (head_of xs)) ls m → ((j : ℕ) → LimitIsLeft b.limits f m j → ⊥) →

@@ -10,7 +10,7 @@ use Rattle.frame_history.specs.declared.entries.Change.{Change}
 use Rattle.frame_history.specs.declared.entries.Entry.{Entry}
 use Rattle.frame_history.specs.declared.entries.Entry.TheVariants.{Claim, Settle, Back}
 use Rattle.frame_history.specs.History.{BookState, start, replay, after, claim_at, IsClosed, IsLawfulClaim, IsLawful, AreCarried, AcceptsAll}
-use Rattle.frame_book.specs.declared.claim.Outcome.{Outcome}
+use Rattle.frame_book.specs.declared.claim.ClaimOutcome.{ClaimOutcome}
 use Rattle.frame_book.specs.declared.claim.Claiming.{Claiming}
 use Rattle.frame_book.specs.declared.claim.Claiming.TheVariants.{Task, Idle, Closed}
 use Rattle.frame_book.specs.declared.claim.Settling.{Settling}
@@ -67,7 +67,7 @@ Claims before worker Idle now =
 Claims before worker Closed now = IsClosed before.state × (now ≡ before)
 
 -- the entry settles this claim with changes that come of the outcome
-abbrev pub SettlesBy : BookView → ClaimView → Outcome → Entry → Type 0
+abbrev pub SettlesBy : BookView → ClaimView → ClaimOutcome → Entry → Type 0
 SettlesBy before v o (Settle worker n changes) =
     (worker ≡ v.worker) × (n ≡ v.number)
     × ((c : Made) × (d : Change) × (ds : List Change) × IsClaimOf before.state v c × (changes.items ≡ d ∷ ds) × ComesOf o d
@@ -76,7 +76,7 @@ SettlesBy before v o (Claim worker subject level) = ⊥
 SettlesBy before v o (Back worker n) = ⊥
 
 -- settled: the claim was out here, and one settlement is entered; not out: it was not, and nothing changes
-abbrev pub Settles : BookView → ClaimView → Outcome → Settling → BookView → Type 0
+abbrev pub Settles : BookView → ClaimView → ClaimOutcome → Settling → BookView → Type 0
 Settles before v o settling.Settled now = IsOutHere before.state v × ((e : Entry) × SettlesBy before v o e × (now ≡ entered before e))
 Settles before v o (settling.NotOut n) now = (n ≡ v.number) × (IsOutHere before.state v → ⊥) × (now ≡ before)
 

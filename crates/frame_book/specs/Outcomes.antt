@@ -11,8 +11,8 @@ use Rattle.frame_history.specs.declared.entries.Lag.TheVariants as lag
 use Rattle.frame_history.specs.declared.entries.Change.{Change}
 use Rattle.frame_history.specs.declared.entries.Change.TheVariants.{Add, Raise, Held, Retire, Behind, Dropped, Note, Open, PushFailed, Limit}
 use Rattle.frame_history.specs.declared.entries.Change.TheVariants as change
-use Rattle.frame_book.specs.declared.claim.Outcome.{Outcome}
-use Rattle.frame_book.specs.declared.claim.Outcome.TheVariants.{Proved, Step, Found, Clear, Spent}
+use Rattle.frame_book.specs.declared.claim.ClaimOutcome.{ClaimOutcome}
+use Rattle.frame_book.specs.declared.claim.ClaimOutcome.TheVariants.{Proved, Step, Found, Clear, Spent}
 use Rattle.frame_book.specs.Claims.{ClaimView}
 
 -- a step of these values ends in the state of the first bits of `next`
@@ -50,7 +50,7 @@ IsClearFor systems v (Block o) c = ⊥
 IsClearFor systems v (Push n) c = ⊥
 
 -- the outcome is of this subject: of its kind, its level, its state or clause, and of the systems
-abbrev pub IsOutcomeOf : List TransitionSystem → ClaimView → Subject → Outcome → Type 0
+abbrev pub IsOutcomeOf : List TransitionSystem → ClaimView → Subject → ClaimOutcome → Type 0
 IsOutcomeOf systems v u (Proved p) = IsProofFor systems v u p
 IsOutcomeOf systems v u (Step s) = IsStepFor systems v u s
 IsOutcomeOf systems v u (Found f) = IsFoundFor systems v u f
@@ -58,7 +58,7 @@ IsOutcomeOf systems v u (Clear c) = IsClearFor systems v u c
 IsOutcomeOf systems v u (Spent drawn budget) = Unit {0}
 
 -- the change tells of this outcome
-abbrev pub ComesOf : Outcome → Change → Type 0
+abbrev pub ComesOf : ClaimOutcome → Change → Type 0
 ComesOf (Proved p) (Add clause level parents) = (clause ≡ p.clause) × (level ≡ p.level) × (parents.items ≡ p.parents)
 ComesOf (Proved p) (Raise n level parents) = (level ≡ p.level) × (parents.items ≡ p.parents)
 ComesOf (Proved p) (Held n clause level) = (clause ≡ p.clause) × (level ≡ p.level)

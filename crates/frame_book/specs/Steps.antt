@@ -9,7 +9,7 @@ use Rattle.frame_history.specs.declared.entries.Change.{Change}
 use Rattle.frame_history.specs.declared.entries.Change.TheVariants.{Add, Raise, Held, Retire, Behind, Dropped, Note, Open, PushFailed, Limit}
 use Rattle.frame_history.specs.declared.entries.Change.TheVariants as change
 use Rattle.frame_history.specs.History.{Accepts}
-use Rattle.frame_book.specs.declared.claim.Outcome.{Outcome}
+use Rattle.frame_book.specs.declared.claim.ClaimOutcome.{ClaimOutcome}
 use Rattle.frame_book.specs.Outcomes.{ComesOf}
 
 -- the frames after a change
@@ -70,7 +70,7 @@ lags (Limit j) = false
 lags change.Spent = false
 
 -- one change comes of a claim and its outcome
-pub record Comes (f : FrameState) (c : Made) (o : Outcome) (d : Change) (f' : FrameState) : Type 0 where
+pub record Comes (f : FrameState) (c : Made) (o : ClaimOutcome) (d : Change) (f' : FrameState) : Type 0 where
   pub accepted : Accepts f c d
   pub tells : ComesOf o d
   pub changes : f' ≡ framed f d
@@ -99,6 +99,6 @@ pub record AreSameLemmas (before now : List Lemma) : Type 0 where
   pub level : (n : ℕ) → (lemma_at now n).level ≡ (lemma_at before n).level
 
 -- one change comes of a claim and its outcome, and lemmas are retired after it
-abbrev pub HasSettled : FrameState → Made → Outcome → List Change → FrameState → Type 0
+abbrev pub HasSettled : FrameState → Made → ClaimOutcome → List Change → FrameState → Type 0
 HasSettled f c o [] f' = ⊥
 HasSettled f c o (d ∷ ds) f' = (g : FrameState) × Comes f c o d g × Retires g ds f'

@@ -1,6 +1,6 @@
 //! The book under its lock: what was claimed, what came of it, and how many settlements there were.
 
-use crate::claim::{Claim, Claiming, Outcome, Returning, Settling, Unsettled};
+use crate::claim::{Claim, ClaimOutcome, Claiming, Returning, Settling, Unsettled};
 use crate::pages::Pages;
 use clause_core::System;
 use frame_core::{Frames, Lemma};
@@ -95,7 +95,7 @@ impl<'a, L: Ledger> Book<'a, L> {
     pub fn settle(
         &mut self,
         claim: Claim,
-        outcome: Outcome<'a>,
+        outcome: ClaimOutcome<'a>,
         share: &mut Share<L>,
     ) -> Result<Settling, Unsettled<'a>>
         requires part { 0 < share.old.parts }

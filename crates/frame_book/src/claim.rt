@@ -1,7 +1,7 @@
 //! Claims, and what may come of them.
 
 use clause_core::{Bits, Clause, Lit};
-use frame_core::{Clear, Found, Proved, Step};
+use frame_core::{Clear, Proved, StateWitness, Step};
 use frame_history::Subject;
 use std::marker::Model;
 
@@ -79,14 +79,14 @@ impl Claim {
 
 /// What came of a claim.
 #[derive(Drop)]
-pub enum Outcome<'a> {
+pub enum ClaimOutcome<'a> {
     /// A clause is proved at the claim's level: one that is false in the obligation's state, or that of the
     /// lemma.
     Proved(Proved<'a>),
     /// A step leads from the frame below out of the lemma that was to be pushed.
     Step(Step<'a>),
     /// A bad state, or one of the frame below with a step to the obligation.
-    Found(Found<'a>),
+    Found(StateWitness<'a>),
     /// The frame of the top has no bad state.
     Clear(Clear<'a>),
     /// The purse is spent.
@@ -121,5 +121,5 @@ pub enum Returning {
 /// A claim that could not be settled since memory ran out, and its outcome.
 pub struct Unsettled<'a> {
     pub claim: Claim,
-    pub outcome: Outcome<'a>,
+    pub outcome: ClaimOutcome<'a>,
 }

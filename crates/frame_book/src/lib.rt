@@ -11,4 +11,4 @@ mod rooms;
 mod settling;
 
 pub use book::{Book, Parts};
-pub use claim::{Claim, Claiming, Outcome, Returning, Settling, Unsettled};
+pub use claim::{Claim, ClaimOutcome, Claiming, Returning, Settling, Unsettled};

@@ -4,7 +4,7 @@ ghost use Rattle.std.specs.Prelude.{◌≡◌, ◌↔◌, ◌<◌, ◌≤◌, �
 ghost use Rattle.frame_book.specs.Claims.{IsOfSubject};
 ghost use Rattle.frame_book.specs.Pages.{IsIn, HasValues, HasClause};
 
-use crate::claim::{Claim, Claiming, Outcome, Returning, Settling, Unsettled};
+use crate::claim::{Claim, ClaimOutcome, Claiming, Returning, Settling, Unsettled};
 use crate::marks::Marks;
 use crate::picking::{open_system, pick};
 use crate::rooms::Rooms;
@@ -213,7 +213,7 @@ impl<'a> Pages<'a> {
     pub(crate) fn settle(
         &mut self,
         claim: Claim,
-        outcome: Outcome<'a>,
+        outcome: ClaimOutcome<'a>,
     ) -> Result<Settling, Unsettled<'a>>
         requires { IsOutcomeOf self.old.systems claim claim.subject outcome }
         ensures done { IfOk result (λ r. Settles self.old claim outcome.entry r self.new) }

@@ -17,11 +17,11 @@ ghost use Rattle.frame_book.specs.Book.{IsPush};
 ghost use Rattle.frame_book.specs.Pages.{FitsIn};
 ghost use Rattle.frame_book.specs.Steps.{adds, Comes, Retires, IsCoveredBy, AreSameLemmas, HasSettled};
 
-use crate::claim::{Claim, Outcome};
+use crate::claim::{Claim, ClaimOutcome};
 use book_agenda::Levels;
 use clause_core::{Bits, Clause};
 use frame_core::{
-    Clear, Found, Insertion, Noting, Opening, Parent, Proved, ProvedParts, Raising, Step,
+    Clear, Insertion, Noting, Opening, Parent, Proved, ProvedParts, Raising, StateWitness, Step,
 };
 use frame_history::{Change, Lag, Made, Subject};
 use std::alloc::{AllocError, Global};
@@ -56,16 +56,16 @@ pub(crate) fn block<'a>(
     made: &Made,
     o: usize,
     proved: Proved<'a>,
-) -> Result<Change, Outcome<'a>>
+) -> Result<Change, ClaimOutcome<'a>>
     requires subject { made.now.subject ≡ asked.Block o }
     requires level { proved.level ≡ made.now.level }
     requires unmet { ClauseTrue (assignment_of (obligation_at levels.old.obligations o).values) proved.clause → ⊥ }
     requires same { IsSameSystem false (system_at levels.old.systems 0) proved.system }
-    ensures done { IfOk result (λ d. Comes levels.old made.now (Outcome.Proved proved.entry) d levels.new) }
-    ensures err { IfErr result (λ r. (r ≡ Outcome.Proved proved.entry) × (levels.new ≡ levels.old)) }
+    ensures done { IfOk result (λ d. Comes levels.old made.now (ClaimOutcome.Proved proved.entry) d levels.new) }
+    ensures err { IfErr result (λ r. (r ≡ ClaimOutcome.Proved proved.entry) × (levels.new ≡ levels.old)) }
 {
     let Ok(insertion) = insert_copy(alloc, levels, &proved) else {
-        return Err(Outcome::Proved(proved));
+        return Err(ClaimOutcome::Proved(proved));
     };
     let level = proved.level();
     let ProvedParts {
@@ -96,7 +96,7 @@ pub(crate) fn push<'a>(levels: &mut Levels<'a>, made: &Made, n: usize, proved: P
     requires level { proved.level ≡ made.now.level }
     requires clause { proved.clause ≡ (lemma_at levels.old.lemmas n).clause }
     requires same { IsSameSystem false (system_at levels.old.systems 0) proved.system }
-    ensures { Comes levels.old made.now (Outcome.Proved proved.entry) result levels.new }
+    ensures { Comes levels.old made.now (ClaimOutcome.Proved proved.entry) result levels.new }
 {
     let raising = levels.raise(n, &proved);
     let level = proved.level();
@@ -124,7 +124,7 @@ pub(crate) fn leave<'a>(levels: &Levels<'a>, made: &Made, n: usize, step: Step<'
     requires above { 1 < made.now.level }
     requires leaves { (y : ℕ → Bool) → NextIs step.system.state_bits (assignment_of step.values) y → ClauseTrue y (lemma_at levels.now.lemmas n).clause → ⊥ }
     requires same { IsSameSystem false (system_at levels.now.systems 0) step.system }
-    ensures { Comes levels.now made.now (Outcome.Step step.entry) result levels.now }
+    ensures { Comes levels.now made.now (ClaimOutcome.Step step.entry) result levels.now }
 {
     let level = made.level - 1;
     let _system = step.system();
@@ -141,20 +141,20 @@ pub(crate) fn clear<'a>(
     made: &Made,
     j: usize,
     clear: Clear<'a>,
-) -> Result<Change, Outcome<'a>>
+) -> Result<Change, ClaimOutcome<'a>>
     requires subject { made.now.subject ≡ asked.Bad j }
     requires in_range { j < length levels.old.systems }
     requires room { made.now.level + 1 < 2 ^ 32 }
     requires level { clear.level ≡ made.now.level }
     requires same { IsSameSystem true (system_at levels.old.systems j) clear.system }
-    ensures done { IfOk result (λ d. Comes levels.old made.now (Outcome.Clear clear.entry) d levels.new) }
-    ensures err { IfErr result (λ r. (r ≡ Outcome.Clear clear.entry) × (levels.new ≡ levels.old)) }
+    ensures done { IfOk result (λ d. Comes levels.old made.now (ClaimOutcome.Clear clear.entry) d levels.new) }
+    ensures err { IfErr result (λ r. (r ≡ ClaimOutcome.Clear clear.entry) × (levels.new ≡ levels.old)) }
 {
     if levels.frames().top(j) != made.level {
         return Ok(Change::Dropped);
     }
     let Ok(opening) = levels.open(j, &clear) else {
-        return Err(Outcome::Clear(clear));
+        return Err(ClaimOutcome::Clear(clear));
     };
     let parents = clear.into_parents();
     match opening {
@@ -166,7 +166,7 @@ pub(crate) fn clear<'a>(
 }
 
 // Whether the state found is in the frame of this level.
-fn is_inside<'a>(levels: &Levels<'a>, level: u32, found: &Found) -> bool
+fn is_inside<'a>(levels: &Levels<'a>, level: u32, found: &StateWitness) -> bool
     ensures { IsTrue result ↔ InFrame found.now.system levels.now.lemmas level (assignment_of found.now.values) }
 {
     let _system = found.system();
@@ -182,7 +182,7 @@ fn note_copy<'a>(
     alloc: Global,
     levels: &mut Levels<'a>,
     j: usize,
-    found: &Found,
+    found: &StateWitness,
     parent: Option<usize>,
 ) -> Result<Noting, AllocError>
     requires in_range { j < length levels.old.systems }
@@ -192,7 +192,7 @@ fn note_copy<'a>(
     ensures err { OnErr result (levels.new ≡ levels.old) }
 {
     let values = Bits::from_slice(alloc, found.values().as_slice())?;
-    let copy = Found::new(found.system(), values, found.is_step(), found.is_first());
+    let copy = StateWitness::new(found.system(), values, found.is_step(), found.is_first());
     levels.note(j, copy, parent)
 }
 
@@ -201,9 +201,9 @@ fn note<'a>(
     alloc: Global,
     levels: &mut Levels<'a>,
     j: usize,
-    found: Found<'a>,
+    found: StateWitness<'a>,
     parent: Option<usize>,
-) -> Result<Change, Found<'a>>
+) -> Result<Change, StateWitness<'a>>
     requires in_range { j < length levels.old.systems }
     requires parent { MayHaveParent levels.old j found parent }
     requires same { IsOfSystem levels.old j (is_none parent) found.system }
@@ -229,21 +229,21 @@ fn note_inside<'a>(
     levels: &mut Levels<'a>,
     level: u32,
     j: usize,
-    found: Found<'a>,
+    found: StateWitness<'a>,
     parent: Option<usize>,
-) -> Result<Change, Outcome<'a>>
+) -> Result<Change, ClaimOutcome<'a>>
     requires in_range { j < length levels.old.systems }
     requires parent { MayHaveParent levels.old j found parent }
     requires same { IsOfSystem levels.old j (is_none parent) found.system }
     ensures done { IfOk result (λ d. ((InFrame found.entry.system levels.old.lemmas level (assignment_of found.entry.values) → ⊥) × (d ≡ Change.Behind (lag_of.State found.entry.values)) × (levels.new ≡ levels.old)) ⊎ (InFrame found.entry.system levels.old.lemmas level (assignment_of found.entry.values) × (d ≡ Change.Note j found.entry.values parent found.entry.first) × (levels.new ≡ with_obligation levels.old j found.entry parent))) }
-    ensures err { IfErr result (λ r. (r ≡ Outcome.Found found.entry) × (levels.new ≡ levels.old)) }
+    ensures err { IfErr result (λ r. (r ≡ ClaimOutcome.Found found.entry) × (levels.new ≡ levels.old)) }
 {
     if !is_inside(levels, level, &found) {
         return Ok(Change::Behind(Lag::State(found.into_values())));
     }
     match note(alloc, levels, j, found, parent) {
         Ok(change) => Ok(change),
-        Err(found) => Err(Outcome::Found(found)),
+        Err(found) => Err(ClaimOutcome::Found(found)),
     }
 }
 
@@ -253,14 +253,14 @@ pub(crate) fn bad<'a>(
     levels: &mut Levels<'a>,
     made: &Made,
     j: usize,
-    found: Found<'a>,
-) -> Result<Change, Outcome<'a>>
+    found: StateWitness<'a>,
+) -> Result<Change, ClaimOutcome<'a>>
     requires subject { made.now.subject ≡ asked.Bad j }
     requires in_range { j < length levels.old.systems }
     requires kind { found.is_step ≡ false }
     requires same { IsSameSystem true (system_at levels.old.systems j) found.system }
-    ensures done { IfOk result (λ d. Comes levels.old made.now (Outcome.Found found.entry) d levels.new) }
-    ensures err { IfErr result (λ r. (r ≡ Outcome.Found found.entry) × (levels.new ≡ levels.old)) }
+    ensures done { IfOk result (λ d. Comes levels.old made.now (ClaimOutcome.Found found.entry) d levels.new) }
+    ensures err { IfErr result (λ r. (r ≡ ClaimOutcome.Found found.entry) × (levels.new ≡ levels.old)) }
 {
     let _system = found.system();
     if levels.frames().top(j) != made.level {
@@ -276,16 +276,16 @@ pub(crate) fn precede<'a>(
     levels: &mut Levels<'a>,
     made: &Made,
     o: usize,
-    found: Found<'a>,
-) -> Result<Change, Outcome<'a>>
+    found: StateWitness<'a>,
+) -> Result<Change, ClaimOutcome<'a>>
     requires subject { made.now.subject ≡ asked.Block o }
     requires in_range { o < length levels.old.obligations }
     requires above { 0 < made.now.level }
     requires kind { found.is_step ≡ true }
     requires ends { EndsIn found (obligation_at levels.old.obligations o).values }
     requires same { IsSameSystem false (system_at levels.old.systems 0) found.system }
-    ensures done { IfOk result (λ d. Comes levels.old made.now (Outcome.Found found.entry) d levels.new) }
-    ensures err { IfErr result (λ r. (r ≡ Outcome.Found found.entry) × (levels.new ≡ levels.old)) }
+    ensures done { IfOk result (λ d. Comes levels.old made.now (ClaimOutcome.Found found.entry) d levels.new) }
+    ensures err { IfErr result (λ r. (r ≡ ClaimOutcome.Found found.entry) × (levels.new ≡ levels.old)) }
 {
     let _system = found.system();
     let _systems = levels.frames().systems();
@@ -383,19 +383,19 @@ pub(crate) fn block_and_retire<'a>(
     proved: Proved<'a>,
     changes: &mut Vec<Change>,
     more: usize,
-) -> Result<(), Outcome<'a>>
+) -> Result<(), ClaimOutcome<'a>>
     requires empty { changes.old.items ≡ [] }
     requires subject { made.now.subject ≡ asked.Block o }
     requires level { proved.level ≡ made.now.level }
     requires unmet { ClauseTrue (assignment_of (obligation_at levels.old.obligations o).values) proved.clause → ⊥ }
     requires same { IsSameSystem false (system_at levels.old.systems 0) proved.system }
-    ensures done { OnOk result (HasSettled levels.old made.now (Outcome.Proved proved.entry) changes.new.items levels.new) }
+    ensures done { OnOk result (HasSettled levels.old made.now (ClaimOutcome.Proved proved.entry) changes.new.items levels.new) }
     ensures room { OnOk result (vec_len changes.new + more ≤ vec_capacity changes.new) }
-    ensures err { IfErr result (λ r. (r ≡ Outcome.Proved proved.entry) × (levels.new ≡ levels.old) × (changes.new.items ≡ [])) }
+    ensures err { IfErr result (λ r. (r ≡ ClaimOutcome.Proved proved.entry) × (levels.new ≡ levels.old) × (changes.new.items ≡ [])) }
     ensures capacity { vec_capacity changes.old ≤ vec_capacity changes.new }
 {
     let Ok(covered) = make_room(levels, &proved, changes, more) else {
-        return Err(Outcome::Proved(proved));
+        return Err(ClaimOutcome::Proved(proved));
     };
     let m = levels.frames().lemmas();
     let change = block(alloc, levels, made, o, proved)?;
@@ -410,10 +410,10 @@ pub(crate) fn come<'a>(
     levels: &mut Levels<'a>,
     made: &Made,
     claim: &Claim,
-    outcome: Outcome<'a>,
+    outcome: ClaimOutcome<'a>,
     changes: &mut Vec<Change>,
     more: usize,
-) -> Result<(), Outcome<'a>>
+) -> Result<(), ClaimOutcome<'a>>
     requires empty { changes.old.items ≡ [] }
     requires room { vec_len changes.old + (more + 1) ≤ vec_capacity changes.old }
     requires fits { FitsIn levels.old made.now.subject made.now.level }
@@ -428,15 +428,15 @@ pub(crate) fn come<'a>(
     ensures push { IsPush claim.now.subject → IsOk result }
 {
     let change = match (claim.subject, outcome) {
-        (_, Outcome::Spent { .. }) => Change::Spent,
-        (Subject::Bad(j), Outcome::Found(found)) => bad(alloc, levels, made, j, found)?,
-        (Subject::Bad(j), Outcome::Clear(proof)) => clear(levels, made, j, proof)?,
-        (Subject::Block(o), Outcome::Proved(proved)) => {
+        (_, ClaimOutcome::Spent { .. }) => Change::Spent,
+        (Subject::Bad(j), ClaimOutcome::Found(found)) => bad(alloc, levels, made, j, found)?,
+        (Subject::Bad(j), ClaimOutcome::Clear(proof)) => clear(levels, made, j, proof)?,
+        (Subject::Block(o), ClaimOutcome::Proved(proved)) => {
             return block_and_retire(alloc, levels, made, o, proved, changes, more);
         }
-        (Subject::Block(o), Outcome::Found(found)) => precede(alloc, levels, made, o, found)?,
-        (Subject::Push(n), Outcome::Proved(proved)) => push(levels, made, n, proved),
-        (Subject::Push(n), Outcome::Step(step)) => leave(levels, made, n, step),
+        (Subject::Block(o), ClaimOutcome::Found(found)) => precede(alloc, levels, made, o, found)?,
+        (Subject::Push(n), ClaimOutcome::Proved(proved)) => push(levels, made, n, proved),
+        (Subject::Push(n), ClaimOutcome::Step(step)) => leave(levels, made, n, step),
         _ => unreachable!(),
     };
     changes.push_reserved(change);

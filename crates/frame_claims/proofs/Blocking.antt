@@ -16,8 +16,8 @@ use Rattle.frame_solver.specs.Stepping.{IsStepOut}
 use Rattle.frame_solver.specs.Paying.{Question, Steps, Firsts, AskedQuery, PaysOne}
 use Rattle.frame_query.specs.Dropping.{PaysParts, IsProperPart, AsksOf, AsksOfSome}
 use Rattle.frame_solver.proofs.Negated.{negation_has, negation_false}
-use Rattle.frame_book.specs.declared.claim.Outcome.{Outcome}
-use Rattle.frame_book.specs.declared.claim.Outcome.TheVariants.{Proved, Step, Found, Clear, Spent}
+use Rattle.frame_book.specs.declared.claim.ClaimOutcome.{ClaimOutcome}
+use Rattle.frame_book.specs.declared.claim.ClaimOutcome.TheVariants.{Proved, Step, Found, Clear, Spent}
 use Rattle.frame_claims.specs.Asking.{AnswersBlock, IsSmaller, IsBefore, PaysFor}
 use Rattle.frame_claims.specs.Paying.{MayAskBlock}
 use Rattle.frame_claims.proofs.Joining.{alone, pays_more}
@@ -64,7 +64,7 @@ pub part_false : (values : List Bool) (bits : ℕ) (clause : List Lit) → IsPar
 part_false values bits clause part h = negation_false values bits (ClauseTrue-part (assignment_of values) clause (negation_of values bits) part h)
 
 -- what is proved of the excluding clause, or of a part of it, blocks the state
-pub smaller_answers : (v w : SolverView) (values : List Bool) (bits level : ℕ) (over : Bool) (p : ProvedClause) (o : Outcome) → w.lemmas ≡ v.lemmas →
+pub smaller_answers : (v w : SolverView) (values : List Bool) (bits level : ℕ) (over : Bool) (p : ProvedClause) (o : ClaimOutcome) → w.lemmas ≡ v.lemmas →
     p.system ≡ system_at v.systems 0 → p.level ≡ level → p.clause ≡ negation_of values bits → IsSmaller w p o → AnswersBlock v values level over o
 smaller_answers v w values bits level over p (Proved r) lemmas system at clause h =
     let part : IsPart r.clause (negation_of values bits) = subst (IsPart r.clause) clause h.2 in
@@ -84,7 +84,7 @@ ends_in sys values found out b lt =
     let has : Contains (negation_of values sys.state_bits) l = negation_has values sys.state_bits b lt in
     All-contains (λ (m : Lit). assignment_of found (sys.state_bits + m.var) ≡ not m.positive) (negation_of values sys.state_bits) l out has ∙ not_not (assignment_of values b)
 
-pub before_answers : (v : SolverView) (values : List Bool) (level : ℕ) (over : Bool) (s : FoundStep) (o : Outcome) →
+pub before_answers : (v : SolverView) (values : List Bool) (level : ℕ) (over : Bool) (s : FoundStep) (o : ClaimOutcome) →
     s.system ≡ system_at v.systems 0 →
     IsStepOut (system_at v.systems 0) v.lemmas level (negation_of values (system_at v.systems 0).state_bits) s.values → IsBefore s over o →
     AnswersBlock v values level over o

@@ -16,8 +16,8 @@ use Rattle.frame_history.specs.History.{asked_level, asked_system}
 use Rattle.frame_solver.specs.Firsts.{AllFirstsMeet}
 use Rattle.frame_solver.specs.Stepping.{IsStepOut}
 use Rattle.frame_query.specs.Findings.{SolverView}
-use Rattle.frame_book.specs.declared.claim.Outcome.{Outcome}
-use Rattle.frame_book.specs.declared.claim.Outcome.TheVariants.{Proved, Step, Found, Clear, Spent}
+use Rattle.frame_book.specs.declared.claim.ClaimOutcome.{ClaimOutcome}
+use Rattle.frame_book.specs.declared.claim.ClaimOutcome.TheVariants.{Proved, Step, Found, Clear, Spent}
 use Rattle.frame_book.specs.Claims.{ClaimView, IsOfSubject}
 use Rattle.frame_book.specs.Outcomes.{IsOutcomeOf, Leaves}
 use Rattle.frame_claims.specs.Asking.{AnswersBad, AnswersBlock, AnswersPush, AnswersClaim}
@@ -37,7 +37,7 @@ in_frames f w j i x u h =
     subst (λ (z : List TransitionSystem). InFrame (system_at z j) f.lemmas i x) u.systems
     (subst (λ (z : List Lemma). InFrame (system_at w.systems j) z i x) u.lemmas h)
 
-pub bad_asked : (f : FrameState) (v : ClaimView) (w : SolverView) (j level : ℕ) (over : Bool) (o : Outcome) → IsUpToDate f w → v.subject ≡ Bad j → level ≡ v.level →
+pub bad_asked : (f : FrameState) (v : ClaimView) (w : SolverView) (j level : ℕ) (over : Bool) (o : ClaimOutcome) → IsUpToDate f w → v.subject ≡ Bad j → level ≡ v.level →
     AnswersBad w j level over o → IsAsked f v over o
 bad_asked f v w j level over (Found g) u of at h =
     let P : Subject → Type 0 = λ s. IsOutcomeOf f.systems v s (Found g) in
@@ -67,7 +67,7 @@ in_each : (f : FrameState) (j i : ℕ) (x : ℕ → Bool) → FramesHold f → j
     InFrame (system_at f.systems j) f.lemmas i x
 in_each f j i x holds lt h = ((λ e. first_same false (system_at f.systems 0) (system_at f.systems j) (holds.alike j lt) x (h.0 e)), h.1)
 
-pub block_asked : (f : FrameState) (v : ClaimView) (w : SolverView) (o level : ℕ) (over : Bool) (out : Outcome) → FramesHold f → IsUpToDate f w →
+pub block_asked : (f : FrameState) (v : ClaimView) (w : SolverView) (o level : ℕ) (over : Bool) (out : ClaimOutcome) → FramesHold f → IsUpToDate f w →
     v.subject ≡ Block o → o < length f.obligations → level ≡ v.level → AnswersBlock w v.values level over out → IsAsked f v over out
 block_asked f v w o level over (Proved p) holds u of lt at h =
     let P : Subject → Type 0 = λ s. IsOutcomeOf f.systems v s (Proved p) in
@@ -112,7 +112,7 @@ out_of_clause bits values clause y within out next met =
 pub lemma_first : (f : FrameState) (n : ℕ) → FramesHold f → n < length f.lemmas → AllFirstsMeet (system_at f.systems 0) (lemma_at f.lemmas n).clause
 lemma_first f n holds lt x first = (holds.lemmas 0 holds.some).first n lt x first
 
-push_asked : (f : FrameState) (v : ClaimView) (w : SolverView) (n : ℕ) (over : Bool) (out : Outcome) → FramesHold f → n < length f.lemmas → IsUpToDate f w → v.subject ≡ Push n →
+push_asked : (f : FrameState) (v : ClaimView) (w : SolverView) (n : ℕ) (over : Bool) (out : ClaimOutcome) → FramesHold f → n < length f.lemmas → IsUpToDate f w → v.subject ≡ Push n →
     v.clause ≡ (lemma_at f.lemmas n).clause → AnswersPush w n v.level over out → IsAsked f v over out
 push_asked f v w n over (Proved p) holds there u of clause h =
     let P : Subject → Type 0 = λ s. IsOutcomeOf f.systems v s (Proved p) in
@@ -147,13 +147,13 @@ push_asked f v w n over (Spent d b) holds there u of clause h =
 push_asked f v w n over (Found g) holds there u of clause h = absurd h
 push_asked f v w n over (Clear c) holds there u of clause h = absurd h
 
-asked_case : (f : FrameState) (v : ClaimView) (w : SolverView) (u : Subject) (over : Bool) (out : Outcome) → FramesHold f → IsUpToDate f w → v.subject ≡ u →
+asked_case : (f : FrameState) (v : ClaimView) (w : SolverView) (u : Subject) (over : Bool) (out : ClaimOutcome) → FramesHold f → IsUpToDate f w → v.subject ≡ u →
     IsThere f u → IsOfSubject f u v.values v.clause → AnswersClaim w v u over out → IsAsked f v over out
 asked_case f v w (Bad j) over out holds up of there target h = bad_asked f v w j v.level over out up of refl h
 asked_case f v w (Block o) over out holds up of there target h = block_asked f v w o v.level over out holds up of there refl h
 asked_case f v w (Push n) over out holds up of there target h = push_asked f v w n over out holds there up of target h
 
 -- what is answered to a claim of these frames is an outcome of it, of the frames as they are
-pub asked_so : (f : FrameState) (v : ClaimView) (w : SolverView) (over : Bool) (out : Outcome) → FramesHold f → IsUpToDate f w → IsThere f v.subject →
+pub asked_so : (f : FrameState) (v : ClaimView) (w : SolverView) (over : Bool) (out : ClaimOutcome) → FramesHold f → IsUpToDate f w → IsThere f v.subject →
     IsOfSubject f v.subject v.values v.clause → AnswersClaim w v v.subject over out → IsAsked f v over out
 asked_so f v w over out holds up there target h = asked_case f v w v.subject over out holds up refl there target h

@@ -5,7 +5,7 @@ use Rattle.clause_core.specs.declared.literal.Lit.{Lit}
 use Rattle.clause_core.specs.Assignments.{assignment_of}
 use Rattle.clause_core.specs.Systems.{TransitionSystem, FirstBits}
 use Rattle.frame_core.specs.declared.parts.Lemma.{Lemma}
-use Rattle.frame_core.specs.declared.outcomes.Verdict.TheVariants.{Reached}
+use Rattle.frame_core.specs.declared.outcomes.FramesVerdict.TheVariants.{Reached}
 use Rattle.frame_core.specs.FrameLaw.{FrameState, FramesHold, system_at, lemma_at, obligation_at}
 use Rattle.frame_core.proofs.States.{first_same}
 use Rattle.frame_history.specs.declared.entries.Limits.{Limits}

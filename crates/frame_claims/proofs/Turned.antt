@@ -25,8 +25,8 @@ use Rattle.frame_history.specs.declared.entries.Change.TheVariants as change
 use Rattle.frame_history.specs.History.{BookState, changed, all_changed, claim_at, ended, is_behind, asked_level, asked_system, LagsBy, Accepts, AcceptsEach, AcceptsAll}
 use Rattle.frame_history.proofs.Tracking.{same_but_live, as_long, none_is_some, some_same}
 use Rattle.frame_query.specs.Findings.{IsOlder}
-use Rattle.frame_book.specs.declared.claim.Outcome.{Outcome}
-use Rattle.frame_book.specs.declared.claim.Outcome.TheVariants.{Proved, Step, Found, Clear, Spent}
+use Rattle.frame_book.specs.declared.claim.ClaimOutcome.{ClaimOutcome}
+use Rattle.frame_book.specs.declared.claim.ClaimOutcome.TheVariants.{Proved, Step, Found, Clear, Spent}
 use Rattle.frame_book.specs.Claims.{ClaimView}
 use Rattle.frame_book.specs.Outcomes.{IsOutcomeOf, ComesOf}
 use Rattle.frame_claims.specs.Outcomes.{IsTimely, IsSpentBy}
@@ -160,7 +160,7 @@ found_no_lag f v c g values of at inside same lags =
     let one : F v.subject v.level g = inside in
     lags (subst (λ (z : Subject). F z c.level values) (sym of) (subst (λ (i : ℕ). F v.subject i values) (sym at) (subst (F v.subject v.level) (sym same) one)))
 
-no_lag : (f : FrameState) (v : ClaimView) (c : Made) (o : Outcome) (l : Lag) → IsOutcomeOf f.systems v v.subject o → IsTimely f v o →
+no_lag : (f : FrameState) (v : ClaimView) (c : Made) (o : ClaimOutcome) (l : Lag) → IsOutcomeOf f.systems v v.subject o → IsTimely f v o →
     c.subject ≡ v.subject → c.level ≡ v.level → ComesOf o (Behind l) → LagsBy f c l → ⊥
 no_lag f v c (Proved p) (lag.Parent parent level) is timely of at comes lags =
     proved_no_lag f v c v.subject p parent level is of at timely comes lags.0 lags.1
@@ -175,7 +175,7 @@ no_lag f v c (Clear e) (lag.State values) is timely of at comes lags = absurd co
 no_lag f v c (Spent d b) (lag.Parent parent level) is timely of at comes lags = absurd comes
 no_lag f v c (Spent d b) (lag.State values) is timely of at comes lags = absurd comes
 
-pub not_behind : (f : FrameState) (v : ClaimView) (c : Made) (o : Outcome) (d : Change) (ds : List Change) → IsOutcomeOf f.systems v v.subject o →
+pub not_behind : (f : FrameState) (v : ClaimView) (c : Made) (o : ClaimOutcome) (d : Change) (ds : List Change) → IsOutcomeOf f.systems v v.subject o →
     IsTimely f v o → c.subject ≡ v.subject → c.level ≡ v.level → ComesOf o d → Accepts f c d → is_behind (d ∷ ds) ≡ false
 not_behind f v c o (Behind l) ds is timely of at comes a = absurd (no_lag f v c o l is timely of at comes a)
 not_behind f v c o (Add clause level parents) ds is timely of at comes a = refl
@@ -191,7 +191,7 @@ not_behind f v c o change.Spent ds is timely of at comes a = refl
 
 -- ---- That the purse was spent is noted only where it was
 
-spent_by : (s : BookState) (o : Outcome) (d : Change) (over : Bool) → ComesOf o d → IsSpentBy over o → (changed s d).spent ≡ true →
+spent_by : (s : BookState) (o : ClaimOutcome) (d : Change) (over : Bool) → ComesOf o d → IsSpentBy over o → (changed s d).spent ≡ true →
     (s.spent ≡ true) ⊎ (over ≡ true)
 spent_by s o (Behind l) over comes by on = inl on
 spent_by s o (Add clause level parents) over comes by on = inl on
@@ -223,7 +223,7 @@ spent_each limits s (Open j ∷ ds) a = absurd a.0
 spent_each limits s (PushFailed n level ∷ ds) a = absurd a.0
 spent_each limits s (change.Spent ∷ ds) a = absurd a.0
 
-pub spent_all : (limits : Limits) (s : BookState) (o : Outcome) (d : Change) (ds : List Change) (over : Bool) → ComesOf o d → IsSpentBy over o →
+pub spent_all : (limits : Limits) (s : BookState) (o : ClaimOutcome) (d : Change) (ds : List Change) (over : Bool) → ComesOf o d → IsSpentBy over o →
     AcceptsEach limits (changed s d) ds → (all_changed s (d ∷ ds)).spent ≡ true → (s.spent ≡ true) ⊎ (over ≡ true)
 spent_all limits s o d ds over comes by a on = spent_by s o d over comes by (sym (spent_each limits (changed s d) ds a) ∙ on)
 

@@ -8,8 +8,8 @@ use Rattle.frame_history.specs.declared.entries.Subject.TheVariants.{Bad, Block,
 use Rattle.frame_history.specs.History.{asked_level, asked_system}
 use Rattle.frame_solver.specs.Paying.{AskedQuery, Pays, AllDiffer}
 use Rattle.frame_query.specs.Findings.{SolverView}
-use Rattle.frame_book.specs.declared.claim.Outcome.{Outcome}
-use Rattle.frame_book.specs.declared.claim.Outcome.TheVariants.{Proved, Step, Found, Clear, Spent}
+use Rattle.frame_book.specs.declared.claim.ClaimOutcome.{ClaimOutcome}
+use Rattle.frame_book.specs.declared.claim.ClaimOutcome.TheVariants.{Proved, Step, Found, Clear, Spent}
 use Rattle.frame_book.specs.Claims.{ClaimView}
 use Rattle.frame_book.specs.Outcomes.{IsOutcomeOf}
 use Rattle.frame_claims.specs.Paying.{MayAsk}
@@ -26,7 +26,7 @@ IsThere f (Block o) = o < length f.obligations
 IsThere f (Push n) = n < length f.lemmas
 
 -- the outcome is of the frames as they are
-abbrev pub IsTimely : FrameState → ClaimView → Outcome → Type 0
+abbrev pub IsTimely : FrameState → ClaimView → ClaimOutcome → Type 0
 IsTimely f v (Proved p) = AllStand f.lemmas (v.level - 1) p.parents
 IsTimely f v (Step s) = InFrame (system_at f.systems 0) f.lemmas (v.level - 1) (assignment_of s.values)
 IsTimely f v (Found g) =
@@ -35,7 +35,7 @@ IsTimely f v (Clear c) = AllStand f.lemmas v.level c.parents
 IsTimely f v (Spent d b) = Unit {0}
 
 -- that the purse was spent is said only where it was
-abbrev pub IsSpentBy : Bool → Outcome → Type 0
+abbrev pub IsSpentBy : Bool → ClaimOutcome → Type 0
 IsSpentBy over (Spent d b) = over ≡ true
 IsSpentBy over (Proved p) = Unit {0}
 IsSpentBy over (Step s) = Unit {0}
@@ -43,7 +43,7 @@ IsSpentBy over (Found f) = Unit {0}
 IsSpentBy over (Clear c) = Unit {0}
 
 -- the outcome is of this claim, of the frames as they are, and says that the purse was spent only where it was
-pub record IsAsked (f : FrameState) (v : ClaimView) (over : Bool) (o : Outcome) : Type 0 where
+pub record IsAsked (f : FrameState) (v : ClaimView) (over : Bool) (o : ClaimOutcome) : Type 0 where
   pub of : IsOutcomeOf f.systems v v.subject o
   pub timely : IsTimely f v o
   pub spent : IsSpentBy over o

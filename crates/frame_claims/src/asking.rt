@@ -13,7 +13,7 @@ ghost use Rattle.frame_claims.specs.Paying.{MayAskBad, MayAskBlock, MayAskPush};
 
 use clause_core::Bits;
 use effort_purse::Purse;
-use frame_book::Outcome;
+use frame_book::ClaimOutcome;
 use frame_core::{Proved, Step};
 use frame_query::{Bads, FrameSolver, Generalised, Noted, Relative, negation};
 use std::alloc::{AllocError, Global};
@@ -26,7 +26,7 @@ pub(crate) fn ask_bad<'a, Q: Purse>(
     j: usize,
     level: u32,
     purse: &mut Q,
-) -> Result<Outcome<'a>, AllocError>
+) -> Result<ClaimOutcome<'a>, AllocError>
     requires number { j < length solver.old.systems }
     requires ready { Q.ready purse.old }
     ensures answer { IfOk result (AnswersBad solver.old j level (Q.spent purse.new)) }
@@ -38,9 +38,9 @@ pub(crate) fn ask_bad<'a, Q: Purse>(
     ensures budget { Q.budget purse.new ≡ Q.budget purse.old }
 {
     match solver.bad(alloc, j, level, purse)? {
-        Bads::Clear(clear) => Ok(Outcome::Clear(clear)),
-        Bads::Found(found) => Ok(Outcome::Found(found)),
-        Bads::Spent { drawn, budget } => Ok(Outcome::Spent { drawn, budget }),
+        Bads::Clear(clear) => Ok(ClaimOutcome::Clear(clear)),
+        Bads::Found(found) => Ok(ClaimOutcome::Found(found)),
+        Bads::Spent { drawn, budget } => Ok(ClaimOutcome::Spent { drawn, budget }),
     }
 }
 
@@ -51,7 +51,7 @@ pub(crate) fn ask_push<'a, Q: Purse>(
     solver: &mut FrameSolver<'a>,
     lemma: usize,
     purse: &mut Q,
-) -> Result<Outcome<'a>, AllocError>
+) -> Result<ClaimOutcome<'a>, AllocError>
     requires number { lemma < length solver.old.lemmas }
     requires level { (lemma_at solver.old.lemmas lemma).level + 1 < 2 ^ 32 }
     requires first { AllFirstsMeet (system_at solver.old.systems 0) (lemma_at solver.old.lemmas lemma).clause }
@@ -65,9 +65,9 @@ pub(crate) fn ask_push<'a, Q: Purse>(
     ensures budget { Q.budget purse.new ≡ Q.budget purse.old }
 {
     match solver.push(alloc, lemma, purse)? {
-        Relative::Proved(proved) => Ok(Outcome::Proved(proved)),
-        Relative::Step(step) => Ok(Outcome::Step(step)),
-        Relative::Spent { drawn, budget } => Ok(Outcome::Spent { drawn, budget }),
+        Relative::Proved(proved) => Ok(ClaimOutcome::Proved(proved)),
+        Relative::Step(step) => Ok(ClaimOutcome::Step(step)),
+        Relative::Spent { drawn, budget } => Ok(ClaimOutcome::Spent { drawn, budget }),
     }
 }
 
@@ -81,7 +81,7 @@ pub(crate) fn ask_block<'a, Q: Purse>(
     level: u32,
     state_bits: usize,
     purse: &mut Q,
-) -> Result<Outcome<'a>, AllocError>
+) -> Result<ClaimOutcome<'a>, AllocError>
     requires some { 0 < length solver.old.systems }
     requires bits { state_bits ≡ (system_at solver.old.systems 0).state_bits }
     requires whole { state_bits ≤ length values.now }
@@ -100,7 +100,7 @@ pub(crate) fn ask_block<'a, Q: Purse>(
     match solver.relative(alloc, &clause, level, purse)? {
         Relative::Proved(proved) => smaller(alloc, solver, proved, purse),
         Relative::Step(step) => before(alloc, solver, step, purse),
-        Relative::Spent { drawn, budget } => Ok(Outcome::Spent { drawn, budget }),
+        Relative::Spent { drawn, budget } => Ok(ClaimOutcome::Spent { drawn, budget }),
     }
 }
 
@@ -110,7 +110,7 @@ fn smaller<'a, Q: Purse>(
     solver: &mut FrameSolver<'a>,
     proved: Proved<'a>,
     purse: &mut Q,
-) -> Result<Outcome<'a>, AllocError>
+) -> Result<ClaimOutcome<'a>, AllocError>
     requires system { proved.system ≡ system_at solver.old.systems 0 }
     requires stand { AllStand solver.old.lemmas (proved.level - 1) proved.parents }
     requires ready { Q.ready purse.old }
@@ -123,12 +123,12 @@ fn smaller<'a, Q: Purse>(
     ensures budget { Q.budget purse.new ≡ Q.budget purse.old }
 {
     match solver.generalise(alloc, proved, purse) {
-        Generalised::Smaller(proved) => Ok(Outcome::Proved(proved)),
+        Generalised::Smaller(proved) => Ok(ClaimOutcome::Proved(proved)),
         Generalised::Spent {
             given,
             drawn: _,
             budget: _,
-        } => Ok(Outcome::Proved(given)),
+        } => Ok(ClaimOutcome::Proved(given)),
         Generalised::NoMemory { given: _ } => Err(AllocError),
     }
 }
@@ -139,7 +139,7 @@ fn before<'a, Q: Purse>(
     solver: &mut FrameSolver<'a>,
     step: Step<'a>,
     purse: &mut Q,
-) -> Result<Outcome<'a>, AllocError>
+) -> Result<ClaimOutcome<'a>, AllocError>
     requires system { step.system ≡ system_at solver.old.systems 0 }
     requires ready { Q.ready purse.old }
     ensures answer { IfOk result (IsBefore step.entry (Q.spent purse.new)) }
@@ -151,7 +151,7 @@ fn before<'a, Q: Purse>(
     ensures budget { Q.budget purse.new ≡ Q.budget purse.old }
 {
     match solver.note(alloc, step, purse)? {
-        Noted::Found(found) => Ok(Outcome::Found(found)),
-        Noted::Spent { drawn, budget } => Ok(Outcome::Spent { drawn, budget }),
+        Noted::Found(found) => Ok(ClaimOutcome::Found(found)),
+        Noted::Spent { drawn, budget } => Ok(ClaimOutcome::Spent { drawn, budget }),
     }
 }

@@ -7,7 +7,7 @@ ghost use Rattle.frame_claims.specs.Paying.{MayAskFor};
 use crate::asking::{ask_bad, ask_block, ask_push};
 use clause_core::System;
 use effort_purse::Purse;
-use frame_book::{Claim, Outcome};
+use frame_book::{Claim, ClaimOutcome};
 use frame_history::Subject;
 use frame_query::FrameSolver;
 use std::alloc::{AllocError, Global};
@@ -22,7 +22,7 @@ pub fn ask<'a, Q: Purse>(
     solver: &mut FrameSolver<'a>,
     claim: &Claim,
     purse: &mut Q,
-) -> Result<Outcome<'a>, AllocError>
+) -> Result<ClaimOutcome<'a>, AllocError>
     requires systems { solver.old.systems ≡ systems.now }
     requires asked { MayBeAsked solver.old claim.now claim.now.subject }
     requires ready { Q.ready purse.old }

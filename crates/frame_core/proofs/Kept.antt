@@ -5,7 +5,7 @@ use Rattle.std.proofs.Math.ListN.{replicate}
 use Rattle.std.proofs.lemmas.Bool.{cases_eq}
 use Rattle.std.proofs.lemmas.List.{length-replicate, get_or-replicate}
 use Rattle.clause_core.specs.Systems.{TransitionSystem}
-use Rattle.frame_core.specs.declared.outcomes.Verdict.TheVariants.{Invariant, Reached}
+use Rattle.frame_core.specs.declared.outcomes.FramesVerdict.TheVariants.{Invariant, Reached}
 use Rattle.frame_core.specs.Facts.{ProvedClause, IsProved, ClearLevel, IsClear, FoundState, IsFound}
 use Rattle.frame_core.specs.FrameLaw.{FrameState, AreAlike, system_at, top_at, lemma_at, AllStand}
 use Rattle.frame_core.specs.Changes.{with_lemma, with_level, with_retired, with_top, with_obligation, IsOfSystem, NeedsNoRaise, IsCovered, MayHaveParent, IsCut, fresh, VerdictSays}

@@ -12,8 +12,8 @@ use Rattle.frame_core.specs.declared.outcomes.Opening.{Opening}
 use Rattle.frame_core.specs.declared.outcomes.Opening.TheVariants as opening
 use Rattle.frame_core.specs.declared.outcomes.Noting.{Noting}
 use Rattle.frame_core.specs.declared.outcomes.Noting.TheVariants as noting
-use Rattle.frame_core.specs.declared.outcomes.Verdict.{Verdict}
-use Rattle.frame_core.specs.declared.outcomes.Verdict.TheVariants.{Invariant, Reached}
+use Rattle.frame_core.specs.declared.outcomes.FramesVerdict.{FramesVerdict}
+use Rattle.frame_core.specs.declared.outcomes.FramesVerdict.TheVariants.{Invariant, Reached}
 use Rattle.frame_core.specs.Facts.{ProvedClause, ClearLevel, FoundState}
 use Rattle.frame_core.specs.FrameLaw.{FrameState, system_at, top_at, lemma_at, obligation_at, Covers, AllStand, IsInvariant, IsAsHigh, raised_at, retired_at}
 use Rattle.frame_core.specs.Looking.{IsBehind, IsHeldBy, IsHeldByNone}
@@ -146,7 +146,7 @@ IsFirstObligation f n =
 
 -- of system j: none, each level from 1 below the top has a live lemma, and no obligation of j is an initial state; an
 -- invariant, or an initial state, as said
-abbrev pub VerdictSays : FrameState → ℕ → Option Verdict → Type 0
+abbrev pub VerdictSays : FrameState → ℕ → Option FramesVerdict → Type 0
 VerdictSays f j None =
     ((i : ℕ) → 0 < i → i < top_at f.tops j → HasLiveAt f.lemmas i)
     × ((n : ℕ) → n < length f.obligations → (obligation_at f.obligations n).system ≡ j → IsFirstObligation f n → ⊥)

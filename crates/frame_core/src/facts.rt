@@ -244,14 +244,14 @@ impl<'a> Step<'a> {
 /// A state that a query found: a bad one, or one with a step to another, with values of all bits that
 /// show it; and whether the state is an initial one.
 #[derive(Drop)]
-pub struct Found<'a> {
+pub struct StateWitness<'a> {
     system: &'a System,
     values: Bits,
     is_step: bool,
     first: bool,
 }
 
-impl<'a> Model for Found<'a> {
+impl<'a> Model for StateWitness<'a> {
     ghost use Rattle.frame_core.specs.Facts.{FoundState, IsFound};
 
     ghost Value = { FoundState };
@@ -261,16 +261,16 @@ impl<'a> Model for Found<'a> {
     ghost invariant = { λ f. IsFound record { system = f.system.now; values = f.values; is_step = f.is_step; first = f.first } };
 }
 
-impl<'a> Found<'a> {
+impl<'a> StateWitness<'a> {
     ghost use Rattle.std.specs.Prelude.{◌≡◌, true};
     ghost use Rattle.frame_core.specs.Facts.{FoundState, IsFound, IsFirstFlag};
 
     /// The fact, of which the caller has a proof.
-    pub fn new(system: &'a System, values: Bits, is_step: bool, first: bool) -> Found<'a>
+    pub fn new(system: &'a System, values: Bits, is_step: bool, first: bool) -> StateWitness<'a>
         requires { IsFound record { system = system.now; values = values; is_step = is_step; first = first } }
         ensures { result ≡ record { system = system.now; values = values; is_step = is_step; first = first } }
     {
-        Found {
+        StateWitness {
             system,
             values,
             is_step,
@@ -279,13 +279,13 @@ impl<'a> Found<'a> {
     }
 
     /// The state that a step leads from, where it is known whether it is an initial one; takes no memory.
-    pub fn of_step(step: Step<'a>, first: bool) -> Found<'a>
+    pub fn of_step(step: Step<'a>, first: bool) -> StateWitness<'a>
         requires { IsFirstFlag step.system step.values first }
         ensures { result ≡ record { system = step.entry.system; values = step.entry.values; is_step = true; first = first } }
     {
         let system = step.system();
         let values = step.into_values();
-        Found::new(system, values, true, first)
+        StateWitness::new(system, values, true, first)
     }
 
     /// The system that it speaks of.
@@ -307,7 +307,7 @@ impl<'a> Found<'a> {
     pub fn into_values(self) -> Bits
         ensures { result ≡ self.entry.values }
     {
-        let Found {
+        let StateWitness {
             system: _,
             values,
             is_step: _,

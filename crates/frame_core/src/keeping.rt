@@ -9,10 +9,10 @@ use crate::comparing::difference;
 use crate::counting::{
     count_below, count_less, count_more, empty_level, lower, mark, set_top, unmark,
 };
-use crate::facts::{Clear, Found, Proved};
+use crate::facts::{Clear, Proved, StateWitness};
 use crate::lemma_list::Lemmas;
 use crate::looking::{holder, some_behind};
-use crate::outcomes::{Insertion, Noting, Opening, Raising, Verdict};
+use crate::outcomes::{FramesVerdict, Insertion, Noting, Opening, Raising};
 use crate::parts::{Lemma, Obligation};
 use crate::runs::BitRun;
 use clause_core::{Bits, Clause, System};
@@ -357,7 +357,7 @@ impl<'a> Frames<'a> {
     pub fn add_obligation(
         &mut self,
         j: usize,
-        found: Found,
+        found: StateWitness,
         parent: Option<usize>,
     ) -> Result<Noting, AllocError>
         requires in_range { j < length self.old.systems }
@@ -377,7 +377,7 @@ impl<'a> Frames<'a> {
     pub fn add_obligation_same(
         &mut self,
         j: usize,
-        found: Found,
+        found: StateWitness,
         parent: Option<usize>,
     ) -> Result<Noting, AllocError>
         requires in_range { j < length self.old.systems }
@@ -404,15 +404,15 @@ impl<'a> Frames<'a> {
     /// What the frames say of system `j`: an obligation of `j` that is an initial state, else a level from 1
     /// below the top of `j` that no live lemma has. Takes no memory, and looks at a count for each level
     /// below the top, at no lemma and at no obligation.
-    pub fn verdict(&self, j: usize) -> Option<Verdict>
+    pub fn verdict(&self, j: usize) -> Option<FramesVerdict>
         requires { j < length self.now.systems }
         ensures { VerdictSays self.now j result }
     {
         if let Some(n) = self.marks[j] {
-            return Some(Verdict::Reached(n));
+            return Some(FramesVerdict::Reached(n));
         }
         match empty_level(&self.counts, self.tops[j]) {
-            Some(level) => Some(Verdict::Invariant(level)),
+            Some(level) => Some(FramesVerdict::Invariant(level)),
             None => None,
         }
     }

@@ -21,9 +21,9 @@ mod subset;
 
 pub use comparing::{Place, first_unlike};
 pub use covering::is_part_of;
-pub use facts::{Clear, Found, Proved, ProvedParts, Step};
+pub use facts::{Clear, Proved, ProvedParts, StateWitness, Step};
 pub use keeping::Frames;
 pub use lemma_list::Lemmas;
-pub use outcomes::{Insertion, Noting, Opening, Raising, Verdict};
+pub use outcomes::{FramesVerdict, Insertion, Noting, Opening, Raising};
 pub use parts::{Lemma, Obligation, Parent};
 pub use runs::BitRun;

@@ -53,7 +53,7 @@ pub enum Noting {
 
 /// What the frames say of the system.
 #[derive(Clone, Copy, PartialEq, Eq, Debug)]
-pub enum Verdict {
+pub enum FramesVerdict {
     /// No live lemma has this level: the lemmas above are an inductive invariant that excludes bad states.
     Invariant(u32),
     /// This obligation is an initial state: a run leads from it to a bad one.

@@ -6,7 +6,7 @@ use Rattle.std.proofs.lemmas.List.{get_or-replicate, get_or_past, length-replica
 use Rattle.clause_core.specs.Assignments.{assignment_of}
 use Rattle.clause_core.specs.Systems.{TransitionSystem, FirstBits}
 use Rattle.frame_core.specs.declared.parts.Lemma.{Lemma}
-use Rattle.frame_core.specs.declared.outcomes.Verdict.TheVariants.{Invariant, Reached}
+use Rattle.frame_core.specs.declared.outcomes.FramesVerdict.TheVariants.{Invariant, Reached}
 use Rattle.frame_core.specs.FrameLaw.{FramesHold, InFrame, system_at, top_at, lemma_at, obligation_at}
 use Rattle.frame_core.specs.Changes.{HasNoneAt}
 use Rattle.frame_core.proofs.Reaching.{inductive_live}

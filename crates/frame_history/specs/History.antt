@@ -7,7 +7,7 @@ use Rattle.clause_core.specs.Assignments.{ClauseTrue, assignment_of}
 use Rattle.clause_core.specs.Systems.{TransitionSystem, FirstBits, StepBits, BadBits, NextIs}
 use Rattle.frame_core.specs.declared.parts.Lemma.{Lemma}
 use Rattle.frame_core.specs.declared.parts.Parent.{Parent}
-use Rattle.frame_core.specs.declared.outcomes.Verdict.{Verdict}
+use Rattle.frame_core.specs.declared.outcomes.FramesVerdict.{FramesVerdict}
 use Rattle.frame_core.specs.Facts.{MeetsParents, IsFirstFlag}
 use Rattle.frame_core.specs.FrameLaw.{FrameState, AreAlike, LemmasHold, system_at, top_at, lemma_at, obligation_at, InFrame, AllStand, IsAsHigh}
 use Rattle.frame_core.specs.Looking.{IsHeldBy, IsKeptLevel}
@@ -111,7 +111,7 @@ replay s (e ∷ es) = replay (after s e) es
 
 -- the frames tell a verdict of system j
 abbrev pub HasVerdict : FrameState → ℕ → Type 0
-HasVerdict f j = (v : Verdict) × VerdictSays f j (Some v)
+HasVerdict f j = (v : FramesVerdict) × VerdictSays f j (Some v)
 
 -- system j has its verdict or its limit
 abbrev pub IsDecided : BookState → ℕ → Type 0

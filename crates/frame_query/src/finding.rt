@@ -14,7 +14,7 @@ ghost use Rattle.frame_solver.specs.Paying.{Steps, Firsts as AskFirsts, PaysOne}
 use crate::outcomes::{Bads, Noted, Relative};
 use clause_core::{Bits, Clause, Lit, System};
 use effort_purse::Purse;
-use frame_core::{Clear, Found, Lemma, Proved, Step};
+use frame_core::{Clear, Lemma, Proved, StateWitness, Step};
 use frame_solver::{
     BadStates, Engine, Flag, Known, Stepping, bads_of, flag_of, steps_of, system_of,
 };
@@ -106,10 +106,10 @@ fn found_bad<'a, Q: Purse>(
 {
     let system = system_of(systems, j);
     if top == 0 {
-        return Ok(Bads::Found(Found::new(system, values, false, true)));
+        return Ok(Bads::Found(StateWitness::new(system, values, false, true)));
     }
     match flag_of(alloc, systems, lemmas, engine, known, &values, purse)? {
-        Flag::Known(first) => Ok(Bads::Found(Found::new(system, values, false, first))),
+        Flag::Known(first) => Ok(Bads::Found(StateWitness::new(system, values, false, first))),
         Flag::Spent { drawn, budget } => Ok(Bads::Spent { drawn, budget }),
     }
 }
@@ -178,7 +178,7 @@ pub(crate) fn noted_of<'a, Q: Purse>(
 {
     let _system = step.system();
     match flag_of(alloc, systems, lemmas, engine, known, step.values(), purse)? {
-        Flag::Known(first) => Ok(Noted::Found(Found::of_step(step, first))),
+        Flag::Known(first) => Ok(Noted::Found(StateWitness::of_step(step, first))),
         Flag::Spent { drawn, budget } => Ok(Noted::Spent { drawn, budget }),
     }
 }

@@ -1,7 +1,7 @@
 //! The answers of the queries of IC3: a proof or a counterexample to induction; a bad state or
 //! none.
 
-use frame_core::{Clear, Found, Proved, Step};
+use frame_core::{Clear, Proved, StateWitness, Step};
 
 /// What a query about steps finds.
 #[derive(Drop)]
@@ -20,7 +20,7 @@ pub enum Bads<'a> {
     /// The frame has no bad state.
     Clear(Clear<'a>),
     /// A bad state of the frame.
-    Found(Found<'a>),
+    Found(StateWitness<'a>),
     /// The purse was spent before it was known.
     Spent { drawn: u64, budget: u64 },
 }
@@ -29,7 +29,7 @@ pub enum Bads<'a> {
 #[derive(Drop)]
 pub enum Noted<'a> {
     /// The state that the step leads from.
-    Found(Found<'a>),
+    Found(StateWitness<'a>),
     /// The purse was spent before it was known.
     Spent { drawn: u64, budget: u64 },
 }

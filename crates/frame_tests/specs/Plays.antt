@@ -1,8 +1,8 @@
 -- What the plays of books say of their outcomes and systems.
 use Rattle.std.specs.Prelude.{◌≡◌, Bool, true, false}
 use Rattle.clause_core.specs.Systems.{TransitionSystem}
-use Rattle.frame_book.specs.declared.claim.Outcome.{Outcome}
-use Rattle.frame_book.specs.declared.claim.Outcome.TheVariants.{Proved, Step, Found, Clear, Spent}
+use Rattle.frame_book.specs.declared.claim.ClaimOutcome.{ClaimOutcome}
+use Rattle.frame_book.specs.declared.claim.ClaimOutcome.TheVariants.{Proved, Step, Found, Clear, Spent}
 use Rattle.frame_tests.specs.ThreeBits.{latch, register}
 
 -- the system of a play
@@ -11,7 +11,7 @@ played true = latch
 played false = register
 
 -- what came of a claim was shown of this system
-abbrev pub IsOf : TransitionSystem → Outcome → Type 0
+abbrev pub IsOf : TransitionSystem → ClaimOutcome → Type 0
 IsOf s (Proved p) = p.system ≡ s
 IsOf s (Step t) = t.system ≡ s
 IsOf s (Found f) = f.system ≡ s

@@ -13,8 +13,8 @@ use frame_core::reached_states::{
     a_level_without_live_lemmas_is_an_invariant, lemmas_hold_in_reached_states,
 };
 use frame_core::{
-    Frames, Insertion, Lemmas, Noting, Opening, Place, Proved, Raising, Verdict, first_unlike,
-    is_part_of,
+    Frames, FramesVerdict, Insertion, Lemmas, Noting, Opening, Place, Proved, Raising,
+    first_unlike, is_part_of,
 };
 use std::alloc::{AllocError, Global};
 use std::test::Fail;
@@ -281,7 +281,7 @@ fn opens_to_an_invariant(
 {
     let before = verdict(frames);
     let opened = opens_twice(alloc, frames, system)?;
-    Ok(opened && before.is_none() && verdict(frames) == Some(Verdict::Invariant(1)))
+    Ok(opened && before.is_none() && verdict(frames) == Some(FramesVerdict::Invariant(1)))
 }
 
 fn an_invariant_where_a_level_is_left(alloc: Global, system: &System) -> Result<bool, AllocError>
@@ -593,7 +593,7 @@ fn are_apart(frames: &Frames) -> bool {
     }
     frames.top(0) == 2
         && frames.top(1) == 0
-        && frames.verdict(0) == Some(Verdict::Invariant(1))
+        && frames.verdict(0) == Some(FramesVerdict::Invariant(1))
         && frames.verdict(1).is_none()
 }
 

@@ -3,7 +3,7 @@
 
 ghost use Rattle.std.specs.Prelude.{◌≡◌, ◌<◌, [], ◌∷◌, IfOk, IsTrue};
 ghost use Rattle.clause_core.specs.Assignments.{ClauseTrue, assignment_of};
-ghost use Rattle.frame_book.specs.declared.claim.Outcome.TheVariants.{Spent};
+ghost use Rattle.frame_book.specs.declared.claim.ClaimOutcome.TheVariants.{Spent};
 ghost use Rattle.frame_book.specs.Outcomes.{EndsIn, Leaves, IsOutcomeOf, IsProofFor, IsFoundFor, IsStepFor, IsClearFor};
 ghost use Rattle.frame_tests.specs.Plays.{played, IsOf};
 ghost use Rattle.frame_tests.specs.ThreeBits.{latch, register};
@@ -13,8 +13,8 @@ use crate::three_bits::{
     latch_last, latch_system, middle_state, no, over_itself, register_system, verdict,
 };
 use clause_core::{Bits, Clause, Lit, System, is_within, met};
-use frame_book::{Book, Claim, Claiming, Outcome, Returning, Settling, Unsettled};
-use frame_core::{Clear, Found, Frames, Proved, Step, Verdict};
+use frame_book::{Book, Claim, ClaimOutcome, Claiming, Returning, Settling, Unsettled};
+use frame_core::{Clear, Frames, FramesVerdict, Proved, StateWitness, Step};
 use frame_history::{Change, Entry, Limits, Subject};
 use std::alloc::{AllocError, Global};
 use std::marker::Brand;
@@ -117,40 +117,48 @@ fn is_row(claim: &Claim, row: &Row) -> bool {
     claim.worker() == row.1 && claim.level() == row.4 && claim.subject() == subject_of(row)
 }
 
-fn spent<'a>() -> Outcome<'a>
+fn spent<'a>() -> ClaimOutcome<'a>
     ensures { result ≡ Spent 1 1 }
 {
-    Outcome::Spent {
+    ClaimOutcome::Spent {
         drawn: 1,
         budget: 1,
     }
 }
 
 // What is shown for a claim on the latch.
-fn of_latch<'a>(alloc: Global, system: &'a System, row: &Row) -> Result<Outcome<'a>, AllocError>
+fn of_latch<'a>(
+    alloc: Global,
+    system: &'a System,
+    row: &Row,
+) -> Result<ClaimOutcome<'a>, AllocError>
     requires { system.now ≡ latch }
     ensures { IfOk result (IsOf system.now) }
 {
     match row.5 {
-        'c' => Ok(Outcome::Clear(clear(alloc, system, row.4)?)),
-        'l' => Ok(Outcome::Found(latch_last(alloc, system)?)),
-        'p' if row.4 > 0 => Ok(Outcome::Proved(over_itself(alloc, system, row.4)?)),
+        'c' => Ok(ClaimOutcome::Clear(clear(alloc, system, row.4)?)),
+        'l' => Ok(ClaimOutcome::Found(latch_last(alloc, system)?)),
+        'p' if row.4 > 0 => Ok(ClaimOutcome::Proved(over_itself(alloc, system, row.4)?)),
         _ => Ok(spent()),
     }
 }
 
 // What is shown for a claim on the register.
-fn of_register<'a>(alloc: Global, system: &'a System, row: &Row) -> Result<Outcome<'a>, AllocError>
+fn of_register<'a>(
+    alloc: Global,
+    system: &'a System,
+    row: &Row,
+) -> Result<ClaimOutcome<'a>, AllocError>
     requires { system.now ≡ register }
     ensures { IfOk result (IsOf system.now) }
 {
     match row.5 {
-        'c' => Ok(Outcome::Clear(high_clear(alloc, system, row.4)?)),
-        'l' => Ok(Outcome::Found(last_state(alloc, system)?)),
-        'm' => Ok(Outcome::Found(middle_state(alloc, system)?)),
-        'f' => Ok(Outcome::Found(first_state(alloc, system)?)),
-        'p' => Ok(Outcome::Proved(high_proof(alloc, system)?)),
-        's' => Ok(Outcome::Step(high_step(alloc, system)?)),
+        'c' => Ok(ClaimOutcome::Clear(high_clear(alloc, system, row.4)?)),
+        'l' => Ok(ClaimOutcome::Found(last_state(alloc, system)?)),
+        'm' => Ok(ClaimOutcome::Found(middle_state(alloc, system)?)),
+        'f' => Ok(ClaimOutcome::Found(first_state(alloc, system)?)),
+        'p' => Ok(ClaimOutcome::Proved(high_proof(alloc, system)?)),
+        's' => Ok(ClaimOutcome::Step(high_step(alloc, system)?)),
         _ => Ok(spent()),
     }
 }
@@ -160,7 +168,7 @@ fn outcome_of<'a>(
     system: &'a System,
     is_latch: bool,
     row: &Row,
-) -> Result<Outcome<'a>, AllocError>
+) -> Result<ClaimOutcome<'a>, AllocError>
     requires { system.now ≡ played is_latch }
     ensures { IfOk result (IsOf system.now) }
 {
@@ -186,7 +194,7 @@ fn is_unmet(alloc: Global, clause: &[Lit], values: &Bits) -> bool
 
 // Whether the step that was found, of three bits, ends in the state of the claim.
 #[tactic(auto, using(crate::proofs::OfPlays::three_next))]
-fn ends_in(system: &System, found: &Found, values: &Bits) -> bool
+fn ends_in(system: &System, found: &StateWitness, values: &Bits) -> bool
     requires { found.now.system ≡ system.now }
     ensures { IsTrue result → EndsIn found.now values.now }
 {
@@ -226,7 +234,7 @@ fn suits_proof(alloc: Global, system: &System, claim: &Claim, proved: &Proved) -
 }
 
 #[tactic(auto, using(crate::proofs::OfPlays::same_as))]
-fn suits_found(system: &System, claim: &Claim, found: &Found) -> bool
+fn suits_found(system: &System, claim: &Claim, found: &StateWitness) -> bool
     requires { found.now.system ≡ system.now }
     ensures { IsTrue result → IsFoundFor (system.now ∷ []) claim.now claim.now.subject found.now }
 {
@@ -262,16 +270,16 @@ fn suits_clear(system: &System, claim: &Claim, clear: &Clear) -> bool
 }
 
 // Whether the outcome is one of this claim on the system.
-fn suits(alloc: Global, system: &System, claim: &Claim, outcome: &Outcome) -> bool
+fn suits(alloc: Global, system: &System, claim: &Claim, outcome: &ClaimOutcome) -> bool
     requires { IsOf system.now outcome.now }
     ensures { IsTrue result → IsOutcomeOf (system.now ∷ []) claim.now claim.now.subject outcome.now }
 {
     match outcome {
-        Outcome::Proved(proved) => suits_proof(alloc, system, claim, proved),
-        Outcome::Step(step) => suits_step(system, claim, step),
-        Outcome::Found(found) => suits_found(system, claim, found),
-        Outcome::Clear(clear) => suits_clear(system, claim, clear),
-        Outcome::Spent { .. } => true,
+        ClaimOutcome::Proved(proved) => suits_proof(alloc, system, claim, proved),
+        ClaimOutcome::Step(step) => suits_step(system, claim, step),
+        ClaimOutcome::Found(found) => suits_found(system, claim, found),
+        ClaimOutcome::Clear(clear) => suits_clear(system, claim, clear),
+        ClaimOutcome::Spent { .. } => true,
     }
 }
 
@@ -326,8 +334,8 @@ fn last_change(history: &[Entry]) -> char {
 // How a closed book ended.
 fn end_of<L: Ledger>(alloc: Global, book: &Book<L>, row: &Row) -> Result<char, AllocError> {
     match verdict(book.frames()) {
-        Some(Verdict::Invariant(level)) => Ok(if level == row.4 { 'v' } else { OTHER }),
-        Some(Verdict::Reached(_)) => Ok(if has_the_run(alloc, book.frames())? {
+        Some(FramesVerdict::Invariant(level)) => Ok(if level == row.4 { 'v' } else { OTHER }),
+        Some(FramesVerdict::Reached(_)) => Ok(if has_the_run(alloc, book.frames())? {
             'e'
         } else {
             OTHER
@@ -380,7 +388,7 @@ fn settle<'a, L: Ledger>(
     book: &mut Book<'a, L>,
     share: &mut Share<L>,
     claim: Claim,
-    outcome: Outcome<'a>,
+    outcome: ClaimOutcome<'a>,
 ) -> char
     requires outcome { IsOutcomeOf (system.now ∷ []) claim claim.subject outcome }
     requires systems { book.old.systems ≡ system.now ∷ [] }
@@ -403,7 +411,7 @@ fn settle_if_it_suits<'a, L: Ledger>(
     book: &mut Book<'a, L>,
     share: &mut Share<L>,
     claim: Claim,
-    outcome: Outcome<'a>,
+    outcome: ClaimOutcome<'a>,
 ) -> char
     requires of { IsOf system.now outcome }
     requires systems { book.old.systems ≡ system.now ∷ [] }

@@ -6,7 +6,7 @@ ghost use Rattle.frame_core.specs.Facts.{IsFound, IsStep};
 ghost use Rattle.frame_tests.specs.ThreeBits.{three_bits, latch_over, latch, register, alone, alone_parent, either_low, last_values, middle_values, first_values};
 
 use clause_core::{Bits, Clause, Clauses, Lit, System, is_within};
-use frame_core::{BitRun, Clear, Found, Frames, Parent, Proved, Step, Verdict};
+use frame_core::{BitRun, Clear, Frames, FramesVerdict, Parent, Proved, StateWitness, Step};
 use std::alloc::{AllocError, Global};
 
 pub(crate) fn yes(var: usize) -> Lit
@@ -195,16 +195,19 @@ fn found<'a>(
     values: &[bool],
     is_step: bool,
     first: bool,
-) -> Result<Found<'a>, AllocError>
+) -> Result<StateWitness<'a>, AllocError>
     requires { IsFound record { system = system.now; values = values.now; is_step = is_step; first = first } }
     ensures { IfOk result (λ f. f ≡ record { system = system.now; values = values.now; is_step = is_step; first = first }) }
 {
     let values = Bits::from_slice(alloc, values)?;
-    Ok(Found::new(system, values, is_step, first))
+    Ok(StateWitness::new(system, values, is_step, first))
 }
 
 // The bad state with all bits true.
-pub(crate) fn last_state<'a>(alloc: Global, system: &'a System) -> Result<Found<'a>, AllocError>
+pub(crate) fn last_state<'a>(
+    alloc: Global,
+    system: &'a System,
+) -> Result<StateWitness<'a>, AllocError>
     requires { system.now ≡ register }
     ensures { IfOk result (λ f. f ≡ record { system = register; values = last_values; is_step = false; first = false }) }
 {
@@ -219,7 +222,10 @@ pub(crate) fn last_state<'a>(alloc: Global, system: &'a System) -> Result<Found<
 }
 
 // The same of the latch.
-pub(crate) fn latch_last<'a>(alloc: Global, system: &'a System) -> Result<Found<'a>, AllocError>
+pub(crate) fn latch_last<'a>(
+    alloc: Global,
+    system: &'a System,
+) -> Result<StateWitness<'a>, AllocError>
     requires { system.now ≡ latch }
     ensures { IfOk result (λ f. f.system ≡ system.now) }
 {
@@ -234,7 +240,10 @@ pub(crate) fn latch_last<'a>(alloc: Global, system: &'a System) -> Result<Found<
 }
 
 // A step to the bad state.
-pub(crate) fn middle_state<'a>(alloc: Global, system: &'a System) -> Result<Found<'a>, AllocError>
+pub(crate) fn middle_state<'a>(
+    alloc: Global,
+    system: &'a System,
+) -> Result<StateWitness<'a>, AllocError>
     requires { system.now ≡ register }
     ensures { IfOk result (λ f. f ≡ record { system = register; values = middle_values; is_step = true; first = false }) }
 {
@@ -249,7 +258,10 @@ pub(crate) fn middle_state<'a>(alloc: Global, system: &'a System) -> Result<Foun
 }
 
 // A step from an initial state to the state that this one leads from.
-pub(crate) fn first_state<'a>(alloc: Global, system: &'a System) -> Result<Found<'a>, AllocError>
+pub(crate) fn first_state<'a>(
+    alloc: Global,
+    system: &'a System,
+) -> Result<StateWitness<'a>, AllocError>
     requires { system.now ≡ register }
     ensures { IfOk result (λ f. f ≡ record { system = register; values = first_values; is_step = true; first = true }) }
 {
@@ -287,7 +299,7 @@ pub(crate) fn is_same_clause(a: &[Lit], b: &[Lit]) -> bool
 }
 
 // The verdict of the only system.
-pub(crate) fn verdict(frames: &Frames) -> Option<Verdict> {
+pub(crate) fn verdict(frames: &Frames) -> Option<FramesVerdict> {
     if frames.systems().is_empty() {
         return None;
     }
@@ -321,7 +333,7 @@ pub(crate) fn has_the_run(alloc: Global, frames: &Frames) -> Result<bool, AllocE
     if frames.systems().is_empty() {
         return Ok(false);
     }
-    let Some(Verdict::Reached(n)) = frames.verdict(0) else {
+    let Some(FramesVerdict::Reached(n)) = frames.verdict(0) else {
         return Ok(false);
     };
     let run = frames.run_of(alloc, n)?;

@@ -14,7 +14,7 @@ use Rattle.frame_history.specs.declared.entries.Entry.{Entry}
 use Rattle.frame_history.specs.declared.entries.Entry.TheVariants.{Claim}
 use Rattle.frame_history.specs.History.{BookState, replay}
 use Rattle.frame_query.specs.Findings.{SolverView, IsOlder}
-use Rattle.frame_book.specs.declared.claim.Outcome.{Outcome}
+use Rattle.frame_book.specs.declared.claim.ClaimOutcome.{ClaimOutcome}
 use Rattle.frame_book.specs.Claims.{ClaimView}
 use Rattle.frame_book.specs.Outcomes.{IsOutcomeOf}
 use Rattle.frame_claims.specs.Asking.{AnswersClaim, MayBeAsked, PaysFor}
@@ -82,13 +82,13 @@ module _ (systems : List TransitionSystem) (limits : Limits) (first : BookState)
   pub task_asked : MayBeAsked v c c.subject
   task_asked = may_be_asked limits (replay first t.earlier) c v t.claimed.law up t.claimed.task t.claimed.target
 
-  task_outcome : (over : Bool) (o : Outcome) → AnswersClaim v c c.subject over o → IsOutcomeOf systems c c.subject o
+  task_outcome : (over : Bool) (o : ClaimOutcome) → AnswersClaim v c c.subject over o → IsOutcomeOf systems c c.subject o
   task_outcome over o answer =
       let s : BookState = replay first t.earlier in
       let asked = asked_so s.frames c v over o t.claimed.law up (there_by limits s c.subject c.level t.claimed.task) t.claimed.target answer in
       subst (λ (z : List TransitionSystem). IsOutcomeOf z c c.subject o) (sym up.systems ∙ follows.same) asked.of
 
-  pub task_outcomes : {E : Type 0} (over : Bool) (r : Result Outcome E) → IfOk r (AnswersClaim v c c.subject over) → IfSome (result_ok r) (IsOutcomeOf systems c c.subject)
+  pub task_outcomes : {E : Type 0} (over : Bool) (r : Result ClaimOutcome E) → IfOk r (AnswersClaim v c c.subject over) → IfSome (result_ok r) (IsOutcomeOf systems c c.subject)
   task_outcomes over (Ok o) answer = task_outcome over o answer
   task_outcomes over (Err e) answer = tt
 

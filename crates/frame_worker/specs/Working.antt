@@ -11,7 +11,7 @@ use Rattle.frame_history.specs.declared.entries.Entry.{Entry}
 use Rattle.frame_history.specs.declared.entries.Entry.TheVariants.{Claim}
 use Rattle.frame_history.specs.History.{BookState, replay, IsOpenTask}
 use Rattle.frame_query.specs.Findings.{SolverView, IsOlder}
-use Rattle.frame_book.specs.declared.claim.Outcome.{Outcome}
+use Rattle.frame_book.specs.declared.claim.ClaimOutcome.{ClaimOutcome}
 use Rattle.frame_book.specs.Claims.{ClaimView, IsOfSubject}
 use Rattle.frame_book.specs.Outcomes.{IsOutcomeOf}
 use Rattle.frame_claims.specs.Lists.{ArePaidLists}
@@ -84,6 +84,6 @@ pub record IsTaken (systems : List TransitionSystem) (limits : Limits) (first : 
   pub claimed : IsClaimed limits first h.first c earlier h.front
 
 -- this came of the task
-pub record IsAnswered (systems : List TransitionSystem) (first : BookState) (purse : SharedPurse) (h : HandView) (c : ClaimView) (o : Option Outcome) : Type 0 where
+pub record IsAnswered (systems : List TransitionSystem) (first : BookState) (purse : SharedPurse) (h : HandView) (c : ClaimView) (o : Option ClaimOutcome) : Type 0 where
   pub held : IsHeld systems first purse h
   pub outcome : IfSome o (IsOutcomeOf systems c c.subject)

@@ -11,7 +11,7 @@ ghost use Rattle.frame_worker.specs.Working.{Follows, HasAll, IsClaimed, known_o
 
 use crate::account::Account;
 use crate::begun::Begun;
-use frame_book::{Book, Claim, Claiming, Outcome, Returning, Settling, Unsettled};
+use frame_book::{Book, Claim, ClaimOutcome, Claiming, Returning, Settling, Unsettled};
 use frame_core::Frames;
 use frame_history::Entry;
 use frame_query::FrameSolver;
@@ -95,7 +95,7 @@ impl<'a, L: Ledger, J: Naming + Begun> Desk<'a, L, J> {
         &mut self,
         line: &Line<Entry, J>,
         claim: Claim,
-        outcome: Outcome<'a>,
+        outcome: ClaimOutcome<'a>,
         account: &mut Account<L>,
     ) -> bool
         requires part { 0 < account.old.share.parts }

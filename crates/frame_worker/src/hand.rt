@@ -2,7 +2,7 @@
 
 use crate::account::Account;
 use effort_purse::Seat;
-use frame_book::{Claim, Outcome};
+use frame_book::{Claim, ClaimOutcome};
 use frame_history::Entry;
 use frame_query::FrameSolver;
 use shared_history::{Front, Naming};
@@ -22,5 +22,5 @@ pub(crate) struct Hand<'a, L: Ledger, J: Naming> {
 /// A claim, and what came of it; nothing where memory was refused.
 pub(crate) struct Done<'a> {
     pub(crate) claim: Claim,
-    pub(crate) outcome: Option<Outcome<'a>>,
+    pub(crate) outcome: Option<ClaimOutcome<'a>>,
 }

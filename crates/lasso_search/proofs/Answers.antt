@@ -16,7 +16,7 @@ use Rattle.ltl_monitor.proofs.Clauses.{met_from, all_from}
 use Rattle.lasso_search.specs.declared.searched.Searched.{Searched}
 use Rattle.lasso_search.specs.declared.searched.Searched.TheVariants as searched
 use Rattle.lasso_search.specs.Lassos.{HasNoFairLasso, IsFairLasso, Lasso}
-use Rattle.lasso_search.specs.Unrolling.{each, plan_of, begun, ends, seen, steps_at, unrolled, closing}
+use Rattle.lasso_search.specs.Unrolling.{each, plan_of, begun_literal, ends, seen, steps_at, unrolled, closing}
 use Rattle.lasso_search.specs.Unrolled.{IsCourse, Closes, course_of, CanClose}
 use Rattle.lasso_search.specs.Searches.{Finds, Tells}
 use Rattle.lasso_search.proofs.Each.{All-each, All-each_at}
@@ -45,10 +45,10 @@ module _ (m : TransitionSystem) (n : ℕ) (a : ℕ → Bool) where
   closing_to h =
       let p = plan_of m in
       let sets = each (λ j. seen p j n ∷ []) (length m.fair) in
-      let rest = All-tail (IsTrueIn a) (begun p n) (ends p n ∷ sets) h in
+      let rest = All-tail (IsTrueIn a) (begun_literal p n) (ends p n ∷ sets) h in
       let last = All-tail (IsTrueIn a) (ends p n) sets rest in
       record {
-        begun = All-head (IsTrueIn a) (begun p n) (ends p n ∷ sets) h;
+        begun = All-head (IsTrueIn a) (begun_literal p n) (ends p n ∷ sets) h;
         ends = All-head (IsTrueIn a) (ends p n) sets rest;
         seen = λ j lt. All-each_at (IsTrueIn a) (λ j. seen p j n) (length m.fair) none_lit last j lt;
       }
@@ -58,7 +58,7 @@ module _ (m : TransitionSystem) (n : ℕ) (a : ℕ → Bool) where
   closing_from h =
       let p = plan_of m in
       let sets = each (λ j. seen p j n ∷ []) (length m.fair) in
-      All-cons (IsTrueIn a) (begun p n) (ends p n ∷ sets) h.begun
+      All-cons (IsTrueIn a) (begun_literal p n) (ends p n ∷ sets) h.begun
       (All-cons (IsTrueIn a) (ends p n) sets h.ends (All-each (IsTrueIn a) (λ j. seen p j n) (length m.fair) none_lit h.seen))
 
 module _ (m : TransitionSystem) (steps n : ℕ) (keeps : IsSystem m) (enough : n ≤ steps) where

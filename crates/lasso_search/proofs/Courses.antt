@@ -7,7 +7,7 @@ use Rattle.ltl_monitor.specs.States.{value}
 use Rattle.ltl_monitor.proofs.Clauses.{all, Met, met_from, met_parts, met_join, all_from, all_renamed, literal_from, same_refl}
 use Rattle.lasso_search.specs.declared.plan.Plan.{Plan}
 use Rattle.lasso_search.specs.declared.plan.Turn.{Turn}
-use Rattle.lasso_search.specs.Unrolling.{each, plan_of, spot, place, moved, all_moved, begun, ends, seen, beginning, ending, seeing, unseen, opening, moment, steps_at}
+use Rattle.lasso_search.specs.Unrolling.{each, plan_of, spot, place, moved, all_moved, begun_literal, ends, seen, beginning, ending, seeing, unseen, opening, moment, steps_at}
 use Rattle.lasso_search.specs.Unrolled.{Course, IsCourse, course_of}
 use Rattle.lasso_search.proofs.Each.{met_each_to, met_each_from}
 use Rattle.lasso_search.proofs.Places.{first_low, step_low, step_next}
@@ -87,7 +87,7 @@ module _ (m : TransitionSystem) (steps : ℕ) (a : ℕ → Bool) where
 
   -- the clauses of each kind
   abbrev pub not_first : List (List Lit)
-  not_first = (negate (begun p 0) ∷ []) ∷ []
+  not_first = (negate (begun_literal p 0) ∷ []) ∷ []
 
   abbrev pub unmet : List (List Lit)
   unmet = each (unseen p) (length m.fair)
@@ -145,15 +145,15 @@ module _ (m : TransitionSystem) (steps : ℕ) (a : ℕ → Bool) where
         from = λ i lt. from_shared i;
         to = λ i lt. to_shared i;
         defined = λ i lt. all_from (course.state i) m.defs (sym (copied (Turn.State i) m.defs) ∙ (q1 i lt).1);
-        not_begun = not_true (a (begun p 0).var) o1.1;
+        not_begun = not_true (a (begun_literal p 0).var) o1.1;
         begins = λ i lt before after b in_bits.
-            begins_says (a (begun p i).var) (a (begun p (i + 1)).var) (a b) (a (spot p b i)) (met_each_to a (beginning p i) p.bits (q2 i lt).1 b in_bits) before after;
+            begins_says (a (begun_literal p i).var) (a (begun_literal p (i + 1)).var) (a b) (a (spot p b i)) (met_each_to a (beginning p i) p.bits (q2 i lt).1 b in_bits) before after;
         ends = λ i lt t b in_bits.
             ends_says (a (ends p (i + 1)).var) (a b) (a (spot p b (i + 1))) (met_each_to a (ending p (i + 1)) p.bits (q3 i lt).1 b in_bits) t;
         unseen = λ j lt. not_true (a (seen p j 0).var) (met_each_to a (unseen p) (length m.fair) o2.1 j lt);
         sees = λ i j lt in_sets t.
             (let q : Lit = at m.fair j in
-            elim (sees_says (a (seen p j (i + 1)).var) (a (seen p j i).var) (a (begun p (i + 1)).var) (value a (moved p (Turn.State i) q))
+            elim (sees_says (a (seen p j (i + 1)).var) (a (seen p j i).var) (a (begun_literal p (i + 1)).var) (value a (moved p (Turn.State i) q))
             (met_each_to a (λ j. seeing p (at m.fair j) i j) (length m.fair) (q4 i lt).1 j in_sets) t) [
               | inl before ↦ inl before
               | inr here ↦ inr (here.0, literal_from (course.state i) q here.1)
@@ -166,12 +166,12 @@ module _ (m : TransitionSystem) (steps : ℕ) (a : ℕ → Bool) where
       let steps_met : (i : ℕ) → i < steps → Met a (step_clauses i) = λ i lt. copied (Turn.Step i) m.step ∙ met_from (course.step i) m.step (h.step i lt) in
       let defs_met : (i : ℕ) → i < steps → Met a (def_clauses i) = λ i lt. copied (Turn.State i) m.defs ∙ met_from (course.state i) m.defs (h.defined i lt) in
       let beginnings_met : (i : ℕ) → i < steps → Met a (beginnings i) = λ i lt. met_each_from a (beginning p i) p.bits
-      (λ b in_bits. begins_said (a (begun p i).var) (a (begun p (i + 1)).var) (a b) (a (spot p b i)) (λ before after. h.begins i lt before after b in_bits)) in
+      (λ b in_bits. begins_said (a (begun_literal p i).var) (a (begun_literal p (i + 1)).var) (a b) (a (spot p b i)) (λ before after. h.begins i lt before after b in_bits)) in
       let endings_met : (i : ℕ) → i < steps → Met a (endings i) = λ i lt. met_each_from a (ending p (i + 1)) p.bits
       (λ b in_bits. ends_said (a (ends p (i + 1)).var) (a b) (a (spot p b (i + 1))) (λ t. h.ends i lt t b in_bits)) in
       let sightings_met : (i : ℕ) → i < steps → Met a (sightings i) = λ i lt. met_each_from a (λ j. seeing p (at m.fair j) i j) (length m.fair)
       (λ j in_sets. (let q : Lit = at m.fair j in
-      sees_said (a (seen p j (i + 1)).var) (a (seen p j i).var) (a (begun p (i + 1)).var) (value a (moved p (Turn.State i) q))
+      sees_said (a (seen p j (i + 1)).var) (a (seen p j i).var) (a (begun_literal p (i + 1)).var) (value a (moved p (Turn.State i) q))
       (λ t. elim (h.sees i j lt in_sets t) [
         | inl before ↦ inl before
         | inr here ↦ inr (here.0, literal_true (course.state i) q here.1)
@@ -183,6 +183,6 @@ module _ (m : TransitionSystem) (steps : ℕ) (a : ℕ → Bool) where
       (met_join a (step_clauses i) (def_clauses i) (steps_met i lt) (defs_met i lt)) (beginnings_met i lt)) (endings_met i lt)) (sightings_met i lt) in
       met_join a (opening p m) (each (moment p m) steps)
       (met_join a (init ++ not_first) unmet
-      (met_join a init not_first (copied Turn.First m.init ∙ met_from course.first m.init h.init) (true_not (a (begun p 0).var) h.not_begun))
+      (met_join a init not_first (copied Turn.First m.init ∙ met_from course.first m.init h.init) (true_not (a (begun_literal p 0).var) h.not_begun))
       (met_each_from a (unseen p) (length m.fair) (λ j lt. true_not (a (seen p j 0).var) (h.unseen j lt))))
       (met_each_from a (moment p m) steps now)

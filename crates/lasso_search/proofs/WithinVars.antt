@@ -10,7 +10,7 @@ use Rattle.ltl_monitor.specs.Monitor.{Each}
 use Rattle.ltl_monitor.proofs.Clauses.{Lits, Below, lits_all, all_lits, lits_more, lits_renamed}
 use Rattle.lasso_search.specs.declared.plan.Plan.{Plan}
 use Rattle.lasso_search.specs.declared.plan.Turn.{Turn}
-use Rattle.lasso_search.specs.Unrolling.{each, plan_of, loop_kind, stride, spot, place, plain, begun, ends, seen, beginning, ending, seeing, unseen, opening, moment, closing_at, vars_at}
+use Rattle.lasso_search.specs.Unrolling.{each, plan_of, loop_kind, stride, spot, place, plain, begun_literal, ends, seen, beginning, ending, seeing, unseen, opening, moment, closing_at, vars_at}
 use Rattle.lasso_search.proofs.Each.{Each-each, All-each, join}
 use Rattle.lasso_search.proofs.Places.{first_low, first_high, step_low, step_next, step_inner, spot_below, low_below}
 
@@ -49,7 +49,7 @@ module _ (m : TransitionSystem) (keeps : IsSystem m) (steps vars : ℕ) (fits : 
   placed_in : (f : ℕ → ℕ) (cs : List (List Lit)) → ((v : ℕ) → v < m.all_bits → f v < vars) → All (Within m.all_bits) cs → Lits (λ q. f q.var < vars) cs
   placed_in f cs h within = lits_more (Below m.all_bits) (λ q. f q.var < vars) (λ q b. h q.var b) cs (all_lits (Below m.all_bits) cs within)
 
-  begun_in : (i : ℕ) → i ≤ steps → In (begun p i)
+  begun_in : (i : ℕ) → i ≤ steps → In (begun_literal p i)
   begun_in i h = below (loop_kind p) i (omega arith) h
 
   ends_in : (i : ℕ) → i ≤ steps → In (ends p i)
@@ -112,5 +112,5 @@ module _ (m : TransitionSystem) (keeps : IsSystem m) (steps vars : ℕ) (fits : 
   pub closing_in : (n : ℕ) → n ≤ steps → Within vars (closing_at p n)
   closing_in n lt =
       let sets : List Lit = each (λ j. seen p j n ∷ []) (length m.fair) in
-      All-cons In (begun p n) (ends p n ∷ sets) (begun_in n lt)
+      All-cons In (begun_literal p n) (ends p n ∷ sets) (begun_in n lt)
       (All-cons In (ends p n) sets (ends_in n lt) (All-each In (λ j. seen p j n) (length m.fair) none_lit (λ j h. seen_in j n h lt)))

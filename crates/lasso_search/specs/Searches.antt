@@ -11,7 +11,7 @@ use Rattle.lasso_search.specs.declared.loading.Engine.{Engine}
 use Rattle.lasso_search.specs.declared.searched.Searched.{Searched}
 use Rattle.lasso_search.specs.declared.searched.Searched.TheVariants as searched
 use Rattle.lasso_search.specs.Lassos.{Lasso, IsFairLasso, HasNoFairLasso}
-use Rattle.lasso_search.specs.Unrolling.{each, place, begun, unrolled, vars_of}
+use Rattle.lasso_search.specs.Unrolling.{each, place, begun_literal, unrolled, vars_of}
 
 -- the system, and learned clauses that later queries may use
 pub record SolverView : Type 0 where
@@ -48,8 +48,8 @@ rows_of p a n = each (λ i. row_of p a i ∷ []) n
 -- l is the first time such that the loop begins before the time after it, or n where there is none before n
 pub record IsStart (p : Plan) (a : ℕ → Bool) (n l : ℕ) : Type 0 where
   pub inside : l ≤ n
-  pub before : (k : ℕ) → k < l → a (begun p (k + 1)).var ≡ false
-  pub here : l < n → a (begun p (l + 1)).var ≡ true
+  pub before : (k : ℕ) → k < l → a (begun_literal p (k + 1)).var ≡ false
+  pub here : l < n → a (begun_literal p (l + 1)).var ≡ true
 
 -- the lasso of n states has the values of the model
 abbrev pub Reads : Plan → ℕ → List Bool → Lasso → Type 0

@@ -6,7 +6,7 @@ use Rattle.clause_core.specs.Assignments.{Agrees, ClauseTrue}
 use Rattle.clause_core.specs.Systems.{TransitionSystem, NextIs}
 use Rattle.lasso_search.specs.declared.plan.Plan.{Plan}
 use Rattle.lasso_search.specs.declared.plan.Turn.{Turn}
-use Rattle.lasso_search.specs.Unrolling.{place, begun, ends, seen, unrolled, closing}
+use Rattle.lasso_search.specs.Unrolling.{place, begun_literal, ends, seen, unrolled, closing}
 
 -- what the variables tell: the values of the initial state, of each state and of its step, and of the state at which
 -- the loop begins; whether it begins before a time, and ends there; and whether a set was met in it before a time
@@ -47,7 +47,7 @@ course_of p a = record {
   state = λ i v. a (place p (Turn.State i) v);
   step = λ i v. a (place p (Turn.Step i) v);
   start = a;
-  begun = λ i. a (begun p i).var;
+  begun = λ i. a (begun_literal p i).var;
   ends = λ i. a (ends p i).var;
   seen = λ j i. a (seen p j i).var;
 }

@@ -51,8 +51,8 @@ abbrev pub plain : ℕ → Lit
 plain v = record { var = v; positive = true }
 
 -- the loop begins before time i
-abbrev pub begun : Plan → ℕ → Lit
-begun p i = plain (spot p (loop_kind p) i)
+abbrev pub begun_literal : Plan → ℕ → Lit
+begun_literal p i = plain (spot p (loop_kind p) i)
 
 -- the state at time i is the one at which the loop begins
 abbrev pub ends : Plan → ℕ → Lit
@@ -66,8 +66,8 @@ seen p j i = plain (spot p (loop_kind p + 2 + j) i)
 abbrev pub beginning : Plan → ℕ → ℕ → List (List Lit)
 beginning p i b =
     let here = plain (spot p b i) in
-    (begun p i ∷ negate (begun p (i + 1)) ∷ plain b ∷ negate here ∷ [])
-    ∷ (begun p i ∷ negate (begun p (i + 1)) ∷ negate (plain b) ∷ here ∷ [])
+    (begun_literal p i ∷ negate (begun_literal p (i + 1)) ∷ plain b ∷ negate here ∷ [])
+    ∷ (begun_literal p i ∷ negate (begun_literal p (i + 1)) ∷ negate (plain b) ∷ here ∷ [])
     ∷ []
 
 -- where the loop ends at time i, bit b of the state at which it begins is that of state i
@@ -80,7 +80,7 @@ ending p i b =
 -- by then, and the literal is true
 abbrev pub seeing : Plan → Lit → ℕ → ℕ → List (List Lit)
 seeing p l i j =
-    (negate (seen p j (i + 1)) ∷ seen p j i ∷ begun p (i + 1) ∷ [])
+    (negate (seen p j (i + 1)) ∷ seen p j i ∷ begun_literal p (i + 1) ∷ [])
     ∷ (negate (seen p j (i + 1)) ∷ seen p j i ∷ moved p (Turn.State i) l ∷ [])
     ∷ []
 
@@ -90,7 +90,7 @@ unseen p j = (negate (seen p j 0) ∷ []) ∷ []
 
 -- what is asked of the initial state: the loop does not begin before it
 abbrev pub opening : Plan → TransitionSystem → List (List Lit)
-opening p m = all_moved p Turn.First m.init ++ (negate (begun p 0) ∷ []) ∷ [] ++ each (unseen p) (length m.fair)
+opening p m = all_moved p Turn.First m.init ++ (negate (begun_literal p 0) ∷ []) ∷ [] ++ each (unseen p) (length m.fair)
 
 -- what is asked of state i, its step and the state after it
 abbrev pub moment : Plan → TransitionSystem → ℕ → List (List Lit)
@@ -111,7 +111,7 @@ vars_at p steps = spot p 0 (steps + 1)
 
 -- what is assumed for length n: the loop begins before time n and ends there, and each set was met in it
 abbrev pub closing_at : Plan → ℕ → List Lit
-closing_at p n = begun p n ∷ ends p n ∷ each (λ j. seen p j n ∷ []) p.sets
+closing_at p n = begun_literal p n ∷ ends p n ∷ each (λ j. seen p j n ∷ []) p.sets
 
 -- the same of a system
 unfoldable pub unrolled : TransitionSystem → ℕ → List (List Lit)

@@ -14,7 +14,7 @@ use std::alloc::{AllocError, Global};
 pub fn opening(alloc: Global, plan: &Plan, system: &System) -> Result<Clauses, AllocError>
     ensures { IfOk result (λ cs. cs ≡ opening plan.now system.now) }
 {
-    let begun = plan.begun(0)?;
+    let begun = plan.begun_literal(0)?;
     let mut all = Clauses::new(alloc);
     plan.copy(alloc, Turn::First, system.init(), &mut all)?;
     all.push(&[begun.negated()])?;
@@ -78,8 +78,8 @@ fn add_beginnings(plan: &Plan, time: usize, out: &mut Clauses) -> Result<(), All
 fn add_beginning(plan: &Plan, time: usize, bit: usize, out: &mut Clauses) -> Result<(), AllocError>
     ensures { OnOk result (out.new ≡ out.old ++ beginning plan.now time bit) }
 {
-    let before = plan.begun(time)?;
-    let not_after = plan.begun(sum(time, 1)?)?.negated();
+    let before = plan.begun_literal(time)?;
+    let not_after = plan.begun_literal(sum(time, 1)?)?.negated();
     let start = Lit::new(bit, true);
     let here = Lit::new(plan.spot(bit, time)?, true);
     push_two(
@@ -142,7 +142,7 @@ fn add_seeing(
     let next = sum(time, 1)?;
     let not_after = plan.seen(set, next)?.negated();
     let before = plan.seen(set, time)?;
-    let begun = plan.begun(next)?;
+    let begun = plan.begun_literal(next)?;
     let literal = plan.moved(Turn::State(time), literal)?;
     push_two(
         out,
@@ -156,7 +156,7 @@ fn add_seeing(
 pub fn closing(alloc: Global, plan: &Plan, states: usize) -> Result<Vec<Lit>, AllocError>
     ensures { IfOk result (λ ls. ls.items ≡ closing_at plan.now states) }
 {
-    let begun = plan.begun(states)?;
+    let begun = plan.begun_literal(states)?;
     let ends = plan.ends(states)?;
     let mut literals = Vec::new(alloc);
     literals.push(begun)?;

@@ -1,7 +1,7 @@
 //! Numbers the variables of an unrolling, time after time and by kinds within each time.
 
 ghost use Rattle.std.specs.Prelude.{◌≡◌, ◌+◌, ◌++◌, map, IfOk, OnOk};
-ghost use Rattle.lasso_search.specs.Unrolling.{plan_of, stride, spot, loop_kind, place, moved, all_moved, begun, ends, seen, vars_at};
+ghost use Rattle.lasso_search.specs.Unrolling.{plan_of, stride, spot, loop_kind, place, moved, all_moved, begun_literal, ends, seen, vars_at};
 
 use clause_core::{Clauses, Lit, System};
 use std::alloc::{AllocError, Global};
@@ -132,8 +132,8 @@ impl Plan {
     }
 
     // That the loop begins before a time.
-    pub fn begun(&self, time: usize) -> Result<Lit, AllocError>
-        ensures { IfOk result (λ l. l ≡ begun self.now time) }
+    pub fn begun_literal(&self, time: usize) -> Result<Lit, AllocError>
+        ensures { IfOk result (λ l. l ≡ begun_literal self.now time) }
     {
         let var = self.spot(self.loop_kind()?, time)?;
         Ok(Lit::new(var, true))

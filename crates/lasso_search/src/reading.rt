@@ -67,7 +67,7 @@ fn start(plan: &Plan, states: usize, model: &Bits) -> Result<usize, AllocError>
     ensures { IfOk result (IsStart plan.now (assignment_of model.now) states) }
 {
     for time in 0..states {
-        let begun = plan.begun(sum(time, 1)?)?;
+        let begun = plan.begun_literal(sum(time, 1)?)?;
         if value(model, begun.var) {
             return Ok(time);
         }

@@ -7,9 +7,9 @@ use Rattle.ltl_meaning.specs.declared.node.BoundedOperator.{BoundedOperator}
 use Rattle.ltl_meaning.specs.declared.node.BinaryOperator.{BinaryOperator}
 use Rattle.ltl_meaning.specs.declared.node.Window.{Window}
 use Rattle.ltl_meaning.specs.declared.node.Link.{Link}
-use Rattle.ltl_meaning.specs.declared.node.Node.{Node}
-use Rattle.ltl_meaning.specs.declared.node.Node.TheOpen.{Node-F}
-use Rattle.ltl_meaning.specs.declared.node.Node.TheFolds.{fold-Node}
+use Rattle.ltl_meaning.specs.declared.node.FormulaNode.{FormulaNode}
+use Rattle.ltl_meaning.specs.declared.node.FormulaNode.TheOpen.{FormulaNode-F}
+use Rattle.ltl_meaning.specs.declared.node.FormulaNode.TheFolds.{fold-FormulaNode}
 use Rattle.ltl_meaning.specs.Ltl.{past_unary, past_binary}
 
 -- a formula: a constant, an atom by its number, or an operator over formulas, maybe with bounds
@@ -26,20 +26,20 @@ chain_of f [] = f
 chain_of f (l ∷ ls) = chain_of (Temporal.Binary l.operator f l.operand) ls
 
 -- one node, with the formula of each operand in its place
-abbrev pub formula_at : Node-F Temporal → Temporal
-formula_at (Node-F.Constant b) = Temporal.Constant b
-formula_at (Node-F.Atom a) = Temporal.Atom a
-formula_at (Node-F.Unary o f) = Temporal.Unary o f
-formula_at (Node-F.Bounded o w f) = Temporal.Bounded o w f
-formula_at (Node-F.Implies f g) = Temporal.Binary BinaryOperator.Implies f g
-formula_at (Node-F.Chain f links) = chain_of f links
+abbrev pub formula_at : FormulaNode-F Temporal → Temporal
+formula_at (FormulaNode-F.Constant b) = Temporal.Constant b
+formula_at (FormulaNode-F.Atom a) = Temporal.Atom a
+formula_at (FormulaNode-F.Unary o f) = Temporal.Unary o f
+formula_at (FormulaNode-F.Bounded o w f) = Temporal.Bounded o w f
+formula_at (FormulaNode-F.Implies f g) = Temporal.Binary BinaryOperator.Implies f g
+formula_at (FormulaNode-F.Chain f links) = chain_of f links
 
 -- the formula that a node and all below it stand for
-abbrev pub formula_of : Node → Temporal
-formula_of = fold-Node Temporal formula_at
+abbrev pub formula_of : FormulaNode → Temporal
+formula_of = fold-FormulaNode Temporal formula_at
 
 -- the links of a chain, with the formula of each operand
-abbrev pub links_of : List (Link Node) → List (Link Temporal)
+abbrev pub links_of : List (Link FormulaNode) → List (Link Temporal)
 links_of links = map (λ l. record { operator = l.operator; operand = formula_of l.operand }) links
 
 -- how far an operator with bounds looks back

@@ -4,13 +4,13 @@ ghost use Rattle.std.specs.Prelude.{◌≡◌, ◌<◌, ◌+◌, ◌*◌, ◌^�
 ghost use Rattle.ltl_meaning.specs.Temporal.{formula_of, past_depth};
 
 use crate::height::{LIMIT, capped_height};
-use crate::node::Node;
+use crate::node::FormulaNode;
 
 /// A formula of linear temporal logic with past, whose past operators nest less than 2^32 deep; one with
 /// bounds counts as often as it looks back.
 #[derive(Debug, Drop)]
 pub struct Formula {
-    pub root: Node,
+    pub root: FormulaNode,
     height: u32,
     ghost exact: { height ≡ past_depth (formula_of root) },
     pub ghost bounded: { past_depth (formula_of root) < 4294967296 },
@@ -22,7 +22,7 @@ impl Formula {
     ghost use Rattle.ltl_meaning.specs.Lasso.{on, period};
 
     /// The formula of a node and all below it, or `None` where its past operators nest too deep.
-    pub fn new(root: Node) -> Option<Formula>
+    pub fn new(root: FormulaNode) -> Option<Formula>
         ensures fits { IsSome result ↔ (past_depth (formula_of root) < 2 ^ 32) }
         ensures value { IfSome result (λ f. f.root ≡ root) }
     {

@@ -4,7 +4,7 @@ ghost use Rattle.std.specs.Prelude.{◌≡◌, ◌<◌, min};
 ghost use Rattle.ltl_meaning.specs.Ltl.{past_unary, past_binary};
 ghost use Rattle.ltl_meaning.specs.Temporal.{formula_of, past_bounded, past_depth};
 
-use crate::node::{BinaryOperator, BoundedOperator, Node, UnaryOperator, Window};
+use crate::node::{BinaryOperator, BoundedOperator, FormulaNode, UnaryOperator, Window};
 
 // The least past height that is too large.
 pub const LIMIT: u64 = 1 << 32;
@@ -55,19 +55,21 @@ fn past_binary(operator: BinaryOperator) -> u64
 }
 
 // How deep past operators nest, or the limit where it is no less.
-pub fn capped_height(node: &Node) -> u64
+pub fn capped_height(node: &FormulaNode) -> u64
     ensures { result ≡ min (past_depth (formula_of node.now)) LIMIT }
 {
     match node {
-        Node::Constant(_) | Node::Atom(_) => 0,
-        Node::Unary(operator, operand) => {
+        FormulaNode::Constant(_) | FormulaNode::Atom(_) => 0,
+        FormulaNode::Unary(operator, operand) => {
             LIMIT.min(past_unary(*operator) + capped_height(operand.get()))
         }
-        Node::Bounded(operator, window, operand) => {
+        FormulaNode::Bounded(operator, window, operand) => {
             LIMIT.min(past_bounded(*operator, *window) + capped_height(operand.get()))
         }
-        Node::Implies(left, right) => capped_height(left.get()).max(capped_height(right.get())),
-        Node::Chain(first, links) => {
+        FormulaNode::Implies(left, right) => capped_height(left.get()).max(capped_height(
+            right.get(),
+        )),
+        FormulaNode::Chain(first, links) => {
             let mut height = capped_height(first.get());
             for link in links.as_slice() {
                 let inner = height.max(capped_height(&link.operand));

@@ -120,30 +120,34 @@ pub struct Link<E> {
 /// Functions over it call themselves once for each level of nesting, which callers keep to 2000, and
 /// go over the links of a chain in a loop, so a chain may be of any length.
 #[derive(Debug, Drop)]
-pub enum Node {
+pub enum FormulaNode {
     /// `TRUE` or `FALSE`.
     Constant(bool),
     /// An atom, by its number.
     Atom(usize),
     /// An operator and its operand.
-    Unary(UnaryOperator, Boxed<Node>),
+    Unary(UnaryOperator, Boxed<FormulaNode>),
     /// An operator with bounds and its operand.
-    Bounded(BoundedOperator, Window, Boxed<Node>),
+    Bounded(BoundedOperator, Window, Boxed<FormulaNode>),
     /// `->` between its sides: the one operator that groups to the right.
-    Implies(Boxed<Node>, Boxed<Node>),
+    Implies(Boxed<FormulaNode>, Boxed<FormulaNode>),
     /// Operators of one precedence level and their operands, read from left to right.
-    Chain(Boxed<Node>, Items<Link<Node>>),
+    Chain(Boxed<FormulaNode>, Items<Link<FormulaNode>>),
 }
 
-impl Node {
+impl FormulaNode {
     ghost use Rattle.std.specs.Prelude.{◌≡◌, IfOk};
     ghost use Rattle.ltl_meaning.specs.Temporal.{Temporal, formula_of, chain_of, links_of};
 
     /// An operator over its operand.
-    pub fn unary(alloc: Global, operator: UnaryOperator, operand: Node) -> Result<Node, AllocError>
+    pub fn unary(
+        alloc: Global,
+        operator: UnaryOperator,
+        operand: FormulaNode,
+    ) -> Result<FormulaNode, AllocError>
         ensures { IfOk result (λ n. formula_of n ≡ Temporal.Unary operator (formula_of operand)) }
     {
-        Ok(Node::Unary(operator, Boxed::new(alloc, operand)?))
+        Ok(FormulaNode::Unary(operator, Boxed::new(alloc, operand)?))
     }
 
     /// An operator with bounds over its operand.
@@ -151,25 +155,33 @@ impl Node {
         alloc: Global,
         operator: BoundedOperator,
         window: Window,
-        operand: Node,
-    ) -> Result<Node, AllocError>
+        operand: FormulaNode,
+    ) -> Result<FormulaNode, AllocError>
         ensures { IfOk result (λ n. formula_of n ≡ Temporal.Bounded operator window (formula_of operand)) }
     {
-        Ok(Node::Bounded(operator, window, Boxed::new(alloc, operand)?))
+        Ok(FormulaNode::Bounded(operator, window, Boxed::new(alloc, operand)?))
     }
 
     /// `left -> right`.
-    pub fn implies(alloc: Global, left: Node, right: Node) -> Result<Node, AllocError>
+    pub fn implies(
+        alloc: Global,
+        left: FormulaNode,
+        right: FormulaNode,
+    ) -> Result<FormulaNode, AllocError>
         ensures { IfOk result (λ n. formula_of n ≡ Temporal.Binary BinaryOperator.Implies (formula_of left) (formula_of right)) }
     {
         let left = Boxed::new(alloc, left)?;
-        Ok(Node::Implies(left, Boxed::new(alloc, right)?))
+        Ok(FormulaNode::Implies(left, Boxed::new(alloc, right)?))
     }
 
     /// A first operand and the links that follow it, read from left to right.
-    pub fn chain(alloc: Global, first: Node, links: Items<Link<Node>>) -> Result<Node, AllocError>
+    pub fn chain(
+        alloc: Global,
+        first: FormulaNode,
+        links: Items<Link<FormulaNode>>,
+    ) -> Result<FormulaNode, AllocError>
         ensures { IfOk result (λ n. formula_of n ≡ chain_of (formula_of first) (links_of links)) }
     {
-        Ok(Node::Chain(Boxed::new(alloc, first)?, links))
+        Ok(FormulaNode::Chain(Boxed::new(alloc, first)?, links))
     }
 }

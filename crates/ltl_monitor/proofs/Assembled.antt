@@ -13,7 +13,7 @@ use Rattle.ltl_monitor.specs.declared.draft.Scene.{Scene}
 use Rattle.ltl_monitor.specs.Monitor.{Each, rows}
 use Rattle.ltl_monitor.specs.States.{value, Extends}
 use Rattle.ltl_monitor.specs.Drafting.{place, moved, all_moved}
-use Rattle.ltl_monitor.specs.Assembly.{layout_of, scene_of, begun, assembled}
+use Rattle.ltl_monitor.specs.Assembly.{layout_of, scene_of, empty_draft, assembled}
 use Rattle.ltl_monitor.proofs.FromBits.{each_join}
 use Rattle.ltl_monitor.proofs.Clauses.{Met, met_parts, met_join, met_from, all_from, Lits, Below, Alike, each_all, all_each, each_more, lits_more, lits_all, all_lits, each_map_to, all, all_like, values_like, all_renamed, values_renamed, lits_renamed}
 use Rattle.ltl_monitor.proofs.Meaning.{before, after, map_append}
@@ -41,7 +41,7 @@ module _ (sys : TransitionSystem) (n : ℕ) (atoms : List Lit) (ok : IsSystem sy
   local_agrees : (a b : ℕ → Bool) → Agrees wide_bits a b → Agrees sys.state_bits (from_local a) (from_local b)
   local_agrees a b g v h = ap a (local_low p v h) ∙ g v (omega (arith, h)) ∙ sym (ap b (local_low p v h))
 
-  local_met : (v : ℕ → Bool) → Met v (begun p sys).defs → All (ClauseTrue (from_local v)) sys.defs
+  local_met : (v : ℕ → Bool) → Met v (empty_draft p sys).defs → All (ClauseTrue (from_local v)) sys.defs
   local_met v m = all_from (from_local v) sys.defs (sym (all_renamed v (place p Space.Local) sys.defs) ∙ m)
 
   -- the state x, where e gives what is defined
@@ -57,7 +57,7 @@ module _ (sys : TransitionSystem) (n : ℕ) (atoms : List Lit) (ok : IsSystem sy
         ap (put_in x e) (local_high p v h) ∙ no_ (v + n) wide_bits _ _ (omega (arith, h)) ∙ ap e k
   ]
 
-  begun_some : (x : ℕ → Bool) → (a : ℕ → Bool) × Agrees wide_bits a x × Met a (begun p sys).defs
+  begun_some : (x : ℕ → Bool) → (a : ℕ → Bool) × Agrees wide_bits a x × Met a (empty_draft p sys).defs
   unfolding put_in
   begun_some x =
       let e = given.extends x in
@@ -67,8 +67,8 @@ module _ (sys : TransitionSystem) (n : ℕ) (atoms : List Lit) (ok : IsSystem sy
         all_renamed (put_in x e.0) (place p Space.Local) sys.defs ∙ ap (λ u. all u sys.defs) same ∙ met_from e.0 sys.defs e.2,
       )
 
-  begun_one : (a b : ℕ → Bool) → Agrees wide_bits a b → Met a (begun p sys).defs → Met b (begun p sys).defs →
-      Lits (Alike a b) (begun p sys).defs × Each (Alike a b) (begun p sys).sets × Each (Alike a b) s.atoms
+  begun_one : (a b : ℕ → Bool) → Agrees wide_bits a b → Met a (empty_draft p sys).defs → Met b (empty_draft p sys).defs →
+      Lits (Alike a b) (empty_draft p sys).defs × Each (Alike a b) (empty_draft p sys).sets × Each (Alike a b) s.atoms
   begun_one a b g m k =
       let h = local_agrees a b g in
       let o = given.one_way (from_local a) (from_local b) h (local_met a m) (local_met b k) in
@@ -88,7 +88,7 @@ module _ (sys : TransitionSystem) (n : ℕ) (atoms : List Lit) (ok : IsSystem sy
       each_map_to (Below start_gate) (moved p Space.Local) ls
       (each_more (Below sys.all_bits) (λ l. Below start_gate (moved p Space.Local l)) (λ l lt. local_in p sys.all_bits l.var lt) ls (all_each (Below sys.all_bits) ls h))
 
-  pub begun_sound : Sound s (begun p sys)
+  pub begun_sound : Sound s (empty_draft p sys)
   begun_sound = record {
     room = omega (arith, ok.room);
     defs_in =
@@ -103,7 +103,7 @@ module _ (sys : TransitionSystem) (n : ℕ) (atoms : List Lit) (ok : IsSystem sy
   }
 
   -- a draft that goes on from the one of no formula
-  module _ (d : Draft) (sound : Sound s d) (later : Later s (begun p sys) d) where
+  module _ (d : Draft) (sound : Sound s d) (later : Later s (empty_draft p sys) d) where
     abbrev pub top : ℕ
     top = p.inner + 2 * (d.gate - wide_bits)
 

@@ -16,7 +16,7 @@ use Rattle.ltl_monitor.specs.States.{value, Extends}
 use Rattle.ltl_monitor.specs.Counter.{fires, MarkRows, at_least, CountRows}
 use Rattle.ltl_monitor.specs.Counted.{holds, marks, counts, signals, IsCounted}
 use Rattle.ltl_monitor.specs.Drafting.{place, moved, all_moved, plain, is_or, is_or_and, gate_added, row_added, Drafted}
-use Rattle.ltl_monitor.specs.Assembly.{layout_of, scene_of, begun, assembled}
+use Rattle.ltl_monitor.specs.Assembly.{layout_of, scene_of, empty_draft, assembled}
 use Rattle.ltl_monitor.specs.Counting.{bit, unset_added, fired, marked, counted_up, yes_added, counting, bad_of, good_of, counted_at, counted_of}
 use Rattle.ltl_monitor.proofs.FromBits.{each_join}
 use Rattle.ltl_monitor.proofs.Clauses.{all, Met, met_parts, met_join, met_more, met_one, met_from, all_from, value_negate, is_or_means, is_or_and_means, is_and_or_means, Lits, Below, Alike, values_renamed}
@@ -116,10 +116,10 @@ module _ (m : TransitionSystem) (k : ℕ) (ok : IsSystem m) where
   }
 
   abbrev pub yes : Drafted
-  yes = yes_added (begun p m)
+  yes = yes_added (empty_draft p m)
 
-  fired_gated : (j : ℕ) → j ≤ z → Gated s (begun p m) (fired p ls j yes).draft (fired p ls j yes).lit
-  fired_gated zero h = true_gate s (begun p m) (base.begun_sound m (z + k) [] ok none_in given)
+  fired_gated : (j : ℕ) → j ≤ z → Gated s (empty_draft p m) (fired p ls j yes).draft (fired p ls j yes).lit
+  fired_gated zero h = true_gate s (empty_draft p m) (base.begun_sound m (z + k) [] ok none_in given)
   fired_gated (suc j) h =
       let g = fired_gated j (omega (arith, h)) in
       let x : Drafted = fired p ls j yes in
@@ -128,14 +128,14 @@ module _ (m : TransitionSystem) (k : ℕ) (ok : IsSystem m) where
       let b = or_gate s e (negate x.lit) (negate (plain x.draft.gate)) a.sound
       (known_negate s e x.lit (known_later s x.draft e x.lit a.later g.known)) (known_negate s e (plain x.draft.gate) a.known) in record {
         sound = b.sound;
-        later = later_more s (begun p m) e _ (later_more s (begun p m) x.draft e g.later a.later) b.later;
+        later = later_more s (empty_draft p m) e _ (later_more s (empty_draft p m) x.draft e g.later a.later) b.later;
         known = known_negate s _ (plain e.gate) b.known;
       }
 
   abbrev pub x : Drafted
   x = fired p ls z yes
 
-  x_gated : Gated s (begun p m) x.draft x.lit
+  x_gated : Gated s (empty_draft p m) x.draft x.lit
   x_gated = fired_gated z (omega arith)
 
   -- one rule and that of an initial state
@@ -166,7 +166,7 @@ module _ (m : TransitionSystem) (k : ℕ) (ok : IsSystem m) where
   y = counted_up p z x.lit k start
 
   yes_known : Known s x.draft yes.lit
-  yes_known = known_later s yes.draft x.draft yes.lit (fired_later z) (true_gate s (begun p m) (base.begun_sound m (z + k) [] ok none_in given)).known
+  yes_known = known_later s yes.draft x.draft yes.lit (fired_later z) (true_gate s (empty_draft p m) (base.begun_sound m (z + k) [] ok none_in given)).known
     where
       fired_later : (j : ℕ) → Later s yes.draft (fired p ls j yes).draft
       fired_later zero = later_same s yes.draft
@@ -203,8 +203,8 @@ module _ (m : TransitionSystem) (k : ℕ) (ok : IsSystem m) where
   y_gated : Gated s x.draft d y.lit
   y_gated = counted_gated k (omega arith)
 
-  later : Later s (begun p m) d
-  later = later_more s (begun p m) x.draft d x_gated.later y_gated.later
+  later : Later s (empty_draft p m) d
+  later = later_more s (empty_draft p m) x.draft d x_gated.later y_gated.later
 
   pub room : wide_bits ≤ d.gate
   room = y_gated.sound.room
@@ -259,12 +259,12 @@ module _ (m : TransitionSystem) (k : ℕ) (ok : IsSystem m) where
       fired_back v j (met_parts v (fired p ls j yes).draft.defs _ (met_parts v ((fired p ls j yes).draft.defs ++ is_or (plain (fired p ls j yes).draft.gate) (bit p j) (at ls j)) _ h).0).0
 
   yes_value : (v : ℕ → Bool) → Met v x.draft.defs → value v yes.lit ≡ true
-  yes_value v h = (met_one v (plain (begun p m).gate)).0 (met_parts v (begun p m).defs _ (fired_back v z h)).1
+  yes_value v h = (met_one v (plain (empty_draft p m).gate)).0 (met_parts v (empty_draft p m).defs _ (fired_back v z h)).1
 
   -- the signal, by the marks and the literals of the sets
   fired_value : (v : ℕ → Bool) (j : ℕ) → Met v (fired p ls j yes).draft.defs →
       value v (fired p ls j yes).lit ≡ fires (λ i. v (m.state_bits + i)) (λ i. value v (at ls i)) j
-  fired_value v zero h = (met_one v (plain (begun p m).gate)).0 (met_parts v (begun p m).defs _ h).1
+  fired_value v zero h = (met_one v (plain (empty_draft p m).gate)).0 (met_parts v (empty_draft p m).defs _ h).1
   fired_value v (suc j) h =
       let t : Drafted = fired p ls j yes in
       let g : ℕ = t.draft.gate in

@@ -14,7 +14,7 @@ use Rattle.ltl_monitor.specs.declared.draft.Scene.{Scene}
 use Rattle.ltl_monitor.specs.Monitor.{Side, nodes, truth, rows, starts, Set, sets, all_sets}
 use Rattle.ltl_monitor.specs.States.{value, AtomsBelow, Extends, shown, numbers, justice_of, own_var, own_values, IsMonitor}
 use Rattle.ltl_monitor.specs.Drafting.{place, moved, all_moved, Drafted, drafted}
-use Rattle.ltl_monitor.specs.Assembly.{layout_of, scene_of, begun, assembled, draft_of, monitor_at, monitor_of}
+use Rattle.ltl_monitor.specs.Assembly.{layout_of, scene_of, empty_draft, assembled, draft_of, monitor_at, monitor_of}
 use Rattle.ltl_monitor.proofs.Clauses.{Met, met_parts, met_join, met_one, value_negate, Lits, Below, values_renamed}
 use Rattle.ltl_monitor.proofs.Meaning.{before, after, side, Means, means, map_append}
 use Rattle.ltl_monitor.proofs.Sound.{Sound, Later, Grown, grown, one_lits, start_move}
@@ -68,7 +68,7 @@ module _ (sys : TransitionSystem) (f : Ltl) (atoms : List Lit) (ok : IsSystem sy
       (omega (arith, length-append (map (moved p Space.Local) atoms) (map (moved p Space.Local) sys.fair), length-map atoms (moved p Space.Local))) below
 
   abbrev pub x : Drafted
-  x = drafted s f (begun p sys)
+  x = drafted s f (empty_draft p sys)
 
   abbrev pub root_clause : List (List Lit)
   root_clause = (negate x.lit ∷ []) ∷ []
@@ -76,16 +76,16 @@ module _ (sys : TransitionSystem) (f : Ltl) (atoms : List Lit) (ok : IsSystem sy
   abbrev pub d : Draft
   d = draft_of p sys f atoms
 
-  formula_grown : Grown s (wide sys (nodes f) atoms ok atoms_in given) f (begun p sys) x
-  formula_grown = grown s (wide sys (nodes f) atoms ok atoms_in given) f (begun p sys) scene_atoms (begun_sound sys (nodes f) atoms ok atoms_in given) (omega arith)
+  formula_grown : Grown s (wide sys (nodes f) atoms ok atoms_in given) f (empty_draft p sys) x
+  formula_grown = grown s (wide sys (nodes f) atoms ok atoms_in given) f (empty_draft p sys) scene_atoms (begun_sound sys (nodes f) atoms ok atoms_in given) (omega arith)
 
-  formula_means : Means s f (begun p sys) x
-  formula_means = means s f (begun p sys) scene_atoms
+  formula_means : Means s f (empty_draft p sys) x
+  formula_means = means s f (empty_draft p sys) scene_atoms
 
   pub sound : Sound s d
   sound = (start_move s x.draft root_clause formula_grown.sound (one_lits (λ v. v < x.draft.gate) (negate x.lit) formula_grown.known.below)).sound
 
-  later : Later s (begun p sys) d
+  later : Later s (empty_draft p sys) d
   later = record { gate = formula_grown.later.gate; back = formula_grown.later.back }
 
   pub room : wide_bits ≤ d.gate

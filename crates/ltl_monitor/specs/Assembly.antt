@@ -21,8 +21,8 @@ scene_of p sys atoms =
     record { layout = p; atoms = map (moved p Space.Local) atoms ++ map (moved p Space.Local) sys.fair }
 
 -- the draft of no formula
-abbrev pub begun : Layout → TransitionSystem → Draft
-begun p sys = record {
+abbrev pub empty_draft : Layout → TransitionSystem → Draft
+empty_draft p sys = record {
   node = 0;
   gate = sys.all_bits + p.nodes;
   defs = all_moved p Space.Local sys.defs;
@@ -48,7 +48,7 @@ assembled p sys bad good d = record {
 -- the draft of a formula that is false in the first state
 abbrev pub draft_of : Layout → TransitionSystem → Ltl → List Lit → Draft
 draft_of p sys f atoms =
-    let x = drafted (scene_of p sys atoms) f (begun p sys) in start_added ((negate x.lit ∷ []) ∷ []) x.draft
+    let x = drafted (scene_of p sys atoms) f (empty_draft p sys) in start_added ((negate x.lit ∷ []) ∷ []) x.draft
 
 -- the monitored system
 abbrev pub monitor_at : Layout → TransitionSystem → Ltl → List Lit → TransitionSystem

@@ -8,7 +8,7 @@ use Rattle.ltl_monitor.specs.declared.layout.Space.{Space}
 use Rattle.ltl_monitor.specs.declared.draft.Draft.{Draft}
 use Rattle.ltl_monitor.specs.declared.counting.Counting.{Counting}
 use Rattle.ltl_monitor.specs.Drafting.{moved, all_moved, plain, is_or, is_or_and, gate_added, row_added, start_added, Drafted}
-use Rattle.ltl_monitor.specs.Assembly.{layout_of, begun, assembled}
+use Rattle.ltl_monitor.specs.Assembly.{layout_of, empty_draft, assembled}
 
 -- bit j after the given ones, false at first
 abbrev pub bit : Layout → ℕ → Lit
@@ -68,7 +68,7 @@ yes_added d = record { draft = gate_added ((plain d.gate ∷ []) ∷ []) d; lit 
 abbrev pub counting : Layout → TransitionSystem → ℕ → Counting
 counting p m k =
     let ls = map (moved p Space.Local) m.fair in
-    let yes = yes_added (begun p m) in
+    let yes = yes_added (empty_draft p m) in
     let x = fired p ls (length m.fair) yes in
     let y = counted_up p (length m.fair) x.lit k record { draft = marked p x.lit ls (length m.fair) x.draft; lit = yes.lit } in
     record { draft = y.draft; signal = x.lit; full = y.lit }

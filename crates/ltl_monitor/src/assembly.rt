@@ -3,7 +3,7 @@
 ghost use Rattle.std.specs.Prelude.{◌≡◌, ◌+◌, ◌-◌, ◌*◌, ◌++◌, ◌≤◌, List, map, IfOk, OnOk};
 ghost use Rattle.clause_core.specs.declared.literal.Lit.{Lit};
 ghost use Rattle.clause_core.specs.Systems.{IsSystem};
-ghost use Rattle.ltl_monitor.specs.Assembly.{layout_of, scene_of, begun, assembled};
+ghost use Rattle.ltl_monitor.specs.Assembly.{layout_of, scene_of, empty_draft, assembled};
 ghost use Rattle.ltl_monitor.specs.declared.layout.Space.{Space};
 ghost use Rattle.ltl_monitor.specs.Drafting.{moved, all_moved};
 
@@ -38,7 +38,7 @@ pub fn scene(
 }
 
 pub fn begin(alloc: Global, layout: &Layout, system: &System) -> Result<Draft, AllocError>
-    ensures { IfOk result (λ d. d ≡ begun layout.now system.now) }
+    ensures { IfOk result (λ d. d ≡ empty_draft layout.now system.now) }
 {
     let mut defs = Clauses::new(alloc);
     layout.copy(alloc, Space::Local, system.defs(), &mut defs)?;

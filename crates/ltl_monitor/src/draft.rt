@@ -13,7 +13,7 @@ ghost use Rattle.ltl_monitor.specs.Drafting.{unary_rules, binary_rules, gate_add
 use crate::layout::{Both, Layout, sum};
 use crate::rules::{push_and, push_and_or, push_iff, push_or, push_or_and, push_same};
 use clause_core::{Clauses, Lit};
-use ltl_meaning::node::{BinaryOperator, BoundedOperator, Node, UnaryOperator, Window};
+use ltl_meaning::node::{BinaryOperator, BoundedOperator, FormulaNode, UnaryOperator, Window};
 use sqlite_items::Items;
 use std::alloc::AllocError;
 
@@ -307,7 +307,7 @@ impl Draft {
     }
 
     // Adds a formula, and that it is false in the first state.
-    pub fn deny(&mut self, scene: &Scene, node: &Node) -> Result<(), AllocError>
+    pub fn deny(&mut self, scene: &Scene, node: &FormulaNode) -> Result<(), AllocError>
         ensures { OnOk result (self.new ≡ (let x = drafted scene.now (unfolded (formula_of node.now)) self.old in start_added ((negate x.lit ∷ []) ∷ []) x.draft)) }
     {
         let whole = self.add(scene, node)?;
@@ -357,26 +357,26 @@ impl Draft {
     }
 
     // Adds a formula, operands first, and gives its literal.
-    fn add(&mut self, scene: &Scene, node: &Node) -> Result<Lit, AllocError>
+    fn add(&mut self, scene: &Scene, node: &FormulaNode) -> Result<Lit, AllocError>
         ensures { IfOk result (λ l. record { draft = self.new; lit = l } ≡ drafted scene.now (unfolded (formula_of node.now)) self.old) }
     {
         match node {
-            Node::Constant(value) => self.constant(*value),
-            Node::Atom(number) => Ok(scene.atom(*number)),
-            Node::Unary(operator, operand) => {
+            FormulaNode::Constant(value) => self.constant(*value),
+            FormulaNode::Atom(number) => Ok(scene.atom(*number)),
+            FormulaNode::Unary(operator, operand) => {
                 let operand = self.add(scene, operand.get())?;
                 self.unary(&scene.layout, *operator, operand)
             }
-            Node::Bounded(operator, window, operand) => {
+            FormulaNode::Bounded(operator, window, operand) => {
                 let operand = self.add(scene, operand.get())?;
                 self.bounded(&scene.layout, *operator, *window, operand)
             }
-            Node::Implies(left, right) => {
+            FormulaNode::Implies(left, right) => {
                 let left = self.add(scene, left.get())?;
                 let right = self.add(scene, right.get())?;
                 self.binary(&scene.layout, BinaryOperator::Implies, left, right)
             }
-            Node::Chain(first, links) => {
+            FormulaNode::Chain(first, links) => {
                 let mut all = self.add(scene, first.get())?;
                 for link in links.as_slice() {
                     let operand = self.add(scene, &link.operand)?;

@@ -18,7 +18,7 @@ use crate::layout::{Layout, Space, sum};
 use crate::monitored_system::Monitored;
 use clause_core::{Lit, System};
 use ltl_meaning::formula::Formula;
-use ltl_meaning::node::{BinaryOperator, Node};
+use ltl_meaning::node::{BinaryOperator, FormulaNode};
 use std::alloc::{AllocError, Global};
 
 /// The system with the monitor of a formula beside it, where the formula is false at first.
@@ -70,18 +70,18 @@ pub fn atoms_below(formula: &Formula, bound: usize) -> bool
     are_below(&formula.root, bound)
 }
 
-fn are_below(node: &Node, bound: usize) -> bool
+fn are_below(node: &FormulaNode, bound: usize) -> bool
     ensures { IsTrue result ↔ AtomsBelow bound (unfolded (formula_of node.now)) }
 {
     match node {
-        Node::Constant(_) => true,
-        Node::Atom(number) => *number < bound,
-        Node::Unary(_, operand) => are_below(operand.get(), bound),
-        Node::Bounded(_, _, operand) => are_below(operand.get(), bound),
-        Node::Implies(left, right) => {
+        FormulaNode::Constant(_) => true,
+        FormulaNode::Atom(number) => *number < bound,
+        FormulaNode::Unary(_, operand) => are_below(operand.get(), bound),
+        FormulaNode::Bounded(_, _, operand) => are_below(operand.get(), bound),
+        FormulaNode::Implies(left, right) => {
             are_below(left.get(), bound) && are_below(right.get(), bound)
         }
-        Node::Chain(first, links) => {
+        FormulaNode::Chain(first, links) => {
             let mut all = are_below(first.get(), bound);
             for link in links.as_slice() {
                 all = are_below(&link.operand, bound) && all;
@@ -122,20 +122,23 @@ fn deny(
 }
 
 // How many temporal operators there are.
-fn count_nodes(node: &Node) -> Result<usize, AllocError>
+fn count_nodes(node: &FormulaNode) -> Result<usize, AllocError>
     ensures { IfOk result (λ n. n ≡ nodes (unfolded (formula_of node.now))) }
 {
     match node {
-        Node::Constant(_) | Node::Atom(_) => Ok(0),
-        Node::Unary(operator, operand) => sum(count_nodes(operand.get())?, unary_bits(*operator)),
-        Node::Bounded(_, window, operand) => {
+        FormulaNode::Constant(_) | FormulaNode::Atom(_) => Ok(0),
+        FormulaNode::Unary(operator, operand) => sum(
+            count_nodes(operand.get())?,
+            unary_bits(*operator),
+        ),
+        FormulaNode::Bounded(_, window, operand) => {
             sum(count_nodes(operand.get())?, window.high as usize)
         }
-        Node::Implies(left, right) => {
+        FormulaNode::Implies(left, right) => {
             let left = count_nodes(left.get())?;
             count_joined(left, BinaryOperator::Implies, count_nodes(right.get())?)
         }
-        Node::Chain(first, links) => {
+        FormulaNode::Chain(first, links) => {
             let mut all = count_nodes(first.get())?;
             for link in links.as_slice() {
                 all = count_joined(all, link.operator, count_nodes(&link.operand)?)?;

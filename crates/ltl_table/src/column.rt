@@ -10,7 +10,7 @@ ghost use Rattle.ltl_table.specs.Columns.{at, Tells, unary_value, binary_value};
 
 use crate::constant::constant;
 use crate::operators::{binary, unary};
-use ltl_meaning::node::{BinaryOperator, BoundedOperator, Node, UnaryOperator, Window};
+use ltl_meaning::node::{BinaryOperator, BoundedOperator, FormulaNode, UnaryOperator, Window};
 use ltl_meaning::word::Word;
 use std::alloc::{AllocError, Global};
 
@@ -130,7 +130,7 @@ pub fn column(
     passes: usize,
     start: usize,
     n: usize,
-    node: &Node,
+    node: &FormulaNode,
 ) -> Result<Vec<bool>, AllocError>
     requires deep { past_height (unfolded (formula_of node.now)) ≤ passes }
     requires low { start ≡ word.now.start + passes * period word.now }
@@ -138,25 +138,25 @@ pub fn column(
     ensures { IfOk result (λ c. Tells c.items n (Satisfies (on word.now) (unfolded (formula_of node.now)))) }
 {
     match node {
-        Node::Constant(value) => constant(alloc, *value, n),
-        Node::Atom(number) => atom(alloc, word, n, *number),
-        Node::Unary(operator, operand) => {
+        FormulaNode::Constant(value) => constant(alloc, *value, n),
+        FormulaNode::Atom(number) => atom(alloc, word, n, *number),
+        FormulaNode::Unary(operator, operand) => {
             let of = column(alloc, word, passes, start, n, operand.get())?;
             let whole = over(alloc, *operator, of, start)?;
             Ok(whole)
         }
-        Node::Bounded(operator, window, operand) => {
+        FormulaNode::Bounded(operator, window, operand) => {
             let of = column(alloc, word, passes, start, n, operand.get())?;
             let whole = bounded(alloc, word, passes, start, n, *operator, *window, of)?;
             Ok(whole)
         }
-        Node::Implies(left, right) => {
+        FormulaNode::Implies(left, right) => {
             let from = column(alloc, word, passes, start, n, left.get())?;
             let to = column(alloc, word, passes, start, n, right.get())?;
             let whole = joined(alloc, BinaryOperator::Implies, from, to, start)?;
             Ok(whole)
         }
-        Node::Chain(first, links) => {
+        FormulaNode::Chain(first, links) => {
             let mut so_far = column(alloc, word, passes, start, n, first.get())?;
             for link in links.as_slice() {
                 let right = column(alloc, word, passes, start, n, &link.operand)?;

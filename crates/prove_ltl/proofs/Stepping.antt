@@ -11,7 +11,7 @@ use Rattle.cert_core.specs.Certificates.{Certifies}
 use Rattle.cert_make.specs.Paying.{PartQuery}
 use Rattle.sat_core.specs.Paying.{tickets_in}
 use Rattle.frame_core.specs.declared.parts.Lemma.{Lemma}
-use Rattle.frame_core.specs.declared.outcomes.Verdict.TheVariants.{Invariant, Reached}
+use Rattle.frame_core.specs.declared.outcomes.FramesVerdict.TheVariants.{Invariant, Reached}
 use Rattle.frame_core.specs.FrameLaw.{FrameState, FramesHold, system_at, obligation_at, LeadsToBad}
 use Rattle.frame_core.specs.Changes.{VerdictSays}
 use Rattle.frame_history.specs.declared.entries.Limits.{Limits}

@@ -4,7 +4,7 @@ use Rattle.clause_core.specs.Systems.{TransitionSystem}
 use Rattle.frame_claims.specs.Lists.{ArePaid}
 use Rattle.frame_claims.specs.Paying.{ClaimQuery}
 use Rattle.frame_core.specs.declared.parts.Lemma.{Lemma}
-use Rattle.frame_core.specs.declared.outcomes.Verdict.TheVariants.{Reached}
+use Rattle.frame_core.specs.declared.outcomes.FramesVerdict.TheVariants.{Reached}
 use Rattle.frame_core.specs.FrameLaw.{FrameState}
 use Rattle.frame_core.specs.Changes.{VerdictSays}
 use Rattle.frame_history.specs.declared.entries.Limits.{Limits}

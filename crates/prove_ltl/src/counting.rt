@@ -2,14 +2,14 @@
 
 ghost use Rattle.std.specs.Prelude.{◌≡◌, ◌≤◌, ◌<◌, Some, length, IfOk};
 ghost use Rattle.cert_core.specs.declared.form.TheConstants.{MAX_COUNTER};
-ghost use Rattle.frame_core.specs.declared.outcomes.Verdict.TheVariants.{Invariant};
+ghost use Rattle.frame_core.specs.declared.outcomes.FramesVerdict.TheVariants.{Invariant};
 ghost use Rattle.frame_core.specs.Changes.{VerdictSays};
 ghost use Rattle.prove_ltl.specs.Climbing.{ClimbsBy, Shows, cause_of, spent_cause};
 
 use crate::answers::{LtlAnswer, LtlCause, LtlDone};
 use crate::effort::LtlEffort;
 use effort_purse::Purse;
-use frame_core::{Frames, Verdict};
+use frame_core::{Frames, FramesVerdict};
 use frame_history::Entry;
 use ltl_lassos::absence_of_violations::counted_systems;
 use ltl_monitor::Monitored;
@@ -100,11 +100,11 @@ pub(crate) fn climbed_by<'a, Q: Purse>(
     counted_systems();
     work.push(Work { history })?;
     match frames.verdict(0) {
-        Some(Verdict::Invariant(level)) => {
+        Some(FramesVerdict::Invariant(level)) => {
             let answer = shown(alloc, &frames, level, k, effort, purse)?;
             Ok(Climbed::Done(LtlDone { answer, work }))
         }
-        Some(Verdict::Reached(_)) => {
+        Some(FramesVerdict::Reached(_)) => {
             if k < effort.counter {
                 return Ok(Climbed::Passed(frames, work));
             }

@@ -11,7 +11,7 @@ use crate::effort::LtlEffort;
 use crate::searching::violating;
 use clause_core::{Bits, Clauses, Lit, System};
 use effort_purse::{PlainPurse, Purse};
-use frame_core::{BitRun, Frames, Verdict};
+use frame_core::{BitRun, Frames, FramesVerdict};
 use frame_history::Limits;
 use frame_worker::Explored;
 use lasso_search::lasso_along;
@@ -161,7 +161,7 @@ fn way_to_bad<R: Wait, G: Gate>(
     let mut purse = PlainPurse::new(LOOK);
     let (frames, verdict) = explore_one(rt, alloc, frames, effort, &mut purse, gate)?;
     match verdict {
-        Some(Verdict::Reached(n)) => {
+        Some(FramesVerdict::Reached(n)) => {
             let run = frames.run_of(alloc, n)?;
             Ok(Some(run))
         }
@@ -177,7 +177,7 @@ pub(crate) fn explore_one<'a, R: Wait, Q: Purse, G: Gate>(
     effort: &LtlEffort,
     purse: &mut Q,
     gate: &G,
-) -> Result<(Frames<'a>, Option<Verdict>), AllocError>
+) -> Result<(Frames<'a>, Option<FramesVerdict>), AllocError>
     requires obligations { frames.obligations ≡ [] }
     requires tops { frames.tops ≡ replicate (length frames.systems) 0 }
     requires some { 0 < length frames.systems }

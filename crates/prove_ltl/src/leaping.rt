@@ -17,7 +17,7 @@ use crate::following::{explore_one, follow};
 use crate::known::is_unknown;
 use clause_core::System;
 use effort_purse::Purse;
-use frame_core::{Frames, Verdict};
+use frame_core::{Frames, FramesVerdict};
 use ltl_lassos::absence_of_violations::counted_systems;
 use ltl_monitor::monitor_correctness::counters;
 use ltl_monitor::{Monitored, counted};
@@ -191,7 +191,7 @@ fn count<'a, R: Wait, Q: Purse, G: Gate>(
 {
     let (frames, verdict) = explore_one(rt, alloc, frames, effort, purse, gate)?;
     match verdict {
-        Some(Verdict::Invariant(level)) => {
+        Some(FramesVerdict::Invariant(level)) => {
             system.law();
             monitored.system.law();
             counted_systems();
@@ -204,7 +204,7 @@ fn count<'a, R: Wait, Q: Purse, G: Gate>(
                 work: Vec::new(alloc),
             }))
         }
-        Some(Verdict::Reached(n)) => {
+        Some(FramesVerdict::Reached(n)) => {
             let run = frames.run_of(alloc, n)?;
             let mut course = Course::of(alloc, monitored, &run, k)?;
             match follow(

@@ -11,7 +11,7 @@ use Rattle.clause_core.specs.Systems.{TransitionSystem}
 use Rattle.cert_core.specs.Blocks.{Block}
 use Rattle.cert_core.specs.Certificates.{Certifies}
 use Rattle.cert_make.specs.Paying.{PartQuery, PaysParts, PaysOpen}
-use Rattle.frame_core.specs.declared.outcomes.Verdict.TheVariants.{Invariant}
+use Rattle.frame_core.specs.declared.outcomes.FramesVerdict.TheVariants.{Invariant}
 use Rattle.frame_core.specs.FrameLaw.{FrameState, system_at, no_system}
 use Rattle.frame_core.specs.Changes.{VerdictSays}
 use Rattle.prove_run.specs.declared.answers.Answer.{Answer}

@@ -20,7 +20,7 @@ use Rattle.cert_core.specs.Certificates.{Certifies}
 use Rattle.cert_check.specs.Judgements.{FailsFirst, IsFarAt}
 use Rattle.cert_make.specs.Paying.{PartQuery, IsOfPart, PaysParts, LeavesOpen}
 use Rattle.cert_make.proofs.Pairs.{pairs_join, pairs_map}
-use Rattle.frame_core.specs.declared.outcomes.Verdict.TheVariants.{Invariant}
+use Rattle.frame_core.specs.declared.outcomes.FramesVerdict.TheVariants.{Invariant}
 use Rattle.frame_core.specs.FrameLaw.{FrameState, system_at}
 use Rattle.frame_core.specs.Changes.{VerdictSays}
 use Rattle.prove_run.specs.Certifying.{CertQuery, IsOfCertificate, DifferInPart, PaysCertificates, LacksPart, clauses_above, queries_of}

@@ -15,7 +15,7 @@ use Rattle.frame_history.proofs.Keeping.{holds_at_start, same_systems}
 use Rattle.frame_history.proofs.Waiting.{holds_all, some_is_out}
 use Rattle.frame_query.specs.Findings.{SolverView, IsOlder}
 use Rattle.frame_solver.specs.Paying.{AskedQuery, Pays}
-use Rattle.frame_book.specs.declared.claim.Outcome.{Outcome}
+use Rattle.frame_book.specs.declared.claim.ClaimOutcome.{ClaimOutcome}
 use Rattle.frame_book.specs.Claims.{ClaimView, IsOfSubject, IsOutHere}
 use Rattle.frame_book.specs.Outcomes.{IsOutcomeOf}
 use Rattle.frame_book.specs.Book.{BookView, IsBook, SettlesBy, entered}
@@ -84,7 +84,7 @@ module _ (old : List ℕ) (b : BookView) (c : ClaimView) (v : SolverView) (ticke
   target : IsOfSubject b.state.frames c.subject c.values c.clause
   target = subst (λ (f : FrameState). IsOfSubject f c.subject c.values c.clause) (sym same_frames) t.claims.5
 
-  pub taken_asked : (w : SolverView) (later : Bool) (o : Outcome) → IsUpToDate b.state.frames w → AnswersClaim w c c.subject later o → IsAsked b.state.frames c later o
+  pub taken_asked : (w : SolverView) (later : Bool) (o : ClaimOutcome) → IsUpToDate b.state.frames w → AnswersClaim w c c.subject later o → IsAsked b.state.frames c later o
   taken_asked w later o up answer =
       let f : FrameState = b.state.frames in
       let there = subst (λ (z : FrameState). IsThere z c.subject) (sym same_frames) (there_by t.earlier.limits t.earlier.state c.subject c.level t.claims.0.task) in
@@ -125,7 +125,7 @@ EndsAll claims n void = (m : ℕ) (c : Made) → claim_at (set claims n (ended v
 abbrev pub with_claim : BookView → ClaimView → BookView
 with_claim e c = entered e (Claim 0 c.subject c.level)
 
-pub turned : (old : List ℕ) (e : BookView) (c : ClaimView) (v w : SolverView) (before after : List ℕ) (over later : Bool) (o : Outcome) (entry : Entry) →
+pub turned : (old : List ℕ) (e : BookView) (c : ClaimView) (v w : SolverView) (before after : List ℕ) (over later : Bool) (o : ClaimOutcome) (entry : Entry) →
     IsPlayed old e v before over → IsLawfulClaim e.limits e.state c.subject c.level → c.number ≡ length e.history → IsAsked e.state.frames c later o →
     PaysClaim e.state.frames c v.known w.known before after → w.systems ≡ v.systems → w.lemmas ≡ e.state.frames.lemmas →
     SettlesBy (with_claim e c) c o entry → IsBook (entered (with_claim e c) entry) → IsPlayed old (entered (with_claim e c) entry) w after later
@@ -181,7 +181,7 @@ turned old e c v w before after over later o (Settle worker n changes) h lawful 
     }
 
 -- the same of a task that was taken and a book that is the later one now
-pub went_on : (old : List ℕ) (b now : BookView) (c : ClaimView) (v w : SolverView) (before after : List ℕ) (over later : Bool) (o : Outcome) → IsTaken old b c v before over →
+pub went_on : (old : List ℕ) (b now : BookView) (c : ClaimView) (v w : SolverView) (before after : List ℕ) (over later : Bool) (o : ClaimOutcome) → IsTaken old b c v before over →
     IsAsked b.state.frames c later o → PaysClaim b.state.frames c v.known w.known before after → w.systems ≡ v.systems →
     w.lemmas ≡ b.state.frames.lemmas → IsSettled b c o now → IsBook now → IsPlayed old now w after later
 went_on old b now c v w before after over later o t asked paid systems lemmas settled book =

@@ -9,7 +9,7 @@ use Rattle.clause_core.specs.Assignments.{ClauseTrue}
 use Rattle.clause_core.specs.Systems.{TransitionSystem}
 use Rattle.cert_core.specs.Certificates.{IsInvariant}
 use Rattle.frame_core.specs.declared.parts.Lemma.{Lemma}
-use Rattle.frame_core.specs.declared.outcomes.Verdict.TheVariants.{Invariant, Reached}
+use Rattle.frame_core.specs.declared.outcomes.FramesVerdict.TheVariants.{Invariant, Reached}
 use Rattle.frame_core.specs.FrameLaw.{FrameState, FramesHold, LemmasHold, MeetsFrom, lemma_at, system_at}
 use Rattle.frame_core.specs.FrameLaw.{IsInvariant as IsFrameInvariant}
 use Rattle.frame_core.specs.Changes.{VerdictSays}

@@ -5,7 +5,7 @@ use Rattle.sat_core.specs.Paying.{Query, IsPaidLog}
 use Rattle.cert_core.specs.declared.form.Part.{Part}
 use Rattle.cert_make.specs.Paying.{PartQuery, IsOfPart, IsWanted}
 use Rattle.frame_core.specs.declared.parts.Lemma.{Lemma}
-use Rattle.frame_core.specs.declared.outcomes.Verdict.TheVariants.{Invariant}
+use Rattle.frame_core.specs.declared.outcomes.FramesVerdict.TheVariants.{Invariant}
 use Rattle.frame_core.specs.FrameLaw.{FrameState, system_at}
 use Rattle.frame_core.specs.Changes.{VerdictSays}
 

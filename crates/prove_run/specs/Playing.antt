@@ -5,7 +5,7 @@ use Rattle.frame_history.specs.declared.entries.Entry.{Entry}
 use Rattle.frame_history.specs.History.{start, claim_at}
 use Rattle.frame_query.specs.Findings.{SolverView, IsOlder}
 use Rattle.frame_book.specs.declared.claim.Claiming.TheVariants.{Task}
-use Rattle.frame_book.specs.declared.claim.Outcome.{Outcome}
+use Rattle.frame_book.specs.declared.claim.ClaimOutcome.{ClaimOutcome}
 use Rattle.frame_book.specs.Claims.{ClaimView}
 use Rattle.frame_book.specs.Book.{BookView, IsBook, Claims, SettlesBy, entered}
 use Rattle.frame_claims.specs.Paying.{ClaimQuery, IsPaidRun}
@@ -29,5 +29,5 @@ pub record IsTaken (old : List ℕ) (b : BookView) (c : ClaimView) (v : SolverVi
   pub claims : Claims earlier 0 (Task c) b
 
 -- the claim was settled by this outcome
-abbrev pub IsSettled : BookView → ClaimView → Outcome → BookView → Type 0
+abbrev pub IsSettled : BookView → ClaimView → ClaimOutcome → BookView → Type 0
 IsSettled b c o now = (e : Entry) × SettlesBy b c o e × (now ≡ entered b e)

@@ -5,7 +5,7 @@ ghost use Rattle.std.specs.Option.{ForSome};
 ghost use Rattle.clause_core.specs.Literals.{Within};
 ghost use Rattle.cert_core.specs.declared.form.TheConstants.{MAX_COUNTER};
 ghost use Rattle.cert_core.specs.Certificates.{IsInvariant};
-ghost use Rattle.frame_core.specs.declared.outcomes.Verdict.TheVariants.{Invariant};
+ghost use Rattle.frame_core.specs.declared.outcomes.FramesVerdict.TheVariants.{Invariant};
 ghost use Rattle.frame_core.specs.Changes.{VerdictSays};
 ghost use Rattle.frame_core.specs.FrameLaw.{system_at};
 ghost use Rattle.prove_run.specs.Answers.{AnswersNext, AreAnswered, CertifySays, cause_of, spent_cause};
@@ -13,12 +13,12 @@ ghost use Rattle.prove_run.specs.Certifying.{clauses_above};
 
 use crate::answers::{Answer, Cause};
 use crate::effort::Effort;
-use cert_check::{Verdict as Judgement, check};
+use cert_check::{CertVerdict, check};
 use cert_core::Certificate;
 use cert_make::{Made, make};
 use clause_core::{Clauses, System};
 use effort_purse::Purse;
-use frame_core::{Frames, Lemmas, Verdict};
+use frame_core::{Frames, FramesVerdict, Lemmas};
 use std::alloc::{AllocError, Global};
 
 // The clauses of the live lemmas of greater levels.
@@ -58,8 +58,8 @@ fn certify<Q: Purse>(
         Made::Certificate(mut cert) => {
             cert.set_counter(counter);
             match check(alloc, system, &cert)? {
-                Judgement::Yes => Ok(Some(cert)),
-                Judgement::No { .. } => unreachable!(),
+                CertVerdict::Yes => Ok(Some(cert)),
+                CertVerdict::No { .. } => unreachable!(),
             }
         }
     }
@@ -166,8 +166,10 @@ fn answer_of<Q: Purse>(
     ensures budget { Q.budget purse.new ≡ Q.budget purse.old }
 {
     match frames.verdict(j) {
-        Some(Verdict::Invariant(level)) => { shown(alloc, frames, j, level, effort, spent, purse) }
-        Some(Verdict::Reached(n)) => {
+        Some(FramesVerdict::Invariant(level)) => {
+            shown(alloc, frames, j, level, effort, spent, purse)
+        }
+        Some(FramesVerdict::Reached(n)) => {
             let run = frames.run_of(alloc, n)?;
             Ok(Answer::False(run))
         }

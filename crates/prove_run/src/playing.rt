@@ -10,7 +10,7 @@ ghost use Rattle.frame_book.specs.Outcomes.{IsOutcomeOf};
 ghost use Rattle.prove_run.specs.Playing.{IsPlayed, IsSettled, IsTaken};
 
 use effort_purse::Purse;
-use frame_book::{Book, Claim, Claiming, Outcome, Settling, Unsettled};
+use frame_book::{Book, Claim, ClaimOutcome, Claiming, Settling, Unsettled};
 use frame_claims::ask;
 use frame_core::Frames;
 use frame_query::FrameSolver;
@@ -105,7 +105,7 @@ fn ask_newest<'a, L: Ledger, B: Begun, Q: Purse>(
     solver: &mut FrameSolver<'a>,
     claim: &Claim,
     purse: &mut Q,
-) -> Result<Outcome<'a>, AllocError>
+) -> Result<ClaimOutcome<'a>, AllocError>
     requires taken { IsTaken B.before book.now claim.now solver.old (Q.tickets purse.old) (Q.spent purse.old) }
     requires ready { Q.ready purse.old }
     ensures answer { IfOk result (IsAsked book.now.state.frames claim.now (Q.spent purse.new)) }
@@ -136,7 +136,7 @@ fn settle<'a, L: Ledger>(
     book: &mut Book<'a, L>,
     share: &mut Share<L>,
     claim: Claim,
-    outcome: Outcome<'a>,
+    outcome: ClaimOutcome<'a>,
 ) -> Result<(), AllocError>
     requires out { IsOutHere book.old.state claim }
     requires outcome { IsOutcomeOf book.old.systems claim claim.subject outcome }

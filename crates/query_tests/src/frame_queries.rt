@@ -9,7 +9,7 @@ ghost use Rattle.frame_solver.specs.Firsts.{AllFirstsMeet};
 
 use clause_core::{Bits, Clause, Clauses, Lit, System, is_within};
 use effort_purse::PlainPurse;
-use frame_core::{Found, Lemmas, Proved, Step};
+use frame_core::{Lemmas, Proved, StateWitness, Step};
 use frame_query::{Bads, Firsts, FrameSolver, Generalised, Noted, Relative};
 use std::alloc::{AllocError, Global};
 use std::slice::from_ref;
@@ -165,7 +165,7 @@ fn if_counted(parents: usize, row: &Row, answer: char) -> char {
     if parents == row.9 { answer } else { OTHER }
 }
 
-fn told_of_found(found: &Found, row: &Row) -> char {
+fn told_of_found(found: &StateWitness, row: &Row) -> char {
     if found.is_first() {
         if_shown(found.values(), row, 'i')
     } else {

@@ -6,8 +6,8 @@ use Rattle.clause_core.specs.Propagation.{AllFalse, UnitIn}
 use Rattle.clause_core.specs.Derivations.{EndsEmpty}
 use Rattle.clause_core.specs.Values.{holds, code}
 use Rattle.hinted_log.specs.Hints.{HintedLog, IsOpen, StepHinted, AllHintedBelow, Refutes}
-use Rattle.rup_check.specs.declared.checking.Verdict.{Verdict}
-use Rattle.rup_check.specs.declared.checking.Verdict.TheVariants.{Yes, No}
+use Rattle.rup_check.specs.declared.checking.LogVerdict.{LogVerdict}
+use Rattle.rup_check.specs.declared.checking.LogVerdict.TheVariants.{Yes, No}
 
 -- a clause of one literal for each of these
 abbrev pub units_of : List Lit → List (List Lit)
@@ -78,6 +78,6 @@ HintsFailFirstAt vars cs log step =
     × (((step < length log.steps) × (StepHinted vars cs log step → ⊥)) ⊎ ((step ≡ length log.steps) × (EndsEmpty log.steps → ⊥)))
 
 -- Yes: each step follows by its hints, and the last is empty; No: it fails first at that step
-abbrev pub HintedVerdict : ℕ → List (List Lit) → HintedLog → Verdict → Type 0
+abbrev pub HintedVerdict : ℕ → List (List Lit) → HintedLog → LogVerdict → Type 0
 HintedVerdict vars cs log Yes = Refutes vars cs log
 HintedVerdict vars cs log (No step) = HintsFailFirstAt vars cs log step

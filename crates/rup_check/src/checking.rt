@@ -20,7 +20,7 @@ use std::marker::Model;
 
 /// What a check says of a log.
 #[derive(Clone, Copy, PartialEq, Eq, Debug)]
-pub enum Verdict {
+pub enum LogVerdict {
     /// Each step follows, and the last is the empty clause.
     Yes,
     /// This is the first step that does not follow; or, with the log's length, its last step is not empty
@@ -80,7 +80,7 @@ impl Checker {
     /// left to set. So its time grows with the product of the log's length and the number of all clauses,
     /// times the rounds. These are about ten a step on logs of real solvers: some seconds for ten thousand
     /// steps over a thousand clauses.
-    pub fn check(&mut self, clauses: &Clauses, log: &Log) -> Verdict
+    pub fn check(&mut self, clauses: &Clauses, log: &Log) -> LogVerdict
         requires { All (Within self.old) clauses.now }
         ensures vars { self.new ≡ self.old }
         ensures says { VerdictSays self.old clauses.now log.now result }
@@ -97,7 +97,7 @@ impl Checker {
     ///
     /// Takes no memory. Its time is that of a few looks at each literal of the steps and of the clauses
     /// that they name.
-    pub fn check_hinted(&mut self, clauses: &Clauses, log: &Hinted) -> Verdict
+    pub fn check_hinted(&mut self, clauses: &Clauses, log: &Hinted) -> LogVerdict
         requires { All (Within self.old) clauses.now }
         ensures vars { self.new ≡ self.old }
         ensures says { HintedVerdict self.old clauses.now log.now result }
@@ -179,7 +179,12 @@ impl Checker {
 
     /// The same as `check_hinted` from the clauses with a clause of one literal for each of the units behind them,
     /// numbered through.
-    pub fn check_hinted_with(&mut self, clauses: &Clauses, units: &[Lit], log: &Hinted) -> Verdict
+    pub fn check_hinted_with(
+        &mut self,
+        clauses: &Clauses,
+        units: &[Lit],
+        log: &Hinted,
+    ) -> LogVerdict
         requires clauses { All (Within self.old) clauses.now }
         requires units { Within self.old units.now }
         ensures vars { self.new ≡ self.old }
@@ -189,7 +194,7 @@ impl Checker {
     }
 }
 
-fn check_log(values: &mut [u8], clauses: &Clauses, log: &Log) -> Verdict
+fn check_log(values: &mut [u8], clauses: &Clauses, log: &Log) -> LogVerdict
     requires { All (Within (length values.old)) clauses.now }
     ensures { VerdictSays (length values.old) clauses.now log.now result }
 {
@@ -197,17 +202,17 @@ fn check_log(values: &mut [u8], clauses: &Clauses, log: &Log) -> Verdict
     for k in 0..n {
         let step = log.get(k);
         if !is_within(step, values.len()) {
-            return Verdict::No { step: k };
+            return LogVerdict::No { step: k };
         }
         if !follows(values, clauses, log, k, step) {
-            return Verdict::No { step: k };
+            return LogVerdict::No { step: k };
         }
     }
     if n == 0 {
-        return Verdict::No { step: 0 };
+        return LogVerdict::No { step: 0 };
     }
     if log.get(n - 1).len() != 0 {
-        return Verdict::No { step: n };
+        return LogVerdict::No { step: n };
     }
-    Verdict::Yes
+    LogVerdict::Yes
 }

@@ -15,4 +15,4 @@ mod searching;
 mod steps;
 mod trail;
 
-pub use checking::{Checker, Hints, Verdict};
+pub use checking::{Checker, Hints, LogVerdict};

@@ -5,7 +5,7 @@ ghost use Rattle.clause_core.specs.Literals.{Within};
 ghost use Rattle.rup_check.specs.Chains.{units_of, IsClear, HintedVerdict};
 
 use crate::chains::follows_by;
-use crate::checking::Verdict;
+use crate::checking::LogVerdict;
 use clause_core::{Clauses, Lit, is_within};
 use hinted_log::Hinted;
 
@@ -15,7 +15,7 @@ pub(crate) fn check_steps(
     clauses: &Clauses,
     units: &[Lit],
     log: &Hinted,
-) -> Verdict
+) -> LogVerdict
     requires clear { IsClear values.old }
     requires in_clauses { All (Within (length values.old)) clauses.now }
     requires in_units { Within (length values.old) units.now }
@@ -27,17 +27,17 @@ pub(crate) fn check_steps(
     for k in 0..n {
         let step = steps.get(k);
         if !is_within(step, values.len()) {
-            return Verdict::No { step: k };
+            return LogVerdict::No { step: k };
         }
         if !follows_by(values, clauses, units, steps, k, step, log.hints(k)) {
-            return Verdict::No { step: k };
+            return LogVerdict::No { step: k };
         }
     }
     if n == 0 {
-        return Verdict::No { step: 0 };
+        return LogVerdict::No { step: 0 };
     }
     if steps.get(n - 1).len() != 0 {
-        return Verdict::No { step: n };
+        return LogVerdict::No { step: n };
     }
-    Verdict::Yes
+    LogVerdict::Yes
 }

@@ -3,22 +3,22 @@ ghost use Rattle.std.specs.Prelude.{◌≡◌, ◌++◌, IfOk, string_bytes, cod
 ghost use Rattle.sat_bench.specs.Verdicts.{line_of};
 
 use crate::kept::Tally;
-use crate::solving::{Outcome, Verdict};
+use crate::solving::{FormulaOutcome, FormulaVerdict};
 use std::alloc::{AllocError, Global};
 
 // The line of a verdict, as solvers' competitions have it.
-fn line(verdict: Verdict) -> &'static str
+fn line(verdict: FormulaVerdict) -> &'static str
     ensures { result.now ≡ line_of verdict }
 {
     match verdict {
-        Verdict::Satisfiable => "s SATISFIABLE",
-        Verdict::Unsatisfiable => "s UNSATISFIABLE",
-        Verdict::Unknown => "s UNKNOWN",
+        FormulaVerdict::Satisfiable => "s SATISFIABLE",
+        FormulaVerdict::Unsatisfiable => "s UNSATISFIABLE",
+        FormulaVerdict::Unknown => "s UNKNOWN",
     }
 }
 
 /// The verdict's line, and a line with the count of conflicts.
-pub fn report(alloc: Global, outcome: &Outcome) -> Result<String, AllocError>
+pub fn report(alloc: Global, outcome: &FormulaOutcome) -> Result<String, AllocError>
     ensures { IfOk result (λ text. string_bytes text ≡ line_of outcome.now.verdict ++ (codes "\nc conflicts " ++ decimal outcome.now.conflicts)) }
 {
     let answer = line(outcome.verdict);

@@ -12,7 +12,7 @@ use std::alloc::{AllocError, Global};
 
 /// What is known of a formula.
 #[derive(Clone, Copy, Debug, Drop)]
-pub enum Verdict {
+pub enum FormulaVerdict {
     /// Some assignment makes each clause true.
     Satisfiable,
     /// None does.
@@ -23,8 +23,8 @@ pub enum Verdict {
 
 /// A verdict, and the number of conflicts from which a clause was learned.
 #[derive(Clone, Copy, Debug, Drop)]
-pub struct Outcome {
-    pub verdict: Verdict,
+pub struct FormulaOutcome {
+    pub verdict: FormulaVerdict,
     pub conflicts: u64,
 }
 
@@ -32,13 +32,13 @@ pub struct Outcome {
 pub type Engine = Solver<Watched>;
 
 // The verdict of the solver's answer.
-fn verdict_of(answer: Answer) -> Verdict
+fn verdict_of(answer: Answer) -> FormulaVerdict
     ensures { result ≡ verdict_of answer }
 {
     match answer {
-        Answer::Sat(_) => Verdict::Satisfiable,
-        Answer::Unsat { .. } => Verdict::Unsatisfiable,
-        Answer::Spent { .. } => Verdict::Unknown,
+        Answer::Sat(_) => FormulaVerdict::Satisfiable,
+        Answer::Unsat { .. } => FormulaVerdict::Unsatisfiable,
+        Answer::Spent { .. } => FormulaVerdict::Unknown,
     }
 }
 
@@ -61,14 +61,14 @@ pub fn solve(
     vars: usize,
     clauses: &Clauses,
     budget: u64,
-) -> Result<Outcome, AllocError>
+) -> Result<FormulaOutcome, AllocError>
     requires { All (Within vars) clauses.now }
     ensures { IfOk result (IsRight clauses.now budget) }
 {
     let mut solver: Engine = Solver::with_clauses(alloc, vars, clauses)?;
     let mut purse = PlainPurse::new(budget);
     let answer = solver.solve(alloc, &[], &mut purse)?;
-    Ok(Outcome {
+    Ok(FormulaOutcome {
         verdict: verdict_of(answer),
         conflicts: drawn(purse).saturating_sub(1),
     })

@@ -6,8 +6,8 @@ use Rattle.sat_prop.specs.Trails.{among, AtRest}
 use Rattle.sat_core.specs.declared.search.Next.{Next}
 use Rattle.sat_core.specs.declared.search.Next.TheVariants.{AllTrue, Decide, Fails}
 use Rattle.sat_core.specs.declared.search.Seen.{Seen}
-use Rattle.sat_core.specs.declared.search.Outcome.{Outcome}
-use Rattle.sat_core.specs.declared.search.Outcome.TheVariants.{Sat, Unsat, Spent}
+use Rattle.sat_core.specs.declared.search.SearchOutcome.{SearchOutcome}
+use Rattle.sat_core.specs.declared.search.SearchOutcome.TheVariants.{Sat, Unsat, Spent}
 use Rattle.sat_core.specs.Searching.{Refutes, PositivesSet}
 
 -- what is to be decided next: all assumptions are true; or this one is unset; or this one is false
@@ -23,14 +23,14 @@ IsSeen literals assumptions seen =
 
 -- how a search ended: with nothing left to do, and each assumption and each positive literal set; with a core of the
 -- assumptions; or with a spent purse
-abbrev pub OutcomeSays : List Lit → ℕ → Bool → List (List Lit) → List Lit → Outcome → Type 0
+abbrev pub OutcomeSays : List Lit → ℕ → Bool → List (List Lit) → List Lit → SearchOutcome → Type 0
 OutcomeSays assumptions budget over cs literals Sat =
     AtRest cs literals × All (λ a. among literals a ≡ true) assumptions × PositivesSet cs literals
 OutcomeSays assumptions budget over cs literals (Unsat core) = All (Contains assumptions) core.items × Refutes cs core.items
 OutcomeSays assumptions budget over cs literals (Spent d b) = (d ≡ budget) × (b ≡ budget) × (over ≡ true)
 
 -- the search ended with a core
-abbrev pub HasCore : Outcome → Type 0
+abbrev pub HasCore : SearchOutcome → Type 0
 HasCore Sat = ⊥
 HasCore (Unsat core) = ⊤
 HasCore (Spent d b) = ⊥

@@ -12,7 +12,7 @@ ghost use Rattle.sat_core.specs.Ends.{OutcomeSays, HasCore};
 use crate::answer::Answer;
 use crate::order::Order;
 use crate::positives::mark_positives;
-use crate::search::{Outcome, restart, search};
+use crate::search::{SearchOutcome, restart, search};
 use clause_core::{Bits, Clauses, Lit, Log};
 use effort_purse::{Draw, Purse};
 use sat_prop::{Propagator, Trail};
@@ -115,7 +115,7 @@ fn run<P: Propagator, Q: Purse>(
     order: &mut Order,
     assumptions: &[Lit],
     purse: &mut Q,
-) -> Result<Outcome, AllocError>
+) -> Result<SearchOutcome, AllocError>
     requires within { Within (length (P.trail inner.old).values.items) assumptions.now }
     requires ready { Q.ready purse.old }
     requires keeps { Keeps (length (P.trail inner.old).values.items) marks.now (P.clauses inner.old) }
@@ -160,12 +160,12 @@ fn answer<P: Propagator, Q: Purse>(
     ensures at_once { IsRefutedAtOnce (P.clauses inner.old) assumptions.now → (P.clauses inner.new ≡ P.clauses inner.old) × (Q.tickets purse.new ≡ Q.tickets purse.old) × IfOk result IsUnsat }
 {
     match run(alloc, inner, marks, positives, order, assumptions, purse)? {
-        Outcome::Sat => {
+        SearchOutcome::Sat => {
             let model = model_of(alloc, inner.assignment())?;
             Ok(Answer::Sat(Bits::from_vec(model)))
         }
-        Outcome::Unsat(core) => Ok(Answer::Unsat { core }),
-        Outcome::Spent { drawn, budget } => Ok(Answer::Spent { drawn, budget }),
+        SearchOutcome::Unsat(core) => Ok(Answer::Unsat { core }),
+        SearchOutcome::Spent { drawn, budget } => Ok(Answer::Spent { drawn, budget }),
     }
 }
 

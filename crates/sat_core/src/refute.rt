@@ -9,7 +9,7 @@ ghost use Rattle.sat_core.specs.Searching.{PerLevel, Level, Refutes, KnowsPositi
 ghost use Rattle.sat_core.specs.Ends.{IsSeen, OutcomeSays, HasCore, NoneOpposed, RefutesOnTrail};
 
 use crate::order::Order;
-use crate::search::{Outcome, Seen, choose};
+use crate::search::{SearchOutcome, Seen, choose};
 use clause_core::{Lit, is_false};
 use sat_prop::{Propagator, Trail};
 use std::alloc::{AllocError, Global};
@@ -113,7 +113,7 @@ pub fn refute_or_choose<P: Propagator>(
     assumptions: &[Lit],
     seen: &mut Seen,
     order: &mut Order,
-) -> Result<Option<Outcome>, AllocError>
+) -> Result<Option<SearchOutcome>, AllocError>
     requires positives { KnowsPositives (length (P.trail inner.old).values.items) positives.now (P.clauses inner.old) }
     requires within { Within (length (P.trail inner.old).values.items) assumptions.now }
     requires seen { IsSeen (P.trail inner.old).literals.items assumptions.now seen.old }
@@ -128,7 +128,7 @@ pub fn refute_or_choose<P: Propagator>(
     ensures at_once { IfOk result (λ o. length (P.trail inner.old).level_starts.items ≡ 0 → IsRefutedAtOnce (P.clauses inner.old) assumptions.now → MatchOption o ⊥ HasCore) }
 {
     match core_before_decisions(alloc, inner, assumptions, &mut order.numbers)? {
-        Some(core) => Ok(Some(Outcome::Unsat(core))),
+        Some(core) => Ok(Some(SearchOutcome::Unsat(core))),
         None => choose(alloc, inner, positives, assumptions, seen, order),
     }
 }

@@ -41,7 +41,7 @@ pub struct Seen {
 
 // How a search ends.
 #[derive(Drop)]
-pub enum Outcome {
+pub enum SearchOutcome {
     // Every positive literal is set, without a conflict: a model, in which what is not set is false.
     Sat,
     // Unit propagation refutes the clauses with this part of the assumptions: a core.
@@ -159,7 +159,7 @@ pub fn choose<P: Propagator>(
     assumptions: &[Lit],
     seen: &mut Seen,
     order: &mut Order,
-) -> Result<Option<Outcome>, AllocError>
+) -> Result<Option<SearchOutcome>, AllocError>
     requires positives { KnowsPositives (length (P.trail inner.old).values.items) positives.now (P.clauses inner.old) }
     requires within { Within (length (P.trail inner.old).values.items) assumptions.now }
     requires seen { IsSeen (P.trail inner.old).literals.items assumptions.now seen.old }
@@ -173,13 +173,13 @@ pub fn choose<P: Propagator>(
     ensures says { IfOk result (λ o. MatchOption o (unset (P.trail inner.new).values.items < unset (P.trail inner.old).values.items) (λ e. (budget : ℕ) (over : Bool) → OutcomeSays assumptions.now budget over (P.clauses inner.new) (P.trail inner.new).literals.items e)) }
 {
     match next_of(inner.assignment(), assumptions, seen) {
-        Next::Fails(a) => Ok(Some(Outcome::Unsat(core_of(alloc, inner, a)?))),
+        Next::Fails(a) => Ok(Some(SearchOutcome::Unsat(core_of(alloc, inner, a)?))),
         Next::Decide(l) => {
             inner.decide(l)?;
             Ok(None)
         }
         Next::AllTrue => match pick(order, inner.assignment(), positives) {
-            None => Ok(Some(Outcome::Sat)),
+            None => Ok(Some(SearchOutcome::Sat)),
             Some(var) => {
                 let positive = order.sign(var);
                 inner.decide(Lit { var, positive })?;
@@ -199,7 +199,7 @@ pub fn search<P: Propagator, Q: Purse>(
     assumptions: &[Lit],
     purse: &mut Q,
     order: &mut Order,
-) -> Result<Outcome, AllocError>
+) -> Result<SearchOutcome, AllocError>
     requires positives { KnowsPositives (length (P.trail inner.old).values.items) positives.old (P.clauses inner.old) }
     requires within { Within (length (P.trail inner.old).values.items) assumptions.now }
     requires ready { Q.ready purse.old }
@@ -220,12 +220,12 @@ pub fn search<P: Propagator, Q: Purse>(
         match inner.propagate()? {
             Some(k) => {
                 if inner.assignment().level_starts.len() == 0 {
-                    return Ok(Outcome::Unsat(Vec::new(alloc)));
+                    return Ok(SearchOutcome::Unsat(Vec::new(alloc)));
                 }
                 order.bump_all(inner.clause(k));
                 let learned = analyze(alloc, inner, k, order)?;
                 if let Draw::Spent { drawn, budget } = purse.draw() {
-                    return Ok(Outcome::Spent { drawn, budget });
+                    return Ok(SearchOutcome::Spent { drawn, budget });
                 }
                 follow(inner, positives, order, &learned)?;
                 seen = still_seen(inner.assignment(), seen);

@@ -8,7 +8,7 @@ use Rattle.clause_core.specs.Systems.{TransitionSystem}
 use Rattle.command_words.specs.declared.command.Effort.{Effort}
 use Rattle.smv_tree.specs.declared.tree.Program.{Program}
 use Rattle.smv_resolve.specs.declared.item.Item.{Item}
-use Rattle.smv_resolve.specs.declared.node.Node.{Node}
+use Rattle.smv_resolve.specs.declared.node.ExprNode.{ExprNode}
 use Rattle.smv_resolve.specs.Items.{ResolvedItem, item_by}
 use Rattle.smv_meaning.specs.Runs.{specifications_of}
 use Rattle.frame_core.specs.FrameLaw.{system_at}
@@ -106,7 +106,7 @@ all_answered p effort b history answers e built done =
     ))
 
 -- there is a system for each specification
-pub enough : (p : Program) (b : BitProgram) (specs : List Item) (nodes : List Node) → IsBuilt p b → map (item_by nodes) specs ≡ specifications_of p → length specs ≤ length b.systems
+pub enough : (p : Program) (b : BitProgram) (specs : List Item) (nodes : List ExprNode) → IsBuilt p b → map (item_by nodes) specs ≡ specifications_of p → length specs ≤ length b.systems
 enough p b specs nodes built listed = omega (arith, built.each_one, ap length listed, length-map specs (item_by nodes))
 
 fits : (i n m : ℕ) → n ≡ m → i < m → i < n

@@ -5,7 +5,7 @@ use Rattle.std.proofs.lemmas.List.Elements.{filter_more}
 use Rattle.std.proofs.Math.ListN.{get_or-map}
 use Rattle.smv_tree.specs.declared.tree.Program.{Program}
 use Rattle.smv_resolve.specs.declared.item.Item.{Item}
-use Rattle.smv_resolve.specs.declared.node.Node.{Node}
+use Rattle.smv_resolve.specs.declared.node.ExprNode.{ExprNode}
 use Rattle.smv_slots.specs.declared.slot.Slot.{Slot}
 use Rattle.smv_resolve.specs.Items.{ResolvedItem, item_by}
 use Rattle.smv_meaning.specs.Runs.{is_claim}
@@ -44,10 +44,10 @@ abbrev is_shown : ResolvedItem → Bool
 is_shown x = not (is_claim x.kind)
 
 -- the items but for specifications, of the first i
-abbrev pub shown_items : List Node → ℕ → List Item → List ResolvedItem
+abbrev pub shown_items : List ExprNode → ℕ → List Item → List ResolvedItem
 shown_items nodes i items = filter (λ (x : ResolvedItem). not (is_claim x.kind)) (take i (map (item_by nodes) items))
 
-module _ (nodes : List Node) (items : List Item) (i : ℕ) (d : Item) where
+module _ (nodes : List ExprNode) (items : List Item) (i : ℕ) (d : Item) where
   more : i < length items → shown_items nodes (i + 1) items ≡ shown_items nodes i items ++ cond (is_shown (item_by nodes (get_or items i d))) (item_by nodes (get_or items i d) ∷ []) []
   more h =
       filter_more is_shown (map (item_by nodes) items) i (item_by nodes d) (omega (arith, h, length-map items (item_by nodes)))
@@ -66,7 +66,7 @@ module _ (nodes : List Node) (items : List Item) (i : ℕ) (d : Item) where
       omega (arith, counted, ap length (one_shown h e), length-append (shown_items nodes i items) (item_by nodes (get_or items i d) ∷ []))
 
 -- a text with the lines of the items so far, and then the line of one more
-pub items_told : (p : Program) (nodes : List Node) (items : List Item) (i : ℕ) (d : Item) (n : ℕ) (old before now : List ℕ) → i < length items
+pub items_told : (p : Program) (nodes : List ExprNode) (items : List Item) (i : ℕ) (d : Item) (n : ℕ) (old before now : List ℕ) → i < length items
     → is_claim (get_or items i d).kind ≡ false → n ≡ length (shown_items nodes i items)
     → before ≡ old ++ items_text p 0 (shown_items nodes i items) → now ≡ before ++ item_line p n (item_by nodes (get_or items i d))
     → (now ≡ old ++ items_text p 0 (shown_items nodes (i + 1) items)) × (n + 1 ≡ length (shown_items nodes (i + 1) items))

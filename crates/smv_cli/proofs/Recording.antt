@@ -13,8 +13,8 @@ use Rattle.smv_resolve.specs.declared.item.ItemKind.{ItemKind}
 use Rattle.smv_resolve.specs.declared.item.ItemKind.TheVariants as item
 use Rattle.smv_resolve.specs.Items.{ResolvedItem}
 use Rattle.smv_meaning.specs.Runs.{is_claim}
-use Rattle.smv_cli.specs.declared.record.Verdict.{Verdict}
-use Rattle.smv_cli.specs.declared.record.Verdict.TheVariants.{True, False, Unknown}
+use Rattle.smv_cli.specs.declared.record.SpecVerdict.{SpecVerdict}
+use Rattle.smv_cli.specs.declared.record.SpecVerdict.TheVariants.{True, False, Unknown}
 use Rattle.smv_cli.specs.declared.record.Record.{Record}
 use Rattle.smv_cli.specs.Streams.{AppendsFront}
 use Rattle.smv_cli.specs.Records.{RecordsFrom, is_false, is_unknown, status_of}
@@ -22,7 +22,7 @@ use Rattle.smv_cli.specs.Texts.{record_text}
 use Rattle.smv_cli.specs.Written.{RecordedBy, RecordedPartBy, status_with}
 
 -- a record of the specification of this number, of which this is so
-abbrev pub IsRecordOf : (SpecificationKind → ResolvedItem → Verdict → Type 0) → ℕ → ResolvedItem → Record → Type 0
+abbrev pub IsRecordOf : (SpecificationKind → ResolvedItem → SpecVerdict → Type 0) → ℕ → ResolvedItem → Record → Type 0
 IsRecordOf IsSo number spec r = (r.number ≡ number) × (spec.kind ≡ item.Specification r.kind) × IsSo r.kind spec r.verdict
 
 -- what is a claim is a specification
@@ -39,7 +39,7 @@ AppendsFront-after old mid new first second p (n, q) =
 pub AppendsFront-whole : (old new : Option (List ℕ)) (piece : List ℕ) → Appends old new piece → AppendsFront old new piece
 AppendsFront-whole old new piece took = (length piece, subst (Appends old new) (sym (take_all (length piece) piece (omega arith))) took)
 
-module _ (IsSo : SpecificationKind → ResolvedItem → Verdict → Type 0) where
+module _ (IsSo : SpecificationKind → ResolvedItem → SpecVerdict → Type 0) where
   RecordsFrom-more : (i : ℕ) (xs ys : List ResolvedItem) (rs : List Record) → RecordsFrom IsSo i xs rs → RecordsFrom IsSo i (xs ++ ys) rs
   RecordsFrom-more i xs ys [] h = tt
   RecordsFrom-more i [] ys (r ∷ rs) h = absurd h
@@ -61,7 +61,7 @@ flat_map-push (q ∷ rs) r = ap (λ (l : List ℕ). record_text q ++ l) (flat_ma
 abbrev status_by : Bool → Bool → ℕ
 status_by some_false some_unknown = if some_false then 1 else if some_unknown then 2 else 0
 
-status_by-next : (some_false some_unknown : Bool) (v : Verdict)
+status_by-next : (some_false some_unknown : Bool) (v : SpecVerdict)
     → status_by (some_false || (is_false v || false)) (some_unknown || (is_unknown v || false)) ≡ status_with (status_by some_false some_unknown) v
 status_by-next true b (True shown) = refl
 status_by-next true b (False trace) = refl
@@ -78,7 +78,7 @@ status-push rs r =
     ap₂ status_by (list_any-append (λ (q : Record). is_false q.verdict) rs (r ∷ [])) (list_any-append (λ (q : Record). is_unknown q.verdict) rs (r ∷ []))
     ∙ status_by-next _ _ r.verdict
 
-module _ (IsSo : SpecificationKind → ResolvedItem → Verdict → Type 0) (specs : List ResolvedItem) (i : ℕ) where
+module _ (IsSo : SpecificationKind → ResolvedItem → SpecVerdict → Type 0) (specs : List ResolvedItem) (i : ℕ) where
   right-whole : (rs : List Record) → RecordsFrom IsSo 1 (take i specs) rs → RecordsFrom IsSo 1 specs rs
   right-whole rs right = subst (λ (xs : List ResolvedItem). RecordsFrom IsSo 1 xs rs) (take-append-drop i specs) (RecordsFrom-more IsSo 1 (take i specs) (drop i specs) rs right)
 
@@ -110,10 +110,10 @@ module _ (IsSo : SpecificationKind → ResolvedItem → Verdict → Type 0) (spe
   }
 
 -- nothing is written
-pub RecordedPart-none : (IsSo : SpecificationKind → ResolvedItem → Verdict → Type 0) (specs : List ResolvedItem) (old : Option (List ℕ)) → RecordedPartBy IsSo specs old old
+pub RecordedPart-none : (IsSo : SpecificationKind → ResolvedItem → SpecVerdict → Type 0) (specs : List ResolvedItem) (old : Option (List ℕ)) → RecordedPartBy IsSo specs old old
 RecordedPart-none IsSo specs old = record { records = []; right = tt; took = (0, Appends-nil old) }
 
-pub RecordedPart-push : (IsSo : SpecificationKind → ResolvedItem → Verdict → Type 0) (specs : List ResolvedItem) (i : ℕ) (spec : ResolvedItem) (r : Record) (old mid new : Option (List ℕ)) (status : ℕ) → i < length specs
+pub RecordedPart-push : (IsSo : SpecificationKind → ResolvedItem → SpecVerdict → Type 0) (specs : List ResolvedItem) (i : ℕ) (spec : ResolvedItem) (r : Record) (old mid new : Option (List ℕ)) (status : ℕ) → i < length specs
     → IsRecordOf IsSo (i + 1) (get_or specs i spec) r → RecordedBy IsSo (take i specs) old mid status → AppendsFront mid new (record_text r)
     → RecordedPartBy IsSo specs old new
 RecordedPart-push IsSo specs i spec r old mid new status h k so_far took = record {

@@ -34,8 +34,8 @@ use Rattle.trace_replay.specs.Lassos.{ShowsViolated}
 use Rattle.trace_replay.specs.Tests.{ShowsBroken}
 use Rattle.smv_cli.specs.declared.record.Reason.{Reason}
 use Rattle.smv_cli.specs.declared.record.Reason.TheVariants as reason
-use Rattle.smv_cli.specs.declared.record.Verdict.{Verdict}
-use Rattle.smv_cli.specs.declared.record.Verdict.TheVariants.{True, False, Unknown}
+use Rattle.smv_cli.specs.declared.record.SpecVerdict.{SpecVerdict}
+use Rattle.smv_cli.specs.declared.record.SpecVerdict.TheVariants.{True, False, Unknown}
 use Rattle.smv_cli.specs.declared.record.Record.{Record}
 
 -- how much the prover may do
@@ -126,7 +126,7 @@ IsFormulaShownBy false p effort spec None = Unit {0}
 -- What is said of an INVARSPEC with this effort is right. True: no run of any length breaks it, and with `--cert` a
 -- certificate shows it. False: the trace is that of a run that breaks it. Unknown: the prover's work within the effort
 -- leaves it open for this cause.
-abbrev pub IsRightInvariant : Program → Effort → ResolvedItem → Verdict → Type 0
+abbrev pub IsRightInvariant : Program → Effort → ResolvedItem → SpecVerdict → Type 0
 IsRightInvariant p effort spec (True shown) = IsUnbroken p spec × IsShownBy effort.cert p spec shown
 IsRightInvariant p effort spec (False trace) = ShowsBroken p spec trace
 IsRightInvariant p effort spec (Unknown (reason.Invariant cause)) = IsLeftOpen p effort spec cause
@@ -134,7 +134,7 @@ IsRightInvariant p effort spec (Unknown (reason.Formula cause)) = ⊥
 IsRightInvariant p effort spec (Unknown (reason.Preparing drawn budget)) = ⊥
 
 -- The same of an LTLSPEC. True: no fair lasso violates it. False: the trace is that of a fair lasso that violates it.
-abbrev pub IsRightFormula : Program → Effort → ResolvedItem → Verdict → Type 0
+abbrev pub IsRightFormula : Program → Effort → ResolvedItem → SpecVerdict → Type 0
 IsRightFormula p effort spec (True shown) = IsUnviolated p spec × IsFormulaShownBy effort.cert p effort spec shown
 IsRightFormula p effort spec (False trace) = ShowsViolated p spec trace
 IsRightFormula p effort spec (Unknown (reason.Invariant cause)) = ⊥
@@ -142,34 +142,34 @@ IsRightFormula p effort spec (Unknown (reason.Formula cause)) = IsFormulaOpen p 
 IsRightFormula p effort spec (Unknown (reason.Preparing drawn budget)) = ⊥
 
 -- The same of a specification of either kind.
-abbrev pub IsRight : SpecificationKind → Program → Effort → ResolvedItem → Verdict → Type 0
+abbrev pub IsRight : SpecificationKind → Program → Effort → ResolvedItem → SpecVerdict → Type 0
 IsRight claim.Invariant = IsRightInvariant
 IsRight claim.Temporal = IsRightFormula
 
 -- Records of the first specifications, in their order, numbered from i on: of each this is so, by its kind and by what
 -- is said of it.
-abbrev pub RecordsFrom : (SpecificationKind → ResolvedItem → Verdict → Type 0) → ℕ → List ResolvedItem → List Record → Type 0
+abbrev pub RecordsFrom : (SpecificationKind → ResolvedItem → SpecVerdict → Type 0) → ℕ → List ResolvedItem → List Record → Type 0
 RecordsFrom IsSo i specs [] = Unit {0}
 RecordsFrom IsSo i [] (r ∷ rs) = ⊥
 RecordsFrom IsSo i (spec ∷ specs) (r ∷ rs) =
     (r.number ≡ i) × (spec.kind ≡ item.Specification r.kind) × IsSo r.kind spec r.verdict × RecordsFrom IsSo (i + 1) specs rs
 
 -- what is said of a specification is right
-abbrev pub RightOf : Program → Effort → SpecificationKind → ResolvedItem → Verdict → Type 0
+abbrev pub RightOf : Program → Effort → SpecificationKind → ResolvedItem → SpecVerdict → Type 0
 RightOf p effort kind = IsRight kind p effort
 
 -- what is said of a specification is that preparing spent the effort
-abbrev pub OpenOf : ℕ → ℕ → SpecificationKind → ResolvedItem → Verdict → Type 0
+abbrev pub OpenOf : ℕ → ℕ → SpecificationKind → ResolvedItem → SpecVerdict → Type 0
 OpenOf drawn budget kind spec verdict = verdict ≡ Unknown (reason.Preparing drawn budget)
 
 -- the record says false
-abbrev pub is_false : Verdict → Bool
+abbrev pub is_false : SpecVerdict → Bool
 is_false (True shown) = false
 is_false (False trace) = true
 is_false (Unknown cause) = false
 
 -- the record says unknown
-abbrev pub is_unknown : Verdict → Bool
+abbrev pub is_unknown : SpecVerdict → Bool
 is_unknown (True shown) = false
 is_unknown (False trace) = false
 is_unknown (Unknown cause) = true

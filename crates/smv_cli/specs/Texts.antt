@@ -11,8 +11,8 @@ use Rattle.prove_ltl.specs.declared.answers.LtlCause.TheVariants as ltl
 use Rattle.smv_cli.specs.declared.record.Reason.{Reason}
 use Rattle.smv_cli.specs.declared.record.Reason.TheVariants as reason
 use Rattle.trace_replay.specs.Lines.{trace_text}
-use Rattle.smv_cli.specs.declared.record.Verdict.{Verdict}
-use Rattle.smv_cli.specs.declared.record.Verdict.TheVariants.{True, False, Unknown}
+use Rattle.smv_cli.specs.declared.record.SpecVerdict.{SpecVerdict}
+use Rattle.smv_cli.specs.declared.record.SpecVerdict.TheVariants.{True, False, Unknown}
 use Rattle.smv_cli.specs.declared.record.Record.{Record}
 
 -- what follows `unknown: `, of an invariant
@@ -38,7 +38,7 @@ shown_text number None = []
 shown_text number (Some cert) = certificate_text number cert
 
 -- what follows `-- spec I KIND is `
-abbrev pub verdict_text : ℕ → Verdict → List ℕ
+abbrev pub verdict_text : ℕ → SpecVerdict → List ℕ
 verdict_text number (True shown) = codes "true" ++ line_end ++ shown_text number shown
 verdict_text number (False trace) = codes "false" ++ line_end ++ trace_text number trace
 verdict_text number (Unknown why) = codes "unknown: " ++ reason_text why ++ line_end

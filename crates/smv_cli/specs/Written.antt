@@ -25,8 +25,8 @@ use Rattle.prove_run.specs.declared.answers.Answer.TheVariants as answer
 use Rattle.prove_ltl.specs.declared.answers.LtlAnswer.{LtlAnswer}
 use Rattle.prove_ltl.specs.LtlAnswers.{IsLtlLog, IsLtlRight, LtlLog}
 use Rattle.smv_cli.specs.declared.checking.Checking.{Checking}
-use Rattle.smv_cli.specs.declared.record.Verdict.{Verdict}
-use Rattle.smv_cli.specs.declared.record.Verdict.TheVariants.{True, False, Unknown}
+use Rattle.smv_cli.specs.declared.record.SpecVerdict.{SpecVerdict}
+use Rattle.smv_cli.specs.declared.record.SpecVerdict.TheVariants.{True, False, Unknown}
 use Rattle.smv_cli.specs.declared.record.Record.{Record}
 use Rattle.smv_cli.specs.declared.preparing.Preparation.{Preparation}
 use Rattle.smv_cli.specs.Prepared.{AreRight, block_text, status_by}
@@ -117,13 +117,13 @@ pub record IsReady (model : Checking) : Type 0 where
   pub fault_free : IsFaultFree (program_in model)
 
 -- the status after one more verdict
-abbrev pub status_with : ℕ → Verdict → ℕ
+abbrev pub status_with : ℕ → SpecVerdict → ℕ
 status_with status (True shown) = status
 status_with status (False trace) = 1
 status_with status (Unknown cause) = if status == 1 then 1 else 2
 
 -- the sink took a record of each specification, of each of which this is so; the status is theirs
-pub record RecordedBy (IsSo : SpecificationKind → ResolvedItem → Verdict → Type 0) (specs : List ResolvedItem) (before now : Option (List ℕ)) (status : ℕ) : Type 0 where
+pub record RecordedBy (IsSo : SpecificationKind → ResolvedItem → SpecVerdict → Type 0) (specs : List ResolvedItem) (before now : Option (List ℕ)) (status : ℕ) : Type 0 where
   pub records : List Record
   pub right : RecordsFrom IsSo 1 specs records
   pub each : length records ≡ length specs
@@ -131,7 +131,7 @@ pub record RecordedBy (IsSo : SpecificationKind → ResolvedItem → Verdict →
   pub worst : status ≡ status_of records
 
 -- the sink took a prefix of such records of the first specifications
-pub record RecordedPartBy (IsSo : SpecificationKind → ResolvedItem → Verdict → Type 0) (specs : List ResolvedItem) (before now : Option (List ℕ)) : Type 0 where
+pub record RecordedPartBy (IsSo : SpecificationKind → ResolvedItem → SpecVerdict → Type 0) (specs : List ResolvedItem) (before now : Option (List ℕ)) : Type 0 where
   pub records : List Record
   pub right : RecordsFrom IsSo 1 specs records
   pub took : AppendsFront before now (flat_map record_text records)

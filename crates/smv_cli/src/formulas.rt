@@ -19,7 +19,7 @@ ghost use Rattle.smv_cli.specs.Written.{IsFormulaAnswered, IsInRange, IsReady, i
 
 use crate::checking::Checking;
 use crate::judging::if_wanted;
-use crate::record::{Reason, Verdict};
+use crate::record::{Reason, SpecVerdict};
 use bit_formula::{FormulaSystem, build_formula};
 use bit_lassos::what_is_never_violated;
 use bit_runs::{Lasso, lasso_of};
@@ -56,7 +56,7 @@ pub fn judge_formula<R: Threads + Wait + Sync, G: Gate + Sync>(
     number: usize,
     spec: &Item,
     gate: &G,
-) -> Result<Verdict, AllocError>
+) -> Result<SpecVerdict, AllocError>
     requires ready { IsReady model.now }
     requires first { 0 < number }
     requires temporal { spec.now.kind ≡ item.Specification claim.Temporal }
@@ -76,7 +76,7 @@ fn formula_verdict(
     spec: &Item,
     formula: &FormulaSystem,
     answer: LtlAnswer,
-) -> Result<Verdict, AllocError>
+) -> Result<SpecVerdict, AllocError>
     requires fault_free { IsFaultFree (program_in model.now) }
     requires first { 0 < number }
     requires temporal { spec.now.kind ≡ item.Specification claim.Temporal }
@@ -88,13 +88,13 @@ fn formula_verdict(
     what_is_never_violated();
     match answer {
         LtlAnswer::True(certificate) => {
-            Ok(Verdict::True(if_wanted(model.effort.cert, certificate)))
+            Ok(SpecVerdict::True(if_wanted(model.effort.cert, certificate)))
         }
         LtlAnswer::False(lasso) => {
             let trace = shown(alloc, &model.flat.typed, number, spec, formula, &lasso)?;
-            Ok(Verdict::False(trace))
+            Ok(SpecVerdict::False(trace))
         }
-        LtlAnswer::Unknown(cause) => Ok(Verdict::Unknown(Reason::Formula(cause))),
+        LtlAnswer::Unknown(cause) => Ok(SpecVerdict::Unknown(Reason::Formula(cause))),
     }
 }
 

@@ -1,7 +1,7 @@
 //! What is said of a specification: its system is proved to reach no bad state, or a run that breaks it is replayed.
 
 ghost use Rattle.std.specs.Prelude.{◌≡◌, ◌<◌, ◌≤◌, ◌-◌, ◌++◌, ◌∷◌, [], if◌then◌else◌, IfOk, List, OnOk, None, Some, false, length, map, true};
-ghost use Rattle.smv_resolve.specs.declared.node.Node.{Node};
+ghost use Rattle.smv_resolve.specs.declared.node.ExprNode.{ExprNode};
 ghost use Rattle.smv_resolve.specs.Items.{item_by};
 ghost use Rattle.smv_resolve.specs.declared.item.ItemKind.TheVariants as item;
 ghost use Rattle.smv_meaning.specs.Faults.{IsFaultFree};
@@ -15,7 +15,7 @@ ghost use Rattle.smv_cli.specs.Written.{IsAnswered, IsPool, IsReady, item_in, po
 use crate::checking::Checking;
 use crate::formulas::judge_formula;
 use crate::inhabited::some_inputs;
-use crate::record::{Reason, Record, Verdict};
+use crate::record::{Reason, Record, SpecVerdict};
 use bit_runs::{run_of, what_is_built_is_alike};
 use bit_system::{Built, copied, what_is_never_bad_is_unbroken};
 use cert_core::Certificate;
@@ -70,7 +70,7 @@ fn push_invariant(
 // The systems of the INVARSPECs among these specifications, copied, in their order.
 fn pooled(alloc: Global, built: &Built, specs: &[Item]) -> Result<Vec<System>, AllocError>
     requires { length specs.now ≤ length built.now.systems }
-    ensures { (nodes : List Node) → IfOk result (λ r. r.items ≡ pooled (map (item_by nodes) specs.now) built.now.systems) }
+    ensures { (nodes : List ExprNode) → IfOk result (λ r. r.items ≡ pooled (map (item_by nodes) specs.now) built.now.systems) }
 {
     let mut systems = Vec::new(alloc);
     for (j, spec) in specs.iter().enumerate() {
@@ -143,7 +143,7 @@ fn judge_by_kind<R: Threads + Wait + Sync, G: Gate + Sync>(
     spec: &Item,
     pool: &mut Vec<Answer>,
     gate: &G,
-) -> Result<Verdict, AllocError>
+) -> Result<SpecVerdict, AllocError>
     requires ready { IsReady model.now }
     requires first { 0 < number }
     requires kind { spec.now.kind ≡ item.Specification kind }
@@ -169,7 +169,7 @@ fn judge_invariant<R: Threads + Wait + Sync, G: Gate + Sync>(
     spec: &Item,
     pool: &mut Vec<Answer>,
     gate: &G,
-) -> Result<Verdict, AllocError>
+) -> Result<SpecVerdict, AllocError>
     requires ready { IsReady model.now }
     requires first { 0 < number }
     requires invariant { is_invariant spec.now.kind ≡ true }
@@ -255,7 +255,7 @@ fn verdict_of(
     number: usize,
     spec: &Item,
     answer: Answer,
-) -> Result<Verdict, AllocError>
+) -> Result<SpecVerdict, AllocError>
     requires ready { IsReady model.now }
     requires first { 0 < number }
     requires invariant { is_invariant spec.now.kind ≡ true }
@@ -267,15 +267,15 @@ fn verdict_of(
         Answer::True(certificate) => {
             no_run_reaches_bad();
             what_is_never_bad_is_unbroken();
-            Ok(Verdict::True(if_wanted(model.effort.cert, certificate)))
+            Ok(SpecVerdict::True(if_wanted(model.effort.cert, certificate)))
         }
         Answer::False(run) => {
             let run = run_of(alloc, &model.built, &run)?;
             let (states, inputs) = (run.states.as_slice(), run.inputs.as_slice());
             let trace = replayed(alloc, &model.flat.typed, number, spec, states, inputs)?;
-            Ok(Verdict::False(trace))
+            Ok(SpecVerdict::False(trace))
         }
-        Answer::Unknown(cause) => Ok(Verdict::Unknown(Reason::Invariant(cause))),
+        Answer::Unknown(cause) => Ok(SpecVerdict::Unknown(Reason::Invariant(cause))),
     }
 }
 

@@ -15,5 +15,5 @@ mod top;
 
 pub use input::SOURCE_LIMIT;
 pub use preparing::Preparation;
-pub use record::{Reason, Record, Verdict};
+pub use record::{Reason, Record, SpecVerdict};
 pub use top::{run, run_over_bytes};

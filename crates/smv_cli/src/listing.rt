@@ -4,7 +4,7 @@ ghost use Rattle.std.specs.Prelude.{◌≡◌, ◌++◌, filter, length, map, no
 ghost use Rattle.std.specs.Fmt.{decimal};
 ghost use Rattle.std.specs.Option.{option_copied};
 ghost use Rattle.smv_resolve.specs.declared.item.ItemKind.TheVariants as item;
-ghost use Rattle.smv_resolve.specs.declared.node.Node.{Node};
+ghost use Rattle.smv_resolve.specs.declared.node.ExprNode.{ExprNode};
 ghost use Rattle.smv_resolve.specs.Items.{ResolvedItem, item_by};
 ghost use Rattle.smv_layout.specs.Layout.{items_of};
 ghost use Rattle.smv_scope.specs.Paths.{path_of, shown_path};
@@ -160,7 +160,7 @@ pub(crate) fn sum_up(typed: &Typed) -> Summary
 
 // How many of these items are no specifications.
 fn count_listed(items: &[Item]) -> usize
-    ensures { (nodes : List Node) → result ≡ length (filter (λ (x : ResolvedItem). not (is_claim x.kind)) (map (item_by nodes) items.now)) }
+    ensures { (nodes : List ExprNode) → result ≡ length (filter (λ (x : ResolvedItem). not (is_claim x.kind)) (map (item_by nodes) items.now)) }
 {
     let mut number = 0;
     for item in items {

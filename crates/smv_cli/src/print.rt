@@ -2,7 +2,7 @@
 ghost use Rattle.std.specs.Prelude.{◌≡◌, ◌≤◌, true, map, All, IfSome, IfOk, List, OnOk, IsErrOf};
 ghost use Rattle.std.specs.Io.KnownBytes.{Appends};
 ghost use Rattle.outside.specs.Causes.{Rose};
-ghost use Rattle.smv_resolve.specs.declared.node.Node.{Node};
+ghost use Rattle.smv_resolve.specs.declared.node.ExprNode.{ExprNode};
 ghost use Rattle.smv_resolve.specs.Items.{item_by};
 ghost use Rattle.smv_meaning.specs.Runs.{is_claim, specifications_of};
 ghost use Rattle.smv_cli.specs.Streams.{AppendsFront};
@@ -11,7 +11,7 @@ ghost use Rattle.smv_cli.specs.Written.{OpenRecorded, OpenRecordedPart, IsPool, 
 
 use crate::checking::Checking;
 use crate::judging::judge;
-use crate::record::{Reason, Record, Verdict, print};
+use crate::record::{Reason, Record, SpecVerdict, print};
 use crate::streams::write_all;
 use outside::{Gate, Sink, Stop};
 use prove_run::Answer;
@@ -50,15 +50,15 @@ fn put_record<K: Sink>(alloc: Global, sink: &mut K, made: &Record) -> Result<(),
 }
 
 // The status after one more verdict.
-fn status_with(status: u8, verdict: &Verdict) -> u8
+fn status_with(status: u8, verdict: &SpecVerdict) -> u8
     ensures value { result ≡ status_with status verdict.now }
     ensures small { status ≤ 2 → result ≤ 2 }
 {
     match verdict {
-        Verdict::True(_) => status,
-        Verdict::False(_) => 1,
-        Verdict::Unknown(_) if status == 1 => 1,
-        Verdict::Unknown(_) => 2,
+        SpecVerdict::True(_) => status,
+        SpecVerdict::False(_) => 1,
+        SpecVerdict::Unknown(_) if status == 1 => 1,
+        SpecVerdict::Unknown(_) => 2,
     }
 }
 
@@ -108,8 +108,8 @@ pub fn put_open<K: Sink>(
     budget: u64,
 ) -> Result<u8, Stop>
     requires claims { All (λ spec. is_claim spec.kind ≡ true) specs.now }
-    ensures ok { (nodes : List Node) → IfOk result (λ status. (status ≡ 2) × OpenRecorded drawn budget (map (item_by nodes) specs.now) (K.taken sink.old) (K.taken sink.new)) }
-    ensures part { (nodes : List Node) → OpenRecordedPart drawn budget (map (item_by nodes) specs.now) (K.taken sink.old) (K.taken sink.new) }
+    ensures ok { (nodes : List ExprNode) → IfOk result (λ status. (status ≡ 2) × OpenRecorded drawn budget (map (item_by nodes) specs.now) (K.taken sink.old) (K.taken sink.new)) }
+    ensures part { (nodes : List ExprNode) → OpenRecordedPart drawn budget (map (item_by nodes) specs.now) (K.taken sink.old) (K.taken sink.new) }
     ensures small { IfOk result (λ status. status ≤ 2) }
     ensures kept { OnOk result (K.faults sink.new ≡ K.faults sink.old) }
     ensures failed { IsErrOf result Stop.Failed → Rose (K.faults sink.old) (K.faults sink.new) }
@@ -122,7 +122,7 @@ pub fn put_open<K: Sink>(
         let made = Record {
             number: i + 1,
             kind,
-            verdict: Verdict::Unknown(Reason::Preparing { drawn, budget }),
+            verdict: SpecVerdict::Unknown(Reason::Preparing { drawn, budget }),
         };
         put_record(alloc, sink, &made)?;
     }

@@ -14,7 +14,7 @@ use trace_replay::{Trace, TraceLines};
 
 /// What is said of a specification.
 #[derive(Drop)]
-pub enum Verdict {
+pub enum SpecVerdict {
     /// Nothing breaks it; this certificate shows it, where the words ask for one.
     True(Option<Certificate>),
     /// The run of this trace breaks it, or the lasso of this trace violates it.
@@ -39,7 +39,7 @@ pub enum Reason {
 pub struct Record {
     pub number: usize,
     pub kind: SpecificationKind,
-    pub verdict: Verdict,
+    pub verdict: SpecVerdict,
 }
 
 // Writes the certificate of a specification, where there is one.
@@ -103,20 +103,20 @@ fn write_verdict(
     alloc: Global,
     out: &mut String,
     number: usize,
-    verdict: &Verdict,
+    verdict: &SpecVerdict,
 ) -> Result<(), AllocError>
     ensures { OnOk result (string_bytes out.new ≡ string_bytes out.old ++ verdict_text number verdict.now) }
 {
     match verdict {
-        Verdict::True(shown) => {
+        SpecVerdict::True(shown) => {
             out.push_str("true\n")?;
             write_shown(alloc, out, number, shown)
         }
-        Verdict::False(trace) => {
+        SpecVerdict::False(trace) => {
             let lines = TraceLines { number, trace };
             write!(out, "false\n{lines}")
         }
-        Verdict::Unknown(reason) => {
+        SpecVerdict::Unknown(reason) => {
             out.push_str("unknown: ")?;
             write_reason(out, *reason)?;
             out.push_str("\n")

@@ -10,7 +10,7 @@ use Rattle.smv_value.specs.declared.operator.Arithmetic.{Arithmetic}
 use Rattle.smv_value.specs.declared.operator.Division.{Division}
 use Rattle.smv_value.specs.declared.operator.Operator.{Operator}
 use Rattle.smv_value.specs.declared.operator.Operator.TheVariants as operator
-use Rattle.smv_resolve.specs.declared.node.Node.{Node}
+use Rattle.smv_resolve.specs.declared.node.ExprNode.{ExprNode}
 use Rattle.smv_resolve.specs.Resolved.{Operands, Resolved, is_some_stuck, is_stuck, last_of, operands_of, part_at, all_levels, parts_of, resolved_by, wholly_resolved}
 use Rattle.smv_resolve.proofs.NodesOf.{levelled-constant}
 use Rattle.smv_resolve.proofs.Parts.{parts_of-next}
@@ -118,12 +118,12 @@ mutual
   stuck_operated other (Operands.With a (Operands.With b (Operands.With c rs))) e = refl
 
 -- the constants of the nodes so far, and of one more
-pub constants_next : (nodes : List Node) (i : ℕ) (d : Node) → i < length nodes →
+pub constants_next : (nodes : List ExprNode) (i : ℕ) (d : ExprNode) → i < length nodes →
     map constant_of (parts_of (take (i + 1) nodes)) ≡ map constant_of (parts_of (take i nodes)) ++ constant_of (resolved_by (parts_of (take i nodes)) (slice_index_or nodes i d)) ∷ []
 constants_next nodes i d within =
     ap (map constant_of) (parts_of-next nodes i d within) ∙ map-append constant_of (parts_of (take i nodes)) (resolved_by (parts_of (take i nodes)) (slice_index_or nodes i d) ∷ [])
 
-pub one_more : (nodes : List Node) (i : ℕ) (d : Node) (table new : List Constant) (x : Constant) → i < length nodes → table ≡ map constant_of (parts_of (take i nodes)) →
+pub one_more : (nodes : List ExprNode) (i : ℕ) (d : ExprNode) (table new : List Constant) (x : Constant) → i < length nodes → table ≡ map constant_of (parts_of (take i nodes)) →
     ((parts : List Resolved) → table ≡ map constant_of parts → x ≡ constant_of (resolved_by parts (slice_index_or nodes i d))) → new ≡ table ++ x ∷ [] →
     new ≡ map constant_of (parts_of (take (i + 1) nodes))
 one_more nodes i d table new x within told more is =

@@ -9,7 +9,7 @@ ghost use Rattle.smv_declared.specs.declared.constant.Constant.TheVariants.{NotC
 
 use crate::Constant;
 use crate::constant::{constant_of_value, operated, operated_by_two};
-use smv_resolve::{Node, ResolveStop, last, resolve_wholly};
+use smv_resolve::{ExprNode, ResolveStop, last, resolve_wholly};
 use smv_scope::Scope;
 use smv_tree::Expr;
 use smv_value::Operator;
@@ -36,7 +36,7 @@ pub(crate) fn bound_of(
 }
 
 // The constant that the node of this number is.
-fn constant_of_node(alloc: Global, nodes: &[Node], root: usize) -> Result<Constant, AllocError>
+fn constant_of_node(alloc: Global, nodes: &[ExprNode], root: usize) -> Result<Constant, AllocError>
     ensures { IfOk result (λ c. c ≡ constant_of (part_of nodes.now root)) }
 {
     let table = constants_of(alloc, nodes)?;
@@ -44,7 +44,7 @@ fn constant_of_node(alloc: Global, nodes: &[Node], root: usize) -> Result<Consta
 }
 
 /// The constant that each node is, in the order of the nodes. It takes a step for each node, and the only error is running out of memory.
-pub fn constants_of(alloc: Global, nodes: &[Node]) -> Result<Vec<Constant>, AllocError>
+pub fn constants_of(alloc: Global, nodes: &[ExprNode]) -> Result<Vec<Constant>, AllocError>
     ensures { IfOk result (λ table. table.items ≡ map constant_of (parts_of nodes.now)) }
 {
     let mut table = Vec::new(alloc);
@@ -56,16 +56,16 @@ pub fn constants_of(alloc: Global, nodes: &[Node]) -> Result<Vec<Constant>, Allo
 }
 
 // The constant that a node is, over those of the nodes before it.
-fn constant_by(alloc: Global, node: Node, table: &[Constant]) -> Result<Constant, AllocError>
+fn constant_by(alloc: Global, node: ExprNode, table: &[Constant]) -> Result<Constant, AllocError>
     ensures { (parts : List Resolved) → table.now ≡ map constant_of parts → IfOk result (λ c. c ≡ constant_of (resolved_by parts node)) }
 {
     match node {
-        Node::Constant(_, value) => Ok(constant_of_value(value)),
-        Node::Named(_, _, a) => copy_at(alloc, table, a),
-        Node::Operand(a) => copy_at(alloc, table, a),
-        Node::Apply(_, operator, count) => operated(alloc, operator, last(table, count)),
-        Node::Link(_, operator, a, b) => linked(alloc, operator, table, a, b),
-        Node::Slot(..) | Node::Whole(..) | Node::Next(..) => Ok(Constant::NotConstant),
+        ExprNode::Constant(_, value) => Ok(constant_of_value(value)),
+        ExprNode::Named(_, _, a) => copy_at(alloc, table, a),
+        ExprNode::Operand(a) => copy_at(alloc, table, a),
+        ExprNode::Apply(_, operator, count) => operated(alloc, operator, last(table, count)),
+        ExprNode::Link(_, operator, a, b) => linked(alloc, operator, table, a, b),
+        ExprNode::Slot(..) | ExprNode::Whole(..) | ExprNode::Next(..) => Ok(Constant::NotConstant),
     }
 }
 

@@ -7,7 +7,7 @@ use Rattle.std.proofs.lemmas.List.Elements.{All-contains, All-filter, filter_pas
 use Rattle.std.proofs.lemmas.List.Folds.{Any-from_list_any, list_any-from_Any}
 use Rattle.std.proofs.lemmas.List.FromFn.{get_or-map-range_with_len, length-map-range_with_len}
 use Rattle.digraph.specs.Cycles.{Acyclic, Edge, Leads, Walk}
-use Rattle.smv_resolve.specs.declared.node.Node.{Node}
+use Rattle.smv_resolve.specs.declared.node.ExprNode.{ExprNode}
 use Rattle.smv_resolve.specs.Resolved.{part_of}
 use Rattle.smv_flat.specs.declared.assigned.Assigned.{Assigned}
 use Rattle.smv_flat.specs.declared.time.Time.{Time}
@@ -51,7 +51,7 @@ edge_depends slots time as' x y edge =
           absurd (none_in y (subst P (get_or_past (slot_graph slots time as') x [] past) edge))
     ]
 
-module _ (slots : ℕ) (nodes : List Node) (time : Time) (all : List Assigned) where
+module _ (slots : ℕ) (nodes : List ExprNode) (time : Time) (all : List Assigned) where
   -- the dependencies by these assignments
   abbrev pub dependency : List (List ℕ)
   dependency = slot_graph slots time (map (assigned_by nodes) all)

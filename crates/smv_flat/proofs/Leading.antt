@@ -7,7 +7,7 @@ use Rattle.std.proofs.lemmas.List.Elements.{All-nil, All-cons, All-append, All-w
 use Rattle.std.proofs.lemmas.List.FromFn.{get_or-map-range_with_len, length-map-range_with_len}
 use Rattle.std.proofs.lemmas.Option.{slice_get_cases}
 use Rattle.digraph.specs.Cycles.{Closed, Edge, Leads, Walk, successors}
-use Rattle.smv_resolve.specs.declared.node.Node.{Node}
+use Rattle.smv_resolve.specs.declared.node.ExprNode.{ExprNode}
 use Rattle.smv_resolve.specs.Resolved.{part_of}
 use Rattle.smv_flat.specs.declared.assigned.Assigned.{Assigned}
 use Rattle.smv_flat.specs.declared.time.Time.{Time}
@@ -27,7 +27,7 @@ walk_join g (x ∷ xs) ys a m b v w = (v.0, walk_join g xs ys x m b v.1 w)
 pub leads_join : (g : List (List ℕ)) (a m b : ℕ) → Leads g a m → Leads g m b → Leads g a b
 leads_join g a m b v w = (v.0 ++ m ∷ w.0, walk_join g v.0 w.0 a m b v.1 w.1)
 
-some_node : (nodes : List Node) (k : ℕ) → k < length nodes → (x : Node) × (slice_get nodes k ≡ Some x)
+some_node : (nodes : List ExprNode) (k : ℕ) → k < length nodes → (x : ExprNode) × (slice_get nodes k ≡ Some x)
 some_node nodes k lt =
     elim (slice_get_cases nodes k).1 [
       | inl some ↦ (some.0, some.2)
@@ -62,7 +62,7 @@ stands_once slots nodes true false k j lt less e = omega arith
 stands_once slots nodes false true k j lt less e = omega arith
 stands_once slots nodes false false k j lt less e = omega arith
 
-module _ (slots : ℕ) (nodes : List Node) (time : Time) (all : List Assigned) where
+module _ (slots : ℕ) (nodes : List ExprNode) (time : Time) (all : List Assigned) where
   pub size : length (whole_graph slots nodes time all) ≡ slots + (length nodes + length nodes)
   unfolding whole_graph
   size =

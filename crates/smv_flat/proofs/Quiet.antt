@@ -7,7 +7,7 @@ use Rattle.std.proofs.lemmas.List.{map-append}
 use Rattle.digraph.specs.Cycles.{Acyclic, Edge, Leads, Walk}
 use Rattle.smv_tree.specs.declared.place.Place.{Place}
 use Rattle.smv_value.specs.declared.operator.Operator.{Operator}
-use Rattle.smv_resolve.specs.declared.node.Node.{Node}
+use Rattle.smv_resolve.specs.declared.node.ExprNode.{ExprNode}
 use Rattle.smv_resolve.specs.Resolved.{Operands, Resolved, last_of, operands_of, part_at, part_of, parts_of, resolved_by}
 use Rattle.smv_resolve.proofs.Parts.{last_of-map, parts_of-next}
 use Rattle.smv_flat.specs.declared.assigned.Assigned.{Assigned}
@@ -50,7 +50,7 @@ pub any_two : (place : Place) (o : Operator) (a b : Resolved) (x y : Reads) → 
 any_two place o a b x y e f = ap (λ z. any_of (z ∷ y ∷ [])) e ∙ ap (λ z. any_of (reads_of a ∷ z ∷ [])) f ∙ any_same place o (a ∷ b ∷ [])
 
 -- what the nodes so far read, and one more
-pub one_more : (nodes : List Node) (i : ℕ) (d : Node) (table new : List Reads) (x : Reads) → i < length nodes → table ≡ map reads_of (parts_of (take i nodes)) →
+pub one_more : (nodes : List ExprNode) (i : ℕ) (d : ExprNode) (table new : List Reads) (x : Reads) → i < length nodes → table ≡ map reads_of (parts_of (take i nodes)) →
     ((parts : List Resolved) → table ≡ map reads_of parts → x ≡ reads_of (resolved_by parts (slice_index_or nodes i d))) → new ≡ table ++ x ∷ [] →
     new ≡ map reads_of (parts_of (take (i + 1) nodes))
 one_more nodes i d table new x within told more is =
@@ -104,7 +104,7 @@ by_same true r = refl
 by_same false r = refl
 
 -- where no value of this time reads a slot of this time, no slot depends on one
-pub none_depends : (slots : ℕ) (nodes : List Node) (time : Time) (all : List Assigned) (table : List Reads) → table ≡ map reads_of (parts_of nodes) → list_all (is_quiet time table) all ≡ true →
+pub none_depends : (slots : ℕ) (nodes : List ExprNode) (time : Time) (all : List Assigned) (table : List Reads) → table ≡ map reads_of (parts_of nodes) → list_all (is_quiet time table) all ≡ true →
     (x y : ℕ) → Edge (dependency slots nodes time all) x y → ⊥
 none_depends slots nodes time all table is still x y edge =
     let says = edge_depends slots time (map (assigned_by nodes) all) x y edge in
@@ -118,7 +118,7 @@ none_depends slots nodes time all table is still x y edge =
     let no : true ≡ false = sym tie.3 ∙ quiet (looks_ahead a.kind) y (part_of nodes a.value) none in
     absurd cc
 
-pub all_apart : (slots : ℕ) (nodes : List Node) (time : Time) (all : List Assigned) (table : List Reads) → table ≡ map reads_of (parts_of nodes) → list_all (is_quiet time table) all ≡ true →
+pub all_apart : (slots : ℕ) (nodes : List ExprNode) (time : Time) (all : List Assigned) (table : List Reads) → table ≡ map reads_of (parts_of nodes) → list_all (is_quiet time table) all ≡ true →
     Acyclic (dependency slots nodes time all)
 all_apart slots nodes time all table is still a leads = go leads.0 a leads.1
   where

@@ -7,15 +7,15 @@ use Rattle.std.proofs.lemmas.Bool.{or_left, or_right, or_cases, eqb-true, eq-eqb
 use Rattle.std.proofs.lemmas.List.Elements.{All-nil, All-cons}
 use Rattle.smv_tree.specs.declared.place.Place.{Place}
 use Rattle.smv_value.specs.declared.operator.Operator.{Operator}
-use Rattle.smv_resolve.specs.declared.node.Node.{Node}
-use Rattle.smv_resolve.specs.declared.node.Node.TheVariants as node
+use Rattle.smv_resolve.specs.declared.node.ExprNode.{ExprNode}
+use Rattle.smv_resolve.specs.declared.node.ExprNode.TheVariants as node
 use Rattle.smv_resolve.specs.Resolved.{Resolved, last_of, operands_of, part_at, resolved_by}
 use Rattle.smv_flat.specs.Assignments.{occurs, occurs_in_some}
 use Rattle.smv_flat.specs.Graph.{operands, own_slot, slot_read}
 use Rattle.smv_flat.proofs.Listed.{first_in}
 
 -- what this part reads is read by the whole
-abbrev pub Passes : Bool → List Resolved → Node → Bool × ℕ → Type 0
+abbrev pub Passes : Bool → List Resolved → ExprNode → Bool × ℕ → Type 0
 Passes ahead parts x o = (y : ℕ) → occurs o.0 y (part_at parts o.1) ≡ true → occurs ahead y (resolved_by parts x) ≡ true
 
 next_passes : (ahead : Bool) (parts : List Resolved) (k : ℕ) (place : Place) (a : ℕ) → All (Passes ahead parts (node.Next place a)) (operands ahead k (node.Next place a))
@@ -59,7 +59,7 @@ apply_passes ahead parts place o count i d l =
     ∙ any_at (occurs ahead y) (drop (k - count) parts) i Resolved.Stuck inside (ap (occurs ahead y) (get_or-drop (k - count) parts i Resolved.Stuck) ∙ h))
 
 -- what the parts read is read by the whole
-pub parts_pass : (ahead : Bool) (parts : List Resolved) (k : ℕ) (x : Node) → length parts ≡ k → All (Passes ahead parts x) (operands ahead k x)
+pub parts_pass : (ahead : Bool) (parts : List Resolved) (k : ℕ) (x : ExprNode) → length parts ≡ k → All (Passes ahead parts x) (operands ahead k x)
 parts_pass ahead parts k (node.Constant place b) long = All-nil (Passes ahead parts (node.Constant place b))
 parts_pass ahead parts k (node.Slot place n) long = All-nil (Passes ahead parts (node.Slot place n))
 parts_pass ahead parts k (node.Whole place i) long = All-nil (Passes ahead parts (node.Whole place i))
@@ -79,7 +79,7 @@ parts_pass ahead parts k (node.Link place o a b) long =
     (All-nil P))
 
 -- the slot is there, and is read
-abbrev pub IsRead : ℕ → Bool → List Resolved → Node → ℕ → Type 0
+abbrev pub IsRead : ℕ → Bool → List Resolved → ExprNode → ℕ → Type 0
 IsRead slots ahead parts x y = (y < slots) × (occurs ahead y (resolved_by parts x) ≡ true)
 
 slot_is_read : (slots : ℕ) (ahead : Bool) (parts : List Resolved) (place : Place) (n : ℕ) → All (IsRead slots ahead parts (node.Slot place n)) (slot_read slots ahead n)
@@ -90,7 +90,7 @@ slot_is_read slots false parts place n =
     (λ t. All-cons P n [] (ltb-true n slots t, eq-eqb n n refl) (All-nil P)) (λ f. All-nil P)
 
 -- the slot that a node reads itself is read
-pub own_is_read : (slots : ℕ) (ahead : Bool) (parts : List Resolved) (x : Node) → All (IsRead slots ahead parts x) (own_slot slots ahead x)
+pub own_is_read : (slots : ℕ) (ahead : Bool) (parts : List Resolved) (x : ExprNode) → All (IsRead slots ahead parts x) (own_slot slots ahead x)
 own_is_read slots ahead parts (node.Slot place n) = slot_is_read slots ahead parts place n
 own_is_read slots ahead parts (node.Constant place b) = All-nil (IsRead slots ahead parts (node.Constant place b))
 own_is_read slots ahead parts (node.Whole place i) = All-nil (IsRead slots ahead parts (node.Whole place i))
@@ -101,11 +101,11 @@ own_is_read slots ahead parts (node.Apply place o count) = All-nil (IsRead slots
 own_is_read slots ahead parts (node.Link place o a b) = All-nil (IsRead slots ahead parts (node.Link place o a b))
 
 -- a part reads the slot
-abbrev pub ByPart : Bool → ℕ → List Resolved → ℕ → Node → Type 0
+abbrev pub ByPart : Bool → ℕ → List Resolved → ℕ → ExprNode → Type 0
 ByPart ahead y parts k x = (o : Bool × ℕ) × Contains (operands ahead k x) o × (occurs o.0 y (part_at parts o.1) ≡ true)
 
 -- the slot that is read is the node's own, or a part reads it
-abbrev pub Whence : ℕ → Bool → ℕ → List Resolved → ℕ → Node → Type 0
+abbrev pub Whence : ℕ → Bool → ℕ → List Resolved → ℕ → ExprNode → Type 0
 Whence slots ahead y parts k x = Contains (own_slot slots ahead x) y ⊎ ByPart ahead y parts k x
 
 pub nothing_read : {P : Type 0} → false ≡ true → P
@@ -155,7 +155,7 @@ whence_link ahead y parts k place o a b h =
     or_last false e = e
 
 -- where a slot is read, it is the node's own, or a part reads it
-pub whence : (slots : ℕ) (ahead : Bool) (y : ℕ) (parts : List Resolved) (k : ℕ) (x : Node) → length parts ≡ k → y < slots → occurs ahead y (resolved_by parts x) ≡ true
+pub whence : (slots : ℕ) (ahead : Bool) (y : ℕ) (parts : List Resolved) (k : ℕ) (x : ExprNode) → length parts ≡ k → y < slots → occurs ahead y (resolved_by parts x) ≡ true
     → Whence slots ahead y parts k x
 whence slots ahead y parts k (node.Constant place b) long lt h = nothing_read h
 whence slots ahead y parts k (node.Whole place i) long lt h = nothing_read h

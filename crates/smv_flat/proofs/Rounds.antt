@@ -6,7 +6,7 @@ use Rattle.std.proofs.lemmas.List.{get_or_default}
 use Rattle.std.proofs.lemmas.List.Elements.{All-filter, All-from_get_or, All-head, All-tail}
 use Rattle.std.proofs.lemmas.List.Kept.{AllPairs-filter}
 use Rattle.digraph.specs.Cycles.{Distinct, Edge, IsCanonicalCycle, Walk}
-use Rattle.smv_resolve.specs.declared.node.Node.{Node}
+use Rattle.smv_resolve.specs.declared.node.ExprNode.{ExprNode}
 use Rattle.smv_resolve.specs.Resolved.{part_of}
 use Rattle.smv_flat.specs.declared.assigned.Assigned.{Assigned}
 use Rattle.smv_flat.specs.declared.time.Time.{Time}
@@ -22,7 +22,7 @@ distinct_kept p xs distinct =
     λ i j d lt within e. distinct i j lt within (get_or_default xs i 0 d (omega (arith, lt, within)) ∙ e ∙ get_or_default xs j d 0 within) in
     λ i j lt within. AllPairs-filter (λ x y. x ≢ y) p xs pairs i j 0 lt within
 
-module _ (slots : ℕ) (nodes : List Node) (time : Time) (all : List Assigned) where
+module _ (slots : ℕ) (nodes : List ExprNode) (time : Time) (all : List Assigned) where
   -- slot x depends on what the node reads
   abbrev pub Carries : ℕ → Bool → ℕ → Type 0
   Carries x ahead k = (y : ℕ) → y < slots → occurs ahead y (part_of nodes k) ≡ true → Edge (dependency slots nodes time all) x y

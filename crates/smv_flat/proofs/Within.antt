@@ -8,7 +8,7 @@ use Rattle.smv_tree.specs.declared.tree.Program.{Program}
 use Rattle.smv_tree.specs.declared.tree.AssignmentKind.{AssignmentKind}
 use Rattle.smv_tree.specs.declared.tree.AssignmentKind.TheVariants as side
 use Rattle.smv_resolve.specs.declared.node.Naming.TheVariants as naming
-use Rattle.smv_resolve.specs.declared.node.Node.{Node}
+use Rattle.smv_resolve.specs.declared.node.ExprNode.{ExprNode}
 use Rattle.smv_resolve.specs.declared.item.ItemKind.{ItemKind}
 use Rattle.smv_resolve.specs.declared.item.ItemKind.TheVariants as item
 use Rattle.smv_resolve.specs.Items.{ResolvedItem}
@@ -60,7 +60,7 @@ all_within p = let slots = length (slots_of p) in all_joined (Within slots) (ass
 abbrev pub nothing : Assigned
 nothing = record { slot = 0; kind = side.Init; place = record { line = 0; column = 0 }; value = 0 }
 
-module _ (p : Program) (nodes : List Node) (all : List Assigned) (is : map (assigned_by nodes) all ≡ assignments_of p) (k : ℕ) (lt : k < length all) where
+module _ (p : Program) (nodes : List ExprNode) (all : List Assigned) (is : map (assigned_by nodes) all ≡ assignments_of p) (k : ℕ) (lt : k < length all) where
   -- the assignment of this number
   pub stands_there : assigned_by nodes (get_or all k nothing) ≡ get_or (map (assigned_by nodes) all) k (assigned_by nodes (get_or all k nothing))
   stands_there = sym (get_or-map (assigned_by nodes) all k nothing (assigned_by nodes (get_or all k nothing)) lt)

@@ -4,21 +4,21 @@
 use Rattle.std.specs.Prelude.{◌≡◌, ◌<◌, ℕ, ◌+◌, ◌-◌, ◌==◌, nat_lt, Bool, true, false, not, ◌&&◌, if◌then◌else◌, List, [], ◌∷◌, ◌++◌, length, map, filter, Option, None, Some, slice_get}
 use Rattle.std.specs.List.{flat_map, range_with_len}
 use Rattle.smv_resolve.specs.declared.node.Naming.TheVariants as naming
-use Rattle.smv_resolve.specs.declared.node.Node.{Node}
-use Rattle.smv_resolve.specs.declared.node.Node.TheVariants as node
+use Rattle.smv_resolve.specs.declared.node.ExprNode.{ExprNode}
+use Rattle.smv_resolve.specs.declared.node.ExprNode.TheVariants as node
 use Rattle.smv_resolve.specs.Resolved.{part_of}
 use Rattle.smv_flat.specs.declared.assigned.Assigned.{Assigned}
-use Rattle.smv_flat.specs.declared.assigned.Found.{Found}
-use Rattle.smv_flat.specs.declared.assigned.Found.TheVariants as found
+use Rattle.smv_flat.specs.declared.assigned.SlotAnswer.{SlotAnswer}
+use Rattle.smv_flat.specs.declared.assigned.SlotAnswer.TheVariants as found
 use Rattle.smv_flat.specs.declared.time.Time.{Time}
 use Rattle.smv_flat.specs.Assignments.{SlotAssignment, assigned_slot, looks_ahead, speaks_of}
 
 -- an assignment whose value is a node
-abbrev pub assigned_by : List Node → Assigned → SlotAssignment
+abbrev pub assigned_by : List ExprNode → Assigned → SlotAssignment
 assigned_by nodes a = record { slot = a.slot; kind = a.kind; place = a.place; value = part_of nodes a.value }
 
 -- what the node of number k says
-abbrev pub found_in : ℕ → ℕ → Node → Found
+abbrev pub found_in : ℕ → ℕ → ExprNode → SlotAnswer
 found_in slots k (node.Slot place n) = if nat_lt n slots then found.Slot n else found.Nothing
 found_in slots k (node.Named place naming.Given a) = if nat_lt a k then found.Below a else found.Nothing
 found_in slots k (node.Named place naming.Element a) = if nat_lt a k then found.Below a else found.Nothing
@@ -28,7 +28,7 @@ found_in slots k other = found.Nothing
 
 -- what is said of a node is so of what it is: the slot that it is, that it is none, or that it is what a node below it
 -- is
-abbrev pub SlotFound : ℕ → List Node → ℕ → Found → Type 0
+abbrev pub SlotFound : ℕ → List ExprNode → ℕ → SlotAnswer → Type 0
 SlotFound slots nodes k (found.Slot n) = assigned_slot slots (part_of nodes k) ≡ Some n
 SlotFound slots nodes k found.Nothing = assigned_slot slots (part_of nodes k) ≡ None
 SlotFound slots nodes k (found.Below a) = (a < k) × (assigned_slot slots (part_of nodes k) ≡ assigned_slot slots (part_of nodes a))
@@ -44,7 +44,7 @@ abbrev pub last_before : ℕ → ℕ → List ℕ
 last_before count k = range_with_len (k - count) (k - (k - count))
 
 -- the parts that the node of number k reads, and whether they look ahead
-abbrev pub operands : Bool → ℕ → Node → List (Bool × ℕ)
+abbrev pub operands : Bool → ℕ → ExprNode → List (Bool × ℕ)
 operands ahead k (node.Constant place b) = []
 operands ahead k (node.Slot place n) = []
 operands ahead k (node.Whole place i) = []
@@ -59,7 +59,7 @@ abbrev pub slot_read : ℕ → Bool → ℕ → List ℕ
 slot_read slots ahead n = if not ahead && nat_lt n slots then n ∷ [] else []
 
 -- the slot that a node reads itself
-abbrev pub own_slot : ℕ → Bool → Node → List ℕ
+abbrev pub own_slot : ℕ → Bool → ExprNode → List ℕ
 own_slot slots ahead (node.Slot place n) = slot_read slots ahead n
 own_slot slots ahead other = []
 
@@ -68,11 +68,11 @@ abbrev pub part_below : ℕ → ℕ → ℕ → Bool × ℕ → List ℕ
 part_below slots nodes limit part = if nat_lt part.1 limit then stand slots nodes part.0 part.1 ∷ [] else []
 
 -- what the node of number k leads to
-abbrev pub row : ℕ → ℕ → Bool → ℕ → Option Node → List ℕ
+abbrev pub row : ℕ → ℕ → Bool → ℕ → Option ExprNode → List ℕ
 row slots nodes ahead k None = []
 row slots nodes ahead k (Some x) = own_slot slots ahead x ++ flat_map (part_below slots nodes k) (operands ahead k x)
 
-abbrev pub rows : ℕ → List Node → Bool → List (List ℕ)
+abbrev pub rows : ℕ → List ExprNode → Bool → List (List ℕ)
 rows slots nodes ahead = map (λ k. row slots (length nodes) ahead k (slice_get nodes k)) (range_with_len 0 (length nodes))
 
 -- what slot x leads to by an assignment
@@ -87,7 +87,7 @@ abbrev pub slot_rows : ℕ → ℕ → Time → List Assigned → List (List ℕ
 slot_rows slots nodes time all = map (roots slots nodes time all) (range_with_len 0 slots)
 
 -- the graph of slots and nodes at this time
-unfoldable pub whole_graph : ℕ → List Node → Time → List Assigned → List (List ℕ)
+unfoldable pub whole_graph : ℕ → List ExprNode → Time → List Assigned → List (List ℕ)
 whole_graph slots nodes time all = (slot_rows slots (length nodes) time all ++ rows slots nodes false) ++ rows slots nodes true
 
 -- those of these that are slots

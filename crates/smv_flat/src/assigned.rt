@@ -7,7 +7,7 @@ ghost use Rattle.smv_flat.specs.Assignments.{assigned_slot, assignment_in, assig
 ghost use Rattle.smv_flat.specs.Graph.{SlotFound, assigned_by, found_in};
 
 use smv_meaning::Typed;
-use smv_resolve::{Item, ItemKind, Naming, Node};
+use smv_resolve::{ExprNode, Item, ItemKind, Naming};
 use smv_tree::{AssignmentKind, Place};
 use sqlite_items::at;
 use std::alloc::{AllocError, Global};
@@ -24,7 +24,7 @@ pub struct Assigned {
 
 /// What a node says of the slot that it is.
 #[derive(Clone, Copy, Debug)]
-pub enum Found {
+pub enum SlotAnswer {
     /// It is the slot of this number.
     Slot(usize),
     /// It is no slot.
@@ -49,7 +49,7 @@ pub fn assignments_of(alloc: Global, typed: &Typed) -> Result<Vec<Assigned>, All
 // Adds the assignment that an item is, if it is one.
 fn push_assignment(
     slots: usize,
-    nodes: &[Node],
+    nodes: &[ExprNode],
     item: Item,
     all: &mut Vec<Assigned>,
 ) -> Result<(), AllocError>
@@ -70,7 +70,7 @@ fn push_assignment(
 }
 
 // The slot that a target is, if it is one.
-fn target_slot(slots: usize, nodes: &[Node], target: Option<usize>) -> Option<usize>
+fn target_slot(slots: usize, nodes: &[ExprNode], target: Option<usize>) -> Option<usize>
     ensures { result ≡ target_slot slots (target_by nodes.now target) }
 {
     match target {
@@ -80,37 +80,38 @@ fn target_slot(slots: usize, nodes: &[Node], target: Option<usize>) -> Option<us
 }
 
 // The slot that a node is: itself, as what a parameter was given, or as an element.
-fn assigned_slot(slots: usize, nodes: &[Node], k: usize) -> Option<usize>
+fn assigned_slot(slots: usize, nodes: &[ExprNode], k: usize) -> Option<usize>
     ensures { result ≡ assigned_slot slots (part_of nodes.now k) }
 {
     let mut here = k;
     loop {
         match find_slot(slots, nodes, here) {
-            Found::Slot(n) => return Some(n),
-            Found::Nothing => return None,
-            Found::Below(a) => here = a,
+            SlotAnswer::Slot(n) => return Some(n),
+            SlotAnswer::Nothing => return None,
+            SlotAnswer::Below(a) => here = a,
         }
     }
 }
 
 // What a node says of the slot that it is; none stands past the last.
-fn find_slot(slots: usize, nodes: &[Node], k: usize) -> Found
+fn find_slot(slots: usize, nodes: &[ExprNode], k: usize) -> SlotAnswer
     ensures { SlotFound slots nodes.now k result }
 {
     match at(nodes, k) {
-        None => Found::Nothing,
+        None => SlotAnswer::Nothing,
         Some(node) => found_in(slots, k, *node),
     }
 }
 
 // What the node of number k says.
-fn found_in(slots: usize, k: usize, node: Node) -> Found
+fn found_in(slots: usize, k: usize, node: ExprNode) -> SlotAnswer
     ensures { result ≡ found_in slots k node }
 {
     match node {
-        Node::Slot(_, n) if n < slots => Found::Slot(n),
-        Node::Named(_, Naming::Given | Naming::Element | Naming::Array(..), a) | Node::Operand(a)
-            if a < k => Found::Below(a),
-        _ => Found::Nothing,
+        ExprNode::Slot(_, n) if n < slots => SlotAnswer::Slot(n),
+        ExprNode::Named(_, Naming::Given | Naming::Element | Naming::Array(..), a)
+        | ExprNode::Operand(a)
+            if a < k => SlotAnswer::Below(a),
+        _ => SlotAnswer::Nothing,
     }
 }

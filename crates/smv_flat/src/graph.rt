@@ -6,7 +6,7 @@ ghost use Rattle.smv_flat.specs.Graph.{last_before, part_below, row, rows, slot_
 
 use crate::assigned::Assigned;
 use crate::time::{Time, looks_ahead, speaks_of};
-use smv_resolve::Node;
+use smv_resolve::ExprNode;
 use sqlite_items::Items;
 use std::alloc::{AllocError, Global};
 
@@ -15,7 +15,7 @@ use std::alloc::{AllocError, Global};
 pub fn whole_graph(
     alloc: Global,
     slots: usize,
-    nodes: &[Node],
+    nodes: &[ExprNode],
     time: Time,
     all: &[Assigned],
 ) -> Result<Vec<Items<usize>>, AllocError>
@@ -65,7 +65,7 @@ fn empty_lists(alloc: Global, count: usize) -> Result<Vec<Items<usize>>, AllocEr
 fn push_rows(
     alloc: Global,
     slots: usize,
-    nodes: &[Node],
+    nodes: &[ExprNode],
     ahead: bool,
     graph: &mut Vec<Items<usize>>,
 ) -> Result<(), AllocError>
@@ -84,7 +84,7 @@ fn push_rows(
 fn row(
     alloc: Global,
     slots: usize,
-    nodes: &[Node],
+    nodes: &[ExprNode],
     ahead: bool,
     k: usize,
 ) -> Result<Items<usize>, AllocError>
@@ -106,7 +106,7 @@ fn push_reads(
     nodes: usize,
     ahead: bool,
     k: usize,
-    node: Node,
+    node: ExprNode,
 ) -> Result<(), AllocError>
     requires slots { slots < 2 ^ 30 }
     requires nodes { nodes < 2 ^ 30 }
@@ -114,14 +114,14 @@ fn push_reads(
     ensures { OnOk result (list.new ≡ list.old ++ row slots nodes ahead k (Some node)) }
 {
     match node {
-        Node::Constant(..) => Ok(()),
-        Node::Slot(_, n) => push_slot(list, slots, ahead, n),
-        Node::Whole(..) => Ok(()),
-        Node::Named(_, _, a) => push_part(list, slots, nodes, k, ahead, a),
-        Node::Next(_, a) => push_next(list, slots, nodes, k, ahead, a),
-        Node::Operand(a) => push_part(list, slots, nodes, k, ahead, a),
-        Node::Apply(_, _, count) => push_last(list, slots, nodes, k, ahead, count),
-        Node::Link(_, _, a, b) => push_two(list, slots, nodes, k, ahead, a, b),
+        ExprNode::Constant(..) => Ok(()),
+        ExprNode::Slot(_, n) => push_slot(list, slots, ahead, n),
+        ExprNode::Whole(..) => Ok(()),
+        ExprNode::Named(_, _, a) => push_part(list, slots, nodes, k, ahead, a),
+        ExprNode::Next(_, a) => push_next(list, slots, nodes, k, ahead, a),
+        ExprNode::Operand(a) => push_part(list, slots, nodes, k, ahead, a),
+        ExprNode::Apply(_, _, count) => push_last(list, slots, nodes, k, ahead, count),
+        ExprNode::Link(_, _, a, b) => push_two(list, slots, nodes, k, ahead, a, b),
     }
 }
 

@@ -9,7 +9,7 @@ ghost use Rattle.smv_flat.specs.Reads.{any_of, is_quiet, no_reads, reads_by, rea
 
 use crate::assigned::Assigned;
 use crate::time::{Time, looks_ahead, speaks_of};
-use smv_resolve::{Node, last};
+use smv_resolve::{ExprNode, last};
 use std::alloc::{AllocError, Global};
 
 /// Whether an expression reads slots.
@@ -22,7 +22,7 @@ pub struct Reads {
 }
 
 /// What each node reads, in the order of the nodes. It takes a step for each operand.
-pub fn reads_of(alloc: Global, nodes: &[Node]) -> Result<Vec<Reads>, AllocError>
+pub fn reads_of(alloc: Global, nodes: &[ExprNode]) -> Result<Vec<Reads>, AllocError>
     ensures { IfOk result (λ table. table.items ≡ map reads_of (parts_of nodes.now)) }
 {
     let mut table = Vec::new(alloc);
@@ -34,23 +34,23 @@ pub fn reads_of(alloc: Global, nodes: &[Node]) -> Result<Vec<Reads>, AllocError>
 }
 
 // What a node reads, over what those before it read.
-fn reads_of_node(node: Node, table: &[Reads]) -> Reads
+fn reads_of_node(node: ExprNode, table: &[Reads]) -> Reads
     ensures { (parts : List Resolved) → table.now ≡ map reads_of parts → result ≡ reads_of (resolved_by parts node) }
 {
     match node {
-        Node::Slot(..) => Reads {
+        ExprNode::Slot(..) => Reads {
             present: true,
             ahead: false,
         },
-        Node::Named(_, _, a) => reads_at(table, a),
-        Node::Operand(a) => reads_at(table, a),
-        Node::Next(_, a) => Reads {
+        ExprNode::Named(_, _, a) => reads_at(table, a),
+        ExprNode::Operand(a) => reads_at(table, a),
+        ExprNode::Next(_, a) => Reads {
             present: false,
             ahead: reads_at(table, a).present,
         },
-        Node::Apply(_, _, count) => any_of(last(table, count)),
-        Node::Link(_, _, a, b) => any_of(&[reads_at(table, a), reads_at(table, b)]),
-        Node::Constant(..) | Node::Whole(..) => no_reads(),
+        ExprNode::Apply(_, _, count) => any_of(last(table, count)),
+        ExprNode::Link(_, _, a, b) => any_of(&[reads_at(table, a), reads_at(table, b)]),
+        ExprNode::Constant(..) | ExprNode::Whole(..) => no_reads(),
     }
 }
 

@@ -2,12 +2,12 @@
 use Rattle.std.proofs.Common.{◌≡◌, ℕ, List, [], ◌∷◌, ◌++◌, reverse, sym, subst}
 use Rattle.std.proofs.lemmas.List.{reverse-append}
 use Rattle.smv_tree.specs.declared.tree.Program.{Program}
-use Rattle.smv_resolve.specs.declared.node.Node.{Node}
+use Rattle.smv_resolve.specs.declared.node.ExprNode.{ExprNode}
 use Rattle.smv_resolve.specs.Resolved.{Resolved}
 use Rattle.smv_meaning.specs.Lassos.{Holds}
 use Rattle.ltl_meaning.specs.declared.node.BinaryOperator.{BinaryOperator}
 use Rattle.ltl_meaning.specs.declared.node.Link.{Link}
-use Rattle.ltl_meaning.specs.declared.node.Node.{Node as Tree}
+use Rattle.ltl_meaning.specs.declared.node.FormulaNode.{FormulaNode as Tree}
 use Rattle.ltl_meaning.specs.Temporal.{Temporal, chain_of, formula_of, links_of}
 use Rattle.ltl_meaning.specs.Truth.{binary_truth}
 use Rattle.ltl_meaning.proofs.Alike.{AreAlike, binary_alike, flipped}
@@ -18,11 +18,11 @@ use Rattle.smv_formulas.proofs.Operators.{chained}
 use Rattle.smv_formulas.proofs.Telling.{Held, more_behind}
 
 -- whatever formula says what is left, with the links behind it tells the whole
-pub record Continues (nodes : List Node) (atoms : List ℕ) (links : List (Link Tree)) (left : Resolved) (K : Held) : Type 0 where
+pub record Continues (nodes : List ExprNode) (atoms : List ℕ) (links : List (Link Tree)) (left : Resolved) (K : Held) : Type 0 where
   pub goes : (p : Program) (more : List ℕ) (f : Temporal) → Tells p (atom_parts nodes (atoms ++ more)) f (λ w. Holds p w left)
       → Tells p (atom_parts nodes (atoms ++ more)) (chain_of f (links_of (reverse links))) (K p)
 
-module _ (nodes : List Node) where
+module _ (nodes : List ExprNode) where
   joins : (atoms more : List ℕ) (p : Program) (f g : Temporal) (o : BinaryOperator) (left right : Resolved)
       → Tells p (atom_parts nodes (atoms ++ more)) f (λ w. Holds p w left) → SaysOn nodes atoms g right
       → Tells p (atom_parts nodes (atoms ++ more)) (Temporal.Binary o f g) (λ w. binary_truth o (Holds p w left) (Holds p w right))

@@ -4,8 +4,8 @@ use Rattle.std.specs.List.{list_all}
 use Rattle.std.proofs.Math.Bool.{and-true}
 use Rattle.std.proofs.Math.ListN.{get_or-map}
 use Rattle.std.proofs.lemmas.List.{length-map, map-append, take_more}
-use Rattle.smv_resolve.specs.declared.node.Node.{Node}
-use Rattle.smv_resolve.specs.declared.node.Node.TheVariants as node
+use Rattle.smv_resolve.specs.declared.node.ExprNode.{ExprNode}
+use Rattle.smv_resolve.specs.declared.node.ExprNode.TheVariants as node
 use Rattle.smv_resolve.specs.Resolved.{Resolved, operands_of, last_of, part_at, part_of, parts_of, resolved_by}
 use Rattle.smv_resolve.proofs.Parts.{last_of-map, parts_of-push}
 use Rattle.smv_meaning.specs.Formulas.{has_temporal}
@@ -25,10 +25,10 @@ count_operands (r ∷ rs) = ap suc (count_operands rs)
 formed_at-parts : (parts : List Resolved) (k : ℕ) → formed_at (map is_formed parts) k ≡ is_formed (part_at parts k)
 formed_at-parts parts k = get_or-map is_formed parts k Resolved.Stuck
 
-pub formed_at-nodes : (nodes : List Node) (k : ℕ) → formed_at (formed_of nodes) k ≡ is_formed (part_of nodes k)
+pub formed_at-nodes : (nodes : List ExprNode) (k : ℕ) → formed_at (formed_of nodes) k ≡ is_formed (part_of nodes k)
 formed_at-nodes nodes k = formed_at-parts (parts_of nodes) k
 
-formed_by-resolved : (parts : List Resolved) (n : Node) → formed_by (map has_temporal parts) (map is_formed parts) n ≡ is_formed (resolved_by parts n)
+formed_by-resolved : (parts : List Resolved) (n : ExprNode) → formed_by (map has_temporal parts) (map is_formed parts) n ≡ is_formed (resolved_by parts n)
 formed_by-resolved parts (node.Constant place b) = refl
 formed_by-resolved parts (node.Slot place k) = refl
 formed_by-resolved parts (node.Whole place i) = refl
@@ -49,7 +49,7 @@ unfolding parts_of
 formed_none = refl
 
 -- one node more of a list, by the marks of those before it
-pub formed_next : (nodes : List Node) (marks made : List Bool) (i : ℕ) (d : Node) (is : Bool) → i < length nodes
+pub formed_next : (nodes : List ExprNode) (marks made : List Bool) (i : ℕ) (d : ExprNode) (is : Bool) → i < length nodes
     → marks ≡ marks_of (take i nodes) → made ≡ formed_of (take i nodes) → is ≡ formed_by marks made (get_or nodes i d) → made ++ is ∷ [] ≡ formed_of (take (i + 1) nodes)
 formed_next nodes marks made i d is within marked so_far is_it =
     let first = take i nodes in

@@ -12,8 +12,8 @@ use Rattle.smv_slots.specs.declared.slot.Slot.{Slot}
 use Rattle.smv_resolve.specs.Resolved.{Resolved, Operands, operands_of, part_at}
 use Rattle.value_sets.specs.Members.{only}
 use Rattle.smv_value.specs.Results.{result_of}
-use Rattle.smv_meaning.specs.declared.outcome.Outcome.{Outcome}
-use Rattle.smv_meaning.specs.declared.outcome.Outcome.TheVariants.{Fault, Nothing, Values}
+use Rattle.smv_meaning.specs.declared.outcome.Evaluation.{Evaluation}
+use Rattle.smv_meaning.specs.declared.outcome.Evaluation.TheVariants.{Fault, Nothing, Values}
 use Rattle.smv_meaning.specs.Formulas.{are_known_formulas, has_some_temporal, has_temporal, is_known, is_known_formula, is_over_formulas}
 use Rattle.smv_meaning.specs.Outcomes.{applied, given, operated, over}
 use Rattle.smv_meaning.specs.Values.{outcome}
@@ -34,20 +34,20 @@ known_value (v ∷ w ∷ vs) h = absurd (let no : ⊥ = cc in no)
 
 -- propositions over what is known are known
 
-known_not : (place : Place) (a : Outcome) → is_known a ≡ true → is_known (applied operator.Not place (a ∷ [])) ≡ true
+known_not : (place : Place) (a : Evaluation) → is_known a ≡ true → is_known (applied operator.Not place (a ∷ [])) ≡ true
 known_not place (Fault rule at) h = refl
 known_not place Nothing h = absurd (let no : ⊥ = cc in no)
 known_not place (Values vs) h =
     ap (λ (m : Option Value). is_known (over (Values vs) m (λ v. given place (result_of operator.Not (v ∷ []))))) (known_value vs h).1
 
-known_second : (o : Logic) (place : Place) (x : Bool) (b : Outcome) → is_known b ≡ true
+known_second : (o : Logic) (place : Place) (x : Bool) (b : Evaluation) → is_known b ≡ true
     → is_known (operated (λ vs. given place (result_of (operator.Logic o) vs)) (value.Bool x ∷ []) (b ∷ [])) ≡ true
 known_second o place x (Fault rule at) h = refl
 known_second o place x Nothing h = absurd (let no : ⊥ = cc in no)
 known_second o place x (Values vs) h =
     ap (λ (m : Option Value). is_known (over (Values vs) m (λ v. given place (result_of (operator.Logic o) (value.Bool x ∷ v ∷ []))))) (known_value vs h).1
 
-known_logic : (o : Logic) (place : Place) (a b : Outcome) → is_known a ≡ true → is_known b ≡ true → is_known (applied (operator.Logic o) place (a ∷ b ∷ [])) ≡ true
+known_logic : (o : Logic) (place : Place) (a b : Evaluation) → is_known a ≡ true → is_known b ≡ true → is_known (applied (operator.Logic o) place (a ∷ b ∷ [])) ≡ true
 known_logic o place (Fault rule at) b h k = refl
 known_logic o place Nothing b h k = absurd (let no : ⊥ = cc in no)
 known_logic o place (Values vs) b h k =

@@ -4,8 +4,8 @@ use Rattle.std.specs.List.{list_any}
 use Rattle.std.proofs.Math.Bool.{or-false}
 use Rattle.std.proofs.Math.ListN.{get_or-map}
 use Rattle.std.proofs.lemmas.List.{map-append, take_more}
-use Rattle.smv_resolve.specs.declared.node.Node.{Node}
-use Rattle.smv_resolve.specs.declared.node.Node.TheVariants as node
+use Rattle.smv_resolve.specs.declared.node.ExprNode.{ExprNode}
+use Rattle.smv_resolve.specs.declared.node.ExprNode.TheVariants as node
 use Rattle.smv_resolve.specs.Resolved.{Resolved, operands_of, last_of, part_at, part_of, parts_of, resolved_by}
 use Rattle.smv_resolve.proofs.Parts.{last_of-map, parts_of-push}
 use Rattle.smv_meaning.specs.Formulas.{has_temporal, has_some_temporal, is_temporal}
@@ -19,10 +19,10 @@ some_marked (r ∷ rs) = ap (λ (b : Bool). has_temporal r || b) (some_marked rs
 pub mark_at-parts : (parts : List Resolved) (k : ℕ) → mark_at (map has_temporal parts) k ≡ has_temporal (part_at parts k)
 mark_at-parts parts k = get_or-map has_temporal parts k Resolved.Stuck
 
-pub mark_at-nodes : (nodes : List Node) (k : ℕ) → mark_at (marks_of nodes) k ≡ has_temporal (part_of nodes k)
+pub mark_at-nodes : (nodes : List ExprNode) (k : ℕ) → mark_at (marks_of nodes) k ≡ has_temporal (part_of nodes k)
 mark_at-nodes nodes k = mark_at-parts (parts_of nodes) k
 
-mark_by-resolved : (parts : List Resolved) (n : Node) → mark_by (map has_temporal parts) n ≡ has_temporal (resolved_by parts n)
+mark_by-resolved : (parts : List Resolved) (n : ExprNode) → mark_by (map has_temporal parts) n ≡ has_temporal (resolved_by parts n)
 mark_by-resolved parts (node.Constant place b) = refl
 mark_by-resolved parts (node.Slot place k) = refl
 mark_by-resolved parts (node.Whole place i) = refl
@@ -42,7 +42,7 @@ unfolding parts_of
 marks_none = refl
 
 -- one node more of a list, by the marks of those before it
-pub marks_next : (nodes : List Node) (made : List Bool) (i : ℕ) (d : Node) (mark : Bool) → i < length nodes
+pub marks_next : (nodes : List ExprNode) (made : List Bool) (i : ℕ) (d : ExprNode) (mark : Bool) → i < length nodes
     → made ≡ marks_of (take i nodes) → mark ≡ mark_by made (get_or nodes i d) → made ++ mark ∷ [] ≡ marks_of (take (i + 1) nodes)
 marks_next nodes made i d mark within so_far is =
     let first = take i nodes in

@@ -4,8 +4,8 @@ use Rattle.std.proofs.lemmas.List.{get_or-drop}
 use Rattle.smv_tree.specs.declared.place.Place.{Place}
 use Rattle.smv_tree.specs.declared.tree.Program.{Program}
 use Rattle.smv_value.specs.declared.operator.Operator.{Operator}
-use Rattle.smv_resolve.specs.declared.node.Node.{Node}
-use Rattle.smv_resolve.specs.declared.node.Node.TheVariants as node
+use Rattle.smv_resolve.specs.declared.node.ExprNode.{ExprNode}
+use Rattle.smv_resolve.specs.declared.node.ExprNode.TheVariants as node
 use Rattle.smv_resolve.specs.Resolved.{Resolved, operands_of, last_of, part_at, part_of, parts_of, resolved_by}
 use Rattle.smv_resolve.proofs.Parts.{before_long}
 use Rattle.std.specs.List.{list_all}
@@ -54,19 +54,19 @@ module _ (p : Program) (w : Lasso) (parts : List Resolved) where
   over_two place o a b h =
       chained _ _ _ (marked p w place o (operands_of (part_at parts a ∷ part_at parts b ∷ [])) h) (operator_is o (Holds p w (part_at parts a)) (Holds p w (part_at parts b)))
 
-module _ (parts : List Resolved) (n : Node) (place : Place) (o : Operator) (f : Form) (is_form : f ≡ form_of o) where
+module _ (parts : List Resolved) (n : ExprNode) (place : Place) (o : Operator) (f : Form) (is_form : f ≡ form_of o) where
   pub apply_piece : (k count left : ℕ) → n ≡ node.Apply place o count → left ≡ k - count → length parts ≡ k → has_temporal (resolved_by parts n) ≡ true
       → IsPiece parts (resolved_by parts n) (piece.Joined f left (left + 1))
   apply_piece k count left is e long h =
       subst (λ (g : Form). IsPiece parts (resolved_by parts n) (piece.Joined g left (left + 1))) (sym is_form)
-      (subst (λ (m : Node). IsPiece parts (resolved_by parts m) (piece.Joined (form_of o) left (left + 1))) (sym is)
-      (λ p w. over_last p w parts place o count left (omega (arith, e, long)) (subst (λ (m : Node). has_temporal (resolved_by parts m) ≡ true) is h)))
+      (subst (λ (m : ExprNode). IsPiece parts (resolved_by parts m) (piece.Joined (form_of o) left (left + 1))) (sym is)
+      (λ p w. over_last p w parts place o count left (omega (arith, e, long)) (subst (λ (m : ExprNode). has_temporal (resolved_by parts m) ≡ true) is h)))
 
   pub link_piece : (a b : ℕ) → n ≡ node.Link place o a b → has_temporal (resolved_by parts n) ≡ true → IsPiece parts (resolved_by parts n) (piece.Joined f a b)
   link_piece a b is h =
       subst (λ (g : Form). IsPiece parts (resolved_by parts n) (piece.Joined g a b)) (sym is_form)
-      (subst (λ (m : Node). IsPiece parts (resolved_by parts m) (piece.Joined (form_of o) a b)) (sym is)
-      (λ p w. over_two p w parts place o a b (subst (λ (m : Node). has_temporal (resolved_by parts m) ≡ true) is h)))
+      (subst (λ (m : ExprNode). IsPiece parts (resolved_by parts m) (piece.Joined (form_of o) a b)) (sym is)
+      (λ p w. over_two p w parts place o a b (subst (λ (m : ExprNode). has_temporal (resolved_by parts m) ≡ true) is h)))
 
   -- what they are made of is sound where they are
 
@@ -83,52 +83,52 @@ module _ (parts : List Resolved) (n : Node) (place : Place) (o : Operator) (f : 
   pub apply_sound : (k count left : ℕ) → n ≡ node.Apply place o count → left ≡ k - count → length parts ≡ k → IsSoundPiece parts (resolved_by parts n) (piece.Joined f left (left + 1))
   apply_sound k count left is e long =
       subst (λ (g : Form). IsSoundPiece parts (resolved_by parts n) (piece.Joined g left (left + 1))) (sym is_form)
-      (subst (λ (m : Node). IsSoundPiece parts (resolved_by parts m) (piece.Joined (form_of o) left (left + 1))) (sym is) (λ slots s u h. last_sound slots s u k count left e long h))
+      (subst (λ (m : ExprNode). IsSoundPiece parts (resolved_by parts m) (piece.Joined (form_of o) left (left + 1))) (sym is) (λ slots s u h. last_sound slots s u k count left e long h))
 
   pub link_sound : (a b : ℕ) → n ≡ node.Link place o a b → IsSoundPiece parts (resolved_by parts n) (piece.Joined f a b)
   link_sound a b is =
       subst (λ (g : Form). IsSoundPiece parts (resolved_by parts n) (piece.Joined g a b)) (sym is_form)
-      (subst (λ (m : Node). IsSoundPiece parts (resolved_by parts m) (piece.Joined (form_of o) a b)) (sym is)
+      (subst (λ (m : ExprNode). IsSoundPiece parts (resolved_by parts m) (piece.Joined (form_of o) a b)) (sym is)
       (λ slots s u h. sound_operands slots s u o place (part_at parts a ∷ part_at parts b ∷ []) h))
 
 -- a name stands for no temporal operator where it is sound
-pub named_sound : (parts : List Resolved) (n : Node) (place : Place) (naming : Naming) (a : ℕ) → n ≡ node.Named place naming a → has_temporal (resolved_by parts n) ≡ true
+pub named_sound : (parts : List Resolved) (n : ExprNode) (place : Place) (naming : Naming) (a : ℕ) → n ≡ node.Named place naming a → has_temporal (resolved_by parts n) ≡ true
     → IsSoundPiece parts (resolved_by parts n) (piece.Same a)
 named_sound parts n place naming a is h slots s u sound =
-    let here : has_temporal (part_at parts a) ≡ true = subst (λ (m : Node). has_temporal (resolved_by parts m) ≡ true) is h in
-    let not_here : not (has_temporal (part_at parts a)) ≡ true = subst (λ (m : Node). is_formed (resolved_by parts m) ≡ true) is sound.0 in
+    let here : has_temporal (part_at parts a) ≡ true = subst (λ (m : ExprNode). has_temporal (resolved_by parts m) ≡ true) is h in
+    let not_here : not (has_temporal (part_at parts a)) ≡ true = subst (λ (m : ExprNode). is_formed (resolved_by parts m) ≡ true) is sound.0 in
     absurd (let e = sym (ap not here) ∙ not_here in let no : ⊥ = cc in no)
 
-pub same_sound : (parts : List Resolved) (n : Node) (a : ℕ) → n ≡ node.Operand a → IsSoundPiece parts (resolved_by parts n) (piece.Same a)
-same_sound parts n a is slots s u sound = subst (λ (m : Node). IsSound slots s u (resolved_by parts m)) is sound
+pub same_sound : (parts : List Resolved) (n : ExprNode) (a : ℕ) → n ≡ node.Operand a → IsSoundPiece parts (resolved_by parts n) (piece.Same a)
+same_sound parts n a is slots s u sound = subst (λ (m : ExprNode). IsSound slots s u (resolved_by parts m)) is sound
 
 -- these have no temporal operator, or are not known
 
-pub constant_sound : (parts : List Resolved) (n : Node) (place : Place) (v : Value) → n ≡ node.Constant place v → IsSoundPiece parts (resolved_by parts n) piece.Atom
-constant_sound parts n place v is = subst (λ (m : Node). IsSoundPiece parts (resolved_by parts m) piece.Atom) (sym is) (λ slots s u h. h.1)
+pub constant_sound : (parts : List Resolved) (n : ExprNode) (place : Place) (v : Value) → n ≡ node.Constant place v → IsSoundPiece parts (resolved_by parts n) piece.Atom
+constant_sound parts n place v is = subst (λ (m : ExprNode). IsSoundPiece parts (resolved_by parts m) piece.Atom) (sym is) (λ slots s u h. h.1)
 
-pub slot_sound : (parts : List Resolved) (n : Node) (place : Place) (k : ℕ) → n ≡ node.Slot place k → IsSoundPiece parts (resolved_by parts n) piece.Atom
-slot_sound parts n place k is = subst (λ (m : Node). IsSoundPiece parts (resolved_by parts m) piece.Atom) (sym is) (λ slots s u h. h.1)
+pub slot_sound : (parts : List Resolved) (n : ExprNode) (place : Place) (k : ℕ) → n ≡ node.Slot place k → IsSoundPiece parts (resolved_by parts n) piece.Atom
+slot_sound parts n place k is = subst (λ (m : ExprNode). IsSoundPiece parts (resolved_by parts m) piece.Atom) (sym is) (λ slots s u h. h.1)
 
-pub whole_sound : (parts : List Resolved) (n : Node) (place : Place) (i : ℕ) → n ≡ node.Whole place i → IsSoundPiece parts (resolved_by parts n) piece.Atom
+pub whole_sound : (parts : List Resolved) (n : ExprNode) (place : Place) (i : ℕ) → n ≡ node.Whole place i → IsSoundPiece parts (resolved_by parts n) piece.Atom
 whole_sound parts n place i is =
-    subst (λ (m : Node). IsSoundPiece parts (resolved_by parts m) piece.Atom) (sym is) (λ slots s u h. absurd (let e = h.1 in let no : ⊥ = cc in no))
+    subst (λ (m : ExprNode). IsSoundPiece parts (resolved_by parts m) piece.Atom) (sym is) (λ slots s u h. absurd (let e = h.1 in let no : ⊥ = cc in no))
 
-pub next_sound : (parts : List Resolved) (n : Node) (place : Place) (a : ℕ) → n ≡ node.Next place a → IsSoundPiece parts (resolved_by parts n) piece.Atom
+pub next_sound : (parts : List Resolved) (n : ExprNode) (place : Place) (a : ℕ) → n ≡ node.Next place a → IsSoundPiece parts (resolved_by parts n) piece.Atom
 next_sound parts n place a is =
-    subst (λ (m : Node). IsSoundPiece parts (resolved_by parts m) piece.Atom) (sym is) (λ slots s u h. absurd (let e = h.1 in let no : ⊥ = cc in no))
+    subst (λ (m : ExprNode). IsSoundPiece parts (resolved_by parts m) piece.Atom) (sym is) (λ slots s u h. absurd (let e = h.1 in let no : ⊥ = cc in no))
 
 -- a part of the first so many
 
-piece_below : (nodes : List Node) (limit k : ℕ) (x : Piece) → k < limit → IsPiece (parts_of (take k nodes)) (part_below nodes limit k) x → IsPieceBelow nodes limit k x
+piece_below : (nodes : List ExprNode) (limit k : ℕ) (x : Piece) → k < limit → IsPiece (parts_of (take k nodes)) (part_below nodes limit k) x → IsPieceBelow nodes limit k x
 piece_below nodes limit k piece.Never lt h = h
 piece_below nodes limit k other lt h = (lt, h)
 
-module _ (nodes : List Node) (limit k : ℕ) (within : limit ≤ length nodes) where
+module _ (nodes : List ExprNode) (limit k : ℕ) (within : limit ≤ length nodes) where
   pub no_piece : slice_get (take limit nodes) k ≡ None → IsPieceBelow nodes limit k piece.Never
   no_piece none p w t x = stuck_never p w t (subst (λ (r : Resolved). Holds p w r t) (below_none nodes limit k none) x)
 
-  module _ (n : Node) (here : slice_get (take limit nodes) k ≡ Some n) (marks : List Bool) (all : marks ≡ marks_of nodes) (mark : Bool) (is : mark ≡ mark_at marks k) where
+  module _ (n : ExprNode) (here : slice_get (take limit nodes) k ≡ Some n) (marks : List Bool) (all : marks ≡ marks_of nodes) (mark : Bool) (is : mark ≡ mark_at marks k) where
     lt : k < limit
     lt = inside nodes limit k n within here
 

@@ -9,9 +9,9 @@ use Rattle.std.proofs.lemmas.List.{map-append, take_more}
 use Rattle.smv_value.specs.declared.value.Value.{Value}
 use Rattle.smv_slots.specs.declared.slot.Slot.{Slot}
 use Rattle.smv_slots.specs.Slots.{slots_of}
-use Rattle.smv_resolve.specs.declared.node.Node.{Node}
+use Rattle.smv_resolve.specs.declared.node.ExprNode.{ExprNode}
 use Rattle.smv_resolve.specs.Resolved.{Resolved, part_at, part_of, parts_of}
-use Rattle.smv_meaning.specs.declared.outcome.Outcome.{Outcome}
+use Rattle.smv_meaning.specs.declared.outcome.Evaluation.{Evaluation}
 use Rattle.smv_meaning.specs.Tables.{outcome_at, outcomes_of}
 use Rattle.smv_meaning.proofs.Tables.{outcome_at-map}
 use Rattle.smv_meaning.specs.Lassos.{Lasso, Holds, place_at}
@@ -75,7 +75,7 @@ module _ (p : Program) (parts : List Resolved) (w : Lasso) (word : Word) (is : I
   says_on_word f r says t = chained _ _ _ (same_atoms (on word) (atoms_on p w parts) on_all f) (says.told w) t
 
 -- the truth of one atom more
-pub truths_next : (slots : List Slot) (s u : List Value) (nodes : List Node) (atoms : List ℕ) (i d : ℕ) (here : List Outcome) (b : Bool) → i < length atoms →
+pub truths_next : (slots : List Slot) (s u : List Value) (nodes : List ExprNode) (atoms : List ℕ) (i d : ℕ) (here : List Evaluation) (b : Bool) → i < length atoms →
     here ≡ outcomes_of slots s u [] nodes → b ≡ is_true (outcome_at here (get_or atoms i d)) →
     truths_at slots s u (atom_parts nodes (take i atoms)) ++ b ∷ [] ≡ truths_at slots s u (atom_parts nodes (take (i + 1) atoms))
 truths_next slots s u nodes atoms i d here b within told is =
@@ -83,7 +83,7 @@ truths_next slots s u nodes atoms i d here b within told is =
     let tell : Resolved → Bool = λ r. is_true (outcome slots s u [] r) in
     let so_far = atom_parts nodes (take i atoms) in
     let own : b ≡ tell (part_of nodes a) =
-    is ∙ ap (λ (os : List Outcome). is_true (outcome_at os a)) told ∙ ap is_true (outcome_at-map slots s u [] (parts_of nodes) a) in
+    is ∙ ap (λ (os : List Evaluation). is_true (outcome_at os a)) told ∙ ap is_true (outcome_at-map slots s u [] (parts_of nodes) a) in
     ap (λ (b : Bool). map tell so_far ++ b ∷ []) own
     ∙ sym (map-append tell so_far (part_of nodes a ∷ []))
     ∙ ap (map tell) (sym (map-append (part_of nodes) (take i atoms) (a ∷ [])))

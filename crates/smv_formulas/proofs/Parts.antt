@@ -5,7 +5,7 @@ use Rattle.std.proofs.lemmas.Option.{slice_get_cases, slice_get_within}
 use Rattle.smv_tree.specs.declared.place.Place.{Place}
 use Rattle.smv_tree.specs.declared.tree.Program.{Program}
 use Rattle.smv_value.specs.declared.operator.Operator.{Operator}
-use Rattle.smv_resolve.specs.declared.node.Node.{Node}
+use Rattle.smv_resolve.specs.declared.node.ExprNode.{ExprNode}
 use Rattle.smv_resolve.specs.Resolved.{Resolved, Operands, operands_of, part_at, part_of, parts_of, resolved_by}
 use Rattle.smv_resolve.proofs.Parts.{below_is, part_is, part_past}
 use Rattle.smv_meaning.specs.Formulas.{has_temporal}
@@ -15,23 +15,23 @@ use Rattle.smv_formulas.specs.Trees.{part_below}
 use Rattle.smv_formulas.proofs.Operators.{both, either_first, either_second}
 
 -- a node that is one of the first so many
-pub inside : (nodes : List Node) (limit k : ℕ) (x : Node) → limit ≤ length nodes → slice_get (take limit nodes) k ≡ Some x → k < limit
+pub inside : (nodes : List ExprNode) (limit k : ℕ) (x : ExprNode) → limit ≤ length nodes → slice_get (take limit nodes) k ≡ Some x → k < limit
 inside nodes limit k x within is =
     let lt = slice_get_within (take limit nodes) k x is in omega (arith, length-take limit nodes, lt)
 
 -- it is what it says of the nodes before it
-pub below_says : (nodes : List Node) (limit k : ℕ) (x : Node) → limit ≤ length nodes → slice_get (take limit nodes) k ≡ Some x
+pub below_says : (nodes : List ExprNode) (limit k : ℕ) (x : ExprNode) → limit ≤ length nodes → slice_get (take limit nodes) k ≡ Some x
     → part_below nodes limit k ≡ resolved_by (parts_of (take k nodes)) x
 below_says nodes limit k x within is =
     let lt = inside nodes limit k x within is in
-    part_is (take limit nodes) k x is ∙ ap (λ (l : List Node). resolved_by (parts_of l) x) (take-take k limit nodes (omega (arith, lt)))
+    part_is (take limit nodes) k x is ∙ ap (λ (l : List ExprNode). resolved_by (parts_of l) x) (take-take k limit nodes (omega (arith, lt)))
 
 -- it is the part of this number among all
-pub below_whole : (nodes : List Node) (limit k : ℕ) → limit ≤ length nodes → k < limit → part_below nodes limit k ≡ part_of nodes k
+pub below_whole : (nodes : List ExprNode) (limit k : ℕ) → limit ≤ length nodes → k < limit → part_below nodes limit k ≡ part_of nodes k
 below_whole nodes limit k within lt = below_is nodes limit k lt within
 
 -- there is no other
-pub below_none : (nodes : List Node) (limit k : ℕ) → slice_get (take limit nodes) k ≡ None → part_below nodes limit k ≡ Resolved.Stuck
+pub below_none : (nodes : List ExprNode) (limit k : ℕ) → slice_get (take limit nodes) k ≡ None → part_below nodes limit k ≡ Resolved.Stuck
 below_none nodes limit k none =
     elim (slice_get_cases (take limit nodes) k).1 [
       | inl found ↦ absurd (let e = sym none ∙ found.2 in cc)

@@ -6,16 +6,16 @@ use Rattle.std.specs.Prelude.{◌↔◌}
 use Rattle.std.specs.Option.{option_map}
 use Rattle.smv_tree.specs.declared.tree.Program.{Program}
 use Rattle.smv_scope.proofs.Indexing.{slice_get-append_here}
-use Rattle.smv_resolve.specs.declared.node.Node.{Node}
+use Rattle.smv_resolve.specs.declared.node.ExprNode.{ExprNode}
 use Rattle.smv_resolve.specs.Resolved.{Resolved, part_at, part_of}
 use Rattle.smv_meaning.specs.Lassos.{Lasso, IsTrueIn}
 use Rattle.ltl_meaning.specs.declared.node.UnaryOperator.{UnaryOperator}
 use Rattle.ltl_meaning.specs.declared.node.BinaryOperator.{BinaryOperator}
 use Rattle.ltl_meaning.specs.declared.node.BoundedOperator.{BoundedOperator}
 use Rattle.ltl_meaning.specs.declared.node.Window.{Window}
-use Rattle.ltl_meaning.specs.declared.node.Node.TheOpen.{Node-F}
-use Rattle.ltl_meaning.specs.declared.node.Node.TheFolds.{fold-roll-Node}
-use Rattle.ltl_meaning.specs.declared.node.Node.TheVariants.{Atom, Constant, rolls-Atom, rolls-Constant}
+use Rattle.ltl_meaning.specs.declared.node.FormulaNode.TheOpen.{FormulaNode-F}
+use Rattle.ltl_meaning.specs.declared.node.FormulaNode.TheFolds.{fold-roll-FormulaNode}
+use Rattle.ltl_meaning.specs.declared.node.FormulaNode.TheVariants.{Atom, Constant, rolls-Atom, rolls-Constant}
 use Rattle.ltl_meaning.specs.Temporal.{Temporal, formula_at, formula_of}
 use Rattle.ltl_meaning.specs.Truth.{Moment, IsTrueAt, bounded_truth, unary_truth, binary_truth}
 use Rattle.ltl_meaning.proofs.Alike.{AreAlike, unary_alike, bounded_alike, binary_alike}
@@ -30,10 +30,10 @@ Held = Program → Lasso → Moment
 -- the formulas of leaves
 
 pub formula_of-Constant : (b : Bool) → formula_of (Constant b) ≡ Temporal.Constant b
-formula_of-Constant b = ap formula_of (sym (rolls-Constant b)) ∙ fold-roll-Node Temporal formula_at (Node-F.Constant b)
+formula_of-Constant b = ap formula_of (sym (rolls-Constant b)) ∙ fold-roll-FormulaNode Temporal formula_at (FormulaNode-F.Constant b)
 
 pub formula_of-Atom : (a : ℕ) → formula_of (Atom a) ≡ Temporal.Atom a
-formula_of-Atom a = ap formula_of (sym (rolls-Atom a)) ∙ fold-roll-Node Temporal formula_at (Node-F.Atom a)
+formula_of-Atom a = ap formula_of (sym (rolls-Atom a)) ∙ fold-roll-FormulaNode Temporal formula_at (FormulaNode-F.Atom a)
 
 -- atoms grow
 
@@ -48,7 +48,7 @@ grown_twice a b c g h =
 pub more_behind : (old new more : List ℕ) (g : Grows old new) → new ++ more ≡ old ++ (g.more ++ more)
 more_behind old new more g = ap (λ (l : List ℕ). l ++ more) g.is ∙ append_assoc old g.more more
 
-module _ (nodes : List Node) where
+module _ (nodes : List ExprNode) where
   pub tells_on_more : (old new : List ℕ) (f : Temporal) (H : Held) → Grows old new → TellsOn nodes old f H → TellsOn nodes new f H
   tells_on_more old new f H g told p more =
       subst (λ (l : List ℕ). Tells p (atom_parts nodes l) f (H p)) (sym (more_behind old new more g)) (told p (g.more ++ more))
@@ -107,6 +107,6 @@ module _ (nodes : List Node) where
   pub says_whole : (p : Program) (atoms list : List ℕ) (limit v : ℕ) (f g : Temporal) → length nodes ≤ limit → list ≡ atoms → g ≡ f
       → SaysOn nodes atoms f (part_below nodes limit v) → Says p (atom_parts nodes list) g (part_of nodes v)
   says_whole p atoms list limit v f g all same is says =
-      subst (λ (ns : List Node). Says p (atom_parts nodes list) g (part_of ns v)) (take_all limit nodes all)
+      subst (λ (ns : List ExprNode). Says p (atom_parts nodes list) g (part_of ns v)) (take_all limit nodes all)
       (subst (λ (h : Temporal). Says p (atom_parts nodes list) h (part_below nodes limit v)) (sym is)
       (subst (λ (l : List ℕ). Says p (atom_parts nodes l) f (part_below nodes limit v)) (append-nil atoms ∙ sym same) (says p [])))

@@ -1,8 +1,8 @@
 -- Formulas whose operators have as many operands as they take.
 use Rattle.std.specs.Prelude.{ℕ, suc, ◌==◌, Bool, true, not, ◌&&◌, List, map, length, slice_index_or}
 use Rattle.std.specs.List.{list_all}
-use Rattle.smv_resolve.specs.declared.node.Node.{Node}
-use Rattle.smv_resolve.specs.declared.node.Node.TheVariants as node
+use Rattle.smv_resolve.specs.declared.node.ExprNode.{ExprNode}
+use Rattle.smv_resolve.specs.declared.node.ExprNode.TheVariants as node
 use Rattle.smv_resolve.specs.Resolved.{Resolved, Operands, last_of, parts_of}
 use Rattle.smv_meaning.specs.Formulas.{has_temporal}
 use Rattle.smv_formulas.specs.declared.forms.Form.{Form}
@@ -38,7 +38,7 @@ abbrev mutual
   are_formed (Operands.With r rs) = is_formed r && are_formed rs
 
 -- of the part of each node
-abbrev pub formed_of : List Node → List Bool
+abbrev pub formed_of : List ExprNode → List Bool
 formed_of nodes = map is_formed (parts_of nodes)
 
 -- of the part of the node of this number
@@ -46,7 +46,7 @@ abbrev pub formed_at : List Bool → ℕ → Bool
 formed_at formed k = slice_index_or formed k true
 
 -- of a node, by the marks of the nodes before it, and by whether these are
-abbrev pub formed_by : List Bool → List Bool → Node → Bool
+abbrev pub formed_by : List Bool → List Bool → ExprNode → Bool
 formed_by marks formed (node.Constant place b) = true
 formed_by marks formed (node.Slot place n) = true
 formed_by marks formed (node.Whole place i) = true

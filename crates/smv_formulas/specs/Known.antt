@@ -5,7 +5,7 @@ use Rattle.smv_tree.specs.declared.tree.Program.{Program}
 use Rattle.smv_value.specs.declared.value.Value.{Value}
 use Rattle.smv_slots.specs.declared.slot.Slot.{Slot}
 use Rattle.smv_slots.specs.Slots.{slots_of}
-use Rattle.smv_resolve.specs.declared.node.Node.{Node}
+use Rattle.smv_resolve.specs.declared.node.ExprNode.{ExprNode}
 use Rattle.smv_resolve.specs.Resolved.{Resolved, part_at, parts_of}
 use Rattle.smv_meaning.specs.Formulas.{is_known, is_known_formula}
 use Rattle.smv_meaning.specs.Values.{outcome}
@@ -45,17 +45,17 @@ IsSoundPiece parts r (piece.Same a) = (slots : List Slot) (s u : List Value) →
 IsSoundPiece parts r (piece.Joined o a b) = (slots : List Slot) (s u : List Value) → IsSound slots s u r → AreSound o slots s u (part_at parts a) (part_at parts b)
 
 -- the same of one of the first so many parts
-abbrev pub IsSoundBelow : List Node → ℕ → ℕ → Piece → Type 0
+abbrev pub IsSoundBelow : List ExprNode → ℕ → ℕ → Piece → Type 0
 IsSoundBelow nodes limit k x = IsSoundPiece (parts_of (take k nodes)) (part_below nodes limit k) x
 
 -- the operands of an operator between two are sound where it is
-abbrev pub IsSoundJoint : List Node → ℕ → ℕ → Option Joint → Type 0
+abbrev pub IsSoundJoint : List ExprNode → ℕ → ℕ → Option Joint → Type 0
 IsSoundJoint nodes limit k None = Unit {0}
 IsSoundJoint nodes limit k (Some joint) =
     (slots : List Slot) (s u : List Value) → IsSound slots s u (part_below nodes limit k)
     → IsSound slots s u (part_below nodes k joint.left) × IsSound slots s u (part_below nodes k joint.right)
 
 -- where this is so the new atoms are known, if the old ones are
-abbrev pub KeepsKnown : List Node → List ℕ → List ℕ → (List Slot → List Value → List Value → Type 0) → Type 0
+abbrev pub KeepsKnown : List ExprNode → List ℕ → List ℕ → (List Slot → List Value → List Value → Type 0) → Type 0
 KeepsKnown nodes old new H =
     (slots : List Slot) (s u : List Value) → are_known slots s u (atom_parts nodes old) ≡ true → H slots s u → are_known slots s u (atom_parts nodes new) ≡ true

@@ -1,13 +1,13 @@
 -- Where temporal operators stand: of each node, by the nodes before it.
 use Rattle.std.specs.Prelude.{ℕ, Bool, false, ◌||◌, List, map, slice_index_or}
 use Rattle.std.specs.List.{list_any}
-use Rattle.smv_resolve.specs.declared.node.Node.{Node}
-use Rattle.smv_resolve.specs.declared.node.Node.TheVariants as node
+use Rattle.smv_resolve.specs.declared.node.ExprNode.{ExprNode}
+use Rattle.smv_resolve.specs.declared.node.ExprNode.TheVariants as node
 use Rattle.smv_resolve.specs.Resolved.{last_of, parts_of}
 use Rattle.smv_meaning.specs.Formulas.{has_temporal, is_temporal}
 
 -- whether a temporal operator stands in the part of each node
-abbrev pub marks_of : List Node → List Bool
+abbrev pub marks_of : List ExprNode → List Bool
 marks_of nodes = map has_temporal (parts_of nodes)
 
 -- the mark of the node of this number
@@ -15,7 +15,7 @@ abbrev pub mark_at : List Bool → ℕ → Bool
 mark_at marks k = slice_index_or marks k false
 
 -- the mark of a node, where these are those of the nodes before it
-abbrev pub mark_by : List Bool → Node → Bool
+abbrev pub mark_by : List Bool → ExprNode → Bool
 mark_by marks (node.Constant place b) = false
 mark_by marks (node.Slot place n) = false
 mark_by marks (node.Whole place i) = false

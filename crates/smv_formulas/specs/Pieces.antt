@@ -1,7 +1,7 @@
 -- What a part is to the formula around it, by the parts before it.
 use Rattle.std.specs.Prelude.{ℕ, ◌↔◌, ◌<◌, List, take}
 use Rattle.smv_tree.specs.declared.tree.Program.{Program}
-use Rattle.smv_resolve.specs.declared.node.Node.{Node}
+use Rattle.smv_resolve.specs.declared.node.ExprNode.{ExprNode}
 use Rattle.smv_resolve.specs.Resolved.{Resolved, part_at, parts_of}
 use Rattle.smv_meaning.specs.Lassos.{Lasso, Holds, IsTrueIn}
 use Rattle.smv_formulas.specs.declared.pieces.Piece.{Piece}
@@ -18,6 +18,6 @@ IsPiece parts r (piece.Joined o a b) =
     (p : Program) (w : Lasso) (t : ℕ) → Holds p w r t ↔ form_holds o (Holds p w (part_at parts a)) (Holds p w (part_at parts b)) t
 
 -- the part of this number, if it is one of the first so many
-abbrev pub IsPieceBelow : List Node → ℕ → ℕ → Piece → Type 0
+abbrev pub IsPieceBelow : List ExprNode → ℕ → ℕ → Piece → Type 0
 IsPieceBelow nodes limit k piece.Never = IsPiece (parts_of (take k nodes)) (part_below nodes limit k) piece.Never
 IsPieceBelow nodes limit k other = (k < limit) × IsPiece (parts_of (take k nodes)) (part_below nodes limit k) other

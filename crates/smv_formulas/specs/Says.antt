@@ -2,14 +2,14 @@
 -- program's expressions (NuSMV 2.6 User Manual, 2.4.3, LTL Specifications).
 use Rattle.std.specs.Prelude.{ℕ, ◌↔◌, List, map}
 use Rattle.smv_tree.specs.declared.tree.Program.{Program}
-use Rattle.smv_resolve.specs.declared.node.Node.{Node}
+use Rattle.smv_resolve.specs.declared.node.ExprNode.{ExprNode}
 use Rattle.smv_resolve.specs.Resolved.{Resolved, part_at, part_of}
 use Rattle.smv_meaning.specs.Lassos.{Lasso, Holds, IsTrueIn}
 use Rattle.ltl_meaning.specs.Temporal.{Temporal}
 use Rattle.ltl_meaning.specs.Truth.{Moment, IsTrueAt}
 
 -- the parts that atoms stand for, each by the number of its node
-abbrev pub atom_parts : List Node → List ℕ → List Resolved
+abbrev pub atom_parts : List ExprNode → List ℕ → List Resolved
 atom_parts nodes atoms = map (part_of nodes) atoms
 
 -- an atom is true on a lasso where its part is TRUE, with the inputs of the step from the state there; one that there

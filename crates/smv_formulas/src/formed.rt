@@ -6,12 +6,12 @@ ghost use Rattle.smv_formulas.specs.Formed.{formed_at, formed_by, formed_of, for
 
 use crate::forms::{Form, form_of};
 use crate::marks::{mark_at, mark_by};
-use smv_resolve::{Node, last};
+use smv_resolve::{ExprNode, last};
 use std::alloc::{AllocError, Global};
 
 /// Whether the propositions and the temporal operators in the part of each node have as many operands as they take. It
 /// is false, too, where a name stands for what has a temporal operator.
-pub fn formed_of(alloc: Global, nodes: &[Node]) -> Result<Vec<bool>, AllocError>
+pub fn formed_of(alloc: Global, nodes: &[ExprNode]) -> Result<Vec<bool>, AllocError>
     ensures { IfOk result (λ formed. formed.items ≡ formed_of nodes.now) }
 {
     let mut marks = Vec::new(alloc);
@@ -26,21 +26,21 @@ pub fn formed_of(alloc: Global, nodes: &[Node]) -> Result<Vec<bool>, AllocError>
 }
 
 // The same of a node, by the marks of the nodes before it.
-fn formed_by(marks: &[bool], formed: &[bool], node: &Node) -> bool
+fn formed_by(marks: &[bool], formed: &[bool], node: &ExprNode) -> bool
     ensures { result ≡ formed_by marks.now formed.now node.now }
 {
     match *node {
-        Node::Constant(..) => true,
-        Node::Slot(..) => true,
-        Node::Whole(..) => true,
-        Node::Named(_, _, a) => !mark_at(marks, a),
-        Node::Next(..) => true,
-        Node::Operand(a) => formed_at(formed, a),
-        Node::Apply(_, operator, count) => {
+        ExprNode::Constant(..) => true,
+        ExprNode::Slot(..) => true,
+        ExprNode::Whole(..) => true,
+        ExprNode::Named(_, _, a) => !mark_at(marks, a),
+        ExprNode::Next(..) => true,
+        ExprNode::Operand(a) => formed_at(formed, a),
+        ExprNode::Apply(_, operator, count) => {
             let operands = last(formed, count);
             formed_over(form_of(operator), operands.len(), are_all_formed(operands))
         }
-        Node::Link(_, operator, a, b) => {
+        ExprNode::Link(_, operator, a, b) => {
             formed_over(
                 form_of(operator),
                 2,

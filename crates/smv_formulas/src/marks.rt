@@ -5,11 +5,11 @@ ghost use Rattle.std.specs.List.{list_any};
 ghost use Rattle.smv_formulas.specs.Marks.{mark_at, mark_by, marks_of};
 
 use smv_meaning::is_temporal;
-use smv_resolve::{Node, last};
+use smv_resolve::{ExprNode, last};
 use std::alloc::{AllocError, Global};
 
 /// Whether a temporal operator stands in the part of each node.
-pub fn marks_of(alloc: Global, nodes: &[Node]) -> Result<Vec<bool>, AllocError>
+pub fn marks_of(alloc: Global, nodes: &[ExprNode]) -> Result<Vec<bool>, AllocError>
     ensures { IfOk result (λ marks. marks.items ≡ marks_of nodes.now) }
 {
     let mut marks = Vec::new(alloc);
@@ -21,19 +21,19 @@ pub fn marks_of(alloc: Global, nodes: &[Node]) -> Result<Vec<bool>, AllocError>
 }
 
 /// The mark of a node, by those of the nodes before it.
-pub fn mark_by(marks: &[bool], node: &Node) -> bool
+pub fn mark_by(marks: &[bool], node: &ExprNode) -> bool
     ensures { result ≡ mark_by marks.now node.now }
 {
     match *node {
-        Node::Constant(..) => false,
-        Node::Slot(..) => false,
-        Node::Whole(..) => false,
-        Node::Named(_, _, a) => mark_at(marks, a),
-        Node::Next(_, a) => mark_at(marks, a),
-        Node::Operand(a) => mark_at(marks, a),
-        Node::Apply(_, operator, count) => is_temporal(operator)
+        ExprNode::Constant(..) => false,
+        ExprNode::Slot(..) => false,
+        ExprNode::Whole(..) => false,
+        ExprNode::Named(_, _, a) => mark_at(marks, a),
+        ExprNode::Next(_, a) => mark_at(marks, a),
+        ExprNode::Operand(a) => mark_at(marks, a),
+        ExprNode::Apply(_, operator, count) => is_temporal(operator)
             || is_some_marked(last(marks, count)),
-        Node::Link(_, operator, a, b) => {
+        ExprNode::Link(_, operator, a, b) => {
             is_temporal(operator) || (mark_at(marks, a) || mark_at(marks, b))
         }
     }

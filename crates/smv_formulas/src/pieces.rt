@@ -9,7 +9,7 @@ ghost use Rattle.smv_formulas.specs.Pieces.{IsPiece, IsPieceBelow};
 
 use crate::forms::{Form, form_of};
 use crate::marks::mark_at;
-use smv_resolve::{Node, first};
+use smv_resolve::{ExprNode, first};
 
 /// What a part is to the formula around it.
 #[derive(Clone, Copy, Debug)]
@@ -24,7 +24,7 @@ pub enum Piece {
 }
 
 /// What a part is that is one of the first so many.
-pub fn piece_at(nodes: &[Node], marks: &[bool], limit: usize, k: usize) -> Piece
+pub fn piece_at(nodes: &[ExprNode], marks: &[bool], limit: usize, k: usize) -> Piece
     requires inside { limit ≤ length nodes.now }
     requires marked { marks.now ≡ marks_of nodes.now }
     ensures piece { IsPieceBelow nodes.now limit k result }
@@ -41,29 +41,29 @@ pub fn piece_at(nodes: &[Node], marks: &[bool], limit: usize, k: usize) -> Piece
 }
 
 // The node of this number, if it is one of the first so many.
-fn node_below(nodes: &[Node], limit: usize, k: usize) -> Option<Node>
+fn node_below(nodes: &[ExprNode], limit: usize, k: usize) -> Option<ExprNode>
     ensures { result ≡ slice_get (take limit nodes.now) k }
 {
     first(nodes, limit).get(k).copied()
 }
 
 // What a node is, before which there are k others, if a temporal operator stands in its part.
-fn marked_piece(k: usize, node: Node) -> Piece
+fn marked_piece(k: usize, node: ExprNode) -> Piece
     requires { k + 1 < 2 ^ 64 }
     ensures piece { (parts : List Resolved) → length parts ≡ k → has_temporal (resolved_by parts node) ≡ true → IsPiece parts (resolved_by parts node) result }
     ensures sound { (parts : List Resolved) → length parts ≡ k → has_temporal (resolved_by parts node) ≡ true → IsSoundPiece parts (resolved_by parts node) result }
 {
     match node {
-        Node::Constant(..) => Piece::Atom,
-        Node::Slot(..) => Piece::Atom,
-        Node::Whole(..) => Piece::Atom,
-        Node::Next(..) => Piece::Atom,
-        Node::Named(_, _, a) => Piece::Same(a),
-        Node::Operand(a) => Piece::Same(a),
-        Node::Apply(_, operator, count) => {
+        ExprNode::Constant(..) => Piece::Atom,
+        ExprNode::Slot(..) => Piece::Atom,
+        ExprNode::Whole(..) => Piece::Atom,
+        ExprNode::Next(..) => Piece::Atom,
+        ExprNode::Named(_, _, a) => Piece::Same(a),
+        ExprNode::Operand(a) => Piece::Same(a),
+        ExprNode::Apply(_, operator, count) => {
             let left = k.saturating_sub(count);
             Piece::Joined(form_of(operator), left, left + 1)
         }
-        Node::Link(_, operator, a, b) => Piece::Joined(form_of(operator), a, b),
+        ExprNode::Link(_, operator, a, b) => Piece::Joined(form_of(operator), a, b),
     }
 }

@@ -12,8 +12,8 @@ ghost use Rattle.smv_formulas.specs.Trees.{Grows, IsAtom, IsMaybeJoint, IsWithin
 use crate::forms::Form;
 use crate::numbering::number_of;
 use crate::pieces::{Piece, piece_at};
-use ltl_meaning::node::{BinaryOperator, BoundedOperator, Link, Node as Tree, Window};
-use smv_resolve::Node;
+use ltl_meaning::node::{BinaryOperator, BoundedOperator, FormulaNode, Link, Window};
+use smv_resolve::ExprNode;
 use sqlite_items::Items;
 use std::alloc::{AllocError, Global};
 
@@ -33,12 +33,12 @@ pub struct Joint {
 #[cycle(trees)]
 pub fn tree(
     alloc: Global,
-    nodes: &[Node],
+    nodes: &[ExprNode],
     marks: &[bool],
     limit: usize,
     k: usize,
     atoms: &mut Vec<usize>,
-) -> Result<Tree, AllocError>
+) -> Result<FormulaNode, AllocError>
     requires inside { limit ≤ length nodes.now }
     requires marked { marks.now ≡ marks_of nodes.now }
     ensures grows { IfOk result (λ tree. Grows atoms.old.items atoms.new.items) }
@@ -46,7 +46,7 @@ pub fn tree(
     ensures known { IfOk result (λ tree. KeepsKnown nodes.now atoms.old.items atoms.new.items (λ slots s u. IsSound slots s u (part_below nodes.now limit k))) }
 {
     match piece_at(nodes, marks, limit, k) {
-        Piece::Never => Ok(Tree::Constant(false)),
+        Piece::Never => Ok(FormulaNode::Constant(false)),
         Piece::Atom => atom(k, atoms),
         Piece::Same(a) => tree(alloc, nodes, marks, k, a, atoms),
         Piece::Joined(form, left, right) => {
@@ -59,14 +59,14 @@ pub fn tree(
 #[cycle(trees)]
 fn joined(
     alloc: Global,
-    nodes: &[Node],
+    nodes: &[ExprNode],
     marks: &[bool],
     limit: usize,
     form: Form,
     left: usize,
     right: usize,
     atoms: &mut Vec<usize>,
-) -> Result<Tree, AllocError>
+) -> Result<FormulaNode, AllocError>
     requires inside { limit ≤ length nodes.now }
     requires marked { marks.now ≡ marks_of nodes.now }
     ensures grows { IfOk result (λ tree. Grows atoms.old.items atoms.new.items) }
@@ -76,7 +76,7 @@ fn joined(
     match form {
         Form::One(operator) => {
             let operand = tree(alloc, nodes, marks, limit, left, atoms)?;
-            let whole = Tree::unary(alloc, operator, operand)?;
+            let whole = FormulaNode::unary(alloc, operator, operand)?;
             Ok(whole)
         }
         Form::Within(operator, low, high) => {
@@ -92,7 +92,7 @@ fn joined(
             };
             chain(alloc, nodes, marks, limit, joint, atoms)
         }
-        Form::Neither => Ok(Tree::Constant(false)),
+        Form::Neither => Ok(FormulaNode::Constant(false)),
     }
 }
 
@@ -100,12 +100,12 @@ fn joined(
 #[cycle(trees)]
 fn chain(
     alloc: Global,
-    nodes: &[Node],
+    nodes: &[ExprNode],
     marks: &[bool],
     limit: usize,
     joint: Joint,
     atoms: &mut Vec<usize>,
-) -> Result<Tree, AllocError>
+) -> Result<FormulaNode, AllocError>
     requires inside { limit ≤ length nodes.now }
     requires marked { marks.now ≡ marks_of nodes.now }
     ensures grows { IfOk result (λ tree. Grows atoms.old.items atoms.new.items) }
@@ -131,12 +131,12 @@ fn chain(
     }
     links.reverse();
     let first = tree(alloc, nodes, marks, before, left, atoms)?;
-    let whole = Tree::chain(alloc, first, Items::from_vec(links))?;
+    let whole = FormulaNode::chain(alloc, first, Items::from_vec(links))?;
     Ok(whole)
 }
 
 // The operator and the operands of a part that is an operator between two.
-fn joint_at(nodes: &[Node], marks: &[bool], limit: usize, k: usize) -> Option<Joint>
+fn joint_at(nodes: &[ExprNode], marks: &[bool], limit: usize, k: usize) -> Option<Joint>
     requires inside { limit ≤ length nodes.now }
     requires marked { marks.now ≡ marks_of nodes.now }
     ensures joint { IsMaybeJoint nodes.now limit k result }
@@ -153,13 +153,13 @@ fn joint_at(nodes: &[Node], marks: &[bool], limit: usize, k: usize) -> Option<Jo
 }
 
 // The tree of an atom.
-fn atom(node: usize, atoms: &mut Vec<usize>) -> Result<Tree, AllocError>
+fn atom(node: usize, atoms: &mut Vec<usize>) -> Result<FormulaNode, AllocError>
     ensures grows { IfOk result (λ tree. Grows atoms.old.items atoms.new.items) }
     ensures atom { IfOk result (λ tree. IsAtom atoms.new.items node (formula_of tree)) }
     ensures passes { IfOk result (λ tree. (test : ℕ → Bool) → list_all test atoms.old.items ≡ true → test node ≡ true → list_all test atoms.new.items ≡ true) }
 {
     let a = number_of(atoms, node)?;
-    Ok(Tree::Atom(a))
+    Ok(FormulaNode::Atom(a))
 }
 
 // An operator with bounds over its operand. Other bounds than `low <= high <= 255` count as running out of memory.
@@ -168,8 +168,8 @@ fn bounded(
     operator: BoundedOperator,
     low: u32,
     high: u32,
-    operand: Tree,
-) -> Result<Tree, AllocError>
+    operand: FormulaNode,
+) -> Result<FormulaNode, AllocError>
     ensures { IfOk result (λ tree. IsWithin operator low high (formula_of operand) (formula_of tree)) }
 {
     let Ok(from) = u8::try_from(low) else {
@@ -185,6 +185,6 @@ fn bounded(
         low: from,
         high: to,
     };
-    let whole = Tree::bounded(alloc, operator, window, operand)?;
+    let whole = FormulaNode::bounded(alloc, operator, window, operand)?;
     Ok(whole)
 }

@@ -9,7 +9,7 @@ ghost use Rattle.smv_formulas.specs.Says.{atom_parts};
 ghost use Rattle.smv_formulas.specs.Words.{IsWordOf, truths_at};
 
 use ltl_meaning::word::{AtomSet, Word};
-use smv_meaning::{Inputs, Outcome, State, Typed, outcome_at, outcomes, slots};
+use smv_meaning::{Evaluation, Inputs, State, Typed, outcome_at, outcomes, slots};
 use sqlite_items::Items;
 use std::alloc::{AllocError, Global};
 
@@ -66,7 +66,7 @@ fn atoms_at(
 }
 
 // Whether the outcome of this number is TRUE.
-fn is_true_at(outcomes: &[Outcome], k: usize) -> bool
+fn is_true_at(outcomes: &[Evaluation], k: usize) -> bool
     ensures { result ≡ is_true (outcome_at outcomes.now k) }
 {
     match outcome_at(outcomes, k) {

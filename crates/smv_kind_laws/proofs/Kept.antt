@@ -13,7 +13,7 @@ use Rattle.smv_value.specs.declared.operator.Operator.TheVariants as operator
 use Rattle.smv_value.specs.declared.value.FaultRule.{FaultRule}
 use Rattle.smv_value.specs.declared.value.Value.{Value}
 use Rattle.smv_value.specs.declared.value.Value.TheVariants as value
-use Rattle.smv_value.specs.Results.{alike, amount, constant_word, counted, divided, extended, fault_of, integer, inverted, is_int, is_true, is_value, is_width, is_word, joined, logic_bits, logical, low_bits, moved, natural, of_integer, of_integers, of_number, of_numbers, one, order_truth, ordered, resized, result_of, same, selected, shifted, shifted_by, size, sum_of, three, to_boolean, to_word, two, unless, value_of, with_sign, word, word_of}
+use Rattle.smv_value.specs.Results.{alike, amount, constant_word, number_of_word, divided, extended, fault_of, integer, inverted, is_int, is_true, is_value, is_width, is_word, joined, logic_bits, logical, low_bits, moved, natural, of_integer, of_integers, of_number, of_numbers, one, order_truth, ordered, resized, result_of, same, selected, shifted, shifted_by, size, sum_of, three, to_boolean, to_word, two, unless, value_of, with_sign, word, word_of}
 use Rattle.smv_value.proofs.Bits.{word_within}
 
 -- nothing, or a value
@@ -112,13 +112,13 @@ ordered_kept o (value.Sym a) b h l = tt
 ordered_kept o (value.Word s w a) (value.Bool b) h l = tt
 ordered_kept o (value.Word s w a) (value.Int b) h l = tt
 ordered_kept o (value.Word s w a) (value.Sym b) h l = tt
-ordered_kept o (value.Word s w a) (value.Word t v b) h l = kept_if (alike s w t v) _ (λ e. truth_kept (order_truth o (counted s w a) (counted s w b)))
+ordered_kept o (value.Word s w a) (value.Word t v b) h l = kept_if (alike s w t v) _ (λ e. truth_kept (order_truth o (number_of_word s w a) (number_of_word s w b)))
 
 of_number_kept : (f : ℤ → ℤ) (a : Value) → IsTrue (is_value a) → IsKept (of_number f a)
 of_number_kept f (value.Bool a) h = tt
 of_number_kept f (value.Int a) h = integer_kept (f a)
 of_number_kept f (value.Sym a) h = tt
-of_number_kept f (value.Word s w a) h = word_kept s w (f (counted s w a)) (word_within w a h).0
+of_number_kept f (value.Word s w a) h = word_kept s w (f (number_of_word s w a)) (word_within w a h).0
 
 of_integer_kept : (f : ℤ → ℤ) (a : Value) → IsTrue (is_value a) → IsKept (of_integer f a)
 of_integer_kept f (value.Bool a) h = tt
@@ -137,7 +137,7 @@ of_integers_kept f (value.Word s w a) b h l = tt
 
 shifted_by_kept : (o : Shift) (s : Bool) (w a : ℕ) (n : Option ℤ) → IsTrue (is_width w) → IsKept (shifted_by o s w a n)
 shifted_by_kept o s w a None h = tt
-shifted_by_kept o s w a (Some n) h = word_kept s w (moved o (counted s w a) (natural n)) h
+shifted_by_kept o s w a (Some n) h = word_kept s w (moved o (number_of_word s w a) (natural n)) h
 
 shifted_kept : (o : Shift) (a b : Value) → IsTrue (is_value a) → IsTrue (is_value b) → IsKept (shifted o a b)
 shifted_kept o (value.Bool a) b h l = tt
@@ -176,7 +176,7 @@ extended_kept (value.Bool a) b h l = tt
 extended_kept (value.Int a) b h l = tt
 extended_kept (value.Sym a) b h l = tt
 extended_kept (value.Word s w a) (value.Bool b) h l = tt
-extended_kept (value.Word s w a) (value.Int b) h l = word_of_kept s (w + natural b) (counted s w a)
+extended_kept (value.Word s w a) (value.Int b) h l = word_of_kept s (w + natural b) (number_of_word s w a)
 extended_kept (value.Word s w a) (value.Sym b) h l = tt
 extended_kept (value.Word s w a) (value.Word t v b) h l = tt
 
@@ -185,7 +185,7 @@ resized_kept (value.Bool a) b h l = tt
 resized_kept (value.Int a) b h l = tt
 resized_kept (value.Sym a) b h l = tt
 resized_kept (value.Word s w a) (value.Bool b) h l = tt
-resized_kept (value.Word s w a) (value.Int b) h l = word_of_kept s (natural b) (counted s w a)
+resized_kept (value.Word s w a) (value.Int b) h l = word_of_kept s (natural b) (number_of_word s w a)
 resized_kept (value.Word s w a) (value.Sym b) h l = tt
 resized_kept (value.Word s w a) (value.Word t v b) h l = tt
 

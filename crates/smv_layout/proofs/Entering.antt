@@ -5,7 +5,7 @@ use Rattle.std.proofs.lemmas.Bool.Decides.{nat_tests}
 use Rattle.std.proofs.lemmas.List.{length-map, map-append}
 use Rattle.std.proofs.lemmas.List.Elements.{All-push}
 use Rattle.smv_tree.specs.declared.place.Place.{Place}
-use Rattle.smv_resolve.specs.declared.node.Node.{Node}
+use Rattle.smv_resolve.specs.declared.node.ExprNode.{ExprNode}
 use Rattle.smv_resolve.specs.Finding.{Grows}
 use Rattle.smv_declared.specs.declared.variable_type.VariableType.{VariableType}
 use Rattle.smv_slots.specs.Slots.{first_slot}
@@ -17,7 +17,7 @@ use Rattle.smv_layout.specs.Layout.{Laid, Subarray, dimension_at, element_laid, 
 use Rattle.smv_layout.specs.Nodes.{AreSubscripts, IsLaid, IsNode, SubscriptsStand, subarray_by, subscript_by}
 use Rattle.smv_layout.proofs.Standing.{subscripts_kept, subscripts_stand, value_laid}
 
-pub subscripts_more : (old new : List Node) (xs after : List SubscriptNode) (x : SubscriptNode) → Grows old new → SubscriptsStand old xs → x.node < length old → after ≡ xs ++ x ∷ [] →
+pub subscripts_more : (old new : List ExprNode) (xs after : List SubscriptNode) (x : SubscriptNode) → Grows old new → SubscriptsStand old xs → x.node < length old → after ≡ xs ++ x ∷ [] →
     AreSubscripts new after (map (subscript_by old) xs ++ subscript_by old x ∷ [])
 subscripts_more old new xs after x g s l e =
     let all : SubscriptsStand old (xs ++ x ∷ []) = All-push (λ y. y.node < length old) xs x s l in
@@ -26,7 +26,7 @@ subscripts_more old new xs after x g s l e =
       are = ap (map (subscript_by new)) e ∙ subscripts_kept old new g (xs ++ x ∷ []) all ∙ map-append (subscript_by old) xs (x ∷ []);
     }
 
-module _ (vs : List VariableType) (place : Place) (nodes : List Node) (array : SubarrayNode) (x : SubscriptNode) (after : List SubscriptNode) (is : after ≡ array.subscripts ++ x ∷ []) where
+module _ (vs : List VariableType) (place : Place) (nodes : List ExprNode) (array : SubarrayNode) (x : SubscriptNode) (after : List SubscriptNode) (is : after ≡ array.subscripts ++ x ∷ []) where
   many : length after ≡ length (map (subscript_by nodes) array.subscripts ++ subscript_by nodes x ∷ [])
   many = sym (length-map after (subscript_by nodes)) ∙ ap length (ap (map (subscript_by nodes)) is ∙ map-append (subscript_by nodes) array.subscripts (x ∷ []))
 
@@ -64,7 +64,7 @@ module _ (vs : List VariableType) (place : Place) (nodes : List Node) (array : S
       ∙ counted v ∙ ap made e
 
   -- there is an index for each dimension
-  pub indexed_whole : (new : List Node) (n first : ℕ) (v : VariableType) → Some v ≡ slice_get vs array.variable → length v.dimensions ≡ length after → first ≡ first_slot vs array.variable →
+  pub indexed_whole : (new : List ExprNode) (n first : ℕ) (v : VariableType) → Some v ≡ slice_get vs array.variable → length v.dimensions ≡ length after → first ≡ first_slot vs array.variable →
       IsNode new n (in_array place array.place first (element v.element array.place v.dimensions (map (subscript_by nodes) after) first)) →
       IsLaid new (node.Value n) (indexed vs place (subarray_by nodes array) (subscript_by nodes x))
   indexed_whole new n first v e long at here =

@@ -4,7 +4,7 @@ use Rattle.std.proofs.lemmas.List.{map-append, take_more}
 use Rattle.std.proofs.lemmas.List.Elements.{All-push}
 use Rattle.smv_tree.specs.declared.place.Place.{Place}
 use Rattle.smv_resolve.specs.declared.node.Naming.TheVariants as naming
-use Rattle.smv_resolve.specs.declared.node.Node.{Node}
+use Rattle.smv_resolve.specs.declared.node.ExprNode.{ExprNode}
 use Rattle.smv_resolve.specs.Finding.{Grows}
 use Rattle.smv_resolve.specs.Resolved.{Resolved, part_of}
 use Rattle.smv_layout.specs.declared.laid.SubscriptNode.{SubscriptNode}
@@ -14,7 +14,7 @@ use Rattle.smv_layout.specs.Nodes.{AreSubscripts, IsNode, SubscriptsStand, subsc
 use Rattle.smv_layout.proofs.Standing.{subscripts_kept, subscripts_stand}
 
 -- one index more
-pub given_more : (old mid new : List Node) (place : Place) (xs given after : List SubscriptNode) (i node : ℕ) (x : SubscriptNode) → SubscriptsStand old xs → Grows old mid → Grows mid new →
+pub given_more : (old mid new : List ExprNode) (place : Place) (xs given after : List SubscriptNode) (i node : ℕ) (x : SubscriptNode) → SubscriptsStand old xs → Grows old mid → Grows mid new →
     i < length xs → x ≡ get_or xs i x → AreSubscripts mid given (map (subscript_given place) (map (subscript_by old) (take i xs))) →
     IsNode new node (Resolved.Named place naming.Passed (part_of mid x.node)) → after ≡ given ++ record { place = x.place; node = node; constant = x.constant } ∷ [] →
     AreSubscripts new after (map (subscript_given place) (map (subscript_by old) (take (i + 1) xs)))

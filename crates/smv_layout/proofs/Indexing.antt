@@ -6,7 +6,7 @@ use Rattle.std.proofs.lemmas.List.{map-append}
 use Rattle.std.proofs.lemmas.List.FromFn.{get_or-map-range_with_len}
 use Rattle.std.proofs.lemmas.List.Sums.{sum_by_more}
 use Rattle.smv_value.specs.declared.operator.Operator.{Operator}
-use Rattle.smv_resolve.specs.declared.node.Node.{Node}
+use Rattle.smv_resolve.specs.declared.node.ExprNode.{ExprNode}
 use Rattle.smv_resolve.specs.Resolved.{Resolved, last_of, operands_of, part_at, parts_of, resolved_by}
 use Rattle.smv_resolve.proofs.Parts.{last_of-map, parts_of-next}
 use Rattle.smv_declared.specs.declared.variable_type.VariableType.{VariableType}
@@ -31,7 +31,7 @@ indices_last o count parts table e =
     ap (λ (zs : List (Option ℤ)). index_by o (last_of count zs)) e ∙ ap (index_by o) (last_of-map index_of count parts ∙ sym (indices-operands (last_of count parts)))
 
 -- one node more
-pub index_more : (nodes : List Node) (i : ℕ) (d : Node) (old new : List (Option ℤ)) (z : Option ℤ) → i < length nodes → old ≡ map index_of (parts_of (take i nodes)) →
+pub index_more : (nodes : List ExprNode) (i : ℕ) (d : ExprNode) (old new : List (Option ℤ)) (z : Option ℤ) → i < length nodes → old ≡ map index_of (parts_of (take i nodes)) →
     ((parts : List Resolved) → old ≡ map index_of parts → z ≡ index_of (resolved_by parts (get_or nodes i d))) → new ≡ old ++ z ∷ [] → new ≡ map index_of (parts_of (take (i + 1) nodes))
 index_more nodes i d old new z l told more is =
     let parts : List Resolved = parts_of (take i nodes) in

@@ -10,7 +10,7 @@ use Rattle.std.proofs.lemmas.Option.{slice_get-map, unwrap_or-slice_get}
 use Rattle.std.proofs.lemmas.Result.{IfOk-weaker}
 use Rattle.smv_tree.specs.declared.place.Place.{Place}
 use Rattle.smv_value.specs.declared.operator.Operator.{Operator}
-use Rattle.smv_resolve.specs.declared.node.Node.{Node}
+use Rattle.smv_resolve.specs.declared.node.ExprNode.{ExprNode}
 use Rattle.smv_resolve.specs.Finding.{Grows}
 use Rattle.smv_resolve.specs.Resolved.{Resolved, last_of, operands_of, part_at, parts_of, resolved_by}
 use Rattle.smv_resolve.proofs.Parts.{last_of-map, parts_of-next, parts_of-take}
@@ -32,34 +32,34 @@ laid-operands : (vs : List VariableType) (rs : List Resolved) → all_laid vs (o
 laid-operands vs [] = refl
 laid-operands vs (r ∷ rs) = ap (λ (xs : List Laid). laid vs r ∷ xs) (laid-operands vs rs)
 
-entry_is : (nodes : List Node) (o : Option LaidNode) → entry_by nodes o ≡ unwrap_or (option_map (laid_by nodes) o) (Laid.Value Resolved.Stuck)
+entry_is : (nodes : List ExprNode) (o : Option LaidNode) → entry_by nodes o ≡ unwrap_or (option_map (laid_by nodes) o) (Laid.Value Resolved.Stuck)
 entry_is nodes None = refl
 entry_is nodes (Some x) = refl
 
-laid_at_is : (nodes : List Node) (entries : List LaidNode) (k : ℕ) → laid_at nodes entries k ≡ get_or (map (laid_by nodes) entries) k (Laid.Value Resolved.Stuck)
+laid_at_is : (nodes : List ExprNode) (entries : List LaidNode) (k : ℕ) → laid_at nodes entries k ≡ get_or (map (laid_by nodes) entries) k (Laid.Value Resolved.Stuck)
 laid_at_is nodes entries k =
     entry_is nodes (slice_get entries k)
     ∙ ap (λ (o : Option Laid). unwrap_or o (Laid.Value Resolved.Stuck)) (sym (slice_get-map (laid_by nodes) entries k))
     ∙ unwrap_or-slice_get (map (laid_by nodes) entries) k (Laid.Value Resolved.Stuck)
 
 -- the entry of this number stands for the part of this number
-pub laid_found : (vs : List VariableType) (nodes : List Node) (entries : List LaidNode) (parts : List Resolved) (k : ℕ) → map (laid_by nodes) entries ≡ map (laid vs) parts →
+pub laid_found : (vs : List VariableType) (nodes : List ExprNode) (entries : List LaidNode) (parts : List Resolved) (k : ℕ) → map (laid_by nodes) entries ≡ map (laid vs) parts →
     laid_at nodes entries k ≡ laid vs (part_at parts k)
 laid_found vs nodes entries parts k e =
     laid_at_is nodes entries k ∙ ap (λ (xs : List Laid). get_or xs k (Laid.Value Resolved.Stuck)) e ∙ get_or-map (laid vs) parts k Resolved.Stuck
 
 -- it stays so when nodes are added
-pub laid_at_kept : (old new : List Node) (entries : List LaidNode) (k : ℕ) → Grows old new → All (Stands old) entries → laid_at new entries k ≡ laid_at old entries k
+pub laid_at_kept : (old new : List ExprNode) (entries : List LaidNode) (k : ℕ) → Grows old new → All (Stands old) entries → laid_at new entries k ≡ laid_at old entries k
 laid_at_kept old new entries k g s =
     laid_at_is new entries k
     ∙ ap (λ (xs : List Laid). get_or xs k (Laid.Value Resolved.Stuck)) (map_kept (laid_by new) (laid_by old) (Stands old) (laid_kept old new g) entries s)
     ∙ sym (laid_at_is old entries k)
 
-pub two_laid : (nodes : List Node) (x y : LaidNode) (a b : Laid) → laid_by nodes x ≡ a → laid_by nodes y ≡ b → map (laid_by nodes) (x ∷ y ∷ []) ≡ a ∷ b ∷ []
+pub two_laid : (nodes : List ExprNode) (x y : LaidNode) (a b : Laid) → laid_by nodes x ≡ a → laid_by nodes y ≡ b → map (laid_by nodes) (x ∷ y ∷ []) ≡ a ∷ b ∷ []
 two_laid nodes x y a b e f = ap (λ (z : Laid). z ∷ laid_by nodes y ∷ []) e ∙ ap (λ (z : Laid). a ∷ z ∷ []) f
 
 -- nothing stands for no nodes
-pub laid_none : (vs : List VariableType) (nodes : List Node) (entries : List LaidNode) → entries ≡ [] → AreLaid nodes entries (map (laid vs) (parts_of []))
+pub laid_none : (vs : List VariableType) (nodes : List ExprNode) (entries : List LaidNode) → entries ≡ [] → AreLaid nodes entries (map (laid vs) (parts_of []))
 unfolding parts_of
 laid_none vs nodes entries e = record { stand = subst (All (Stands nodes)) (sym e) (All-nil (Stands nodes)); are = ap (map (laid_by nodes)) e }
 
@@ -69,7 +69,7 @@ applied_along vs place o a b c d x y e f g =
     ap (λ (z : Option (ℕ × ℕ)). applied vs place o z c x) e ∙ ap (λ (z : List (Option ℤ)). applied vs place o b z x) f ∙ ap (applied vs place o b d) g
 
 -- an operator over the last parts
-pub applied_last : (vs : List VariableType) (place : Place) (o : Operator) (count : ℕ) (nodes : List Node) (entries : List LaidNode) (constants : List Constant) (indices : List (Option ℤ)) (parts : List Resolved) →
+pub applied_last : (vs : List VariableType) (place : Place) (o : Operator) (count : ℕ) (nodes : List ExprNode) (entries : List LaidNode) (constants : List Constant) (indices : List (Option ℤ)) (parts : List Resolved) →
     Knows constants indices parts → map (laid_by nodes) entries ≡ map (laid vs) parts →
     applied vs place o (bounds_in (last_of count constants)) (last_of count indices) (map (laid_by nodes) (last_of count entries)) ≡ laid vs (Resolved.Apply place o (operands_of (last_of count parts)))
 applied_last vs place o count nodes entries constants indices parts k e =
@@ -79,7 +79,7 @@ applied_last vs place o count nodes entries constants indices parts k e =
     (sym (last_of-map (laid_by nodes) count entries) ∙ ap (last_of count) e ∙ last_of-map (laid vs) count parts ∙ sym (laid-operands vs (last_of count parts)))
 
 -- a link of a chain
-pub applied_two : (vs : List VariableType) (place : Place) (o : Operator) (a b : ℕ) (nodes : List Node) (entries : List LaidNode) (constants : List Constant) (indices : List (Option ℤ)) (parts : List Resolved) →
+pub applied_two : (vs : List VariableType) (place : Place) (o : Operator) (a b : ℕ) (nodes : List ExprNode) (entries : List LaidNode) (constants : List Constant) (indices : List (Option ℤ)) (parts : List Resolved) →
     Knows constants indices parts → map (laid_by nodes) entries ≡ map (laid vs) parts →
     applied vs place o None (slice_index_or indices a None ∷ slice_index_or indices b None ∷ [])
     (laid_at nodes entries a ∷ laid_at nodes entries b ∷ [])
@@ -91,7 +91,7 @@ applied_two vs place o a b nodes entries constants indices parts k e =
     (ap (λ (c : Laid). c ∷ laid_at nodes entries b ∷ []) (laid_found vs nodes entries parts a e) ∙ ap (λ (c : Laid). laid vs (part_at parts a) ∷ c ∷ []) (laid_found vs nodes entries parts b e))
 
 -- what is known of all nodes is known of those before one
-pub knows_before : (from : List Node) (i : ℕ) (constants before : List Constant) (indices earlier : List (Option ℤ)) → i ≤ length from →
+pub knows_before : (from : List ExprNode) (i : ℕ) (constants before : List Constant) (indices earlier : List (Option ℤ)) → i ≤ length from →
     constants ≡ map constant_of (parts_of from) → indices ≡ map index_of (parts_of from) → before ≡ take i constants → earlier ≡ take i indices → Knows before earlier (parts_of (take i from))
 knows_before from i constants before indices earlier l c d b e = record {
   constants_are = b ∙ ap (take i) c ∙ take-map constant_of i (parts_of from) ∙ ap (map constant_of) (parts_of-take from i l);
@@ -99,7 +99,7 @@ knows_before from i constants before indices earlier l c d b e = record {
 }
 
 -- one node more
-pub laid_more : (vs : List VariableType) (from old new : List Node) (i : ℕ) (d : Node) (entries after : List LaidNode) (x : LaidNode) → Grows old new → i < length from →
+pub laid_more : (vs : List VariableType) (from old new : List ExprNode) (i : ℕ) (d : ExprNode) (entries after : List LaidNode) (x : LaidNode) → Grows old new → i < length from →
     AreLaid old entries (map (laid vs) (parts_of (take i from))) → IsLaid new x (laid vs (resolved_by (parts_of (take i from)) (get_or from i d))) → after ≡ entries ++ x ∷ [] →
     AreLaid new after (map (laid vs) (parts_of (take (i + 1) from)))
 laid_more vs from old new i d entries after x g l a is e =
@@ -113,7 +113,7 @@ laid_more vs from old new i d entries after x g l a is e =
     subst (AreLaid new after) (sym more) here
 
 -- what is made stands for the node, whatever the parts before it are
-pub lays : {E : Type 0} (vs : List VariableType) (constants : List Constant) (indices : List (Option ℤ)) (entries : List LaidNode) (old new : List Node) (r : Result LaidNode E) (y : Laid) (n : Node) →
+pub lays : {E : Type 0} (vs : List VariableType) (constants : List Constant) (indices : List (Option ℤ)) (entries : List LaidNode) (old new : List ExprNode) (r : Result LaidNode E) (y : Laid) (n : ExprNode) →
     ((parts : List Resolved) → Knows constants indices parts → map (laid_by old) entries ≡ map (laid vs) parts → y ≡ laid vs (resolved_by parts n)) → IfOk r (λ x. IsLaid new x y) →
     IfOk r (λ x. (parts : List Resolved) → Knows constants indices parts → map (laid_by old) entries ≡ map (laid vs) parts → IsLaid new x (laid vs (resolved_by parts n)))
 lays vs constants indices entries old new r y n same l =

@@ -1,7 +1,7 @@
 -- What nodes stand for, one behind the other.
 use Rattle.std.specs.Prelude.{◌≡◌, ℕ, ◌<◌, List, length, map, Option, None, Some, ℤ, slice_get}
 use Rattle.std.specs.List.{All}
-use Rattle.smv_resolve.specs.declared.node.Node.{Node}
+use Rattle.smv_resolve.specs.declared.node.ExprNode.{ExprNode}
 use Rattle.smv_resolve.specs.Resolved.{Resolved, part_of}
 use Rattle.smv_declared.specs.declared.constant.Constant.{Constant}
 use Rattle.smv_declared.specs.Constants.{constant_of}
@@ -14,29 +14,29 @@ use Rattle.smv_layout.specs.Indices.{index_of}
 use Rattle.smv_layout.specs.Layout.{Laid, Subarray}
 
 -- the node of this number is this expression
-pub record IsNode (nodes : List Node) (n : ℕ) (r : Resolved) : Type 0 where
+pub record IsNode (nodes : List ExprNode) (n : ℕ) (r : Resolved) : Type 0 where
   pub stands : n < length nodes
   pub is : part_of nodes n ≡ r
 
-abbrev pub AllStand : List Node → List ℕ → Type 0
+abbrev pub AllStand : List ExprNode → List ℕ → Type 0
 AllStand nodes ks = All (λ k. k < length nodes) ks
 
 -- the nodes of these numbers are these expressions
-pub record AreNodes (nodes : List Node) (ks : List ℕ) (rs : List Resolved) : Type 0 where
+pub record AreNodes (nodes : List ExprNode) (ks : List ℕ) (rs : List Resolved) : Type 0 where
   pub stand : AllStand nodes ks
   pub are : map (part_of nodes) ks ≡ rs
 
 -- indices, each over the node of what stands there
 
-abbrev pub subscript_by : List Node → SubscriptNode → Subscript
+abbrev pub subscript_by : List ExprNode → SubscriptNode → Subscript
 subscript_by nodes x = record { place = x.place; index = part_of nodes x.node; constant = x.constant }
 
-abbrev pub SubscriptsStand : List Node → List SubscriptNode → Type 0
+abbrev pub SubscriptsStand : List ExprNode → List SubscriptNode → Type 0
 SubscriptsStand nodes xs = All (λ x. x.node < length nodes) xs
 
 -- what is laid out, over nodes
 
-abbrev pub subarray_by : List Node → SubarrayNode → Subarray
+abbrev pub subarray_by : List ExprNode → SubarrayNode → Subarray
 subarray_by nodes x = record {
   variable = x.variable;
   place = x.place;
@@ -44,7 +44,7 @@ subarray_by nodes x = record {
   whole = part_of nodes x.whole;
 }
 
-abbrev pub laid_by : List Node → LaidNode → Laid
+abbrev pub laid_by : List ExprNode → LaidNode → Laid
 laid_by nodes (node.Value n) = Laid.Value (part_of nodes n)
 laid_by nodes (node.Array x) = Laid.Array (subarray_by nodes x)
 
@@ -54,30 +54,30 @@ node_of (node.Value n) = n
 node_of (node.Array x) = x.whole
 
 -- its nodes are there
-abbrev pub Stands : List Node → LaidNode → Type 0
+abbrev pub Stands : List ExprNode → LaidNode → Type 0
 Stands nodes (node.Value n) = n < length nodes
 Stands nodes (node.Array x) = (x.whole < length nodes) × SubscriptsStand nodes x.subscripts
 
 -- what stands for the node of this number; where there is none, nothing does
-abbrev pub entry_by : List Node → Option LaidNode → Laid
+abbrev pub entry_by : List ExprNode → Option LaidNode → Laid
 entry_by nodes None = Laid.Value Resolved.Stuck
 entry_by nodes (Some x) = laid_by nodes x
 
-abbrev pub laid_at : List Node → List LaidNode → ℕ → Laid
+abbrev pub laid_at : List ExprNode → List LaidNode → ℕ → Laid
 laid_at nodes xs k = entry_by nodes (slice_get xs k)
 
 -- it stands for this
-pub record IsLaid (nodes : List Node) (x : LaidNode) (y : Laid) : Type 0 where
+pub record IsLaid (nodes : List ExprNode) (x : LaidNode) (y : Laid) : Type 0 where
   pub stands : Stands nodes x
   pub is : laid_by nodes x ≡ y
 
 -- these stand for those
-pub record AreLaid (nodes : List Node) (xs : List LaidNode) (ys : List Laid) : Type 0 where
+pub record AreLaid (nodes : List ExprNode) (xs : List LaidNode) (ys : List Laid) : Type 0 where
   pub stand : All (Stands nodes) xs
   pub are : map (laid_by nodes) xs ≡ ys
 
 -- indices that stand for those
-pub record AreSubscripts (nodes : List Node) (xs : List SubscriptNode) (ys : List Subscript) : Type 0 where
+pub record AreSubscripts (nodes : List ExprNode) (xs : List SubscriptNode) (ys : List Subscript) : Type 0 where
   pub stand : SubscriptsStand nodes xs
   pub are : map (subscript_by nodes) xs ≡ ys
 

@@ -14,7 +14,7 @@ use crate::laid::SubscriptNode;
 use crate::nodes::{push, push_apply};
 use crate::sizes::{size_of, slot_at};
 use smv_declared::Bounds;
-use smv_resolve::{Naming, Node};
+use smv_resolve::{ExprNode, Naming};
 use smv_tree::Place;
 use smv_value::{FaultRule, Operator, Value};
 use sqlite_items::Items;
@@ -26,7 +26,7 @@ use value_types::ValueType;
 #[cycle(elements)]
 pub fn push_element(
     alloc: Global,
-    nodes: &mut Items<Node>,
+    nodes: &mut Items<ExprNode>,
     t: &ValueType,
     place: Place,
     dimensions: &[Bounds],
@@ -39,12 +39,12 @@ pub fn push_element(
 {
     match dimensions.split_first() {
         None => {
-            let n = push(nodes, Node::Slot(place, first))?;
+            let n = push(nodes, ExprNode::Slot(place, first))?;
             Ok(n)
         }
         Some((dimension, below)) => match subscripts.split_first() {
             None => {
-                let n = push(nodes, Node::Slot(place, first))?;
+                let n = push(nodes, ExprNode::Slot(place, first))?;
                 Ok(n)
             }
             Some((subscript, further)) => {
@@ -61,7 +61,7 @@ pub fn push_element(
 #[cycle(elements)]
 fn push_at(
     alloc: Global,
-    nodes: &mut Items<Node>,
+    nodes: &mut Items<ExprNode>,
     t: &ValueType,
     place: Place,
     dimension: Bounds,
@@ -92,7 +92,10 @@ fn push_at(
                 let size = size_of(below)?;
                 let slot = slot_at(first, position, size)?;
                 let inner = push_element(alloc, nodes, t, place, below, further, slot)?;
-                let n = push(nodes, Node::Named(subscript.place, Naming::Element, inner))?;
+                let n = push(
+                    nodes,
+                    ExprNode::Named(subscript.place, Naming::Element, inner),
+                )?;
                 Ok(n)
             }
         },
@@ -103,7 +106,7 @@ fn push_at(
 #[cycle(elements)]
 fn push_choices(
     alloc: Global,
-    nodes: &mut Items<Node>,
+    nodes: &mut Items<ExprNode>,
     t: &ValueType,
     place: Place,
     dimension: Bounds,
@@ -142,7 +145,7 @@ fn push_choices(
 #[cycle(nowhere)]
 fn push_nowhere(
     alloc: Global,
-    nodes: &mut Items<Node>,
+    nodes: &mut Items<ExprNode>,
     t: &ValueType,
     place: Place,
     dimensions: &[Bounds],
@@ -174,7 +177,7 @@ fn push_nowhere(
 #[cycle(nowhere)]
 fn push_beyond(
     alloc: Global,
-    nodes: &mut Items<Node>,
+    nodes: &mut Items<ExprNode>,
     t: &ValueType,
     dimension: Bounds,
     below: &[Bounds],
@@ -189,7 +192,10 @@ fn push_beyond(
 {
     if is_inside(Some(dimension), subscript.constant) {
         let inner = push_nowhere(alloc, nodes, t, subscript.place, below, further)?;
-        let n = push(nodes, Node::Named(subscript.place, Naming::Element, inner))?;
+        let n = push(
+            nodes,
+            ExprNode::Named(subscript.place, Naming::Element, inner),
+        )?;
         Ok(n)
     } else {
         let n = push_outside(alloc, nodes, t, dimension, below, subscript, further)?;
@@ -201,7 +207,7 @@ fn push_beyond(
 #[cycle(nowhere)]
 fn push_outside(
     alloc: Global,
-    nodes: &mut Items<Node>,
+    nodes: &mut Items<ExprNode>,
     t: &ValueType,
     dimension: Bounds,
     below: &[Bounds],
@@ -221,7 +227,11 @@ fn push_outside(
 }
 
 // A choice of these conditions and branches by turns.
-fn push_choice(nodes: &mut Items<Node>, place: Place, turns: &[usize]) -> Result<usize, AllocError>
+fn push_choice(
+    nodes: &mut Items<ExprNode>,
+    place: Place,
+    turns: &[usize],
+) -> Result<usize, AllocError>
     ensures grows { OnOk result (Grows nodes.old nodes.new) }
     ensures node { IfOk result (λ n. (rs : List Resolved) → AreNodes nodes.old turns.now rs → IsNode nodes.new n (choice place rs)) }
 {
@@ -234,7 +244,11 @@ fn push_choice(nodes: &mut Items<Node>, place: Place, turns: &[usize]) -> Result
 }
 
 // The condition that an index is this integer.
-fn push_is_index(nodes: &mut Items<Node>, x: SubscriptNode, v: Value) -> Result<usize, AllocError>
+fn push_is_index(
+    nodes: &mut Items<ExprNode>,
+    x: SubscriptNode,
+    v: Value,
+) -> Result<usize, AllocError>
     requires { x.node < length nodes.old }
     ensures grows { OnOk result (Grows nodes.old nodes.new) }
     ensures node { IfOk result (λ n. (z : ℤ) → v ≡ value.Int z → IsNode nodes.new n (is_index (subscript_by nodes.old x) z)) }
@@ -246,7 +260,7 @@ fn push_is_index(nodes: &mut Items<Node>, x: SubscriptNode, v: Value) -> Result<
 
 // The condition that the node of this number is this integer.
 fn push_equal(
-    nodes: &mut Items<Node>,
+    nodes: &mut Items<ExprNode>,
     place: Place,
     index: usize,
     v: Value,
@@ -255,15 +269,18 @@ fn push_equal(
     ensures node { IfOk result (λ n. (r : Resolved) → IsNode nodes.old index r
         → IsNode nodes.new n (Resolved.Apply place operator.Equal (operands_of (r ∷ Resolved.Constant place v ∷ [])))) }
 {
-    let constant = push(nodes, Node::Constant(place, v))?;
-    let n = push(nodes, Node::Link(place, Operator::Equal, index, constant))?;
+    let constant = push(nodes, ExprNode::Constant(place, v))?;
+    let n = push(
+        nodes,
+        ExprNode::Link(place, Operator::Equal, index, constant),
+    )?;
     Ok(n)
 }
 
 // No choice of the values that tell the kind of a type.
 fn push_never(
     alloc: Global,
-    nodes: &mut Items<Node>,
+    nodes: &mut Items<ExprNode>,
     place: Place,
     t: &ValueType,
 ) -> Result<usize, AllocError>
@@ -273,8 +290,8 @@ fn push_never(
     let values = spanning(alloc, t)?;
     let mut turns = Vec::new(alloc);
     for v in values.as_slice() {
-        let condition = push(nodes, Node::Constant(place, Value::Bool(false)))?;
-        let branch = push(nodes, Node::Constant(place, *v))?;
+        let condition = push(nodes, ExprNode::Constant(place, Value::Bool(false)))?;
+        let branch = push(nodes, ExprNode::Constant(place, *v))?;
         turns.push(condition)?;
         turns.push(branch)?;
     }

@@ -9,12 +9,12 @@ ghost use Rattle.smv_layout.specs.Nodes.{IsLaid, Stands, laid_at, node_of};
 
 use crate::laid::LaidNode;
 use crate::nodes::push;
-use smv_resolve::Node;
+use smv_resolve::ExprNode;
 use sqlite_items::{Items, at};
 use std::alloc::{AllocError, Global};
 
 /// A node more, which is a value.
-pub fn push_value(nodes: &mut Items<Node>, node: Node) -> Result<LaidNode, AllocError>
+pub fn push_value(nodes: &mut Items<ExprNode>, node: ExprNode) -> Result<LaidNode, AllocError>
     ensures grows { OnOk result (Grows nodes.old nodes.new) }
     ensures laid { IfOk result (λ x. IsLaid nodes.new x (Laid.Value (resolved_by (parts_of nodes.old) node))) }
 {
@@ -44,7 +44,7 @@ pub fn values_of(alloc: Global, xs: &[LaidNode]) -> Result<Vec<usize>, AllocErro
 }
 
 /// The node of what stands for the node of this number. Where there is none before, it is the number of none.
-pub fn value_at(nodes: &Items<Node>, entries: &[LaidNode], k: usize) -> usize
+pub fn value_at(nodes: &Items<ExprNode>, entries: &[LaidNode], k: usize) -> usize
     ensures { part_of nodes.now result ≡ value_of (laid_at nodes.now entries.now k) }
 {
     match at(entries, k) {
@@ -56,7 +56,7 @@ pub fn value_at(nodes: &Items<Node>, entries: &[LaidNode], k: usize) -> usize
 /// What stands for the node of this number. Where there is none before, what stands for it is stuck.
 pub fn copy_at(
     alloc: Global,
-    nodes: &mut Items<Node>,
+    nodes: &mut Items<ExprNode>,
     entries: &[LaidNode],
     k: usize,
 ) -> Result<LaidNode, AllocError>
@@ -67,7 +67,7 @@ pub fn copy_at(
     match at(entries, k) {
         None => {
             let past = nodes.len();
-            push_value(nodes, Node::Operand(past))
+            push_value(nodes, ExprNode::Operand(past))
         }
         Some(x) => x.copied(alloc),
     }

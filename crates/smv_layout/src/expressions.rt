@@ -17,7 +17,7 @@ use crate::nodes::push;
 use crate::operators::{apply, bounds_in};
 use crate::sizes::{first_at, first_slots};
 use smv_declared::{Constant, VariableType, constants_of};
-use smv_resolve::{Naming, Node, first, last};
+use smv_resolve::{ExprNode, Naming, first, last};
 use smv_tree::Place;
 use smv_value::Operator;
 use sqlite_items::{Items, at};
@@ -26,7 +26,7 @@ use std::alloc::{AllocError, Global};
 /// Nodes that are laid out, and what stands for each node of the list from which they come.
 #[derive(Drop)]
 pub struct LaidOut {
-    pub nodes: Items<Node>,
+    pub nodes: Items<ExprNode>,
     pub entries: Vec<LaidNode>,
 }
 
@@ -34,7 +34,7 @@ pub struct LaidOut {
 pub fn lay_out_nodes(
     alloc: Global,
     variables: &[VariableType],
-    from: &[Node],
+    from: &[ExprNode],
 ) -> Result<LaidOut, AllocError>
     ensures { IfOk result (λ to. AreLaid to.nodes to.entries.items (map (laid variables.now) (parts_of from.now))) }
 {
@@ -66,9 +66,9 @@ fn lay_out_node(
     firsts: &[usize],
     constants: &[Constant],
     indices: &[Option<i64>],
-    nodes: &mut Items<Node>,
+    nodes: &mut Items<ExprNode>,
     entries: &[LaidNode],
-    node: Node,
+    node: ExprNode,
 ) -> Result<LaidNode, AllocError>
     requires firsts { firsts.now ≡ first_slots variables.now }
     requires stand { All (Stands nodes.old) entries.now }
@@ -77,15 +77,15 @@ fn lay_out_node(
         → map (laid_by nodes.old) entries.now ≡ map (laid variables.now) parts → IsLaid nodes.new x (laid variables.now (resolved_by parts node))) }
 {
     match node {
-        Node::Constant(..) | Node::Whole(..) => push_value(nodes, node),
-        Node::Slot(place, n) => lay_out_variable(alloc, variables, firsts, nodes, place, n),
-        Node::Named(place, naming, a) => lay_out_name(alloc, nodes, entries, place, naming, a),
-        Node::Next(place, a) => {
+        ExprNode::Constant(..) | ExprNode::Whole(..) => push_value(nodes, node),
+        ExprNode::Slot(place, n) => lay_out_variable(alloc, variables, firsts, nodes, place, n),
+        ExprNode::Named(place, naming, a) => lay_out_name(alloc, nodes, entries, place, naming, a),
+        ExprNode::Next(place, a) => {
             let inner = value_at(nodes, entries, a);
-            push_value(nodes, Node::Next(place, inner))
+            push_value(nodes, ExprNode::Next(place, inner))
         }
-        Node::Operand(a) => copy_at(alloc, nodes, entries, a),
-        Node::Apply(place, operator, count) => apply(
+        ExprNode::Operand(a) => copy_at(alloc, nodes, entries, a),
+        ExprNode::Apply(place, operator, count) => apply(
             alloc,
             variables,
             firsts,
@@ -96,7 +96,7 @@ fn lay_out_node(
             last(indices, count),
             last(entries, count),
         ),
-        Node::Link(place, operator, a, b) => {
+        ExprNode::Link(place, operator, a, b) => {
             link(
                 alloc, variables, firsts, indices, nodes, entries, place, operator, a, b,
             )
@@ -110,7 +110,7 @@ fn link(
     variables: &[VariableType],
     firsts: &[usize],
     indices: &[Option<i64>],
-    nodes: &mut Items<Node>,
+    nodes: &mut Items<ExprNode>,
     entries: &[LaidNode],
     place: Place,
     operator: Operator,
@@ -138,7 +138,7 @@ fn lay_out_variable(
     alloc: Global,
     variables: &[VariableType],
     firsts: &[usize],
-    nodes: &mut Items<Node>,
+    nodes: &mut Items<ExprNode>,
     place: Place,
     n: usize,
 ) -> Result<LaidNode, AllocError>
@@ -147,9 +147,9 @@ fn lay_out_variable(
     ensures laid { IfOk result (λ x. IsLaid nodes.new x (slot_laid variables.now place n (slice_get variables.now n))) }
 {
     match at(variables, n) {
-        None => push_value(nodes, Node::Slot(place, n)),
+        None => push_value(nodes, ExprNode::Slot(place, n)),
         Some(variable) => match variable.dimensions.as_slice() {
-            [] => push_value(nodes, Node::Slot(place, first_at(firsts, n))),
+            [] => push_value(nodes, ExprNode::Slot(place, first_at(firsts, n))),
             [..] => push_array(alloc, nodes, place, n, first_at(firsts, n)),
         },
     }
@@ -158,7 +158,7 @@ fn lay_out_variable(
 // An array without indices, whose first element has the slot `first`.
 fn push_array(
     alloc: Global,
-    nodes: &mut Items<Node>,
+    nodes: &mut Items<ExprNode>,
     place: Place,
     n: usize,
     first: usize,
@@ -166,10 +166,10 @@ fn push_array(
     ensures grows { OnOk result (Grows nodes.old nodes.new) }
     ensures laid { IfOk result (λ x. IsLaid nodes.new x (Laid.Array (array_of first place n))) }
 {
-    let array = push(nodes, Node::Apply(place, Operator::WholeArray, 0))?;
+    let array = push(nodes, ExprNode::Apply(place, Operator::WholeArray, 0))?;
     let whole = push(
         nodes,
-        Node::Named(place, Naming::Array(place, first), array),
+        ExprNode::Named(place, Naming::Array(place, first), array),
     )?;
     Ok(LaidNode::Array(SubarrayNode {
         variable: n,
@@ -182,7 +182,7 @@ fn push_array(
 // What a name stands for.
 fn lay_out_name(
     alloc: Global,
-    nodes: &mut Items<Node>,
+    nodes: &mut Items<ExprNode>,
     entries: &[LaidNode],
     place: Place,
     naming: Naming,
@@ -196,7 +196,7 @@ fn lay_out_name(
         Naming::Given => lay_out_given(alloc, nodes, entries, place, a),
         Naming::Defined | Naming::Element | Naming::Array(..) | Naming::Passed => {
             let inner = value_at(nodes, entries, a);
-            push_value(nodes, Node::Named(place, naming, inner))
+            push_value(nodes, ExprNode::Named(place, naming, inner))
         }
     }
 }
@@ -204,7 +204,7 @@ fn lay_out_name(
 // What a parameter was given: a value, or an array.
 fn lay_out_given(
     alloc: Global,
-    nodes: &mut Items<Node>,
+    nodes: &mut Items<ExprNode>,
     entries: &[LaidNode],
     place: Place,
     a: usize,
@@ -215,10 +215,10 @@ fn lay_out_given(
 {
     match at(entries, a) {
         Some(LaidNode::Array(array)) => push_given(alloc, nodes, place, array),
-        Some(LaidNode::Value(n)) => push_value(nodes, Node::Named(place, Naming::Given, *n)),
+        Some(LaidNode::Value(n)) => push_value(nodes, ExprNode::Named(place, Naming::Given, *n)),
         None => {
             let past = nodes.len();
-            push_value(nodes, Node::Named(place, Naming::Given, past))
+            push_value(nodes, ExprNode::Named(place, Naming::Given, past))
         }
     }
 }
@@ -226,7 +226,7 @@ fn lay_out_given(
 // An array that a parameter was given.
 fn push_given(
     alloc: Global,
-    nodes: &mut Items<Node>,
+    nodes: &mut Items<ExprNode>,
     place: Place,
     array: &SubarrayNode,
 ) -> Result<LaidNode, AllocError>
@@ -234,7 +234,7 @@ fn push_given(
     ensures grows { OnOk result (Grows nodes.old nodes.new) }
     ensures laid { IfOk result (λ x. IsLaid nodes.new x (Laid.Array (array_given place (subarray_by nodes.old array.now)))) }
 {
-    let whole = push(nodes, Node::Named(place, Naming::Given, array.whole))?;
+    let whole = push(nodes, ExprNode::Named(place, Naming::Given, array.whole))?;
     let subscripts = give_subscripts(alloc, nodes, place, array.subscripts.as_slice())?;
     Ok(LaidNode::Array(SubarrayNode {
         variable: array.variable,
@@ -247,7 +247,7 @@ fn push_given(
 // Its indices.
 fn give_subscripts(
     alloc: Global,
-    nodes: &mut Items<Node>,
+    nodes: &mut Items<ExprNode>,
     place: Place,
     subscripts: &[SubscriptNode],
 ) -> Result<Items<SubscriptNode>, AllocError>
@@ -257,7 +257,7 @@ fn give_subscripts(
 {
     let mut given = Items::new(alloc);
     for x in subscripts {
-        let node = push(nodes, Node::Named(place, Naming::Passed, x.node))?;
+        let node = push(nodes, ExprNode::Named(place, Naming::Passed, x.node))?;
         given.push(SubscriptNode {
             place: x.place,
             node,

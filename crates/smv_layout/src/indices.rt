@@ -5,12 +5,12 @@ ghost use Rattle.smv_resolve.specs.Resolved.{Resolved, parts_of, resolved_by};
 ghost use Rattle.smv_layout.specs.Indices.{index_by, index_of, index_of_value};
 
 use smv_kinds::{Kind, Operand, constant_given};
-use smv_resolve::{Node, last};
+use smv_resolve::{ExprNode, last};
 use smv_value::{Operator, Value, is_value};
 use std::alloc::{AllocError, Global};
 
 /// The integer that each node is, if it is a constant.
-pub fn indices_of(alloc: Global, nodes: &[Node]) -> Result<Vec<Option<i64>>, AllocError>
+pub fn indices_of(alloc: Global, nodes: &[ExprNode]) -> Result<Vec<Option<i64>>, AllocError>
     ensures { IfOk result (λ table. table.items ≡ map index_of (parts_of nodes.now)) }
 {
     let mut table = Vec::new(alloc);
@@ -22,18 +22,18 @@ pub fn indices_of(alloc: Global, nodes: &[Node]) -> Result<Vec<Option<i64>>, All
 }
 
 // The same of a node, over the integers of the nodes before it.
-fn index_by_node(node: Node, table: &[Option<i64>]) -> Option<i64>
+fn index_by_node(node: ExprNode, table: &[Option<i64>]) -> Option<i64>
     ensures { (parts : List Resolved) → table.now ≡ map index_of parts → result ≡ index_of (resolved_by parts node) }
 {
     match node {
-        Node::Constant(_, value) => index_of_value(value),
-        Node::Named(_, _, a) => index_at(table, a),
-        Node::Operand(a) => index_at(table, a),
-        Node::Apply(_, operator, count) => index_by(operator, last(table, count)),
-        Node::Link(_, operator, a, b) => {
+        ExprNode::Constant(_, value) => index_of_value(value),
+        ExprNode::Named(_, _, a) => index_at(table, a),
+        ExprNode::Operand(a) => index_at(table, a),
+        ExprNode::Apply(_, operator, count) => index_by(operator, last(table, count)),
+        ExprNode::Link(_, operator, a, b) => {
             index_by(operator, &[index_at(table, a), index_at(table, b)])
         }
-        Node::Slot(..) | Node::Whole(..) | Node::Next(..) => None,
+        ExprNode::Slot(..) | ExprNode::Whole(..) | ExprNode::Next(..) => None,
     }
 }
 

@@ -1,7 +1,7 @@
 //! Items and expressions over slots.
 
 ghost use Rattle.std.specs.Prelude.{◌≡◌, List, map, IfOk};
-ghost use Rattle.smv_resolve.specs.declared.node.Node.{Node};
+ghost use Rattle.smv_resolve.specs.declared.node.ExprNode.{ExprNode};
 ghost use Rattle.smv_resolve.specs.Items.{item_by, target_by};
 ghost use Rattle.smv_resolve.specs.Resolved.{part_of, parts_of};
 ghost use Rattle.smv_declared.specs.declared.variable_type.VariableType.{VariableType};
@@ -60,7 +60,7 @@ pub fn lay_out_expression(
 
 // An item over the nodes that are laid out.
 fn laid_item(to: &LaidOut, item: Item) -> Item
-    ensures { (vs : List VariableType) (from : List Node) → AreLaid to.now.nodes to.now.entries.items (map (laid vs) (parts_of from))
+    ensures { (vs : List VariableType) (from : List ExprNode) → AreLaid to.now.nodes to.now.entries.items (map (laid vs) (parts_of from))
         → item_by to.now.nodes result ≡ laid_item vs (item_by from item) }
 {
     Item {
@@ -75,7 +75,7 @@ fn laid_item(to: &LaidOut, item: Item) -> Item
 
 // What it assigns.
 fn laid_target(to: &LaidOut, target: Option<usize>) -> Option<usize>
-    ensures { (vs : List VariableType) (from : List Node) → AreLaid to.now.nodes to.now.entries.items (map (laid vs) (parts_of from))
+    ensures { (vs : List VariableType) (from : List ExprNode) → AreLaid to.now.nodes to.now.entries.items (map (laid vs) (parts_of from))
         → target_by to.now.nodes result ≡ laid_target vs (target_by from target) }
 {
     match target {
@@ -86,7 +86,7 @@ fn laid_target(to: &LaidOut, target: Option<usize>) -> Option<usize>
 
 // The node of what stands for the node of this number.
 fn laid_node(to: &LaidOut, k: usize) -> usize
-    ensures { (vs : List VariableType) (from : List Node) → AreLaid to.now.nodes to.now.entries.items (map (laid vs) (parts_of from))
+    ensures { (vs : List VariableType) (from : List ExprNode) → AreLaid to.now.nodes to.now.entries.items (map (laid vs) (parts_of from))
         → part_of to.now.nodes result ≡ laid_value vs (part_of from k) }
 {
     value_at(&to.nodes, to.entries.as_slice(), k)

@@ -5,14 +5,14 @@ ghost use Rattle.smv_resolve.specs.Resolved.{Resolved, operands_of, parts_of, re
 ghost use Rattle.smv_resolve.specs.Finding.{Grows};
 ghost use Rattle.smv_layout.specs.Nodes.{AreNodes, IsNode};
 
-use smv_resolve::Node;
+use smv_resolve::ExprNode;
 use smv_tree::Place;
 use smv_value::Operator;
 use sqlite_items::Items;
 use std::alloc::AllocError;
 
 /// One node more, over those before it.
-pub fn push(nodes: &mut Items<Node>, node: Node) -> Result<usize, AllocError>
+pub fn push(nodes: &mut Items<ExprNode>, node: ExprNode) -> Result<usize, AllocError>
     ensures grows { OnOk result (Grows nodes.old nodes.new) }
     ensures parts { OnOk result (parts_of nodes.new ≡ parts_of nodes.old ++ resolved_by (parts_of nodes.old) node ∷ []) }
     ensures node { IfOk result (λ n. IsNode nodes.new n (resolved_by (parts_of nodes.old) node)) }
@@ -24,7 +24,7 @@ pub fn push(nodes: &mut Items<Node>, node: Node) -> Result<usize, AllocError>
 
 /// An operator over the nodes of these numbers.
 pub fn push_apply(
-    nodes: &mut Items<Node>,
+    nodes: &mut Items<ExprNode>,
     place: Place,
     operator: Operator,
     operands: &[usize],
@@ -33,8 +33,8 @@ pub fn push_apply(
     ensures node { IfOk result (λ n. (rs : List Resolved) → AreNodes nodes.old operands.now rs → IsNode nodes.new n (Resolved.Apply place operator (operands_of rs))) }
 {
     for k in operands {
-        push(nodes, Node::Operand(*k))?;
+        push(nodes, ExprNode::Operand(*k))?;
     }
-    let node = push(nodes, Node::Apply(place, operator, operands.len()))?;
+    let node = push(nodes, ExprNode::Apply(place, operator, operands.len()))?;
     Ok(node)
 }

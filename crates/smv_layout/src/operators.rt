@@ -17,7 +17,7 @@ use crate::laid::{LaidNode, SubarrayNode, SubscriptNode};
 use crate::nodes::{push, push_apply};
 use crate::sizes::first_at;
 use smv_declared::{Bounds, Constant, VariableType};
-use smv_resolve::{Naming, Node};
+use smv_resolve::{ExprNode, Naming};
 use smv_tree::Place;
 use smv_value::{Bounded, Operator};
 use sqlite_items::{Items, at};
@@ -29,7 +29,7 @@ pub fn apply(
     alloc: Global,
     variables: &[VariableType],
     firsts: &[usize],
-    nodes: &mut Items<Node>,
+    nodes: &mut Items<ExprNode>,
     place: Place,
     operator: Operator,
     bounds: Option<(u32, u32)>,
@@ -61,7 +61,7 @@ pub fn apply(
 // An operator that stays.
 fn apply_plain(
     alloc: Global,
-    nodes: &mut Items<Node>,
+    nodes: &mut Items<ExprNode>,
     place: Place,
     operator: Operator,
     operands: &[LaidNode],
@@ -71,7 +71,10 @@ fn apply_plain(
     ensures laid { IfOk result (λ x. IsLaid nodes.new x (Laid.Value (Resolved.Apply place operator (values_of (map (laid_by nodes.old) operands.now))))) }
 {
     if let [a, b] = operands {
-        return push_value(nodes, Node::Link(place, operator, value_of(a), value_of(b)));
+        return push_value(
+            nodes,
+            ExprNode::Link(place, operator, value_of(a), value_of(b)),
+        );
     }
     let values = values_of(alloc, operands)?;
     let n = push_apply(nodes, place, operator, values.as_slice())?;
@@ -81,7 +84,7 @@ fn apply_plain(
 // `F G O H` with bounds, if these are its bounds.
 fn apply_window(
     alloc: Global,
-    nodes: &mut Items<Node>,
+    nodes: &mut Items<ExprNode>,
     place: Place,
     o: Bounded,
     bounds: Option<(u32, u32)>,
@@ -149,7 +152,7 @@ fn apply_index(
     alloc: Global,
     variables: &[VariableType],
     firsts: &[usize],
-    nodes: &mut Items<Node>,
+    nodes: &mut Items<ExprNode>,
     place: Place,
     constant: Option<i64>,
     operands: &[LaidNode],
@@ -177,7 +180,7 @@ fn push_indexed(
     alloc: Global,
     variables: &[VariableType],
     firsts: &[usize],
-    nodes: &mut Items<Node>,
+    nodes: &mut Items<ExprNode>,
     place: Place,
     array: &SubarrayNode,
     subscript: SubscriptNode,
@@ -204,7 +207,7 @@ fn push_indexed(
                 first,
             )?;
             let naming = Naming::Array(array.place, first);
-            let n = push(nodes, Node::Named(place, naming, element))?;
+            let n = push(nodes, ExprNode::Named(place, naming, element))?;
             Ok(LaidNode::Value(n))
         } else {
             let dimension = dimension_at(variable, array.subscripts.len());
@@ -225,7 +228,7 @@ fn dimension_at(variable: &VariableType, k: usize) -> Option<Bounds>
 
 // An index of this dimension, where no element is meant.
 fn push_index(
-    nodes: &mut Items<Node>,
+    nodes: &mut Items<ExprNode>,
     dimension: Option<Bounds>,
     x: SubscriptNode,
 ) -> Result<usize, AllocError>
@@ -234,7 +237,7 @@ fn push_index(
     ensures node { IfOk result (λ n. IsNode nodes.new n (index_in dimension (subscript_by nodes.old x))) }
 {
     if is_inside(dimension, x.constant) {
-        push(nodes, Node::Named(x.place, Naming::Element, x.node))
+        push(nodes, ExprNode::Named(x.place, Naming::Element, x.node))
     } else {
         Ok(x.node)
     }
@@ -242,7 +245,7 @@ fn push_index(
 
 // An array with one index more, of this dimension and these indices.
 fn push_subarray(
-    nodes: &mut Items<Node>,
+    nodes: &mut Items<ExprNode>,
     place: Place,
     dimension: Option<Bounds>,
     array: &SubarrayNode,
@@ -256,7 +259,7 @@ fn push_subarray(
     ensures laid { IfOk result (λ x. IsLaid nodes.new x (Laid.Array (subscripted place dimension (subarray_by nodes.old array.now) (subscript_by nodes.old subscript)))) }
 {
     let index = push_index(nodes, dimension, subscript)?;
-    let link = Node::Link(place, Operator::Index, array.whole, index);
+    let link = ExprNode::Link(place, Operator::Index, array.whole, index);
     let whole = push(nodes, link)?;
     Ok(LaidNode::Array(SubarrayNode {
         variable: array.variable,

@@ -12,8 +12,8 @@ use Rattle.smv_resolve.specs.Resolved.{Resolved, resolved}
 use Rattle.smv_layout.specs.Layout.{items_of, laid_expression}
 use Rattle.smv_slots.specs.declared.slot.Slot.{Slot}
 use Rattle.smv_slots.specs.Slots.{slots_of}
-use Rattle.smv_meaning.specs.declared.outcome.Outcome.{Outcome}
-use Rattle.smv_meaning.specs.declared.outcome.Outcome.TheVariants.{Fault, Nothing, Values}
+use Rattle.smv_meaning.specs.declared.outcome.Evaluation.{Evaluation}
+use Rattle.smv_meaning.specs.declared.outcome.Evaluation.TheVariants.{Fault, Nothing, Values}
 use Rattle.smv_meaning.specs.Answers.{GivesWhereTyped, looked_at}
 use Rattle.smv_meaning.specs.Faults.{speaks_of_paths}
 use Rattle.smv_meaning.specs.Formulas.{is_known}
@@ -31,7 +31,7 @@ passes test (y ∷ xs) zero x all within is = ap test (sym is) ∙ (both (test y
 passes test (y ∷ xs) (suc k) x all within is = passes test xs k x (both (test y) (list_all test xs) all).1 (omega (arith, within)) is
 
 -- TRUE, FALSE or a fault is values or a fault
-known_given : (o : Outcome) → is_known o ≡ true → is_given o ≡ true
+known_given : (o : Evaluation) → is_known o ≡ true → is_given o ≡ true
 known_given (Values vs) h = refl
 known_given (Fault rule place) h = refl
 known_given Nothing h = absurd cc
@@ -54,7 +54,7 @@ looked : (slots : List Slot) (s u t v w : List Value) (e : Resolved) (kind : Ite
 looked slots s u t v w e kind is there =
     ap (λ (l : List Value). outcome slots s l t e) is ∙ ap (λ (l : List Value). outcome slots s (looked_at kind v) l e) there ∙ looked_by slots s v w e (speaks_of_step kind)
 
-pub given_where_typed : (p : Program) (at : ℕ) (e : Expr) (s u t : List Value) (o : Outcome) → AllKnown p → o ≡ outcome (slots_of p) s u t (laid_expression p (resolved p at e)) →
+pub given_where_typed : (p : Program) (at : ℕ) (e : Expr) (s u t : List Value) (o : Evaluation) → AllKnown p → o ≡ outcome (slots_of p) s u t (laid_expression p (resolved p at e)) →
     GivesWhereTyped p at e s u t o
 given_where_typed p at e s u t o known is = λ x v w among same plain state inputs next looks there.
     let one : is_known_item (slots_of p) s v w x ≡ true =

@@ -18,8 +18,8 @@ use Rattle.smv_slots.specs.declared.slot.Slot.{Slot}
 use Rattle.smv_slots.specs.Slots.{slots_of, types_of}
 use Rattle.value_types.specs.declared.value_type.ValueType.{ValueType}
 use Rattle.value_types.specs.Types.{is_of_type}
-use Rattle.smv_meaning.specs.declared.outcome.Outcome.{Outcome}
-use Rattle.smv_meaning.specs.declared.outcome.Outcome.TheVariants.{Values}
+use Rattle.smv_meaning.specs.declared.outcome.Evaluation.{Evaluation}
+use Rattle.smv_meaning.specs.declared.outcome.Evaluation.TheVariants.{Values}
 use Rattle.smv_meaning.specs.Formulas.{fault_in, formula_fault}
 use Rattle.smv_meaning.specs.Runs.{are_inputs, is_state, item_outcome}
 
@@ -34,13 +34,13 @@ abbrev pub type_assigned : List ValueType → Option Resolved → Option ValueTy
 type_assigned types target = option_and_then (slice_get types) (option_and_then slot_assigned target)
 
 -- some value is none of the type
-abbrev pub is_outside : Option ValueType → Outcome → Bool
+abbrev pub is_outside : Option ValueType → Evaluation → Bool
 is_outside (Some t) (Values vs) = not (list_all (λ v. is_of_type v t) vs)
 is_outside declared e = false
 
 -- The fault of a value that is assigned to a variable of this type, or of what is asked for. A value is out of range
 -- where the right side begins.
-abbrev pub fault_of_value : Option ValueType → Place → Outcome → Option (FaultRule × Place)
+abbrev pub fault_of_value : Option ValueType → Place → Evaluation → Option (FaultRule × Place)
 fault_of_value declared begins e = if is_outside declared e then Some (fault.OutOfRange, begins) else fault_in e
 
 -- an item of this kind speaks of paths

@@ -9,8 +9,8 @@ use Rattle.smv_slots.specs.declared.slot.Slot.{Slot}
 use Rattle.smv_resolve.specs.Resolved.{Resolved, Operands}
 use Rattle.smv_tree.specs.declared.place.Place.{Place}
 use Rattle.smv_value.specs.declared.value.FaultRule.{FaultRule}
-use Rattle.smv_meaning.specs.declared.outcome.Outcome.{Outcome}
-use Rattle.smv_meaning.specs.declared.outcome.Outcome.TheVariants.{Fault}
+use Rattle.smv_meaning.specs.declared.outcome.Evaluation.{Evaluation}
+use Rattle.smv_meaning.specs.declared.outcome.Evaluation.TheVariants.{Fault}
 use Rattle.smv_meaning.specs.Outcomes.{truth}
 use Rattle.smv_meaning.specs.Values.{outcome}
 
@@ -47,12 +47,12 @@ abbrev mutual
   has_some_temporal (Operands.With r rs) = has_temporal r || has_some_temporal rs
 
 -- TRUE, FALSE or a fault
-abbrev pub is_known : Outcome → Bool
+abbrev pub is_known : Evaluation → Bool
 is_known (Fault rule place) = true
 is_known o = is_some (truth o)
 
 -- the rule and the place of a fault
-abbrev pub fault_in : Outcome → Option (FaultRule × Place)
+abbrev pub fault_in : Evaluation → Option (FaultRule × Place)
 fault_in (Fault rule place) = Some (rule, place)
 fault_in o = None
 

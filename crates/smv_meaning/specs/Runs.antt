@@ -21,8 +21,8 @@ use Rattle.smv_resolve.specs.Resolved.{Resolved}
 use Rattle.smv_slots.specs.Slots.{slots_of, is_input, types_of}
 use Rattle.value_types.specs.declared.value_type.ValueType.{ValueType}
 use Rattle.value_types.specs.Types.{is_of_type}
-use Rattle.smv_meaning.specs.declared.outcome.Outcome.{Outcome}
-use Rattle.smv_meaning.specs.declared.outcome.Outcome.TheVariants.{Fault, Nothing, Values}
+use Rattle.smv_meaning.specs.declared.outcome.Evaluation.{Evaluation}
+use Rattle.smv_meaning.specs.declared.outcome.Evaluation.TheVariants.{Fault, Nothing, Values}
 use Rattle.smv_meaning.specs.Formulas.{is_known, is_known_formula}
 use Rattle.smv_meaning.specs.Outcomes.{one, truth, value_in}
 use Rattle.smv_meaning.specs.Values.{outcome, outcome_in}
@@ -45,26 +45,26 @@ fits types slots s =
     (length slots == length s) && list_all (λ (pair : Slot × Value). in_type (slice_get types pair.0.declared) pair.1) (zip slots s)
 
 -- the value is among those of the expression; what faults has none
-abbrev pub is_among : Option Value → Outcome → Bool
+abbrev pub is_among : Option Value → Evaluation → Bool
 is_among (Some v) (Values ws) = list_any (same v) ws
 is_among v e = false
 
 -- the variable has a value of the expression
-abbrev pub takes : Outcome → Outcome → Bool
+abbrev pub takes : Evaluation → Evaluation → Bool
 takes x e = is_among (value_in x) e
 
 -- the outcome of what is assigned, in a state; nothing has none
-abbrev pub outcome_of_target : List Slot → List Value → Option Resolved → Outcome
+abbrev pub outcome_of_target : List Slot → List Value → Option Resolved → Evaluation
 outcome_of_target slots s None = Nothing
 outcome_of_target slots s (Some target) = outcome_in slots s target
 
 -- the outcome is TRUE; a fault is not
-abbrev pub is_true : Outcome → Bool
+abbrev pub is_true : Evaluation → Bool
 is_true o = unwrap_or (truth o) false
 
 -- What an item asks of an initial state, by the outcomes of what it assigns and of its value there: `init(x) := e`,
 -- `x := e` (manual 2.3.8), INIT (2.3.5) and INVAR (2.3.6).
-abbrev pub asks_first : Outcome → Outcome → ItemKind → Bool
+abbrev pub asks_first : Evaluation → Evaluation → ItemKind → Bool
 asks_first x e (item.Assignment side.Init) = takes x e
 asks_first x e (item.Assignment side.Current) = takes x e
 asks_first x e (item.Assignment side.Next) = true
@@ -75,7 +75,7 @@ asks_first x e (item.Constraint asked.Justice) = true
 asks_first x e (item.Specification kind) = true
 
 -- What an item asks of both states of a step, by its outcomes there: `x := e` and INVAR.
-abbrev pub asks_always : Outcome → Outcome → ItemKind → Bool
+abbrev pub asks_always : Evaluation → Evaluation → ItemKind → Bool
 asks_always x e (item.Assignment side.Init) = true
 asks_always x e (item.Assignment side.Current) = takes x e
 asks_always x e (item.Assignment side.Next) = true
@@ -87,7 +87,7 @@ asks_always x e (item.Specification kind) = true
 
 -- What an item asks of a step, by the outcome of what it assigns in the next state and of its value at the step:
 -- `next(x) := e` gives x in the next state the value of e at the step (manual 2.3.8), and TRANS (2.3.7).
-abbrev pub asks_step : Outcome → Outcome → ItemKind → Bool
+abbrev pub asks_step : Evaluation → Evaluation → ItemKind → Bool
 asks_step x e (item.Assignment side.Init) = true
 asks_step x e (item.Assignment side.Current) = true
 asks_step x e (item.Assignment side.Next) = takes x e
@@ -163,11 +163,11 @@ pub record IsRun (p : Program) (states inputs : List (List Value)) : Type 0 wher
   pub steps : (i : ℕ) → i < length inputs → IsStep p (at_time states i) (at_time inputs i) (at_time states (i + 1))
 
 -- one value
-abbrev pub is_single : Outcome → Bool
+abbrev pub is_single : Evaluation → Bool
 is_single o = is_some (value_in o)
 
 -- values or a fault
-abbrev pub is_given : Outcome → Bool
+abbrev pub is_given : Evaluation → Bool
 is_given (Values vs) = true
 is_given (Fault rule place) = true
 is_given Nothing = false
@@ -180,7 +180,7 @@ speaks_of_step other = false
 
 -- the outcome of the value of an item of this kind: in the state s, or in the step from it with the inputs u to the
 -- state t
-abbrev pub item_outcome : List Slot → List Value → List Value → List Value → Resolved → ItemKind → Outcome
+abbrev pub item_outcome : List Slot → List Value → List Value → List Value → Resolved → ItemKind → Evaluation
 item_outcome slots s u t e kind = if speaks_of_step kind then outcome slots s u t e else outcome_in slots s e
 
 -- The variable that an item assigns has one value in a state, and its right side has values or faults. What is asked

@@ -6,38 +6,38 @@ use Rattle.smv_tree.specs.declared.place.Place.{Place}
 use Rattle.smv_value.specs.declared.value.FaultRule.{FaultRule}
 use Rattle.smv_value.specs.declared.value.Value.{Value}
 use Rattle.smv_resolve.specs.declared.item.Item.{Item}
-use Rattle.smv_resolve.specs.declared.node.Node.{Node}
-use Rattle.smv_resolve.specs.declared.node.Node.TheVariants as node
+use Rattle.smv_resolve.specs.declared.node.ExprNode.{ExprNode}
+use Rattle.smv_resolve.specs.declared.node.ExprNode.TheVariants as node
 use Rattle.smv_slots.specs.declared.slot.Slot.{Slot}
 use Rattle.smv_resolve.specs.Resolved.{last_of, parts_of}
 use Rattle.smv_slots.specs.Slots.{item_of}
-use Rattle.smv_meaning.specs.declared.outcome.Outcome.{Outcome}
-use Rattle.smv_meaning.specs.declared.outcome.Outcome.TheVariants.{Nothing}
+use Rattle.smv_meaning.specs.declared.outcome.Evaluation.{Evaluation}
+use Rattle.smv_meaning.specs.declared.outcome.Evaluation.TheVariants.{Nothing}
 use Rattle.smv_meaning.specs.Formulas.{is_over_formulas}
 use Rattle.smv_meaning.specs.Outcomes.{applied, one, valued}
 use Rattle.smv_meaning.specs.Values.{outcome}
 use Rattle.smv_meaning.specs.Runs.{asks_first, asks_always, asks_step}
 
 -- the outcomes of nodes in the state s, with the inputs u and the next state t
-abbrev pub outcomes_of : List Slot → List Value → List Value → List Value → List Node → List Outcome
+abbrev pub outcomes_of : List Slot → List Value → List Value → List Value → List ExprNode → List Evaluation
 outcomes_of slots s u t nodes = map (outcome slots s u t) (parts_of nodes)
 
 -- what is there, or nothing
-abbrev pub seen : Option Outcome → Outcome
+abbrev pub seen : Option Evaluation → Evaluation
 seen None = Nothing
 seen (Some o) = o
 
 -- the outcome of the node of this number
-abbrev pub outcome_at : List Outcome → ℕ → Outcome
+abbrev pub outcome_at : List Evaluation → ℕ → Evaluation
 outcome_at outcomes k = seen (slice_get outcomes k)
 
 -- the outcome of what an item assigns, if it assigns
-abbrev pub target_at : List Outcome → Option ℕ → Outcome
+abbrev pub target_at : List Evaluation → Option ℕ → Evaluation
 target_at outcomes None = Nothing
 target_at outcomes (Some k) = outcome_at outcomes k
 
 -- the outcome of a node, where these are the outcomes of the nodes before it, here and in the next state
-abbrev pub outcome_by : List Slot → List Value → List Value → List Outcome → List Outcome → Node → Outcome
+abbrev pub outcome_by : List Slot → List Value → List Value → List Evaluation → List Evaluation → ExprNode → Evaluation
 outcome_by slots s u here later (node.Constant place v) = one v
 outcome_by slots s u here later (node.Slot place n) = valued (item_of slots s u n)
 outcome_by slots s u here later (node.Whole place i) = Nothing
@@ -48,15 +48,15 @@ outcome_by slots s u here later (node.Apply place o count) = applied o place (la
 outcome_by slots s u here later (node.Link place o a b) = applied o place (outcome_at here a ∷ outcome_at here b ∷ [])
 
 -- what items ask of an initial state, where the nodes have these outcomes
-abbrev pub first_allowed : List Outcome → List Item → Bool
+abbrev pub first_allowed : List Evaluation → List Item → Bool
 first_allowed here items = list_all (λ (x : Item). asks_first (target_at here x.target) (outcome_at here x.value) x.kind) items
 
 -- what they ask of both states of a step
-abbrev pub always_allowed : List Outcome → List Item → Bool
+abbrev pub always_allowed : List Evaluation → List Item → Bool
 always_allowed here items = list_all (λ (x : Item). asks_always (target_at here x.target) (outcome_at here x.value) x.kind) items
 
 -- what they ask of a step, where the nodes have these outcomes in the step and in the next state
-abbrev pub step_allowed : List Outcome → List Outcome → List Item → Bool
+abbrev pub step_allowed : List Evaluation → List Evaluation → List Item → Bool
 step_allowed here later items = list_all (λ (x : Item). asks_step (target_at later x.target) (outcome_at here x.value) x.kind) items
 
 -- faults of formulas and slots that are assigned
@@ -72,7 +72,7 @@ first_fault (f ∷ fs) = option_or f (first_fault fs)
 
 -- the first fault of the parts of a node, where these are those of the nodes before it, and `mine` is that of its own
 -- outcome
-abbrev pub fault_by_node : Option (FaultRule × Place) → List (Option (FaultRule × Place)) → Node → Option (FaultRule × Place)
+abbrev pub fault_by_node : Option (FaultRule × Place) → List (Option (FaultRule × Place)) → ExprNode → Option (FaultRule × Place)
 fault_by_node mine faults (node.Constant place v) = None
 fault_by_node mine faults (node.Slot place n) = None
 fault_by_node mine faults (node.Whole place i) = None
@@ -88,7 +88,7 @@ abbrev pub slot_at : List (Option ℕ) → ℕ → Option ℕ
 slot_at slots k = slice_index_or slots k None
 
 -- the slot that a node is, where these are those that the nodes before it are
-abbrev pub slot_by_node : List (Option ℕ) → Node → Option ℕ
+abbrev pub slot_by_node : List (Option ℕ) → ExprNode → Option ℕ
 slot_by_node slots (node.Slot place n) = Some n
 slot_by_node slots (node.Named place naming a) = slot_at slots a
 slot_by_node slots (node.Operand a) = slot_at slots a

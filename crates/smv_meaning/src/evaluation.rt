@@ -14,9 +14,9 @@ ghost use Rattle.smv_meaning.specs.Tables.{outcome_at, outcome_by, outcomes_of, 
 ghost use Rattle.smv_meaning.specs.Values.{outcome};
 
 use crate::outcome::{one, valued};
-use crate::{Inputs, Outcome, Path, State, Typed, applied};
+use crate::{Evaluation, Inputs, Path, State, Typed, applied};
 use smv_layout::lay_out_expression;
-use smv_resolve::{Node, ResolveStop, Single, first, last, resolve_expression};
+use smv_resolve::{ExprNode, ResolveStop, Single, first, last, resolve_expression};
 use smv_scope::{NameTarget, member_target};
 use smv_slots::Slot;
 use smv_tree::{Expr, Place, VariableKind};
@@ -37,7 +37,7 @@ pub fn eval(
     s: &State,
     u: &Inputs,
     next: &State,
-) -> Result<Outcome, ResolveStop>
+) -> Result<Evaluation, ResolveStop>
     requires { IsSome (instance_at typed.now.scope.program path.now) }
     ensures evaluates { (at : ℕ) → instance_at typed.now.scope.program path.now ≡ Some at → Evaluates typed.now.scope.program at e.now s.now u.now next.now result }
     ensures given { (at : ℕ) → instance_at typed.now.scope.program path.now ≡ Some at → IfOk result (GivesWhereTyped typed.now.scope.program at e.now s.now u.now next.now) }
@@ -86,7 +86,7 @@ fn eval_at(
     s: &State,
     u: &Inputs,
     next: &State,
-) -> Result<Outcome, ResolveStop>
+) -> Result<Evaluation, ResolveStop>
     ensures evaluates { Evaluates typed.now.scope.program at e.now s.now u.now next.now result }
     ensures given { IfOk result (GivesWhereTyped typed.now.scope.program at e.now s.now u.now next.now) }
 {
@@ -104,7 +104,7 @@ fn outcome_of_resolved(
     s: &State,
     u: &Inputs,
     next: &State,
-) -> Result<Outcome, AllocError>
+) -> Result<Evaluation, AllocError>
     ensures { IfOk result (λ o. o ≡ outcome (slots_of typed.now.scope.program) s.now u.now next.now (laid_expression typed.now.scope.program (part_of resolved.now.nodes resolved.now.root))) }
 {
     let laid = lay_out_expression(alloc, typed.variables.as_slice(), resolved)?;
@@ -125,12 +125,12 @@ fn outcome_of_resolved(
 pub fn outcome_of(
     alloc: Global,
     slots: &[Slot],
-    nodes: &[Node],
+    nodes: &[ExprNode],
     root: usize,
     s: &[Value],
     u: &[Value],
     next: &[Value],
-) -> Result<Outcome, AllocError>
+) -> Result<Evaluation, AllocError>
     ensures { IfOk result (λ o. o ≡ outcome slots.now s.now u.now next.now (part_of nodes.now root)) }
 {
     let outcomes = outcomes(alloc, slots, nodes, s, u, next)?;
@@ -141,11 +141,11 @@ pub fn outcome_of(
 pub fn outcomes(
     alloc: Global,
     slots: &[Slot],
-    nodes: &[Node],
+    nodes: &[ExprNode],
     s: &[Value],
     u: &[Value],
     next: &[Value],
-) -> Result<Vec<Outcome>, AllocError>
+) -> Result<Vec<Evaluation>, AllocError>
     ensures { IfOk result (λ outcomes. outcomes.items ≡ outcomes_of slots.now s.now u.now next.now nodes.now) }
 {
     let nowhere = nowhere(alloc, slots, nodes)?;
@@ -155,7 +155,7 @@ pub fn outcomes(
 }
 
 // The outcome of each node where there is no state.
-fn nowhere(alloc: Global, slots: &[Slot], nodes: &[Node]) -> Result<Vec<Outcome>, AllocError>
+fn nowhere(alloc: Global, slots: &[Slot], nodes: &[ExprNode]) -> Result<Vec<Evaluation>, AllocError>
     ensures { IfOk result (λ outcomes. outcomes.items ≡ outcomes_of slots.now [] [] [] nodes.now) }
 {
     let mut made = Vec::new(alloc);
@@ -178,11 +178,11 @@ fn nowhere(alloc: Global, slots: &[Slot], nodes: &[Node]) -> Result<Vec<Outcome>
 fn outcomes_before(
     alloc: Global,
     slots: &[Slot],
-    nodes: &[Node],
+    nodes: &[ExprNode],
     s: &[Value],
     u: &[Value],
-    later: &[Outcome],
-) -> Result<Vec<Outcome>, AllocError>
+    later: &[Evaluation],
+) -> Result<Vec<Evaluation>, AllocError>
     ensures { IfOk result (λ outcomes. (t : List Value) → later.now ≡ outcomes_of slots.now t [] [] nodes.now
         → outcomes.items ≡ outcomes_of slots.now s.now u.now t nodes.now) }
 {
@@ -195,18 +195,18 @@ fn outcomes_before(
 }
 
 /// The outcome of the node of this number, if there is one.
-pub fn outcome_at(outcomes: &[Outcome], k: usize) -> Option<&Outcome>
+pub fn outcome_at(outcomes: &[Evaluation], k: usize) -> Option<&Evaluation>
     ensures { seen (option_copied result) ≡ outcome_at outcomes.now k }
 {
     at(outcomes, k)
 }
 
 // A copy of it.
-fn copy_at(alloc: Global, outcomes: &[Outcome], k: usize) -> Result<Outcome, AllocError>
+fn copy_at(alloc: Global, outcomes: &[Evaluation], k: usize) -> Result<Evaluation, AllocError>
     ensures { IfOk result (λ o. o ≡ outcome_at outcomes.now k) }
 {
     match outcome_at(outcomes, k) {
-        None => Ok(Outcome::Nothing),
+        None => Ok(Evaluation::Nothing),
         Some(outcome) => outcome.copied(alloc),
     }
 }
@@ -217,20 +217,25 @@ fn outcome_by(
     slots: &[Slot],
     s: &[Value],
     u: &[Value],
-    here: &[Outcome],
-    later: &[Outcome],
-    node: &Node,
-) -> Result<Outcome, AllocError>
+    here: &[Evaluation],
+    later: &[Evaluation],
+    node: &ExprNode,
+) -> Result<Evaluation, AllocError>
     ensures { IfOk result (λ o. o ≡ outcome_by slots.now s.now u.now here.now later.now node.now) }
 {
     match *node {
-        Node::Constant(_, v) => Ok(one(v)),
-        Node::Slot(_, n) => Ok(valued(item_of(slots, s, u, n))),
-        Node::Whole(..) => Ok(Outcome::Nothing),
-        Node::Named(_, _, a) | Node::Operand(a) => copy_at(alloc, here, a),
-        Node::Next(_, a) => copy_at(alloc, later, a),
-        Node::Apply(place, operator, count) => applied(alloc, operator, place, last(here, count)),
-        Node::Link(place, operator, a, b) => linked(alloc, operator, place, here, a, b),
+        ExprNode::Constant(_, v) => Ok(one(v)),
+        ExprNode::Slot(_, n) => Ok(valued(item_of(slots, s, u, n))),
+        ExprNode::Whole(..) => Ok(Evaluation::Nothing),
+        ExprNode::Named(_, _, a) | ExprNode::Operand(a) => copy_at(alloc, here, a),
+        ExprNode::Next(_, a) => copy_at(alloc, later, a),
+        ExprNode::Apply(place, operator, count) => applied(
+            alloc,
+            operator,
+            place,
+            last(here, count),
+        ),
+        ExprNode::Link(place, operator, a, b) => linked(alloc, operator, place, here, a, b),
     }
 }
 
@@ -239,10 +244,10 @@ fn linked(
     alloc: Global,
     operator: Operator,
     place: Place,
-    outcomes: &[Outcome],
+    outcomes: &[Evaluation],
     a: usize,
     b: usize,
-) -> Result<Outcome, AllocError>
+) -> Result<Evaluation, AllocError>
     ensures { IfOk result (λ o. o ≡ applied operator place (outcome_at outcomes.now a ∷ outcome_at outcomes.now b ∷ [])) }
 {
     let left = copy_at(alloc, outcomes, a)?;

@@ -14,8 +14,8 @@ ghost use Rattle.smv_meaning.specs.Runs.{item_outcome, speaks_of_step};
 
 use crate::evaluation::{outcome_of, outcomes};
 use crate::formulas::is_over_formulas;
-use crate::{Inputs, Outcome, State, Typed};
-use smv_resolve::{Item, ItemKind, Node, last};
+use crate::{Evaluation, Inputs, State, Typed};
+use smv_resolve::{ExprNode, Item, ItemKind, last};
 use smv_slots::Slot;
 use smv_tree::{AssignmentKind, ConstraintKind, Place, SpecificationKind};
 use smv_value::{FaultRule, Value};
@@ -87,7 +87,7 @@ fn item_outcome(
     s: &[Value],
     u: &[Value],
     next: &[Value],
-) -> Result<Outcome, AllocError>
+) -> Result<Evaluation, AllocError>
     ensures { IfOk result (λ e. e ≡ item_outcome (slots_of typed.now.scope.program) s.now u.now next.now (part_of typed.now.nodes item.now.value) item.now.kind) }
 {
     let slots = typed.slots.as_slice();
@@ -103,7 +103,7 @@ fn item_outcome(
 fn fault_of_value(
     declared: Option<&ValueType>,
     begins: Place,
-    e: &Outcome,
+    e: &Evaluation,
 ) -> Option<(FaultRule, Place)>
     ensures { result ≡ fault_of_value (option_copied declared.entry) begins e.now }
 {
@@ -115,26 +115,26 @@ fn fault_of_value(
 }
 
 // Whether some value is none of the type.
-fn is_outside(declared: Option<&ValueType>, e: &Outcome) -> bool
+fn is_outside(declared: Option<&ValueType>, e: &Evaluation) -> bool
     ensures { result ≡ is_outside (option_copied declared.entry) e.now }
 {
     match declared {
         None => false,
         Some(t) => match e {
-            Outcome::Nothing => false,
-            Outcome::Values(values) => !values.is_of(t),
-            Outcome::Fault(..) => false,
+            Evaluation::Nothing => false,
+            Evaluation::Values(values) => !values.is_of(t),
+            Evaluation::Fault(..) => false,
         },
     }
 }
 
-fn fault_in(outcome: &Outcome) -> Option<(FaultRule, Place)>
+fn fault_in(outcome: &Evaluation) -> Option<(FaultRule, Place)>
     ensures { result ≡ fault_in outcome.now }
 {
     match outcome {
-        Outcome::Nothing => None,
-        Outcome::Values(_) => None,
-        Outcome::Fault(rule, place) => Some((*rule, *place)),
+        Evaluation::Nothing => None,
+        Evaluation::Values(_) => None,
+        Evaluation::Fault(rule, place) => Some((*rule, *place)),
     }
 }
 
@@ -142,7 +142,7 @@ fn fault_in(outcome: &Outcome) -> Option<(FaultRule, Place)>
 fn type_assigned<'a>(
     alloc: Global,
     types: &'a [ValueType],
-    nodes: &[Node],
+    nodes: &[ExprNode],
     target: Option<usize>,
 ) -> Result<Option<&'a ValueType>, AllocError>
     ensures { IfOk result (λ declared. option_copied declared ≡ type_assigned types.now (target_by nodes.now target)) }
@@ -166,7 +166,7 @@ fn type_of_slot(types: &[ValueType], slot: Option<usize>) -> Option<&ValueType>
 }
 
 // The slot that each node is, itself or as what a name stands for.
-fn slots_assigned(alloc: Global, nodes: &[Node]) -> Result<Vec<Option<usize>>, AllocError>
+fn slots_assigned(alloc: Global, nodes: &[ExprNode]) -> Result<Vec<Option<usize>>, AllocError>
     ensures { IfOk result (λ slots. slots.items ≡ map slot_assigned (parts_of nodes.now)) }
 {
     let mut made = Vec::new(alloc);
@@ -177,18 +177,18 @@ fn slots_assigned(alloc: Global, nodes: &[Node]) -> Result<Vec<Option<usize>>, A
     Ok(made)
 }
 
-fn slot_by_node(slots: &[Option<usize>], node: &Node) -> Option<usize>
+fn slot_by_node(slots: &[Option<usize>], node: &ExprNode) -> Option<usize>
     ensures { result ≡ slot_by_node slots.now node.now }
 {
     match *node {
-        Node::Slot(_, n) => Some(n),
-        Node::Named(_, _, a) => slot_at(slots, a),
-        Node::Operand(a) => slot_at(slots, a),
-        Node::Constant(..) => None,
-        Node::Whole(..) => None,
-        Node::Next(..) => None,
-        Node::Apply(..) => None,
-        Node::Link(..) => None,
+        ExprNode::Slot(_, n) => Some(n),
+        ExprNode::Named(_, _, a) => slot_at(slots, a),
+        ExprNode::Operand(a) => slot_at(slots, a),
+        ExprNode::Constant(..) => None,
+        ExprNode::Whole(..) => None,
+        ExprNode::Next(..) => None,
+        ExprNode::Apply(..) => None,
+        ExprNode::Link(..) => None,
     }
 }
 
@@ -205,7 +205,7 @@ fn slot_at(slots: &[Option<usize>], k: usize) -> Option<usize>
 fn formula_fault(
     alloc: Global,
     slots: &[Slot],
-    nodes: &[Node],
+    nodes: &[ExprNode],
     root: usize,
     s: &[Value],
     u: &[Value],
@@ -220,8 +220,8 @@ fn formula_fault(
 // The same of each node, where `here` has their outcomes.
 fn formula_faults(
     alloc: Global,
-    nodes: &[Node],
-    here: &[Outcome],
+    nodes: &[ExprNode],
+    here: &[Evaluation],
 ) -> Result<Vec<Option<(FaultRule, Place)>>, AllocError>
     ensures { IfOk result (λ faults. (slots : List Slot) (s u : List Value) → here.now ≡ outcomes_of slots s u [] nodes.now
         → faults.items ≡ map (formula_fault slots s u) (parts_of nodes.now)) }
@@ -235,7 +235,7 @@ fn formula_faults(
 }
 
 // The fault that the node of this number gives.
-fn fault_of(here: &[Outcome], k: usize) -> Option<(FaultRule, Place)>
+fn fault_of(here: &[Evaluation], k: usize) -> Option<(FaultRule, Place)>
     ensures { result ≡ fault_in (outcome_at here.now k) }
 {
     match at(here, k) {
@@ -248,23 +248,23 @@ fn fault_of(here: &[Outcome], k: usize) -> Option<(FaultRule, Place)>
 fn fault_by_node(
     mine: Option<(FaultRule, Place)>,
     faults: &[Option<(FaultRule, Place)>],
-    node: &Node,
+    node: &ExprNode,
 ) -> Option<(FaultRule, Place)>
     ensures { result ≡ fault_by_node mine faults.now node.now }
 {
     match *node {
-        Node::Constant(..) => None,
-        Node::Slot(..) => None,
-        Node::Whole(..) => None,
-        Node::Named(..) => mine,
-        Node::Next(..) => mine,
-        Node::Operand(a) => fault_at(faults, a),
-        Node::Apply(_, operator, count) => if is_over_formulas(operator) {
+        ExprNode::Constant(..) => None,
+        ExprNode::Slot(..) => None,
+        ExprNode::Whole(..) => None,
+        ExprNode::Named(..) => mine,
+        ExprNode::Next(..) => mine,
+        ExprNode::Operand(a) => fault_at(faults, a),
+        ExprNode::Apply(_, operator, count) => if is_over_formulas(operator) {
             first_fault(last(faults, count))
         } else {
             mine
         },
-        Node::Link(_, operator, a, b) => if is_over_formulas(operator) {
+        ExprNode::Link(_, operator, a, b) => if is_over_formulas(operator) {
             first_fault(&[fault_at(faults, a), fault_at(faults, b)])
         } else {
             mine

@@ -21,7 +21,7 @@ pub use item_faults::faults;
 pub use lasso_runs::lassos;
 pub use meets::{meets_init, meets_inv, meets_step};
 pub use operators::applied;
-pub use outcome::Outcome;
+pub use outcome::Evaluation;
 pub use readers::{input_slots, is_claim, slots, specifications, state_slots};
 pub use states::{Inputs, Path, State};
 pub use typed::Typed;

@@ -12,7 +12,7 @@ ghost use Rattle.smv_meaning.specs.Tables.{always_allowed, first_allowed, outcom
 
 use crate::evaluation::{outcome_at, outcomes};
 use crate::readers::{input_slots, state_slots};
-use crate::{Inputs, Outcome, State, Typed};
+use crate::{Evaluation, Inputs, State, Typed};
 use smv_resolve::{Item, ItemKind};
 use smv_slots::Slot;
 use smv_tree::{AssignmentKind, ConstraintKind, VariableKind};
@@ -128,7 +128,7 @@ fn is_frozen(kind: VariableKind) -> bool
 }
 
 // The outcomes of the nodes in a state alone.
-fn outcomes_in(alloc: Global, typed: &Typed, s: &[Value]) -> Result<Vec<Outcome>, AllocError>
+fn outcomes_in(alloc: Global, typed: &Typed, s: &[Value]) -> Result<Vec<Evaluation>, AllocError>
     ensures { IfOk result (λ here. here.items ≡ outcomes_of (slots_of typed.now.scope.program) s.now [] [] typed.now.nodes) }
 {
     outcomes(
@@ -198,21 +198,21 @@ fn in_type(types: &[ValueType], number: usize, v: Value) -> bool
 }
 
 // What the items ask of an initial state, by the outcomes there.
-fn first_allowed(here: &[Outcome], items: &[Item]) -> bool
+fn first_allowed(here: &[Evaluation], items: &[Item]) -> bool
     ensures { result ≡ first_allowed here.now items.now }
 {
     items.iter().all(|x| asks_first(target_at(here, x.target), outcome_at(here, x.value), x.kind))
 }
 
 // What the items ask of both states of a step, by the outcomes there.
-fn always_allowed(here: &[Outcome], items: &[Item]) -> bool
+fn always_allowed(here: &[Evaluation], items: &[Item]) -> bool
     ensures { result ≡ always_allowed here.now items.now }
 {
     items.iter().all(|x| asks_always(target_at(here, x.target), outcome_at(here, x.value), x.kind))
 }
 
 // What the items ask of a step, by the outcomes in the step and in the next state.
-fn step_allowed(here: &[Outcome], later: &[Outcome], items: &[Item]) -> bool
+fn step_allowed(here: &[Evaluation], later: &[Evaluation], items: &[Item]) -> bool
     ensures { result ≡ step_allowed here.now later.now items.now }
 {
     items.iter().all(|x| asks_step(
@@ -222,7 +222,7 @@ fn step_allowed(here: &[Outcome], later: &[Outcome], items: &[Item]) -> bool
     ))
 }
 
-fn target_at(outcomes: &[Outcome], target: Option<usize>) -> Option<&Outcome>
+fn target_at(outcomes: &[Evaluation], target: Option<usize>) -> Option<&Evaluation>
     ensures { seen (option_copied result) ≡ target_at outcomes.now target }
 {
     match target {
@@ -232,7 +232,7 @@ fn target_at(outcomes: &[Outcome], target: Option<usize>) -> Option<&Outcome>
 }
 
 // Whether the variable has a value of the expression.
-fn takes(variable: Option<&Outcome>, expression: Option<&Outcome>) -> bool
+fn takes(variable: Option<&Evaluation>, expression: Option<&Evaluation>) -> bool
     ensures { result ≡ takes (seen (option_copied variable.entry)) (seen (option_copied expression.entry)) }
 {
     match variable {
@@ -241,7 +241,7 @@ fn takes(variable: Option<&Outcome>, expression: Option<&Outcome>) -> bool
     }
 }
 
-fn is_among(v: Option<Value>, expression: Option<&Outcome>) -> bool
+fn is_among(v: Option<Value>, expression: Option<&Evaluation>) -> bool
     ensures { result ≡ is_among v (seen (option_copied expression.entry)) }
 {
     match (v, expression) {
@@ -251,17 +251,17 @@ fn is_among(v: Option<Value>, expression: Option<&Outcome>) -> bool
     }
 }
 
-fn has(expression: &Outcome, v: Value) -> bool
+fn has(expression: &Evaluation, v: Value) -> bool
     ensures { result ≡ is_among (Some v) expression.now }
 {
     match expression {
-        Outcome::Nothing => false,
-        Outcome::Values(values) => values.contains(v),
-        Outcome::Fault(..) => false,
+        Evaluation::Nothing => false,
+        Evaluation::Values(values) => values.contains(v),
+        Evaluation::Fault(..) => false,
     }
 }
 
-fn is_true(outcome: Option<&Outcome>) -> bool
+fn is_true(outcome: Option<&Evaluation>) -> bool
     ensures { result ≡ is_true (seen (option_copied outcome.entry)) }
 {
     match outcome {
@@ -273,7 +273,7 @@ fn is_true(outcome: Option<&Outcome>) -> bool
     }
 }
 
-fn asks_first(x: Option<&Outcome>, e: Option<&Outcome>, kind: ItemKind) -> bool
+fn asks_first(x: Option<&Evaluation>, e: Option<&Evaluation>, kind: ItemKind) -> bool
     ensures { result ≡ asks_first (seen (option_copied x.entry)) (seen (option_copied e.entry)) kind }
 {
     match kind {
@@ -285,7 +285,7 @@ fn asks_first(x: Option<&Outcome>, e: Option<&Outcome>, kind: ItemKind) -> bool
     }
 }
 
-fn asks_always(x: Option<&Outcome>, e: Option<&Outcome>, kind: ItemKind) -> bool
+fn asks_always(x: Option<&Evaluation>, e: Option<&Evaluation>, kind: ItemKind) -> bool
     ensures { result ≡ asks_always (seen (option_copied x.entry)) (seen (option_copied e.entry)) kind }
 {
     match kind {
@@ -299,7 +299,7 @@ fn asks_always(x: Option<&Outcome>, e: Option<&Outcome>, kind: ItemKind) -> bool
     }
 }
 
-fn asks_step(x: Option<&Outcome>, e: Option<&Outcome>, kind: ItemKind) -> bool
+fn asks_step(x: Option<&Evaluation>, e: Option<&Evaluation>, kind: ItemKind) -> bool
     ensures { result ≡ asks_step (seen (option_copied x.entry)) (seen (option_copied e.entry)) kind }
 {
     match kind {

@@ -4,7 +4,7 @@ ghost use Rattle.std.specs.Prelude.{◌≡◌, [], ◌∷◌, IfOk};
 ghost use Rattle.smv_value.specs.Results.{result_of};
 ghost use Rattle.smv_meaning.specs.Outcomes.{applied, choice, given, included, integers_between, operated, ranged, united};
 
-use crate::Outcome;
+use crate::Evaluation;
 use crate::outcome::{failed, given, one};
 use smv_tree::Place;
 use smv_value::{FaultRule, Operator, Value, apply};
@@ -16,8 +16,8 @@ pub fn applied(
     alloc: Global,
     operator: Operator,
     place: Place,
-    operands: &[Outcome],
-) -> Result<Outcome, AllocError>
+    operands: &[Evaluation],
+) -> Result<Evaluation, AllocError>
     ensures { IfOk result (λ o. o ≡ applied operator place operands.now) }
 {
     match operator {
@@ -26,11 +26,11 @@ pub fn applied(
         Operator::Union => united(alloc, operands),
         Operator::Range => match operands {
             [a, b] => ranged(alloc, a, b),
-            _ => Ok(Outcome::Nothing),
+            _ => Ok(Evaluation::Nothing),
         },
         Operator::In => match operands {
             [a, b] => Ok(included(a, b)),
-            _ => Ok(Outcome::Nothing),
+            _ => Ok(Evaluation::Nothing),
         },
         other => operated(alloc, other, place, operands),
     }
@@ -41,8 +41,8 @@ fn operated(
     alloc: Global,
     operator: Operator,
     place: Place,
-    operands: &[Outcome],
-) -> Result<Outcome, AllocError>
+    operands: &[Evaluation],
+) -> Result<Evaluation, AllocError>
     ensures { IfOk result (λ o. o ≡ operated (λ vs. given place (result_of operator vs)) [] operands.now) }
 {
     match operands {
@@ -52,7 +52,7 @@ fn operated(
     }
 }
 
-fn operated_one(operator: Operator, place: Place, a: &Outcome) -> Outcome
+fn operated_one(operator: Operator, place: Place, a: &Evaluation) -> Evaluation
     ensures { result ≡ operated (λ vs. given place (result_of operator vs)) [] (a.now ∷ []) }
 {
     match a.value() {
@@ -61,7 +61,7 @@ fn operated_one(operator: Operator, place: Place, a: &Outcome) -> Outcome
     }
 }
 
-fn operated_two(operator: Operator, place: Place, a: &Outcome, b: &Outcome) -> Outcome
+fn operated_two(operator: Operator, place: Place, a: &Evaluation, b: &Evaluation) -> Evaluation
     ensures { result ≡ operated (λ vs. given place (result_of operator vs)) [] (a.now ∷ b.now ∷ []) }
 {
     match (a.value(), b.value()) {
@@ -76,8 +76,8 @@ fn gathered(
     alloc: Global,
     operator: Operator,
     place: Place,
-    operands: &[Outcome],
-) -> Result<Outcome, AllocError>
+    operands: &[Evaluation],
+) -> Result<Evaluation, AllocError>
     ensures { IfOk result (λ o. o ≡ operated (λ vs. given place (result_of operator vs)) [] operands.now) }
 {
     let mut values = Vec::new(alloc);
@@ -91,22 +91,22 @@ fn gathered(
 }
 
 // The values of all operands one after another, or the first fault.
-fn united(alloc: Global, operands: &[Outcome]) -> Result<Outcome, AllocError>
+fn united(alloc: Global, operands: &[Evaluation]) -> Result<Evaluation, AllocError>
     ensures { IfOk result (λ o. o ≡ united [] operands.now) }
 {
     let mut all = ValueSet::none(alloc);
     for operand in operands {
         match operand {
-            Outcome::Values(values) => all = all.with(alloc, values)?,
-            Outcome::Nothing => return Ok(Outcome::Nothing),
-            Outcome::Fault(rule, place) => return Ok(Outcome::Fault(*rule, *place)),
+            Evaluation::Values(values) => all = all.with(alloc, values)?,
+            Evaluation::Nothing => return Ok(Evaluation::Nothing),
+            Evaluation::Fault(rule, place) => return Ok(Evaluation::Fault(*rule, *place)),
         }
     }
-    Ok(Outcome::Values(all))
+    Ok(Evaluation::Values(all))
 }
 
 // The integers from one to the other.
-fn ranged(alloc: Global, a: &Outcome, b: &Outcome) -> Result<Outcome, AllocError>
+fn ranged(alloc: Global, a: &Evaluation, b: &Evaluation) -> Result<Evaluation, AllocError>
     ensures { IfOk result (λ o. o ≡ ranged a.now b.now) }
 {
     match (a.value(), b.value()) {
@@ -116,27 +116,27 @@ fn ranged(alloc: Global, a: &Outcome, b: &Outcome) -> Result<Outcome, AllocError
     }
 }
 
-fn integers_between(alloc: Global, v: Value, w: Value) -> Result<Outcome, AllocError>
+fn integers_between(alloc: Global, v: Value, w: Value) -> Result<Evaluation, AllocError>
     ensures { IfOk result (λ o. o ≡ integers_between v w) }
 {
     match (v, w) {
         (Value::Int(low), Value::Int(high)) => {
             let integers = ValueSet::range(alloc, low, high)?;
-            Ok(Outcome::Values(integers))
+            Ok(Evaluation::Values(integers))
         }
-        _ => Ok(Outcome::Nothing),
+        _ => Ok(Evaluation::Nothing),
     }
 }
 
 // Whether the value is one of the others.
-fn included(a: &Outcome, b: &Outcome) -> Outcome
+fn included(a: &Evaluation, b: &Evaluation) -> Evaluation
     ensures { result ≡ included a.now b.now }
 {
     match (a.value(), b) {
         (None, _) => failed(a),
-        (Some(v), Outcome::Values(values)) => one(Value::Bool(values.contains(v))),
-        (Some(_), Outcome::Nothing) => Outcome::Nothing,
-        (Some(_), Outcome::Fault(rule, place)) => Outcome::Fault(*rule, *place),
+        (Some(v), Evaluation::Values(values)) => one(Value::Bool(values.contains(v))),
+        (Some(_), Evaluation::Nothing) => Evaluation::Nothing,
+        (Some(_), Evaluation::Fault(rule, place)) => Evaluation::Fault(*rule, *place),
     }
 }
 
@@ -145,8 +145,8 @@ fn choice(
     alloc: Global,
     rule: FaultRule,
     place: Place,
-    operands: &[Outcome],
-) -> Result<Outcome, AllocError>
+    operands: &[Evaluation],
+) -> Result<Evaluation, AllocError>
     ensures { IfOk result (λ o. o ≡ choice rule place operands.now) }
 {
     let mut at = 0;
@@ -159,7 +159,7 @@ fn choice(
         }
     }
     match operands.get(at) {
-        None => Ok(Outcome::Fault(rule, place)),
+        None => Ok(Evaluation::Fault(rule, place)),
         Some(last) => last.copied(alloc),
     }
 }

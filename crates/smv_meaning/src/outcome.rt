@@ -10,7 +10,7 @@ use value_sets::ValueSet;
 
 /// What an expression gives in a state.
 #[derive(Debug, Drop)]
-pub enum Outcome {
+pub enum Evaluation {
     /// An operand is of another kind, or inputs or a next state are looked at that are not there. In a typed program
     /// this does not come.
     Nothing,
@@ -20,18 +20,18 @@ pub enum Outcome {
     Fault(FaultRule, Place),
 }
 
-impl Outcome {
+impl Evaluation {
     /// The same outcome. One value takes no memory.
-    pub fn copied(&self, alloc: Global) -> Result<Outcome, AllocError>
+    pub fn copied(&self, alloc: Global) -> Result<Evaluation, AllocError>
         ensures { IfOk result (λ copy. copy ≡ self.now) }
     {
         match self {
-            Outcome::Nothing => Ok(Outcome::Nothing),
-            Outcome::Values(values) => {
+            Evaluation::Nothing => Ok(Evaluation::Nothing),
+            Evaluation::Values(values) => {
                 let copy = values.copied(alloc)?;
-                Ok(Outcome::Values(copy))
+                Ok(Evaluation::Values(copy))
             }
-            Outcome::Fault(rule, place) => Ok(Outcome::Fault(*rule, *place)),
+            Evaluation::Fault(rule, place) => Ok(Evaluation::Fault(*rule, *place)),
         }
     }
 
@@ -40,9 +40,9 @@ impl Outcome {
         ensures { result ≡ value_in self.now }
     {
         match self {
-            Outcome::Nothing => None,
-            Outcome::Values(values) => values.single(),
-            Outcome::Fault(..) => None,
+            Evaluation::Nothing => None,
+            Evaluation::Values(values) => values.single(),
+            Evaluation::Fault(..) => None,
         }
     }
 
@@ -69,39 +69,39 @@ fn truth_of(v: Value) -> Option<bool>
 }
 
 // One value.
-pub fn one(v: Value) -> Outcome
+pub fn one(v: Value) -> Evaluation
     ensures { result ≡ one v }
 {
-    Outcome::Values(ValueSet::one(v))
+    Evaluation::Values(ValueSet::one(v))
 }
 
 // The value, if it is there.
-pub fn valued(v: Option<Value>) -> Outcome
+pub fn valued(v: Option<Value>) -> Evaluation
     ensures { result ≡ valued v }
 {
     match v {
         Some(v) => one(v),
-        None => Outcome::Nothing,
+        None => Evaluation::Nothing,
     }
 }
 
 // What an operator gives of single values, at this place.
-pub fn given(place: Place, answer: Result<Option<Value>, FaultRule>) -> Outcome
+pub fn given(place: Place, answer: Result<Option<Value>, FaultRule>) -> Evaluation
     ensures { result ≡ given place answer }
 {
     match answer {
         Ok(v) => valued(v),
-        Err(rule) => Outcome::Fault(rule, place),
+        Err(rule) => Evaluation::Fault(rule, place),
     }
 }
 
 // The fault, or nothing.
-pub fn failed(outcome: &Outcome) -> Outcome
+pub fn failed(outcome: &Evaluation) -> Evaluation
     ensures { result ≡ failed outcome.now }
 {
     match outcome {
-        Outcome::Nothing => Outcome::Nothing,
-        Outcome::Values(_) => Outcome::Nothing,
-        Outcome::Fault(rule, place) => Outcome::Fault(*rule, *place),
+        Evaluation::Nothing => Evaluation::Nothing,
+        Evaluation::Values(_) => Evaluation::Nothing,
+        Evaluation::Fault(rule, place) => Evaluation::Fault(*rule, *place),
     }
 }

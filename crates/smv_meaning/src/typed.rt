@@ -12,7 +12,7 @@ ghost use Rattle.smv_resolve.proofs.Sets.{Resolved-set};
 ghost use Rattle.smv_meaning.specs.Runs.{AllKnown};
 
 use smv_declared::VariableType;
-use smv_resolve::{Item, Node};
+use smv_resolve::{ExprNode, Item};
 use smv_scope::Scope;
 use smv_slots::Slot;
 use sqlite_items::Items;
@@ -31,7 +31,7 @@ pub struct Typed {
     pub slots: Items<Slot>,
     /// The type of each slot.
     pub types: Items<ValueType>,
-    pub nodes: Items<Node>,
+    pub nodes: Items<ExprNode>,
     pub items: Items<Item>,
     pub ghost known: { AllKnown scope.program } by { Prim.hlevel (props) },
     pub ghost right_types: { list_all is_type (types_of scope.program) ≡ true } by { Prim.hlevel (props) },

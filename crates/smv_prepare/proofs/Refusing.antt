@@ -8,7 +8,7 @@ use Rattle.bit_clauses.specs.declared.deciding.Decided.{Decided}
 use Rattle.smv_tree.specs.declared.refusal.Refusal.{Refusal}
 use Rattle.smv_tree.specs.declared.tree.Program.{Program}
 use Rattle.smv_resolve.specs.declared.item.Item.{Item}
-use Rattle.smv_resolve.specs.declared.node.Node.{Node}
+use Rattle.smv_resolve.specs.declared.node.ExprNode.{ExprNode}
 use Rattle.smv_resolve.specs.Items.{ResolvedItem, item_by}
 use Rattle.smv_slots.specs.Slots.{slots_of}
 use Rattle.smv_slots.specs.Slots.{types_of}
@@ -78,7 +78,7 @@ module _ (p : Program) (x : ResolvedItem) (b : ℕ → Bool) (v : Valuation) (is
       never (Some a) f some e = absurd cc
 
 -- the item of a question that is met is there
-pub item_there : (p : Program) (nodes : List Node) (items : List Item) (questions : List (Option Decided)) (number : ℕ) (model : List Bool) → map (item_by nodes) items ≡ judged_items p
+pub item_there : (p : Program) (nodes : List ExprNode) (items : List Item) (questions : List (Option Decided)) (number : ℕ) (model : List Bool) → map (item_by nodes) items ≡ judged_items p
     → AreFaultQuestions p questions → IsFaulty questions number model → number < length items
 item_there p nodes items questions number model judged asked faulty =
     let within = slice_get_within questions number (Some faulty.question) faulty.asked in
@@ -93,7 +93,7 @@ pub record AreJudges (p : Program) (questions : List (Option Decided)) (model : 
   pub before : (j : ℕ) (x : ResolvedItem) → j < number → slice_get (judged_items p) j ≡ Some x → NeverFaults p x
 
 -- The item of this number is judged, and its question is met: it faults at the valuation that the mended bits are.
-module _ (p : Program) (nodes : List Node) (items : List Item) (questions : List (Option Decided)) (number : ℕ) (item : Item) (model : List Bool) (v : Valuation)
+module _ (p : Program) (nodes : List ExprNode) (items : List Item) (questions : List (Option Decided)) (number : ℕ) (item : Item) (model : List Bool) (v : Valuation)
     (judged : map (item_by nodes) items ≡ judged_items p) (here : slice_get items number ≡ Some item) (asked : AreFaultQuestions p questions)
     (faulty : IsFaulty questions number model) (is : IsValuation (layout_of p) (mended p (assignment_of model)) v) (judges : AreJudges p questions model number) where
   at_number : slice_get (judged_items p) number ≡ Some (item_by nodes item)

@@ -9,7 +9,7 @@ use Rattle.hinted_log.specs.Hints.{HintedLog}
 use Rattle.smv_tree.specs.declared.tree.Program.{Program}
 use Rattle.smv_resolve.specs.Items.{ResolvedItem}
 use Rattle.bit_faults.specs.Questions.{AreFaultQuestions, IsFaultQuestion, judged_items}
-use Rattle.sound_check.specs.declared.judging.Verdict.{Verdict}
+use Rattle.sound_check.specs.declared.judging.SoundVerdict.{SoundVerdict}
 use Rattle.sound_check.specs.Judgements.{VerdictSays, parts_of}
 use Rattle.sound_check.specs.Questions.{IsQuestion}
 use Rattle.smv_recheck.specs.Checking.{IsSoundness}
@@ -29,7 +29,7 @@ are_questions p questions asked =
     is_question p here.0 (get_or questions k none) (asked.each k here.0 (get_or questions k none) here.1 (slice_get-get_or questions k none lt))))
 
 -- what the check says, it says of the program's block
-pub judged_so : {E : Type 0} (p : Program) (questions : List (Option Decided)) (sound : Option (List (Option HintedLog))) (made : Result Verdict E) → AreFaultQuestions p questions →
+pub judged_so : {E : Type 0} (p : Program) (questions : List (Option Decided)) (sound : Option (List (Option HintedLog))) (made : Result SoundVerdict E) → AreFaultQuestions p questions →
     IfOk made (VerdictSays questions (parts_of sound)) → IfOk made (IsSoundness p sound)
 judged_so p questions sound (Ok v) asked says = record { questions = questions; asked = asked; says = says }
 judged_so p questions sound (Err e) asked says = says

@@ -12,11 +12,11 @@ use Rattle.smv_tree.specs.declared.tree.SpecificationKind.{SpecificationKind}
 use Rattle.smv_resolve.specs.declared.item.Item.{Item}
 use Rattle.smv_resolve.specs.declared.item.ItemKind.{ItemKind}
 use Rattle.smv_resolve.specs.declared.item.ItemKind.TheVariants as item
-use Rattle.smv_resolve.specs.declared.node.Node.{Node}
+use Rattle.smv_resolve.specs.declared.node.ExprNode.{ExprNode}
 use Rattle.smv_resolve.specs.Items.{ResolvedItem, item_by}
 use Rattle.smv_meaning.specs.Runs.{is_claim, specifications_of}
 use Rattle.bit_system.specs.Building.{BitProgram, IsBuilt, system_of}
-use Rattle.sound_check.specs.declared.judging.Verdict.{Verdict}
+use Rattle.sound_check.specs.declared.judging.SoundVerdict.{SoundVerdict}
 use Rattle.trace_replay.specs.declared.trace.Trace.{Trace}
 use Rattle.trace_replay.specs.Tests.{specification_at}
 use Rattle.smv_recheck.specs.declared.judgement.Record.{Record}
@@ -37,7 +37,7 @@ numbered p j spec h = let back : j + 1 - 1 ≡ j = omega arith in ap (slice_get 
 pub has_system : (p : Program) (b : BitProgram) (j : ℕ) (spec : ResolvedItem) → IsBuilt p b → slice_get (specifications_of p) j ≡ Some spec → j < length b.systems
 has_system p b j spec built h = let within = slice_get_within (specifications_of p) j spec h in omega (arith, within, built.each_one)
 
-pub at_place : (p : Program) (nodes : List Node) (specs : List Item) (j : ℕ) (d : Item) → j < length specs → map (item_by nodes) specs ≡ specifications_of p
+pub at_place : (p : Program) (nodes : List ExprNode) (specs : List Item) (j : ℕ) (d : Item) → j < length specs → map (item_by nodes) specs ≡ specifications_of p
     → slice_get (specifications_of p) j ≡ Some (item_by nodes (get_or specs j d))
 at_place p nodes specs j d within same =
     ap (λ (xs : List ResolvedItem). slice_get xs j) (sym same)
@@ -67,12 +67,12 @@ pushed_at (x ∷ rs) last zero r h = inl h
 pushed_at (x ∷ rs) last (suc k) r h = elim (pushed_at rs last k r h) [ inl before ↦ inl before | inr here ↦ inr (ap suc here.0, here.1) ]
 
 -- the records so far
-pub record SoFar (p : Program) (b : BitProgram) (soundness : Verdict) (upgrade : Bool) (traces : List (Option Trace)) (certificates : List (Option Block)) (n : ℕ) (records : List Record) : Type 0 where
+pub record SoFar (p : Program) (b : BitProgram) (soundness : SoundVerdict) (upgrade : Bool) (traces : List (Option Trace)) (certificates : List (Option Block)) (n : ℕ) (records : List Record) : Type 0 where
   pub long : length records ≡ n
   pub each : (j : ℕ) (spec : ResolvedItem) (r : Record) → slice_get (specifications_of p) j ≡ Some spec → slice_get records j ≡ Some r
       → IsRecord p soundness (system_of b j) upgrade (slice_index_or traces j None) (slice_index_or certificates j None) (j + 1) spec r
 
-module _ (p : Program) (b : BitProgram) (soundness : Verdict) (upgrade : Bool) (traces : List (Option Trace)) (certificates : List (Option Block)) where
+module _ (p : Program) (b : BitProgram) (soundness : SoundVerdict) (upgrade : Bool) (traces : List (Option Trace)) (certificates : List (Option Block)) where
   abbrev IsAt : ℕ → ResolvedItem → Record → Type 0
   IsAt j spec r = IsRecord p soundness (system_of b j) upgrade (slice_index_or traces j None) (slice_index_or certificates j None) (j + 1) spec r
 

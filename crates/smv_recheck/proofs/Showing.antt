@@ -18,8 +18,8 @@ use Rattle.trace_replay.specs.Lassos.{lasso_told}
 use Rattle.trace_replay.specs.declared.trace.Trace.{Trace}
 use Rattle.trace_replay.proofs.OfLassos.{faultless, violates}
 use Rattle.trace_replay.proofs.Shows.{shows}
-use Rattle.sound_check.specs.declared.judging.Verdict.{Verdict}
-use Rattle.sound_check.specs.declared.judging.Verdict.TheVariants.{Sound, Rejected}
+use Rattle.sound_check.specs.declared.judging.SoundVerdict.{SoundVerdict}
+use Rattle.sound_check.specs.declared.judging.SoundVerdict.TheVariants.{Sound, Rejected}
 use Rattle.sound_check.specs.Judgements.{IsSoundBlock, VerdictSays, parts_of}
 use Rattle.sound_check.specs.Questions.{AreNeverMet}
 use Rattle.smv_recheck.specs.declared.judgement.Judgement.{Judgement}
@@ -81,24 +81,24 @@ module _ (p : Program) (sys : TransitionSystem) (spec : ResolvedItem) (upgrade :
   certificate_never claim.Invariant cert j h e = invariant_never p sys spec cert upgrade j cert.counter h e
   certificate_never claim.Temporal cert j h e = formula_never p sys spec cert upgrade j cert.counter h e
 
-  by_blocks : (soundness : Verdict) (kind : SpecificationKind) (cert : Block) (j : Judgement) → IsByBlocks soundness kind p sys spec cert upgrade j → is_shown_true j ≡ true →
+  by_blocks : (soundness : SoundVerdict) (kind : SpecificationKind) (cert : Block) (j : Judgement) → IsByBlocks soundness kind p sys spec cert upgrade j → is_shown_true j ≡ true →
       (soundness ≡ Sound) × IsShown kind p sys spec
   by_blocks Sound kind cert j h e = (refl, by_certificate kind cert j h e)
   by_blocks (Rejected item) kind cert j h e = absurd (unshown is_shown_true j _ h refl e)
 
-  blocks_never : (soundness : Verdict) (kind : SpecificationKind) (cert : Block) (j : Judgement) → IsByBlocks soundness kind p sys spec cert upgrade j → is_shown_false j ≡ true → ⊥
+  blocks_never : (soundness : SoundVerdict) (kind : SpecificationKind) (cert : Block) (j : Judgement) → IsByBlocks soundness kind p sys spec cert upgrade j → is_shown_false j ≡ true → ⊥
   blocks_never Sound kind cert j h e = certificate_never kind cert j h e
   blocks_never (Rejected item) kind cert j h e = unshown is_shown_false j _ h refl e
 
   -- where something is shown true, the sound block is accepted, and a certificate certifies
-  pub certified : (soundness : Verdict) (kind : SpecificationKind) (t : Option Trace) (cert : Option Block) (j : Judgement) → IsJudged soundness kind p sys spec upgrade t cert j → is_shown_true j ≡ true →
+  pub certified : (soundness : SoundVerdict) (kind : SpecificationKind) (t : Option Trace) (cert : Option Block) (j : Judgement) → IsJudged soundness kind p sys spec upgrade t cert j → is_shown_true j ≡ true →
       (soundness ≡ Sound) × IsShown kind p sys spec
   certified soundness kind (Some t) cert j h e = absurd (by_trace_never kind p spec t j h e)
   certified soundness kind None (Some cert) j h e = by_blocks soundness kind cert j h e
   certified soundness kind None None j h e = absurd (unshown is_shown_true j _ h refl e)
 
   -- what is shown false is refuted by a run or a lasso
-  pub broken : (soundness : Verdict) (kind : SpecificationKind) (t : Option Trace) (cert : Option Block) (j : Judgement) → IsJudged soundness kind p sys spec upgrade t cert j → is_shown_false j ≡ true →
+  pub broken : (soundness : SoundVerdict) (kind : SpecificationKind) (t : Option Trace) (cert : Option Block) (j : Judgement) → IsJudged soundness kind p sys spec upgrade t cert j → is_shown_false j ≡ true →
       IsRefuted (item.Specification kind) p spec
   broken soundness kind (Some t) cert j h e = refuted kind p spec t j h e
   broken soundness kind None (Some cert) j h e = absurd (blocks_never soundness kind cert j h e)
@@ -111,9 +111,9 @@ upheld claim.Invariant p sys spec by_run by_lasso shown = by_run refl shown.0 sh
 upheld claim.Temporal p sys spec by_run by_lasso shown = by_lasso shown.0 shown.1.0 shown.1.1.0 shown.1.1.1.0 shown.1.1.1.1
 
 -- where the sound block is accepted, no item faults
-pub sound_free : (p : Program) (sound : Option (List (Option HintedLog))) (soundness : Verdict) → IsSoundness p sound soundness → soundness ≡ Sound →
+pub sound_free : (p : Program) (sound : Option (List (Option HintedLog))) (soundness : SoundVerdict) → IsSoundness p sound soundness → soundness ≡ Sound →
     ((questions : List (Option Decided)) (parts : List (Option HintedLog)) → IsSoundBlock questions parts → AreNeverMet questions) →
     ((questions : List (Option Decided)) → AreFaultQuestions p questions → AreNeverMet questions → IsFaultFree p) → IsFaultFree p
 sound_free p sound soundness is same shows free =
-    let P : Verdict → Type 0 = VerdictSays is.questions (parts_of sound) in
+    let P : SoundVerdict → Type 0 = VerdictSays is.questions (parts_of sound) in
     free is.questions is.asked (shows is.questions (parts_of sound) (subst P same is.says))

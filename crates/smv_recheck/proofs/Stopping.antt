@@ -12,7 +12,7 @@ use Rattle.smv_tree.specs.declared.refusal.TextStop.{TextStop}
 use Rattle.smv_tree.specs.declared.refusal.TextStop.TheVariants.{NoMemory, Refused}
 use Rattle.smv_tree.specs.declared.tree.Program.{Program}
 use Rattle.smv_resolve.specs.declared.item.Item.{Item}
-use Rattle.smv_resolve.specs.declared.node.Node.{Node}
+use Rattle.smv_resolve.specs.declared.node.ExprNode.{ExprNode}
 use Rattle.smv_resolve.specs.Items.{ResolvedItem, item_by}
 use Rattle.smv_layout.specs.Layout.{items_of}
 use Rattle.smv_meaning.specs.Runs.{is_claim}
@@ -31,12 +31,12 @@ longer_if : {A B : Type 0} (b : Bool) (x : A) (xs : List A) (y : B) (ys : List B
 longer_if true x xs y ys e = ap suc e
 longer_if false x xs y ys e = e
 
-others_mapped : (nodes : List Node) (items : List Item) → length (filter (λ (x : Item). not (is_claim x.kind)) items) ≡ length (filter is_other (map (item_by nodes) items))
+others_mapped : (nodes : List ExprNode) (items : List Item) → length (filter (λ (x : Item). not (is_claim x.kind)) items) ≡ length (filter is_other (map (item_by nodes) items))
 others_mapped nodes [] = refl
 others_mapped nodes (x ∷ xs) =
     longer_if (not (is_claim x.kind)) x (filter (λ (y : Item). not (is_claim y.kind)) xs) (item_by nodes x) (filter is_other (map (item_by nodes) xs)) (others_mapped nodes xs)
 
-pub others_counted : (p : Program) (nodes : List Node) (items : List Item) → map (item_by nodes) items ≡ items_of p → count_by (λ (x : Item). not (is_claim x.kind)) items ≡ item_count p
+pub others_counted : (p : Program) (nodes : List ExprNode) (items : List Item) → map (item_by nodes) items ≡ items_of p → count_by (λ (x : Item). not (is_claim x.kind)) items ≡ item_count p
 others_counted p nodes items resolved =
     sym (length-filter (λ (x : Item). not (is_claim x.kind)) items) ∙ others_mapped nodes items ∙ ap (λ (xs : List ResolvedItem). length (filter is_other xs)) resolved
 

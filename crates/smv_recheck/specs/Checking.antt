@@ -10,8 +10,8 @@ use Rattle.smv_front.specs.Sources.{IsModel}
 use Rattle.bit_system.specs.Building.{BitProgram, IsBuilt, system_of}
 use Rattle.bit_clauses.specs.declared.deciding.Decided.{Decided}
 use Rattle.bit_faults.specs.Questions.{AreFaultQuestions}
-use Rattle.sound_check.specs.declared.judging.Verdict.{Verdict}
-use Rattle.sound_check.specs.declared.judging.Verdict.TheVariants.{Sound, Rejected}
+use Rattle.sound_check.specs.declared.judging.SoundVerdict.{SoundVerdict}
+use Rattle.sound_check.specs.declared.judging.SoundVerdict.TheVariants.{Sound, Rejected}
 use Rattle.sound_check.specs.Judgements.{VerdictSays, parts_of}
 use Rattle.trace_replay.specs.declared.trace.Trace.{Trace}
 use Rattle.smv_recheck.specs.declared.judgement.Judgement.{Judgement}
@@ -22,24 +22,24 @@ use Rattle.smv_recheck.specs.Judging.{IsRecord}
 use Rattle.smv_recheck.specs.Refusing.{Holdings, spec_count}
 
 -- the records are those of the specifications, in their order, numbered from 1
-pub record AreRecords (p : Program) (b : BitProgram) (soundness : Verdict) (upgrade : Bool) (traces : List (Option Trace)) (certificates : List (Option Block)) (records : List Record) : Type 0 where
+pub record AreRecords (p : Program) (b : BitProgram) (soundness : SoundVerdict) (upgrade : Bool) (traces : List (Option Trace)) (certificates : List (Option Block)) (records : List Record) : Type 0 where
   pub each_one : length records ≡ spec_count p
   pub each : (j : ℕ) (spec : ResolvedItem) (r : Record) → slice_get (specifications_of p) j ≡ Some spec → slice_get records j ≡ Some r
       → IsRecord p soundness (system_of b j) upgrade (slice_index_or traces j None) (slice_index_or certificates j None) (j + 1) spec r
 
 -- the check accepts a sound block
-abbrev pub is_sound : Verdict → Bool
+abbrev pub is_sound : SoundVerdict → Bool
 is_sound Sound = true
 is_sound (Rejected item) = false
 
 -- what the check says of a sound block, by what is asked about the items of the program
-pub record IsSoundness (p : Program) (sound : Option (List (Option HintedLog))) (soundness : Verdict) : Type 0 where
+pub record IsSoundness (p : Program) (sound : Option (List (Option HintedLog))) (soundness : SoundVerdict) : Type 0 where
   pub questions : List (Option Decided)
   pub asked : AreFaultQuestions p questions
   pub says : VerdictSays questions (parts_of sound) soundness
 
 -- the sound block that is printed again, before the first record: the one that was read, where it was accepted
-abbrev pub sound_again : Program → Verdict → Bool → Option (List (Option HintedLog)) → Option (List (Option HintedLog))
+abbrev pub sound_again : Program → SoundVerdict → Bool → Option (List (Option HintedLog)) → Option (List (Option HintedLog))
 sound_again p soundness upgrade sound = if upgrade && is_sound soundness && nat_lt 0 (spec_count p) then sound else None
 
 -- What is said of a text that is a model of this program, by the systems of the program and the lines beside the model.
@@ -50,7 +50,7 @@ pub record IsChecked (p : Program) (text : List ℕ) (upgrade : Bool) (c : Check
   pub sound : Option (List (Option HintedLog))
   pub certificates : List (Option Block)
   pub held : Holdings p text traces sound certificates
-  pub soundness : Verdict
+  pub soundness : SoundVerdict
   pub judged : IsSoundness p sound soundness
   pub again : c.sound ≡ sound_again p soundness upgrade sound
   pub records : AreRecords p c.built soundness upgrade traces certificates c.records

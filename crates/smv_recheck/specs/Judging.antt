@@ -14,8 +14,8 @@ use Rattle.smv_resolve.specs.Items.{ResolvedItem}
 use Rattle.trace_replay.specs.Lassos.{IsReplayOf}
 use Rattle.trace_replay.specs.declared.rule.Replayed.TheVariants.{Accepted, Rejected}
 use Rattle.trace_replay.specs.declared.trace.Trace.{Trace}
-use Rattle.sound_check.specs.declared.judging.Verdict.{Verdict}
-use Rattle.sound_check.specs.declared.judging.Verdict.TheVariants.{Sound, Rejected}
+use Rattle.sound_check.specs.declared.judging.SoundVerdict.{SoundVerdict}
+use Rattle.sound_check.specs.declared.judging.SoundVerdict.TheVariants.{Sound, Rejected}
 use Rattle.smv_recheck.specs.Counted.{IsCountedSystem}
 use Rattle.smv_recheck.specs.declared.judgement.Judgement.{Judgement}
 use Rattle.smv_recheck.specs.declared.judgement.Judgement.TheVariants.{ShownTrue, ShownFalse, ItemRejected, PartRejected, TestRejected, NothingShown}
@@ -62,18 +62,18 @@ IsByCertificate claim.Invariant p sys spec cert upgrade j = IsOfInvariant cert.c
 IsByCertificate claim.Temporal p sys spec cert upgrade j = IsOfFormula cert.counter p spec cert upgrade j
 
 -- the same behind the parts of the sound block: where one of these is rejected, it is this item's, before all parts of the certificate
-abbrev pub IsByBlocks : Verdict → SpecificationKind → Program → TransitionSystem → ResolvedItem → Block → Bool → Judgement → Type 0
+abbrev pub IsByBlocks : SoundVerdict → SpecificationKind → Program → TransitionSystem → ResolvedItem → Block → Bool → Judgement → Type 0
 IsByBlocks Sound kind p sys spec cert upgrade j = IsByCertificate kind p sys spec cert upgrade j
 IsByBlocks (Rejected item) kind p sys spec cert upgrade j = j ≡ ItemRejected item
 
 -- of a specification of this kind: by its trace, where it has one; else by the sound block and its certificate, where it has one
-abbrev pub IsJudged : Verdict → SpecificationKind → Program → TransitionSystem → ResolvedItem → Bool → Option Trace → Option Block → Judgement → Type 0
+abbrev pub IsJudged : SoundVerdict → SpecificationKind → Program → TransitionSystem → ResolvedItem → Bool → Option Trace → Option Block → Judgement → Type 0
 IsJudged soundness kind p sys spec upgrade (Some t) cert j = IsByTrace kind p spec t j
 IsJudged soundness kind p sys spec upgrade None (Some cert) j = IsByBlocks soundness kind p sys spec cert upgrade j
 IsJudged soundness kind p sys spec upgrade None None j = j ≡ NothingShown
 
 -- the record of a specification, with this number
-pub record IsRecord (p : Program) (soundness : Verdict) (sys : TransitionSystem) (upgrade : Bool) (trace : Option Trace) (cert : Option Block) (number : ℕ) (spec : ResolvedItem) (r : Record) : Type 0 where
+pub record IsRecord (p : Program) (soundness : SoundVerdict) (sys : TransitionSystem) (upgrade : Bool) (trace : Option Trace) (cert : Option Block) (number : ℕ) (spec : ResolvedItem) (r : Record) : Type 0 where
   pub number_is : r.number ≡ number
   pub kind_is : spec.kind ≡ item.Specification r.kind
   pub judged : IsJudged soundness r.kind p sys spec upgrade trace cert r.judgement

@@ -23,7 +23,7 @@ use smv_front::read_model;
 use smv_meaning::specifications;
 use smv_resolve::{Item, ItemKind};
 use smv_tree::TextStop;
-use sound_check::Verdict as Soundness;
+use sound_check::SoundVerdict;
 use sqlite_items::Items;
 use std::alloc::{AllocError, Global};
 use trace_replay::Trace;
@@ -79,7 +79,7 @@ fn soundness_of(
     flat: &Flat,
     built: &Built,
     sound: Option<&Sound>,
-) -> Result<Soundness, AllocError>
+) -> Result<SoundVerdict, AllocError>
     requires narrow { bits_of flat.now.typed.scope.program ≤ bit_limit }
     requires built { IsBuilt flat.now.typed.scope.program built.now }
     ensures { IfOk result (IsSoundness flat.now.typed.scope.program (option_copied sound.entry)) }
@@ -94,7 +94,7 @@ fn record_of(
     flat: &Flat,
     built: &Built,
     beside: &Beside,
-    soundness: Soundness,
+    soundness: SoundVerdict,
     j: usize,
     spec: &Item,
     again: bool,
@@ -130,7 +130,7 @@ fn records_of(
     flat: &Flat,
     built: &Built,
     beside: &Beside,
-    soundness: Soundness,
+    soundness: SoundVerdict,
     specs: &[Item],
     again: bool,
 ) -> Result<Items<Record>, AllocError>
@@ -148,16 +148,16 @@ fn records_of(
     Ok(Items::from_vec(records))
 }
 
-fn is_sound(soundness: Soundness) -> bool
+fn is_sound(soundness: SoundVerdict) -> bool
     ensures { result ≡ is_sound soundness }
 {
-    matches!(soundness, Soundness::Sound)
+    matches!(soundness, SoundVerdict::Sound)
 }
 
 // The sound block, where it is to be printed again: in front of the first of so many records, where it was accepted.
 fn sound_again(
     sound: Option<Sound>,
-    soundness: Soundness,
+    soundness: SoundVerdict,
     specs: usize,
     upgrade: bool,
 ) -> Option<Sound>

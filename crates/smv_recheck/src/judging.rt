@@ -11,21 +11,21 @@ ghost use Rattle.smv_recheck.specs.Judging.{IsByBlocks, IsByCertificate, IsByTra
 
 use crate::counting::counted_system;
 use crate::judgement::Judgement;
-use cert_check::{Upgraded, Verdict, check, upgrade};
+use cert_check::{CertVerdict, Upgraded, check, upgrade};
 use cert_core::{Certificate, Part};
 use clause_core::System;
 use smv_flat::Flat;
 use smv_meaning::Typed;
 use smv_resolve::Item;
 use smv_tree::SpecificationKind;
-use sound_check::Verdict as Soundness;
+use sound_check::SoundVerdict;
 use std::alloc::{AllocError, Global};
 use trace_replay::{Replayed, Trace, replay};
 
 /// What a text shows of a specification: its trace and its certificate, if they are there, and what the check says of the sound block.
 #[derive(Clone, Copy)]
 pub struct Exhibit<'a> {
-    pub soundness: Soundness,
+    pub soundness: SoundVerdict,
     pub trace: Option<&'a Trace>,
     pub certificate: Option<&'a Certificate>,
 }
@@ -59,8 +59,8 @@ fn by_check(
     ensures { IfOk result (IsCertified system.now certificate.now false) }
 {
     match check(alloc, system, certificate)? {
-        Verdict::Yes => Ok(Judgement::ShownTrue(None)),
-        Verdict::No { part } => Ok(Judgement::PartRejected(part)),
+        CertVerdict::Yes => Ok(Judgement::ShownTrue(None)),
+        CertVerdict::No { part } => Ok(Judgement::PartRejected(part)),
     }
 }
 
@@ -157,7 +157,7 @@ fn by_blocks(
     system: &System,
     kind: SpecificationKind,
     spec: &Item,
-    soundness: Soundness,
+    soundness: SoundVerdict,
     certificate: &Certificate,
     again: bool,
 ) -> Result<Judgement, AllocError>
@@ -167,8 +167,8 @@ fn by_blocks(
     ensures { IfOk result (IsByBlocks soundness kind flat.now.typed.scope.program system.now (item_by flat.now.typed.nodes spec.now) certificate.now again) }
 {
     match soundness {
-        Soundness::Rejected { item } => Ok(Judgement::ItemRejected(item)),
-        Soundness::Sound => by_certificate(alloc, flat, system, kind, spec, certificate, again),
+        SoundVerdict::Rejected { item } => Ok(Judgement::ItemRejected(item)),
+        SoundVerdict::Sound => by_certificate(alloc, flat, system, kind, spec, certificate, again),
     }
 }
 

@@ -10,9 +10,9 @@ use Rattle.smv_tree.specs.declared.place.Place.{Place}
 use Rattle.smv_tree.specs.declared.tree.Program.{Program}
 use Rattle.smv_value.specs.declared.operator.Operator.{Operator}
 use Rattle.smv_tree.specs.declared.tree.Expr.{Expr}
-use Rattle.smv_resolve.specs.declared.node.Node.{Node}
+use Rattle.smv_resolve.specs.declared.node.ExprNode.{ExprNode}
 use Rattle.smv_scope.specs.declared.target.Shared.{Shared}
-use Rattle.smv_resolve.specs.declared.memo.Found.{Found}
+use Rattle.smv_resolve.specs.declared.memo.FoundNode.{FoundNode}
 use Rattle.smv_resolve.specs.declared.memo.ResolveError.{ResolveError}
 use Rattle.smv_resolve.specs.declared.memo.ResolveError.TheVariants as error
 use Rattle.smv_resolve.specs.Resolved.{Resolved, Levelled, operands_of, opened, lowered, resolved_links, resolved_operands, followed, levelled, is_stuck, is_some_stuck, part_of}
@@ -22,10 +22,10 @@ settles_along : {f g : ℕ → Levelled} {h : ℕ} {r : Resolved} → ((n d : �
 settles_along e s = record { value = λ n d w l. e n d ∙ s.value n d w l; stuck = λ n d w. ap is_stuck (e n d) ∙ s.stuck n d w }
 
 -- what is everywhere what another is
-pub found_along : {nodes : List Node} {most : ℕ} {f : ℕ → Levelled} {x : Found} (g : ℕ → Levelled) → ((n d : ℕ) → g n d ≡ f n d) → IsFound nodes most f x → IsFound nodes most g x
+pub found_along : {nodes : List ExprNode} {most : ℕ} {f : ℕ → Levelled} {x : FoundNode} (g : ℕ → Levelled) → ((n d : ℕ) → g n d ≡ f n d) → IsFound nodes most f x → IsFound nodes most g x
 found_along g e i = record { stands = i.stands; within = i.within; settles = settles_along e i.settles }
 
-pub finds_along : (nodes : List Node) (most : ℕ) (f g : ℕ → Levelled) (r : Result Found ResolveError) → ((n d : ℕ) → g n d ≡ f n d) → Finds nodes most f r → Finds nodes most g r
+pub finds_along : (nodes : List ExprNode) (most : ℕ) (f g : ℕ → Levelled) (r : Result FoundNode ResolveError) → ((n d : ℕ) → g n d ≡ f n d) → Finds nodes most f r → Finds nodes most g r
 finds_along nodes most f g (Ok x) e found = found_along g e found
 finds_along nodes most f g (Err (error.Stuck place)) e stuck = λ n w. ap is_stuck (e n most) ∙ stuck n w
 finds_along nodes most f g (Err error.NoMemory) e stuck = tt
@@ -35,7 +35,7 @@ either_below h k d = grind (arith, nat_tests)
 
 -- a node with two parts
 module _ (g : Resolved → Resolved → Resolved) (same : (r s : Resolved) → is_stuck (g r s) ≡ (is_stuck r || is_stuck s)) where
-  pub found_two : {one two new : List Node} {most : ℕ} {f e : ℕ → Levelled} {x y : Found} {n : ℕ} → IsFound one most f x → Grows one two → IsFound two most e y →
+  pub found_two : {one two new : List ExprNode} {most : ℕ} {f e : ℕ → Levelled} {x y : FoundNode} {n : ℕ} → IsFound one most f x → Grows one two → IsFound two most e y →
       n < length new → part_of new n ≡ g (part_of two x.node) (part_of two y.node) →
       IsFound new most (λ names d. g (f names d) (e names d)) (record { node = n; height = max x.height y.height })
   found_two {two = two} {f = f} {e = e} {x = x} {y = y} i grows j stands is = record {
@@ -64,7 +64,7 @@ less_both k h x l = grind (arith, nat_tests)
 
 -- f is g a level down, where a name more may be followed in f
 module _ (f g : ℕ → Levelled) (none : (n : ℕ) → is_stuck (g n 0) ≡ true) (m : ℕ → ℕ) (within : (n d : ℕ) → suc d ≤ n → d ≤ m n) (down : (n d : ℕ) → suc d ≤ n → g n (suc d) ≡ f (m n) d) where
-  found_down : (nodes : List Node) (d : ℕ) (x : Found) → 0 < d → IsFound nodes (d - 1) f x → IsFound nodes d g (record { node = x.node; height = x.height + 1 })
+  found_down : (nodes : List ExprNode) (d : ℕ) (x : FoundNode) → 0 < d → IsFound nodes (d - 1) f x → IsFound nodes d g (record { node = x.node; height = x.height + 1 })
   found_down nodes d x some i = record {
     stands = i.stands;
     within = omega (arith, i.within, some);
@@ -78,7 +78,7 @@ module _ (f g : ℕ → Levelled) (none : (n : ℕ) → is_stuck (g n 0) ≡ tru
     stuck n zero w = none n ∙ below_none x.height
     stuck n (suc k) w = ap is_stuck (down n k w) ∙ i.settles.stuck (m n) k (within n k w) ∙ below_one x.height k
 
-  halts_down : (one two : List Node) (d : ℕ) (h : ResolveError) → 0 < d → Finds one (d - 1) f (Err h) → Finds two d g (Err h)
+  halts_down : (one two : List ExprNode) (d : ℕ) (h : ResolveError) → 0 < d → Finds one (d - 1) f (Err h) → Finds two d g (Err h)
   halts_down one two zero h some stuck = absurd (omega (arith, some))
   halts_down one two (suc d) error.NoMemory some stuck = tt
   halts_down one two (suc d) (error.Stuck place) some stuck = λ n w.
@@ -86,14 +86,14 @@ module _ (f g : ℕ → Levelled) (none : (n : ℕ) → is_stuck (g n 0) ≡ tru
       ap is_stuck (down n d w) ∙ (rw one_less at stuck) (m n) (within n d w)
 
 -- where no level may be opened
-pub none_opened : (nodes : List Node) (f : ℕ → Levelled) (d : ℕ) (place : Place) → d ≡ 0 → Finds nodes d (λ n. opened (f n)) (Err (error.Stuck place))
+pub none_opened : (nodes : List ExprNode) (f : ℕ → Levelled) (d : ℕ) (place : Place) → d ≡ 0 → Finds nodes d (λ n. opened (f n)) (Err (error.Stuck place))
 none_opened nodes f d place is = rw is (λ n w. refl)
 
 -- an expression a level down
-pub found_opened : (nodes : List Node) (d : ℕ) (f : ℕ → Levelled) (x : Found) → 0 < d → IsFound nodes (d - 1) f x → IsFound nodes d (λ n. opened (f n)) (record { node = x.node; height = x.height + 1 })
+pub found_opened : (nodes : List ExprNode) (d : ℕ) (f : ℕ → Levelled) (x : FoundNode) → 0 < d → IsFound nodes (d - 1) f x → IsFound nodes d (λ n. opened (f n)) (record { node = x.node; height = x.height + 1 })
 found_opened nodes d f x = found_down f (λ n. opened (f n)) (λ n. refl) (λ n. n) (λ n d w. omega (arith, w)) (λ n d w. refl) nodes d x
 
-pub halts_opened : (one two : List Node) (d : ℕ) (f : ℕ → Levelled) (h : ResolveError) → 0 < d → Finds one (d - 1) f (Err h) → Finds two d (λ n. opened (f n)) (Err h)
+pub halts_opened : (one two : List ExprNode) (d : ℕ) (f : ℕ → Levelled) (h : ResolveError) → 0 < d → Finds one (d - 1) f (Err h) → Finds two d (λ n. opened (f n)) (Err h)
 halts_opened one two d f = halts_down f (λ n. opened (f n)) (λ n. refl) (λ n. n) (λ n d w. omega (arith, w)) (λ n d w. refl) one two d
 
 -- so many levels down
@@ -109,17 +109,17 @@ module _ (f : ℕ → Levelled) where
   lowered-at (suc h) (suc d) n l = let less : d - h ≡ suc d - suc h = omega arith in lowered-at h d n (omega (arith, l)) ∙ ap (f n) less
 
   -- where fewer may be opened
-  pub none_lowered : (nodes : List Node) (h d : ℕ) (place : Place) → d < h → Finds nodes d (λ n. lowered h (f n)) (Err (error.Stuck place))
+  pub none_lowered : (nodes : List ExprNode) (h d : ℕ) (place : Place) → d < h → Finds nodes d (λ n. lowered h (f n)) (Err (error.Stuck place))
   none_lowered nodes h d place l = λ n w. stuck_above h d n l
 
-  halts_at : (one two : List Node) (h d : ℕ) (e : ResolveError) → h ≤ d → Finds one (d - h) f (Err e) → Finds two d (λ n. lowered h (f n)) (Err e)
+  halts_at : (one two : List ExprNode) (h d : ℕ) (e : ResolveError) → h ≤ d → Finds one (d - h) f (Err e) → Finds two d (λ n. lowered h (f n)) (Err e)
   halts_at one two h d (error.Stuck place) l stuck = λ n w. ap is_stuck (lowered-at h d n l) ∙ stuck n (omega (arith, w))
   halts_at one two h d error.NoMemory l stuck = tt
 
-  pub halts_lowered : (one two : List Node) (h k d : ℕ) (e : ResolveError) → h ≡ k → h ≤ d → Finds one (d - h) f (Err e) → Finds two d (λ n. lowered k (f n)) (Err e)
+  pub halts_lowered : (one two : List ExprNode) (h k d : ℕ) (e : ResolveError) → h ≡ k → h ≤ d → Finds one (d - h) f (Err e) → Finds two d (λ n. lowered k (f n)) (Err e)
   halts_lowered one two h k d e same l stuck = let P : ℕ → Type 0 = λ j. Finds two d (λ n. lowered j (f n)) (Err e) in subst P same (halts_at one two h d e l stuck)
 
-  pub found_lowered : (nodes : List Node) (h d : ℕ) (x : Found) → h ≤ d → IsFound nodes (d - h) f x →
+  pub found_lowered : (nodes : List ExprNode) (h d : ℕ) (x : FoundNode) → h ≤ d → IsFound nodes (d - h) f x →
       IsFound nodes d (λ n. lowered h (f n)) (record { node = x.node; height = x.height + h })
   found_lowered nodes h d x l i = record {
     stands = i.stands;
@@ -145,11 +145,11 @@ unfolding followed
 followed-more p at e zero d w = absurd (omega (arith, w))
 followed-more p at e (suc n) d w = let one : suc n - 1 ≡ n = omega arith in rw one refl
 
-pub found_followed : (p : Program) (nodes : List Node) (d at : ℕ) (e : Expr) (x : Found) → 0 < d → IsFound nodes (d - 1) (λ n. levelled p n at e) x →
+pub found_followed : (p : Program) (nodes : List ExprNode) (d at : ℕ) (e : Expr) (x : FoundNode) → 0 < d → IsFound nodes (d - 1) (λ n. levelled p n at e) x →
     IsFound nodes d (λ n. opened (followed p n at e)) (record { node = x.node; height = x.height + 1 })
 found_followed p nodes d at e x = found_down (λ n. levelled p n at e) (λ n. opened (followed p n at e)) (λ n. refl) (λ n. n - 1) (λ n d w. omega (arith, w)) (followed-more p at e) nodes d x
 
-pub halts_followed : (p : Program) (one two : List Node) (d at : ℕ) (e : Expr) (h : ResolveError) → 0 < d → Finds one (d - 1) (λ n. levelled p n at e) (Err h) →
+pub halts_followed : (p : Program) (one two : List ExprNode) (d at : ℕ) (e : Expr) (h : ResolveError) → 0 < d → Finds one (d - 1) (λ n. levelled p n at e) (Err h) →
     Finds two d (λ n. opened (followed p n at e)) (Err h)
 halts_followed p one two d at e = halts_down (λ n. levelled p n at e) (λ n. opened (followed p n at e)) (λ n. refl) (λ n. n - 1) (λ n d w. omega (arith, w)) (followed-more p at e) one two d
 
@@ -179,7 +179,7 @@ some_at f (x ∷ xs) zero d l h = or_left (is_stuck (f x)) (is_some_stuck (opera
 some_at f (x ∷ xs) (suc i) d l h = or_right (is_stuck (f x)) (is_some_stuck (operands_of (map f xs))) (some_at f xs i d (omega (arith, l)) h)
 
 -- the operands so far, of which f says what they are, are these nodes
-pub record AreFound (nodes : List Node) (most : ℕ) (f : ℕ → ℕ → List Resolved) (ks : List ℕ) (h : ℕ) : Type 0 where
+pub record AreFound (nodes : List ExprNode) (most : ℕ) (f : ℕ → ℕ → List Resolved) (ks : List ℕ) (h : ℕ) : Type 0 where
   pub stand : All (λ k. k < length nodes) ks
   pub within : h ≤ most
   pub value : (n d : ℕ) → d ≤ n → h ≤ d → f n d ≡ map (part_of nodes) ks
@@ -188,10 +188,10 @@ pub record AreFound (nodes : List Node) (most : ℕ) (f : ℕ → ℕ → List R
 none_stuck : (d : ℕ) → false ≡ nat_lt d 0
 none_stuck d = grind (arith, nat_tests)
 
-pub found_none : (nodes : List Node) (most : ℕ) → AreFound nodes most (λ n d. []) [] 0
+pub found_none : (nodes : List ExprNode) (most : ℕ) → AreFound nodes most (λ n d. []) [] 0
 found_none nodes most = record { stand = All-nil (λ k. k < length nodes); within = omega arith; value = λ n d w l. refl; stuck = λ n d w. none_stuck d }
 
-are_along : {nodes : List Node} {most h : ℕ} {f : ℕ → ℕ → List Resolved} {ks : List ℕ} (g : ℕ → ℕ → List Resolved) → ((n d : ℕ) → g n d ≡ f n d) →
+are_along : {nodes : List ExprNode} {most h : ℕ} {f : ℕ → ℕ → List Resolved} {ks : List ℕ} (g : ℕ → ℕ → List Resolved) → ((n d : ℕ) → g n d ≡ f n d) →
     AreFound nodes most f ks h → AreFound nodes most g ks h
 are_along g e a = record {
   stand = a.stand;
@@ -201,14 +201,14 @@ are_along g e a = record {
 }
 
 -- parts that stay
-kept_parts : (old new : List Node) → Grows old new → (ks : List ℕ) → All (λ k. k < length old) ks → map (part_of old) ks ≡ map (part_of new) ks
+kept_parts : (old new : List ExprNode) → Grows old new → (ks : List ℕ) → All (λ k. k < length old) ks → map (part_of old) ks ≡ map (part_of new) ks
 kept_parts old new g [] s = refl
 kept_parts old new g (k ∷ ks) s =
     ap (λ r. r ∷ map (part_of old) ks) (sym (g.kept k (s 0 0 (omega arith))))
     ∙ ap (λ rs. part_of new k ∷ rs) (kept_parts old new g ks (λ i d l. s (suc i) d (omega (arith, l))))
 
 -- one operand more
-found_more : {old new : List Node} {most h : ℕ} {f : ℕ → ℕ → List Resolved} {g : ℕ → Levelled} {ks : List ℕ} {x : Found} → AreFound old most f ks h → Grows old new → IsFound new most g x →
+found_more : {old new : List ExprNode} {most h : ℕ} {f : ℕ → ℕ → List Resolved} {g : ℕ → Levelled} {ks : List ℕ} {x : FoundNode} → AreFound old most f ks h → Grows old new → IsFound new most g x →
     AreFound new most (λ n d. f n d ++ g n d ∷ []) (ks ++ x.node ∷ []) (max x.height h)
 found_more {old = old} {new = new} {h = h} {f = f} {g = g} {ks = ks} {x = x} a grows i = record {
   stand =
@@ -230,7 +230,7 @@ found_more {old = old} {new = new} {h = h} {f = f} {g = g} {ks = ks} {x = x} a g
   either_of h k d = grind (arith, nat_tests)
 
 -- an operator over operands that are found
-found_over : {old new : List Node} {most h n : ℕ} {f : ℕ → ℕ → List Resolved} {ks : List ℕ} (place : Place) (o : Operator) → AreFound old most f ks h →
+found_over : {old new : List ExprNode} {most h n : ℕ} {f : ℕ → ℕ → List Resolved} {ks : List ℕ} (place : Place) (o : Operator) → AreFound old most f ks h →
     n < length new → part_of new n ≡ Resolved.Apply place o (operands_of (map (part_of old) ks)) →
     IsFound new most (λ names d. Resolved.Apply place o (operands_of (f names d))) (record { node = n; height = h })
 found_over place o a stands is = record {
@@ -257,14 +257,14 @@ module _ (operand : ℕ → Expr → Levelled) (beside below : List Expr) where
   one_more : (f : Expr → Resolved) (xs : List Expr) (i : ℕ) (e : Expr) → i < length xs → e ≡ get_or xs i e → map f (take (i + 1) xs) ≡ map f (take i xs) ++ f e ∷ []
   one_more f xs i e l here = ap (map f) (take_more xs i e l ∙ ap (λ x. take i xs ++ x ∷ []) (sym here)) ∙ map-append f (take i xs) (e ∷ [])
 
-  pub found_beside : {old new : List Node} {most h : ℕ} {ks : List ℕ} {x : Found} (i : ℕ) (e : Expr) → i < length beside → e ≡ get_or beside i e →
+  pub found_beside : {old new : List ExprNode} {most h : ℕ} {ks : List ℕ} {x : FoundNode} (i : ℕ) (e : Expr) → i < length beside → e ≡ get_or beside i e →
       AreFound old most (beside_to i) ks h → Grows old new → IsFound new most (λ n. operand n e) x → AreFound new most (beside_to (i + 1)) (ks ++ x.node ∷ []) (max x.height h)
   found_beside i e l here a grows found = are_along (beside_to (i + 1)) (λ n d. one_more (λ x. operand n x d) beside i e l here) (found_more a grows found)
 
-  pub found_between : {nodes : List Node} {most h : ℕ} {ks : List ℕ} (i : ℕ) → length beside ≤ i → AreFound nodes most (beside_to i) ks h → AreFound nodes most (below_to 0) ks h
+  pub found_between : {nodes : List ExprNode} {most h : ℕ} {ks : List ℕ} (i : ℕ) → length beside ≤ i → AreFound nodes most (beside_to i) ks h → AreFound nodes most (below_to 0) ks h
   found_between i past a = are_along (below_to 0) (λ n d. append-nil (map (λ e. operand n e d) beside) ∙ ap (map (λ e. operand n e d)) (sym (take_all i beside past))) a
 
-  pub found_lower : {old new : List Node} {most h : ℕ} {ks : List ℕ} {x : Found} (i : ℕ) (e : Expr) → i < length below → e ≡ get_or below i e →
+  pub found_lower : {old new : List ExprNode} {most h : ℕ} {ks : List ℕ} {x : FoundNode} (i : ℕ) (e : Expr) → i < length below → e ≡ get_or below i e →
       AreFound old most (below_to i) ks h → Grows old new → IsFound new most (λ n. opened (operand n e)) x → AreFound new most (below_to (i + 1)) (ks ++ x.node ∷ []) (max x.height h)
   found_lower i e l here a grows found =
       are_along (below_to (i + 1))
@@ -276,21 +276,21 @@ module _ (operand : ℕ → Expr → Levelled) (beside below : List Expr) where
     abbrev pub applied_to : ℕ → Levelled
     applied_to n d = Resolved.Apply place o (operands_of (resolved_operands (operand n) beside below d))
 
-    pub found_apply : {old new : List Node} {most h n : ℕ} {ks : List ℕ} (i : ℕ) → length below ≤ i → AreFound old most (below_to i) ks h →
+    pub found_apply : {old new : List ExprNode} {most h n : ℕ} {ks : List ℕ} (i : ℕ) → length below ≤ i → AreFound old most (below_to i) ks h →
         n < length new → part_of new n ≡ Resolved.Apply place o (operands_of (map (part_of old) ks)) → IsFound new most applied_to (record { node = n; height = h })
     found_apply i past a stands is =
         found_over place o
         (are_along (λ n d. resolved_operands (operand n) beside below d)
         (λ n d. ap (λ es. map (λ e. operand n e d) beside ++ map (λ e. opened (operand n e) d) es) (sym (take_all i below past))) a) stands is
 
-    pub halts_beside : (one two : List Node) (most i : ℕ) (e : Expr) (h : ResolveError) → i < length beside → e ≡ get_or beside i e →
+    pub halts_beside : (one two : List ExprNode) (most i : ℕ) (e : Expr) (h : ResolveError) → i < length beside → e ≡ get_or beside i e →
         Finds one most (λ n. operand n e) (Err h) → Finds two most applied_to (Err h)
     halts_beside one two most i e error.NoMemory l here stuck = tt
     halts_beside one two most i e (error.Stuck told) l here stuck = λ n w.
         some_left (map (λ x. operand n x most) beside) (map (λ x. opened (operand n x) most) below)
         (some_at (λ x. operand n x most) beside i e l (ap (λ x. is_stuck (operand n x most)) (sym here) ∙ stuck n w))
 
-    pub halts_lower : (one two : List Node) (most i : ℕ) (e : Expr) (h : ResolveError) → i < length below → e ≡ get_or below i e →
+    pub halts_lower : (one two : List ExprNode) (most i : ℕ) (e : Expr) (h : ResolveError) → i < length below → e ≡ get_or below i e →
         Finds one most (λ n. opened (operand n e)) (Err h) → Finds two most applied_to (Err h)
     halts_lower one two most i e error.NoMemory l here stuck = tt
     halts_lower one two most i e (error.Stuck told) l here stuck = λ n w.
@@ -323,8 +323,8 @@ module _ (operand : ℕ → ℕ → Expr → Resolved) (first : ℕ → Levelled
   chain_to links n d = resolved_links (operand n d) (first n d) links
 
   -- the chain up to this link
-  pub found_link : {old mid new : List Node} {most : ℕ} (i : ℕ)
-      (link : Place × Operator × Expr) {x y : Found} {n m : ℕ} → i < length links → link ≡ get_or links i link →
+  pub found_link : {old mid new : List ExprNode} {most : ℕ} (i : ℕ)
+      (link : Place × Operator × Expr) {x y : FoundNode} {n m : ℕ} → i < length links → link ≡ get_or links i link →
       IsFound old most (chain_to (take i links)) x → Grows old mid → IsFound mid most (λ n d. operand n d link.2) y →
       n < length new → part_of new n ≡ pair link.0 link.1 (part_of mid x.node) (part_of mid y.node) → m ≡ max x.height y.height →
       IsFound new most (chain_to (take (i + 1) links)) (record { node = n; height = m })
@@ -334,14 +334,14 @@ module _ (operand : ℕ → ℕ → Expr → Resolved) (first : ℕ → Levelled
       (found_two (pair link.0 link.1) (λ r s. ap (λ b. is_stuck r || b) (or_none (is_stuck s))) found grows right stands is))
 
   -- the whole chain
-  pub found_links : {nodes : List Node} {most : ℕ} (i : ℕ) {x : Found} → length links ≤ i → IsFound nodes most (chain_to (take i links)) x → IsFound nodes most (chain_to links) x
+  pub found_links : {nodes : List ExprNode} {most : ℕ} (i : ℕ) {x : FoundNode} → length links ≤ i → IsFound nodes most (chain_to (take i links)) x → IsFound nodes most (chain_to links) x
   found_links i past found = found_along (chain_to links) (λ n d. ap (resolved_links (operand n d) (first n d)) (sym (take_all i links past))) found
 
-  pub halts_first : (one two : List Node) (most : ℕ) (h : ResolveError) → Finds one most first (Err h) → Finds two most (chain_to links) (Err h)
+  pub halts_first : (one two : List ExprNode) (most : ℕ) (h : ResolveError) → Finds one most first (Err h) → Finds two most (chain_to links) (Err h)
   halts_first one two most (error.Stuck told) stuck = λ n w. stuck_left (operand n most) (first n most) links (stuck n w)
   halts_first one two most error.NoMemory stuck = tt
 
-  pub halts_link : (one two : List Node) (most i : ℕ) (link : Place × Operator × Expr) (h : ResolveError) → i < length links → link ≡ get_or links i link →
+  pub halts_link : (one two : List ExprNode) (most i : ℕ) (link : Place × Operator × Expr) (h : ResolveError) → i < length links → link ≡ get_or links i link →
       Finds one most (λ n d. operand n d link.2) (Err h) → Finds two most (chain_to links) (Err h)
   halts_link one two most i link (error.Stuck told) within here stuck = λ n w.
       stuck_link (operand n most) (first n most) links i link within (ap (λ (l : Place × Operator × Expr). is_stuck (operand n most l.2)) (sym here) ∙ stuck n w)
@@ -354,12 +354,12 @@ abbrev pub below_names : Program → ℕ → ℕ → ℕ → Expr → Resolved
 below_names p n d owner e = opened (followed p n owner e) d
 
 module _ (p : Program) (at : ℕ) (e : Expr) (shared : Shared) (leads : (below : ℕ → Expr → Resolved) → below_target below (shared_target p shared) ≡ below at e) where
-  pub found_known : (nodes : List Node) (most : ℕ) (x : Found) → x.height ≤ most → Known p nodes shared x → IsFound nodes most (λ n. opened (followed p n at e)) x
+  pub found_known : (nodes : List ExprNode) (most : ℕ) (x : FoundNode) → x.height ≤ most → Known p nodes shared x → IsFound nodes most (λ n. opened (followed p n at e)) x
   found_known nodes most x low k =
       found_along (λ n. opened (followed p n at e)) (λ n d. sym (leads (below_names p n d))) (record { stands = k.0; within = low; settles = k.1 })
 
-  pub stuck_known : (nodes : List Node) (most : ℕ) (place : Place) (x : Found) → most < x.height → Known p nodes shared x → Finds nodes most (λ n. opened (followed p n at e)) (Err (error.Stuck place))
+  pub stuck_known : (nodes : List ExprNode) (most : ℕ) (place : Place) (x : FoundNode) → most < x.height → Known p nodes shared x → Finds nodes most (λ n. opened (followed p n at e)) (Err (error.Stuck place))
   stuck_known nodes most place x high k = λ n w. ap is_stuck (sym (leads (below_names p n most))) ∙ k.1.stuck n most w ∙ lt-ltb most x.height high
 
-  pub known_found : (nodes : List Node) (most : ℕ) (x : Found) → IsFound nodes most (λ n. opened (followed p n at e)) x → Known p nodes shared x
+  pub known_found : (nodes : List ExprNode) (most : ℕ) (x : FoundNode) → IsFound nodes most (λ n. opened (followed p n at e)) x → Known p nodes shared x
   known_found nodes most x i = (i.stands, (found_along (λ n d. below_target (below_names p n d) (shared_target p shared)) (λ n d. leads (below_names p n d)) i).settles)

@@ -15,8 +15,8 @@ use Rattle.smv_tree.specs.declared.tree.Expr.TheOpen.{Expr-F}
 use Rattle.smv_tree.specs.declared.tree.Expr.TheFolds.{fold-roll-Expr}
 use Rattle.smv_tree.specs.declared.tree.Expr.TheVariants as expr
 use Rattle.smv_scope.proofs.Indexing.{drop_next}
-use Rattle.smv_resolve.specs.declared.node.Node.{Node}
-use Rattle.smv_resolve.specs.declared.memo.Found.{Found}
+use Rattle.smv_resolve.specs.declared.node.ExprNode.{ExprNode}
+use Rattle.smv_resolve.specs.declared.memo.FoundNode.{FoundNode}
 use Rattle.smv_resolve.specs.declared.memo.ResolveError.{ResolveError}
 use Rattle.smv_resolve.specs.declared.memo.ResolveError.TheVariants as error
 use Rattle.smv_resolve.specs.declared.memo.Memo.{Memo}
@@ -77,7 +77,7 @@ module _ (p : Program) (at n d : ℕ) where
       ∙ links-map (stuck_part p n at) first links d
 
 -- what is everywhere what another is
-pub tells_along : (most : ℕ) (f g : ℕ → ℕ → Option Place) (r : Result Found ResolveError) → ((n d : ℕ) → g n d ≡ f n d) → TellsPart most f r → TellsPart most g r
+pub tells_along : (most : ℕ) (f g : ℕ → ℕ → Option Place) (r : Result FoundNode ResolveError) → ((n d : ℕ) → g n d ≡ f n d) → TellsPart most f r → TellsPart most g r
 tells_along most f g (Ok x) e told = λ n w. e n most ∙ told n w
 tells_along most f g (Err (error.Stuck place)) e told = λ n w. e n most ∙ told n w
 tells_along most f g (Err error.NoMemory) e told = tt
@@ -87,7 +87,7 @@ tells_along most f g (Err error.NoMemory) e told = tt
 pub none_below : (most : ℕ) (place : Place) (part : ℕ → ℕ → Option Place) → most ≡ 0 → TellsPart most (λ n. stuck_below place (part n)) (Err (error.Stuck place))
 none_below most place part is = rw is (λ n w. refl)
 
-pub tells_below : (most : ℕ) (place : Place) (part : ℕ → ℕ → Option Place) (x : Found) → 0 < most → TellsPart (most - 1) part (Ok x) → (n : ℕ) → most ≤ n → stuck_below place (part n) most ≡ None
+pub tells_below : (most : ℕ) (place : Place) (part : ℕ → ℕ → Option Place) (x : FoundNode) → 0 < most → TellsPart (most - 1) part (Ok x) → (n : ℕ) → most ≤ n → stuck_below place (part n) most ≡ None
 tells_below zero place part x some told = absurd (omega (arith, some))
 tells_below (suc d) place part x some told = λ n w. let less : suc d - 1 ≡ d = omega arith in (rw less at told) n (omega (arith, w))
 
@@ -101,34 +101,34 @@ halts_below (suc d) place part (error.Stuck at) some told = λ n w. let less : s
 not_below : (d h : ℕ) → h ≤ d → nat_lt d h ≡ false
 not_below d h l = grind (arith, nat_tests)
 
-pub name_found : (nodes : List Node) (most : ℕ) (place : Place) (f : ℕ → Levelled) (x : Found) → IsFound nodes most f x → (n : ℕ) → most ≤ n → stuck_at place (f n most) ≡ None
+pub name_found : (nodes : List ExprNode) (most : ℕ) (place : Place) (f : ℕ → Levelled) (x : FoundNode) → IsFound nodes most f x → (n : ℕ) → most ≤ n → stuck_at place (f n most) ≡ None
 name_found nodes most place f x i = λ n w. cond-false (is_stuck (f n most)) (Some place) None (i.settles.stuck n most w ∙ not_below most x.height i.within)
 
-pub name_stuck : (nodes : List Node) (most : ℕ) (place here told : Place) (f : ℕ → Levelled) → here ≡ place → Finds nodes most f (Err (error.Stuck told)) →
+pub name_stuck : (nodes : List ExprNode) (most : ℕ) (place here told : Place) (f : ℕ → Levelled) → here ≡ place → Finds nodes most f (Err (error.Stuck told)) →
     TellsPart most (λ n d. stuck_at place (f n d)) (Err (error.Stuck here))
 name_stuck nodes most place here told f same stuck = λ n w. cond-true (is_stuck (f n most)) (Some place) None (stuck n w) ∙ ap (λ (q : Place). Some q) (sym same)
 
-pub name_halts : (nodes : List Node) (most : ℕ) (place here : Place) (f : ℕ → Levelled) (h : ResolveError) → here ≡ place → Finds nodes most f (Err h) →
+pub name_halts : (nodes : List ExprNode) (most : ℕ) (place here : Place) (f : ℕ → Levelled) (h : ResolveError) → here ≡ place → Finds nodes most f (Err h) →
     TellsPart most (λ n d. stuck_at place (f n d)) (Err (error_at h here))
 name_halts nodes most place here f (error.Stuck told) same stuck = name_stuck nodes most place here told f same stuck
 name_halts nodes most place here f error.NoMemory same stuck = tt
 
 -- an error that is told elsewhere
 
-pub halts_elsewhere : (nodes : List Node) (most : ℕ) (here : Place) (f : ℕ → Levelled) (h : ResolveError) → Finds nodes most f (Err h) → Finds nodes most f (Err (error_at h here))
+pub halts_elsewhere : (nodes : List ExprNode) (most : ℕ) (here : Place) (f : ℕ → Levelled) (h : ResolveError) → Finds nodes most f (Err h) → Finds nodes most f (Err (error_at h here))
 halts_elsewhere nodes most here f (error.Stuck told) stuck = stuck
 halts_elsewhere nodes most here f error.NoMemory stuck = tt
 
-pub known_elsewhere : (p : Program) (w : Memo) (here : Place) (h : ResolveError) → UnlessMemory {A = Found} (Err h) (AllKnown p w) → UnlessMemory {A = Found} (Err (error_at h here)) (AllKnown p w)
+pub known_elsewhere : (p : Program) (w : Memo) (here : Place) (h : ResolveError) → UnlessMemory {A = FoundNode} (Err h) (AllKnown p w) → UnlessMemory {A = FoundNode} (Err (error_at h here)) (AllKnown p w)
 known_elsewhere p w here (error.Stuck told) known = known
 known_elsewhere p w here error.NoMemory known = tt
 
-pub grows_elsewhere : (old new : List Node) (here : Place) (h : ResolveError) → UnlessMemory {A = Found} (Err h) (Grows old new) → UnlessMemory {A = Found} (Err (error_at h here)) (Grows old new)
+pub grows_elsewhere : (old new : List ExprNode) (here : Place) (h : ResolveError) → UnlessMemory {A = FoundNode} (Err h) (Grows old new) → UnlessMemory {A = FoundNode} (Err (error_at h here)) (Grows old new)
 grows_elsewhere old new here (error.Stuck told) grows = grows
 grows_elsewhere old new here error.NoMemory grows = tt
 
 -- a constant is never stuck
-pub constant_free : (nodes : List Node) (most : ℕ) (place : Place) (v : Value) (part : ℕ → ℕ → Option Place) (r : Result Found ResolveError) → ((n d : ℕ) → part n d ≡ None) →
+pub constant_free : (nodes : List ExprNode) (most : ℕ) (place : Place) (v : Value) (part : ℕ → ℕ → Option Place) (r : Result FoundNode ResolveError) → ((n d : ℕ) → part n d ≡ None) →
     Finds nodes most (λ n d. Resolved.Constant place v) r → TellsPart most part r
 constant_free nodes most place v part (Ok x) none finds = λ n w. none n most
 constant_free nodes most place v part (Err (error.Stuck told)) none finds = absurd (let no : false ≡ true = finds most (omega arith) in cc)
@@ -243,6 +243,6 @@ module _ (part : ℕ → Expr → ℕ → Option Place) (first : Expr) (links : 
       (none_all (λ link. link_part part n link most) links i past (none n w))
 
 -- what is told at another place
-pub root_told : (nodes : List Node) (r : Resolved) (part : Option Place) (place : Place) (h : ResolveStop) → FindsOrTells nodes r part (Err h) → FindsRoot nodes r place (Err (told_at h place))
+pub root_told : (nodes : List ExprNode) (r : Resolved) (part : Option Place) (place : Place) (h : ResolveStop) → FindsOrTells nodes r part (Err h) → FindsRoot nodes r place (Err (told_at h place))
 root_told nodes r part place (stop.Stuck told) stuck = (refl, stuck.1)
 root_told nodes r part place stop.NoMemory stuck = tt

@@ -4,9 +4,9 @@ use Rattle.std.specs.HashMap.{get}
 use Rattle.smv_tree.specs.declared.place.Place.{Place}
 use Rattle.smv_tree.specs.declared.tree.Program.{Program}
 use Rattle.smv_tree.specs.declared.tree.Expr.{Expr}
-use Rattle.smv_resolve.specs.declared.node.Node.{Node}
+use Rattle.smv_resolve.specs.declared.node.ExprNode.{ExprNode}
 use Rattle.smv_scope.specs.declared.target.Shared.{Shared}
-use Rattle.smv_resolve.specs.declared.memo.Found.{Found}
+use Rattle.smv_resolve.specs.declared.memo.FoundNode.{FoundNode}
 use Rattle.smv_resolve.specs.declared.memo.Memo.{Memo}
 use Rattle.smv_resolve.specs.declared.memo.ResolveError.{ResolveError}
 use Rattle.smv_resolve.specs.declared.memo.ResolveError.TheVariants as error
@@ -23,13 +23,13 @@ pub record Settles (f : ℕ → Levelled) (h : ℕ) (r : Resolved) : Type 0 wher
   pub stuck : (n d : ℕ) → d ≤ n → is_stuck (f n d) ≡ nat_lt d h
 
 -- a node stands for what f says, and not more levels are opened below it than this
-pub record IsFound (nodes : List Node) (most : ℕ) (f : ℕ → Levelled) (x : Found) : Type 0 where
+pub record IsFound (nodes : List ExprNode) (most : ℕ) (f : ℕ → Levelled) (x : FoundNode) : Type 0 where
   pub stands : x.node < length nodes
   pub within : x.height ≤ most
   pub settles : Settles f x.height (part_of nodes x.node)
 
 -- the node that stands for what f says; or that f is stuck where so many levels may be opened
-abbrev pub Finds : List Node → ℕ → (ℕ → Levelled) → Result Found ResolveError → Type 0
+abbrev pub Finds : List ExprNode → ℕ → (ℕ → Levelled) → Result FoundNode ResolveError → Type 0
 Finds nodes most f (Ok x) = IsFound nodes most f x
 Finds nodes most f (Err (error.Stuck place)) = (n : ℕ) → most ≤ n → is_stuck (f n most) ≡ true
 Finds nodes most f (Err error.NoMemory) = Unit {0}
@@ -46,7 +46,7 @@ UnlessMemory (Err (error.Stuck place)) holds = holds
 UnlessMemory (Err error.NoMemory) holds = Unit {0}
 
 -- new nodes behind the old ones
-pub record Grows (old new : List Node) : Type 0 where
+pub record Grows (old new : List ExprNode) : Type 0 where
   pub longer : length old ≤ length new
   pub kept : (k : ℕ) → k < length old → part_of new k ≡ part_of old k
 
@@ -69,14 +69,14 @@ abbrev pub IsShared : Program → Shared → ℕ → Expr → Type 0
 IsShared p shared at e = (below : ℕ → Expr → Resolved) → below_target below (shared_target p shared) ≡ below at e
 
 -- a node stands for what names share, a level below them
-abbrev pub Known : Program → List Node → Shared → Found → Type 0
+abbrev pub Known : Program → List ExprNode → Shared → FoundNode → Type 0
 Known p nodes x found =
     (found.node < length nodes)
     × Settles (λ n d. below_target (λ owner e. opened (followed p n owner e) d) (shared_target p x)) found.height (part_of nodes found.node)
 
 -- whatever is known is right
 unfoldable pub AllKnown : Program → Memo → Type 0
-AllKnown p w = (x : Shared) (found : Found) → get shared_eq w.known x ≡ Some found → Known p w.nodes x found
+AllKnown p w = (x : Shared) (found : FoundNode) → get shared_eq w.known x ≡ Some found → Known p w.nodes x found
 
 -- what these names share is known
 abbrev pub IsKept : Memo → Shared → Type 0

@@ -16,7 +16,7 @@ use Rattle.smv_scope.specs.declared.instance.Instance.{Instance}
 use Rattle.smv_resolve.specs.declared.item.Item.{Item}
 use Rattle.smv_resolve.specs.declared.item.ItemKind.{ItemKind}
 use Rattle.smv_resolve.specs.declared.item.ItemKind.TheVariants as item
-use Rattle.smv_resolve.specs.declared.node.Node.{Node}
+use Rattle.smv_resolve.specs.declared.node.ExprNode.{ExprNode}
 use Rattle.smv_scope.specs.Modules.{sections_of}
 use Rattle.smv_scope.specs.Instances.{instances_of}
 use Rattle.smv_scope.specs.Lookup.{depth_limit}
@@ -69,12 +69,12 @@ items_below p n (x ∷ xs) = flat_map (items_in p n) (sections_of p x.of_module)
 unfoldable pub items_of : Program → List ResolvedItem
 items_of p = items_below p 0 (instances_of p)
 
-abbrev pub target_by : List Node → Option ℕ → Option Resolved
+abbrev pub target_by : List ExprNode → Option ℕ → Option Resolved
 target_by nodes None = None
 target_by nodes (Some k) = Some (part_of nodes k)
 
 -- an item whose expressions are nodes
-abbrev pub item_by : List Node → Item → ResolvedItem
+abbrev pub item_by : List ExprNode → Item → ResolvedItem
 item_by nodes x = record { at = x.at; kind = x.kind; place = x.place; begins = x.begins; target = target_by nodes x.target; value = part_of nodes x.value }
 
 abbrev pub is_stuck_target : Option Resolved → Bool

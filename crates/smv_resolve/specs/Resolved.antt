@@ -12,8 +12,8 @@ use Rattle.smv_value.specs.declared.value.Value.TheVariants as value
 use Rattle.smv_tree.specs.declared.tree.Expr.{Expr, Expr-F, fold-Expr}
 use Rattle.smv_resolve.specs.declared.node.Naming.{Naming}
 use Rattle.smv_resolve.specs.declared.node.Naming.TheVariants as naming
-use Rattle.smv_resolve.specs.declared.node.Node.{Node}
-use Rattle.smv_resolve.specs.declared.node.Node.TheVariants as node
+use Rattle.smv_resolve.specs.declared.node.ExprNode.{ExprNode}
+use Rattle.smv_resolve.specs.declared.node.ExprNode.TheVariants as node
 use Rattle.smv_scope.specs.Lookup.{Target, name_target, depth_limit}
 use Rattle.smv_resolve.specs.Levels.{levels_before}
 
@@ -146,7 +146,7 @@ last_of count xs = drop (length xs - count) xs
 
 -- What a node is, where these are the nodes before it. The operands of an operator are the nodes right before it; a
 -- link of a chain names its two.
-abbrev pub resolved_by : List Resolved → Node → Resolved
+abbrev pub resolved_by : List Resolved → ExprNode → Resolved
 resolved_by parts (node.Constant place v) = Resolved.Constant place v
 resolved_by parts (node.Slot place n) = Resolved.Slot place n
 resolved_by parts (node.Whole place i) = Resolved.Whole place i
@@ -157,13 +157,13 @@ resolved_by parts (node.Apply place o count) = Resolved.Apply place o (operands_
 resolved_by parts (node.Link place o a b) = Resolved.Apply place o (operands_of (part_at parts a ∷ part_at parts b ∷ []))
 
 -- the parts with one node more
-abbrev pub with_node : List Resolved → Node → List Resolved
+abbrev pub with_node : List Resolved → ExprNode → List Resolved
 with_node parts n = parts ++ resolved_by parts n ∷ []
 
 -- what nodes are, each over those before it
-unfoldable pub parts_of : List Node → List Resolved
+unfoldable pub parts_of : List ExprNode → List Resolved
 parts_of nodes = fold with_node [] nodes
 
 -- what the node of this number is
-abbrev pub part_of : List Node → ℕ → Resolved
+abbrev pub part_of : List ExprNode → ℕ → Resolved
 part_of nodes k = part_at (parts_of nodes) k

@@ -7,8 +7,8 @@ use Rattle.smv_tree.specs.declared.tree.Program.{Program}
 use Rattle.smv_tree.specs.declared.tree.Name.{Name}
 use Rattle.smv_value.specs.declared.operator.Operator.{Operator}
 use Rattle.smv_tree.specs.declared.tree.Expr.{Expr, Expr-F, fold-Expr}
-use Rattle.smv_resolve.specs.declared.node.Node.{Node}
-use Rattle.smv_resolve.specs.declared.memo.Found.{Found}
+use Rattle.smv_resolve.specs.declared.node.ExprNode.{ExprNode}
+use Rattle.smv_resolve.specs.declared.memo.FoundNode.{FoundNode}
 use Rattle.smv_resolve.specs.declared.memo.ResolveError.{ResolveError}
 use Rattle.smv_resolve.specs.declared.memo.ResolveError.TheVariants as error
 use Rattle.smv_resolve.specs.declared.resolve.ResolveStop.{ResolveStop}
@@ -72,13 +72,13 @@ first_part_wholly_stuck p at e = stuck_part p all_levels at e all_levels
 
 -- No part is stuck, or the place of the first that is, where so many levels may be opened. `part` gives it by the
 -- number of names that may be followed, and by that of levels.
-abbrev pub TellsPart : ℕ → (ℕ → ℕ → Option Place) → Result Found ResolveError → Type 0
+abbrev pub TellsPart : ℕ → (ℕ → ℕ → Option Place) → Result FoundNode ResolveError → Type 0
 TellsPart most part (Ok x) = (n : ℕ) → most ≤ n → part n most ≡ None
 TellsPart most part (Err (error.Stuck place)) = (n : ℕ) → most ≤ n → part n most ≡ Some place
 TellsPart most part (Err error.NoMemory) = Unit {0}
 
 -- the node of an expression; or the place of its first part that is stuck
-abbrev pub FindsOrTells : List Node → Resolved → Option Place → Result ℕ ResolveStop → Type 0
+abbrev pub FindsOrTells : List ExprNode → Resolved → Option Place → Result ℕ ResolveStop → Type 0
 FindsOrTells nodes r part (Ok n) = IsRoot nodes r n
 FindsOrTells nodes r part (Err (stop.Stuck place)) = (part ≡ Some place) × (is_stuck r ≡ true)
 FindsOrTells nodes r part (Err stop.NoMemory) = Unit {0}

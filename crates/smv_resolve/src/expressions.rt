@@ -9,8 +9,8 @@ ghost use Rattle.smv_resolve.specs.Finding.{Grows, AllKnown, Finds, IsKept, IsSh
 ghost use Rattle.smv_resolve.specs.StuckParts.{TellsPart, stuck_below, stuck_links, stuck_name, stuck_operands, stuck_part};
 
 use crate::dots::levels_before;
-use crate::memo::{Found, Memo, ResolveError, get, insert, push, push_apply};
-use crate::{Naming, Node};
+use crate::memo::{FoundNode, Memo, ResolveError, get, insert, push, push_apply};
+use crate::{ExprNode, Naming};
 use smv_scope::{NameTarget, Scope, Shared, name_target};
 use smv_tree::{Expr, Name, Place, Start};
 use smv_value::{Operator, Value};
@@ -25,7 +25,7 @@ pub fn find(
     depth: usize,
     at: usize,
     e: &Expr,
-) -> Result<Found, ResolveError>
+) -> Result<FoundNode, ResolveError>
     requires { AllKnown scope.now.program memo.old }
     ensures known { UnlessMemory result (AllKnown scope.now.program memo.new) }
     ensures grows { UnlessMemory result (Grows memo.old.nodes memo.new.nodes) }
@@ -69,7 +69,7 @@ fn find_below(
     at: usize,
     place: Place,
     e: &Expr,
-) -> Result<Found, ResolveError>
+) -> Result<FoundNode, ResolveError>
     requires { AllKnown scope.now.program memo.old }
     ensures known { UnlessMemory result (AllKnown scope.now.program memo.new) }
     ensures grows { UnlessMemory result (Grows memo.old.nodes memo.new.nodes) }
@@ -81,7 +81,7 @@ fn find_below(
         return Err(ResolveError::Stuck(place));
     }
     let below = find(scope, memo, room, depth - 1, at, e)?;
-    Ok(Found {
+    Ok(FoundNode {
         node: below.node,
         height: below.height + 1,
     })
@@ -93,14 +93,14 @@ fn find_constant(
     _depth: usize,
     place: Place,
     value: Value,
-) -> Result<Found, ResolveError>
+) -> Result<FoundNode, ResolveError>
     requires { AllKnown _scope.now.program memo.old }
     ensures known { UnlessMemory result (AllKnown _scope.now.program memo.new) }
     ensures grows { UnlessMemory result (Grows memo.old.nodes memo.new.nodes) }
     ensures finds { Finds memo.new.nodes _depth (λ n d. Resolved.Constant place value) result }
 {
-    let node = push(memo, Node::Constant(place, value))?;
-    Ok(Found { node, height: 0 })
+    let node = push(memo, ExprNode::Constant(place, value))?;
+    Ok(FoundNode { node, height: 0 })
 }
 
 fn find_variable(
@@ -109,14 +109,14 @@ fn find_variable(
     _depth: usize,
     place: Place,
     n: usize,
-) -> Result<Found, ResolveError>
+) -> Result<FoundNode, ResolveError>
     requires { AllKnown _scope.now.program memo.old }
     ensures known { UnlessMemory result (AllKnown _scope.now.program memo.new) }
     ensures grows { UnlessMemory result (Grows memo.old.nodes memo.new.nodes) }
     ensures finds { Finds memo.new.nodes _depth (λ names d. Resolved.Slot place n) result }
 {
-    let node = push(memo, Node::Slot(place, n))?;
-    Ok(Found { node, height: 0 })
+    let node = push(memo, ExprNode::Slot(place, n))?;
+    Ok(FoundNode { node, height: 0 })
 }
 
 // A symbol is a constant. Memory is refused where there are more symbols than a value can tell apart.
@@ -126,7 +126,7 @@ fn find_symbol(
     depth: usize,
     place: Place,
     n: usize,
-) -> Result<Found, ResolveError>
+) -> Result<FoundNode, ResolveError>
     requires { AllKnown scope.now.program memo.old }
     ensures known { UnlessMemory result (AllKnown scope.now.program memo.new) }
     ensures grows { UnlessMemory result (Grows memo.old.nodes memo.new.nodes) }
@@ -144,14 +144,14 @@ fn find_whole(
     _depth: usize,
     place: Place,
     i: usize,
-) -> Result<Found, ResolveError>
+) -> Result<FoundNode, ResolveError>
     requires { AllKnown _scope.now.program memo.old }
     ensures known { UnlessMemory result (AllKnown _scope.now.program memo.new) }
     ensures grows { UnlessMemory result (Grows memo.old.nodes memo.new.nodes) }
     ensures finds { Finds memo.new.nodes _depth (λ n d. Resolved.Whole place i) result }
 {
-    let node = push(memo, Node::Whole(place, i))?;
-    Ok(Found { node, height: 0 })
+    let node = push(memo, ExprNode::Whole(place, i))?;
+    Ok(FoundNode { node, height: 0 })
 }
 
 #[cycle(expressions)]
@@ -163,7 +163,7 @@ fn find_next(
     at: usize,
     place: Place,
     a: &Expr,
-) -> Result<Found, ResolveError>
+) -> Result<FoundNode, ResolveError>
     requires { AllKnown scope.now.program memo.old }
     ensures known { UnlessMemory result (AllKnown scope.now.program memo.new) }
     ensures grows { UnlessMemory result (Grows memo.old.nodes memo.new.nodes) }
@@ -171,8 +171,8 @@ fn find_next(
     ensures part { TellsPart depth (λ n. stuck_below place (stuck_part scope.now.program n at a.now)) result }
 {
     let operand = find_below(scope, memo, room, depth, at, place, a)?;
-    let node = push(memo, Node::Next(place, operand.node))?;
-    Ok(Found {
+    let node = push(memo, ExprNode::Next(place, operand.node))?;
+    Ok(FoundNode {
         node,
         height: operand.height,
     })
@@ -190,7 +190,7 @@ fn find_apply(
     operator: Operator,
     beside: &[Expr],
     below: &[Expr],
-) -> Result<Found, ResolveError>
+) -> Result<FoundNode, ResolveError>
     requires { AllKnown scope.now.program memo.old }
     ensures known { UnlessMemory result (AllKnown scope.now.program memo.new) }
     ensures grows { UnlessMemory result (Grows memo.old.nodes memo.new.nodes) }
@@ -210,7 +210,7 @@ fn find_apply(
         height = next.height.max(height);
     }
     let node = push_apply(memo, place, operator, operands.as_slice())?;
-    Ok(Found { node, height })
+    Ok(FoundNode { node, height })
 }
 
 // A chain, whose operators are taken from left to right. All its operands stand on its own level.
@@ -223,7 +223,7 @@ fn find_chain(
     at: usize,
     first: &Expr,
     links: &[(Place, Operator, Expr)],
-) -> Result<Found, ResolveError>
+) -> Result<FoundNode, ResolveError>
     requires { AllKnown scope.now.program memo.old }
     ensures known { UnlessMemory result (AllKnown scope.now.program memo.new) }
     ensures grows { UnlessMemory result (Grows memo.old.nodes memo.new.nodes) }
@@ -234,9 +234,9 @@ fn find_chain(
     let mut left = start;
     for link in links {
         let right = find(scope, memo, room, depth, at, &link.2)?;
-        let node = push(memo, Node::Link(link.0, link.1, left.node, right.node))?;
+        let node = push(memo, ExprNode::Link(link.0, link.1, left.node, right.node))?;
         let height = left.height.max(right.height);
-        left = Found { node, height };
+        left = FoundNode { node, height };
     }
     Ok(left)
 }
@@ -250,7 +250,7 @@ fn find_name(
     depth: usize,
     at: usize,
     name: &Name,
-) -> Result<Found, ResolveError>
+) -> Result<FoundNode, ResolveError>
     requires { AllKnown scope.now.program memo.old }
     ensures known { UnlessMemory result (AllKnown scope.now.program memo.new) }
     ensures grows { UnlessMemory result (Grows memo.old.nodes memo.new.nodes) }
@@ -263,7 +263,7 @@ fn find_name(
         return Err(ResolveError::Stuck(place));
     }
     match find_target(scope, memo, room, depth - levels, at, name) {
-        Ok(found) => Ok(Found {
+        Ok(found) => Ok(FoundNode {
             node: found.node,
             height: found.height + levels,
         }),
@@ -290,7 +290,7 @@ fn find_target(
     depth: usize,
     at: usize,
     name: &Name,
-) -> Result<Found, ResolveError>
+) -> Result<FoundNode, ResolveError>
     requires { AllKnown scope.now.program memo.old }
     ensures known { UnlessMemory result (AllKnown scope.now.program memo.new) }
     ensures grows { UnlessMemory result (Grows memo.old.nodes memo.new.nodes) }
@@ -355,7 +355,7 @@ fn find_named(
     shared: Shared,
     at: usize,
     e: &Expr,
-) -> Result<Found, ResolveError>
+) -> Result<FoundNode, ResolveError>
     requires known { AllKnown scope.now.program memo.old }
     requires leads { IsShared scope.now.program shared at e.now }
     ensures known { UnlessMemory result (AllKnown scope.now.program memo.new) }
@@ -363,8 +363,8 @@ fn find_named(
     ensures finds { Finds memo.new.nodes depth (λ n d. Resolved.Named place naming (opened (followed scope.now.program n at e.now) d)) result }
 {
     let named = find_shared(scope, memo, room, depth, place, shared, at, e)?;
-    let node = push(memo, Node::Named(place, naming, named.node))?;
-    Ok(Found {
+    let node = push(memo, ExprNode::Named(place, naming, named.node))?;
+    Ok(FoundNode {
         node,
         height: named.height,
     })
@@ -381,7 +381,7 @@ pub fn find_shared(
     shared: Shared,
     at: usize,
     e: &Expr,
-) -> Result<Found, ResolveError>
+) -> Result<FoundNode, ResolveError>
     requires known { AllKnown scope.now.program memo.old }
     requires leads { IsShared scope.now.program shared at e.now }
     ensures known { UnlessMemory result (AllKnown scope.now.program memo.new) }

@@ -17,7 +17,7 @@ mod tables;
 
 pub use first_places::first_place;
 pub use item::{Item, ItemKind};
-pub use node::{Naming, Node};
+pub use node::{ExprNode, Naming};
 pub use resolve::{
     Resolution, ResolveStop, Single, resolve_expression, resolve_items, resolve_wholly,
 };

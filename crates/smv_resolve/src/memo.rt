@@ -9,7 +9,7 @@ ghost use Rattle.smv_resolve.specs.Resolved.{Resolved, operands_of, parts_of, pa
 ghost use Rattle.smv_resolve.specs.Finding.{Grows, Known, AllKnown, IsKept};
 ghost use Rattle.smv_resolve.specs.declared.memo.ResolveError.TheVariants.{NoMemory};
 
-use crate::Node;
+use crate::ExprNode;
 use smv_scope::Shared;
 use smv_tree::Place;
 use smv_value::Operator;
@@ -19,7 +19,7 @@ use std::collections::{HashMap, HashSet};
 
 /// The node of an expression, and the levels that are opened below it.
 #[derive(Clone, Copy, Debug, Drop)]
-pub struct Found {
+pub struct FoundNode {
     pub node: usize,
     pub height: usize,
 }
@@ -27,8 +27,8 @@ pub struct Found {
 /// The nodes so far, and what was found of them for what names share.
 #[derive(Drop)]
 pub struct Memo {
-    pub nodes: Items<Node>,
-    pub known: HashMap<Shared, Found>,
+    pub nodes: Items<ExprNode>,
+    pub known: HashMap<Shared, FoundNode>,
     /// What was begun of what names share.
     pub begun: HashSet<Shared>,
     /// For what is kept while a node is found.
@@ -77,7 +77,7 @@ pub fn empty_memo(alloc: Global) -> Memo
 
 /// One node more, over those before it.
 #[inline(never)]
-pub fn push(memo: &mut Memo, node: Node) -> Result<usize, AllocError>
+pub fn push(memo: &mut Memo, node: ExprNode) -> Result<usize, AllocError>
     ensures grows { OnOk result (Grows memo.old.nodes memo.new.nodes) }
     ensures known { OnOk result ((p : Program) → AllKnown p memo.old → AllKnown p memo.new) }
     ensures stands { IfOk result (λ n. n < length memo.new.nodes) }
@@ -104,15 +104,15 @@ pub fn push_apply(
     ensures value { IfOk result (λ n. part_of memo.new.nodes n ≡ Resolved.Apply place operator (operands_of (map (part_of memo.old.nodes) operands.now))) }
 {
     for k in operands {
-        push(memo, Node::Operand(*k))?;
+        push(memo, ExprNode::Operand(*k))?;
     }
-    let node = push(memo, Node::Apply(place, operator, operands.len()))?;
+    let node = push(memo, ExprNode::Apply(place, operator, operands.len()))?;
     Ok(node)
 }
 
 /// What is known of this.
 #[inline(never)]
-pub fn get(memo: &Memo, shared: Shared) -> Option<Found>
+pub fn get(memo: &Memo, shared: Shared) -> Option<FoundNode>
     ensures found { result ≡ get shared_eq memo.now.known shared }
     ensures right { IfSome result (λ found. (p : Program) → AllKnown p memo.now → Known p memo.now.nodes shared found) }
 {
@@ -127,8 +127,8 @@ pub fn get(memo: &Memo, shared: Shared) -> Option<Found>
 pub fn insert(
     memo: &mut Memo,
     shared: Shared,
-    found: Found,
-) -> Result<(), AllocFailed<(Shared, Found)>>
+    found: FoundNode,
+) -> Result<(), AllocFailed<(Shared, FoundNode)>>
     ensures nodes { memo.new.nodes ≡ memo.old.nodes }
     ensures known { OnOk result ((p : Program) → AllKnown p memo.old → Known p memo.old.nodes shared found → AllKnown p memo.new) }
     ensures kept { OnOk result (IsKept memo.new shared) }

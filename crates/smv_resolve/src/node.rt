@@ -23,7 +23,7 @@ pub enum Naming {
 /// A node of an expression without names. Its parts are nodes before it in the same list, by their numbers, so that
 /// what several expressions name stands there once.
 #[derive(Clone, Copy, Debug)]
-pub enum Node {
+pub enum ExprNode {
     Constant(Place, Value),
     /// The variable of this number among those that have values; where slots are laid out, the slot of this number.
     Slot(Place, usize),

@@ -6,7 +6,7 @@ ghost use Rattle.smv_resolve.specs.declared.resolve.ResolveStop.TheVariants.{NoM
 
 use crate::listing::{add_instances, find_expression, find_wholly};
 use crate::memo::empty_memo;
-use crate::{Item, Node};
+use crate::{ExprNode, Item};
 use smv_scope::Scope;
 use smv_tree::{Expr, Place};
 use sqlite_items::Items;
@@ -15,14 +15,14 @@ use std::alloc::{AllocError, Global};
 /// The items of a program over one list of nodes.
 #[derive(Debug, Drop)]
 pub struct Resolution {
-    pub nodes: Items<Node>,
+    pub nodes: Items<ExprNode>,
     pub items: Items<Item>,
 }
 
 /// An expression as a node of a list.
 #[derive(Debug, Drop)]
 pub struct Single {
-    pub nodes: Items<Node>,
+    pub nodes: Items<ExprNode>,
     pub root: usize,
 }
 

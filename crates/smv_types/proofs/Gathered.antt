@@ -22,8 +22,8 @@ use Rattle.smv_kind_laws.specs.Values.{HasAll, IsOperand, branches, is_among, is
 use Rattle.smv_kind_laws.proofs.Fitting.{among, given_is, integer_value, kind_if_is, mismatched}
 use Rattle.smv_kind_laws.proofs.Members.{all_branches, all_members, range_has}
 use Rattle.value_sets.specs.Members.{counted_up, run}
-use Rattle.smv_meaning.specs.declared.outcome.Outcome.{Outcome}
-use Rattle.smv_meaning.specs.declared.outcome.Outcome.TheVariants.{Fault, Nothing, Values}
+use Rattle.smv_meaning.specs.declared.outcome.Evaluation.{Evaluation}
+use Rattle.smv_meaning.specs.declared.outcome.Evaluation.TheVariants.{Fault, Nothing, Values}
 use Rattle.smv_meaning.specs.Formulas.{is_temporal}
 use Rattle.smv_meaning.specs.Outcomes.{applied, choice, included, one, ranged as ranged_outcome, two as two_outcomes, united}
 use Rattle.smv_types.specs.Kinds.{has_values, kind_in}
@@ -53,7 +53,7 @@ abbrev AllValued : List Operand → Type 0
 AllValued [] = Unit {0}
 AllValued (x ∷ xs) = (has_values x.kind ≡ true) × AllValued xs
 
-united_fits : (k : Kind) → is_single k ≡ false → (before : List Value) (xs : List Operand) (os : List Outcome) → AllKnown xs os → HasAll k xs → AllValued xs →
+united_fits : (k : Kind) → is_single k ≡ false → (before : List Value) (xs : List Operand) (os : List Evaluation) → AllKnown xs os → HasAll k xs → AllValued xs →
     list_all (is_of_kind k) before ≡ true → Fits k (united before os)
 united_fits k many before [] [] h all valued so_far = (so_far, λ s. absurd (true_false (is_single k) s many))
 united_fits k many before [] (o ∷ os) h all valued so_far = absurd h
@@ -169,7 +169,7 @@ fold_settled : (xs : List Operand) (j : Kind) → settled j ≡ true → settled
 fold_settled [] j s = s
 fold_settled (x ∷ xs) j s = fold_settled xs (with_member j x) (joined_settled j (set_of x.kind))
 
-members_fit : (xs : List Operand) (os : List Outcome) (k : Kind) → AllKnown xs os → given (members xs) ≡ Ok k → Fits k (united [] os)
+members_fit : (xs : List Operand) (os : List Evaluation) (k : Kind) → AllKnown xs os → given (members xs) ≡ Ok k → Fits k (united [] os)
 members_fit [] os k h e = absurd (mismatched k e)
 members_fit (x ∷ xs) os k h e =
     let j = fold with_member (set_of x.kind) xs in
@@ -177,7 +177,7 @@ members_fit (x ∷ xs) os k h e =
     let many : is_single k ≡ false = ap is_single (sym (given_is j k e)) ∙ fold_many xs (set_of x.kind) (set_many x.kind) in
     united_fits k many [] (x ∷ xs) os h (all_members (x ∷ xs) k e) (set_valued x.kind valued.0, valued.1) refl
 
-union_fits : (xs : List Operand) (os : List Outcome) (k : Kind) → AllKnown xs os → two (λ a b. given (joined (set_of a) (set_of b))) xs ≡ Ok k → Fits k (united [] os)
+union_fits : (xs : List Operand) (os : List Evaluation) (k : Kind) → AllKnown xs os → two (λ a b. given (joined (set_of a) (set_of b))) xs ≡ Ok k → Fits k (united [] os)
 union_fits [] os k h e = absurd (mismatched k e)
 union_fits (x ∷ []) os k h e = absurd (mismatched k e)
 union_fits (x ∷ y ∷ []) os k h e = members_fit (x ∷ y ∷ []) os k h e
@@ -214,16 +214,16 @@ range_some None p k e = absurd (mismatched k e)
 range_some (Some i) None k e = absurd (mismatched k e)
 range_some (Some i) (Some j) k e = (refl, refl, ap is_single (sym (given_is (range_of (Some i) (Some j)) k e)))
 
-range_fits_two : (x y : Operand) (a b : Outcome) (k : Kind) → Known x a → Known y b → given (ranged x.kind y.kind) ≡ Ok k → Fits k (ranged_outcome a b)
+range_fits_two : (x y : Operand) (a b : Evaluation) (k : Kind) → Known x a → Known y b → given (ranged x.kind y.kind) ≡ Ok k → Fits k (ranged_outcome a b)
 range_fits_two x y a b k h l e =
     let some = range_some (integers_of x.kind) (integers_of y.kind) k e in
-    let P : Outcome → Type 0 = λ o. Fits k (ranged_outcome o b) in
+    let P : Evaluation → Type 0 = λ o. Fits k (ranged_outcome o b) in
     elim (gives_one x a h (inl (integer_single x.kind some.0))) [
       | inl i ↦ subst P (sym i.2) tt
       | inr i ↦
           let left = integer_of x i.0 some.0 i.2 in
           let is : a ≡ one (value.Int left.0) = i.1 ∙ ap one left.1 in
-          let Q : Outcome → Type 0 = λ o. Fits k (ranged_outcome (one (value.Int left.0)) o) in
+          let Q : Evaluation → Type 0 = λ o. Fits k (ranged_outcome (one (value.Int left.0)) o) in
           subst P (sym is)
           (elim (gives_one y b l (inl (integer_single y.kind some.1))) [
             | inl j ↦ subst Q (sym j.2) tt
@@ -237,7 +237,7 @@ range_fits_two x y a b k h l e =
           ])
     ]
 
-range_fits : (xs : List Operand) (os : List Outcome) (k : Kind) → AllKnown xs os → two (λ a b. given (ranged a b)) xs ≡ Ok k → Fits k (two_outcomes ranged_outcome os)
+range_fits : (xs : List Operand) (os : List Evaluation) (k : Kind) → AllKnown xs os → two (λ a b. given (ranged a b)) xs ≡ Ok k → Fits k (two_outcomes ranged_outcome os)
 range_fits [] os k h e = absurd (mismatched k e)
 range_fits (x ∷ []) os k h e = absurd (mismatched k e)
 range_fits (x ∷ y ∷ []) [] k h e = absurd h
@@ -259,22 +259,22 @@ takes_parts a b e = absurd (false≢true e)
 boolean_fits : (k : Kind) (b : Bool) → kind.Boolean ≡ k → Fits k (one (value.Bool b))
 boolean_fits k b e = let P : Kind → Type 0 = λ j. Fits j (one (value.Bool b)) in subst P e (refl, λ s. (value.Bool b, refl))
 
-in_fits_two : (x y : Operand) (a b : Outcome) (k : Kind) → Known x a → Known y b → given (boolean_if (takes x.kind y.kind)) ≡ Ok k → Fits k (included a b)
+in_fits_two : (x y : Operand) (a b : Evaluation) (k : Kind) → Known x a → Known y b → given (boolean_if (takes x.kind y.kind)) ≡ Ok k → Fits k (included a b)
 in_fits_two x y a b k h l e =
     let p = kind_if_is (takes x.kind y.kind) kind.Boolean k e in
     let parts = takes_parts x.kind y.kind p.0 in
-    let P : Outcome → Type 0 = λ o. Fits k (included o b) in
+    let P : Evaluation → Type 0 = λ o. Fits k (included o b) in
     elim (gives_one x a h (inl parts.0)) [
       | inl i ↦ subst P (sym i.2) tt
       | inr i ↦ subst P (sym i.1) (among_fits i.0 b l parts.1 p.1)
     ]
   where
-    among_fits : (v : Value) (o : Outcome) → Known y o → has_values y.kind ≡ true → kind.Boolean ≡ k → Fits k (included (one v) o)
+    among_fits : (v : Value) (o : Evaluation) → Known y o → has_values y.kind ≡ true → kind.Boolean ≡ k → Fits k (included (one v) o)
     among_fits v (Fault rule place) l valued is = tt
     among_fits v Nothing l valued is = elim l [ inl i ↦ absurd i.fits | inr i ↦ absurd (true_false (has_values y.kind) valued i.0) ]
     among_fits v (Values ws) l valued is = boolean_fits k (list_any (same v) ws) is
 
-in_fits : (xs : List Operand) (os : List Outcome) (k : Kind) → AllKnown xs os → two (λ a b. given (boolean_if (takes a b))) xs ≡ Ok k → Fits k (two_outcomes included os)
+in_fits : (xs : List Operand) (os : List Evaluation) (k : Kind) → AllKnown xs os → two (λ a b. given (boolean_if (takes a b))) xs ≡ Ok k → Fits k (two_outcomes included os)
 in_fits [] os k h e = absurd (mismatched k e)
 in_fits (x ∷ []) os k h e = absurd (mismatched k e)
 in_fits (x ∷ y ∷ []) [] k h e = absurd h
@@ -295,7 +295,7 @@ TakesTurns k [] = Unit {0}
 TakesTurns k (x ∷ []) = IsBranch k x
 TakesTurns k (c ∷ x ∷ xs) = (is_boolean c.kind ≡ true) × IsBranch k x × TakesTurns k xs
 
-branch_fits : (k : Kind) (x : Operand) (o : Outcome) → Known x o → IsBranch k x → Into x.kind k → Fits k o
+branch_fits : (k : Kind) (x : Operand) (o : Evaluation) → Known x o → IsBranch k x → Into x.kind k → Fits k o
 branch_fits k x (Fault rule place) h b into = tt
 branch_fits k x Nothing h b into = elim h [ inl i ↦ absurd i.fits | inr i ↦ absurd (true_false (has_values x.kind) b.0 i.0) ]
 branch_fits k x (Values vs) h b into = elim h [
@@ -318,11 +318,11 @@ boolean_of x v e h =
     let P : Kind → Type 0 = λ k. is_among k v ≡ true in
     boolean_value v (subst P (is_boolean_kind x.kind e) (among x.kind v h.kind))
 
-taken_fits : (k : Kind) (rule : FaultRule) (place : Place) (b : Bool) (a : Outcome) (os : List Outcome) → Fits k a → Fits k (choice rule place os) → Fits k (choice rule place (one (value.Bool b) ∷ a ∷ os))
+taken_fits : (k : Kind) (rule : FaultRule) (place : Place) (b : Bool) (a : Evaluation) (os : List Evaluation) → Fits k a → Fits k (choice rule place os) → Fits k (choice rule place (one (value.Bool b) ∷ a ∷ os))
 taken_fits k rule place true a os h l = h
 taken_fits k rule place false a os h l = l
 
-turns_fit : (k : Kind) (rule : FaultRule) (place : Place) (xs : List Operand) (os : List Outcome) → AllKnown xs os → TakesTurns k xs → HasAll k (branches xs) → Fits k (choice rule place os)
+turns_fit : (k : Kind) (rule : FaultRule) (place : Place) (xs : List Operand) (os : List Evaluation) → AllKnown xs os → TakesTurns k xs → HasAll k (branches xs) → Fits k (choice rule place os)
 turns_fit k rule place [] [] h t all = tt
 turns_fit k rule place [] (o ∷ os) h t all = absurd h
 turns_fit k rule place (x ∷ []) [] h t all = absurd h
@@ -331,7 +331,7 @@ turns_fit k rule place (x ∷ []) (a ∷ b ∷ os) h t all = absurd h.1
 turns_fit k rule place (c ∷ x ∷ xs) [] h t all = absurd h
 turns_fit k rule place (c ∷ x ∷ xs) (o ∷ []) h t all = absurd h.1
 turns_fit k rule place (c ∷ x ∷ xs) (o ∷ a ∷ os) h t all =
-    let P : Outcome → Type 0 = λ y. Fits k (choice rule place (y ∷ a ∷ os)) in
+    let P : Evaluation → Type 0 = λ y. Fits k (choice rule place (y ∷ a ∷ os)) in
     let single = ap is_single (is_boolean_kind c.kind t.0) in
     elim (gives_one c o h.0 (inl single)) [
       | inl i ↦ subst P (sym i.2) tt
@@ -440,7 +440,7 @@ array_unset other xs e = absurd (false≢true e)
 
 -- An operator over operands of kinds that it takes gives values of the kind that is told, or faults, where that is no
 -- array.
-pub applied_fits : (o : Operator) (place : Place) (xs : List Operand) (os : List Outcome) (k : Kind) → is_temporal o ≡ false → makes_array o ≡ false → AllKnown xs os → kind_given o xs ≡ Ok k →
+pub applied_fits : (o : Operator) (place : Place) (xs : List Operand) (os : List Evaluation) (k : Kind) → is_temporal o ≡ false → makes_array o ≡ false → AllKnown xs os → kind_given o xs ≡ Ok k →
     Fits k (applied o place os)
 applied_fits (operator.Choice rule) place xs os k t n h e = turns_fit k rule place xs os h (chosen_turns xs k e) (all_branches xs k e)
 applied_fits operator.Members place xs os k t n h e = members_fit xs os k h e

@@ -15,7 +15,7 @@ use Rattle.smv_declared.specs.Constants.{constant_of, constants_of}
 use Rattle.smv_declared.proofs.Found.{constants_same, found_at, last_mapped}
 use Rattle.smv_kinds.specs.declared.kind.Operand.{Operand}
 use Rattle.smv_slots.specs.declared.slot.Slot.{Slot}
-use Rattle.smv_resolve.specs.declared.node.Node.{Node}
+use Rattle.smv_resolve.specs.declared.node.ExprNode.{ExprNode}
 use Rattle.smv_resolve.specs.Resolved.{Resolved, last_of, operands_of, part_at, parts_of, resolved_by}
 use Rattle.smv_resolve.proofs.Parts.{parts_of-next, parts_of-take}
 use Rattle.smv_verdicts.specs.Verdicts.{or_else}
@@ -110,7 +110,7 @@ pub none_told : (slots : List Slot) (types : List ValueType) → Tells slots typ
 unfolding parts_of
 none_told slots types = record { kinds = refl; judged = record { long = refl; each = λ k. of_nothing slots types } }
 
-pub one_more : (slots : List Slot) (types : List ValueType) (nodes : List Node) (i : ℕ) (d : Node) (operands : List Operand) (table : List Judged) (x : Operand) (j : Judged) → i < length nodes →
+pub one_more : (slots : List Slot) (types : List ValueType) (nodes : List ExprNode) (i : ℕ) (d : ExprNode) (operands : List Operand) (table : List Judged) (x : Operand) (j : Judged) → i < length nodes →
     Tells slots types (parts_of (take i nodes)) operands table
     → ((parts : List Resolved) → operands ≡ map (told slots types) parts → x ≡ told slots types (resolved_by parts (slice_index_or nodes i d)))
     → (Tells slots types (parts_of (take i nodes)) operands table → IsJudged slots types (resolved_by (parts_of (take i nodes)) (slice_index_or nodes i d)) j)
@@ -133,7 +133,7 @@ one_more slots types nodes i d operands table x j within h of_kind more =
     })
 
 -- the constants of all nodes are those of the nodes before one
-pub constants_before : (nodes : List Node) (i : ℕ) (all before : List Constant) → i ≤ length nodes → all ≡ map constant_of (parts_of nodes) → before ≡ take i all →
+pub constants_before : (nodes : List ExprNode) (i : ℕ) (all before : List Constant) → i ≤ length nodes → all ≡ map constant_of (parts_of nodes) → before ≡ take i all →
     before ≡ map constant_of (parts_of (take i nodes))
 constants_before nodes i all before within are is = is ∙ ap (take i) are ∙ take-map constant_of i (parts_of nodes) ∙ ap (map constant_of) (parts_of-take nodes i within)
 

@@ -40,8 +40,8 @@ use Rattle.smv_declared.specs.Constants.{constants_of}
 use Rattle.smv_declared.specs.Refusals.{declared_refusal}
 use Rattle.smv_slots.specs.Slots.{types_of}
 use Rattle.smv_slots.proofs.Kept.{types_kept}
-use Rattle.smv_meaning.specs.declared.outcome.Outcome.{Outcome}
-use Rattle.smv_meaning.specs.declared.outcome.Outcome.TheVariants.{Fault, Nothing, Values}
+use Rattle.smv_meaning.specs.declared.outcome.Evaluation.{Evaluation}
+use Rattle.smv_meaning.specs.declared.outcome.Evaluation.TheVariants.{Fault, Nothing, Values}
 use Rattle.smv_meaning.specs.Outcomes.{applied, one, valued}
 use Rattle.smv_meaning.specs.Values.{outcome, outcome_in, outcomes}
 use Rattle.smv_meaning.specs.Formulas.{are_known_formulas, is_known, is_known_formula, is_over_formulas, is_propositional, is_temporal}
@@ -123,17 +123,17 @@ constant_told (value.Word s w a) z e = none_some z e
 one_fits : (k : Kind) (v : Value) → is_of_kind k v ≡ true → Fits k (one v)
 one_fits k v e = (rw e refl, λ s. (v, refl))
 
-value_known : (x : Operand) (o : Outcome) → has_values x.kind ≡ true → Known x o → Has x o
+value_known : (x : Operand) (o : Evaluation) → has_values x.kind ≡ true → Known x o → Has x o
 value_known x o v (inl h) = h
 value_known x o v (inr n) = absurd (true_false (has_values x.kind) v n.0)
 
-fits_given : (k : Kind) (o : Outcome) → Fits k o → is_given o ≡ true
+fits_given : (k : Kind) (o : Evaluation) → Fits k o → is_given o ≡ true
 fits_given k (Fault rule place) h = refl
 fits_given k Nothing h = absurd h
 fits_given k (Values vs) h = refl
 
 -- TRUE, FALSE or a fault
-boolean_known : (k : Kind) (o : Outcome) → is_boolean k ≡ true → Fits k o → is_known o ≡ true
+boolean_known : (k : Kind) (o : Evaluation) → is_boolean k ≡ true → Fits k o → is_known o ≡ true
 boolean_known k (Fault rule place) b h = refl
 boolean_known k Nothing b h = absurd h
 boolean_known kind.Boolean (Values vs) b h =
@@ -149,7 +149,7 @@ boolean_valued : (k : Kind) → is_boolean k ≡ true → has_values k ≡ true
 boolean_valued kind.Boolean e = refl
 boolean_valued k e = absurd (false≢true e)
 
-operand_known : (x : Operand) (o : Outcome) → is_boolean x.kind ≡ true → Known x o → is_known o ≡ true
+operand_known : (x : Operand) (o : Evaluation) → is_boolean x.kind ≡ true → Known x o → is_known o ≡ true
 operand_known x o b h = boolean_known x.kind o b ((value_known x o (boolean_valued x.kind b) h).fits)
 
 -- operators over formulas
@@ -280,7 +280,7 @@ module _ (p : Program) (typed : list_all is_type (types_of p) ≡ true) where
   not_temporal : (c : Context) (place : Place) (o : Operator) → c.temporal ≡ false → temporal_here c place o ≡ None → is_temporal o ≡ false
   not_temporal c place o plain free = untimely c.temporal (is_temporal o) _ plain free
 
-  next_known : (place : Place) (x : Operand) (o : Outcome) → next_broken place (next_kind x.kind) ≡ None → Known x o → Known (of_kind (kind_in (next_kind x.kind))) o
+  next_known : (place : Place) (x : Operand) (o : Evaluation) → next_broken place (next_kind x.kind) ≡ None → Known x o → Known (of_kind (kind_in (next_kind x.kind))) o
   next_known place x o free h =
       let g = next_given place (next_kind x.kind) free in
       let has = value_known x o (next_valued x.kind g.0 g.1) h in
@@ -288,7 +288,7 @@ module _ (p : Program) (typed : list_all is_type (types_of p) ≡ true) where
       let P : Kind → Type 0 = λ k. Fits k o in
       inl (record { fits = subst P same has.fits; constant = λ z e. none_some z e })
 
-  apply_known : (c : Context) (place : Place) (o : Operator) (cs : Option (ℤ × ℤ)) (xs : List Operand) (os : List Outcome) → is_temporal o ≡ false → kinds_broken place o cs (kind_in_context c.set o xs) ≡ None →
+  apply_known : (c : Context) (place : Place) (o : Operator) (cs : Option (ℤ × ℤ)) (xs : List Operand) (os : List Evaluation) → is_temporal o ≡ false → kinds_broken place o cs (kind_in_context c.set o xs) ≡ None →
       AllKnown xs os →
       Known (record { kind = kind_in (kind_given o xs); constant = constant_given o xs }) (applied o place os)
   apply_known c place o cs xs os plain free h = elim (cases_Bool (makes_array o)) [

@@ -17,7 +17,7 @@ use crate::notes::{first, timed};
 use crate::told::told_at;
 use plain_text::Text;
 use smv_kinds::{Kind, takes};
-use smv_resolve::{Item, ItemKind, Node};
+use smv_resolve::{ExprNode, Item, ItemKind};
 use smv_slots::Slot;
 use smv_tree::{AssignmentKind, ConstraintKind, Place, Refusal, Rule, SpecificationKind, TextStop};
 use std::alloc::{AllocError, Global};
@@ -36,7 +36,7 @@ pub(crate) fn misused(
     alloc: Global,
     slots: &[Slot],
     types: &[ValueType],
-    nodes: &[Node],
+    nodes: &[ExprNode],
     table: &Table<'_>,
     items: &[Item],
 ) -> Result<(), TextStop>
@@ -54,7 +54,7 @@ pub(crate) fn misused(
 fn item_violation<'c>(
     _slots: &[Slot],
     _types: &[ValueType],
-    _nodes: &[Node],
+    _nodes: &[ExprNode],
     table: &Table<'c>,
     item: &Item,
 ) -> Option<TimedViolation<'c>>

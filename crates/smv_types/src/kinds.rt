@@ -33,7 +33,7 @@ use crate::told::{kinds_of, told, told_at};
 use smv_declared::{Constant, integer_at};
 use smv_kinds::{Kind, KindRule, Operand, kind_in_context, next_kind};
 use smv_meaning::is_temporal;
-use smv_resolve::{Naming, Node, first as before, last};
+use smv_resolve::{ExprNode, Naming, first as before, last};
 use smv_slots::Slot;
 use smv_tree::{Place, Rule, VariableKind};
 use smv_value::{FaultRule, Operator, Value, is_value};
@@ -54,7 +54,7 @@ pub(crate) fn judge_nodes<'c>(
     alloc: Global,
     slots: &[Slot],
     types: &[ValueType],
-    nodes: &[Node],
+    nodes: &[ExprNode],
     constants: &'c [Constant],
 ) -> Result<Table<'c>, AllocError>
     requires { constants.now ≡ map constant_of (parts_of nodes.now) }
@@ -83,7 +83,7 @@ pub(crate) fn judge_nodes<'c>(
 fn judge<'c>(
     alloc: Global,
     slots: &[Slot],
-    node: Node,
+    node: ExprNode,
     constants: &'c [Constant],
     operands: &[Operand],
     table: &JudgedList<'c>,
@@ -92,19 +92,19 @@ fn judge<'c>(
         → IsJudged slots.now types (resolved_by parts node) j) }
 {
     match node {
-        Node::Constant(place, value) => Ok(judge_constant(place, value)),
-        Node::Slot(place, n) => Ok(judge_slot(slots, place, n)),
-        Node::Whole(place, _) => Ok(judge_whole(place)),
-        Node::Named(place, naming, a) => Ok(judge_named(
+        ExprNode::Constant(place, value) => Ok(judge_constant(place, value)),
+        ExprNode::Slot(place, n) => Ok(judge_slot(slots, place, n)),
+        ExprNode::Whole(place, _) => Ok(judge_whole(place)),
+        ExprNode::Named(place, naming, a) => Ok(judge_named(
             slots,
             place,
             naming,
             table.at(a),
             told_at(operands, a).kind,
         )),
-        Node::Next(place, a) => Ok(judge_next(place, table.at(a), told_at(operands, a).kind)),
-        Node::Operand(a) => Ok(table.at(a)),
-        Node::Apply(place, operator, count) => {
+        ExprNode::Next(place, a) => Ok(judge_next(place, table.at(a), told_at(operands, a).kind)),
+        ExprNode::Operand(a) => Ok(table.at(a)),
+        ExprNode::Apply(place, operator, count) => {
             let noted = table.last(alloc, count)?;
             Ok(judge_apply(
                 place,
@@ -114,7 +114,7 @@ fn judge<'c>(
                 noted.as_slice(),
             ))
         }
-        Node::Link(place, operator, a, b) => Ok(judge_apply(
+        ExprNode::Link(place, operator, a, b) => Ok(judge_apply(
             place,
             operator,
             bounds_at(constants, a, b),

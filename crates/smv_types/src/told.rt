@@ -14,7 +14,7 @@ use smv_kinds::{
     Discrete, Interval, Kind, KindRule, Operand, constant_given, kind_given, kind_of_value,
     next_kind,
 };
-use smv_resolve::{Node, last};
+use smv_resolve::{ExprNode, last};
 use smv_slots::Slot;
 use smv_value::{Operator, Value};
 use std::alloc::{AllocError, Global};
@@ -79,18 +79,18 @@ fn is_symbol(element: Element) -> bool
 }
 
 // What is told of a node, over what is told of those before it.
-pub(crate) fn told(slots: &[Slot], kinds: &[Kind], node: Node, operands: &[Operand]) -> Operand
+pub(crate) fn told(slots: &[Slot], kinds: &[Kind], node: ExprNode, operands: &[Operand]) -> Operand
     ensures { (types : List ValueType) (parts : List Resolved) → kinds.now ≡ map kind_of_type types → operands.now ≡ map (told slots.now types) parts → result ≡ told slots.now types (resolved_by parts node) }
 {
     match node {
-        Node::Constant(_, value) => told_constant(value),
-        Node::Slot(_, n) => of_kind(kind_of_slot(slots, kinds, n)),
-        Node::Whole(..) => of_kind(Kind::Instance),
-        Node::Named(_, _, a) => told_at(operands, a),
-        Node::Next(_, a) => of_kind(kind_in(next_kind(told_at(operands, a).kind))),
-        Node::Operand(a) => told_at(operands, a),
-        Node::Apply(_, operator, count) => told_apply(operator, last(operands, count)),
-        Node::Link(_, operator, a, b) => {
+        ExprNode::Constant(_, value) => told_constant(value),
+        ExprNode::Slot(_, n) => of_kind(kind_of_slot(slots, kinds, n)),
+        ExprNode::Whole(..) => of_kind(Kind::Instance),
+        ExprNode::Named(_, _, a) => told_at(operands, a),
+        ExprNode::Next(_, a) => of_kind(kind_in(next_kind(told_at(operands, a).kind))),
+        ExprNode::Operand(a) => told_at(operands, a),
+        ExprNode::Apply(_, operator, count) => told_apply(operator, last(operands, count)),
+        ExprNode::Link(_, operator, a, b) => {
             told_apply(operator, &[told_at(operands, a), told_at(operands, b)])
         }
     }

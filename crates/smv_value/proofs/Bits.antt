@@ -5,7 +5,7 @@ use Rattle.std.proofs.Math.Pow.{mod-mod-pow}
 use Rattle.std.proofs.lemmas.Int.{ints, int_rem_euclid_is}
 use Rattle.std.proofs.lemmas.Nat.{pow-add, pow_pos}
 use Rattle.std.proofs.lemmas.Nat.Bits.{ones_shr}
-use Rattle.smv_value.specs.Results.{counted, is_width, is_word, low_bits}
+use Rattle.smv_value.specs.Results.{number_of_word, is_width, is_word, low_bits}
 
 pub width_within : (w : ℕ) → IsTrue (is_width w) → (1 ≤ w) × (w ≤ 128)
 width_within w h = grind arith
@@ -63,7 +63,7 @@ counts_if : (p bits : ℕ) (b : Bool) → bits < p → Counts p bits (cond b (ne
 counts_if p bits true l = less (p - bits) refl (omega arith)
 counts_if p bits false l = whole refl
 
-counts : (s : Bool) (w bits : ℕ) → bits < 2 ^ w → Counts (2 ^ w) bits (counted s w bits)
+counts : (s : Bool) (w bits : ℕ) → bits < 2 ^ w → Counts (2 ^ w) bits (number_of_word s w bits)
 counts false w bits l = whole refl
 counts true w bits l = counts_if (2 ^ w) bits (nat_le (2 ^ w) (2 * bits)) l
 
@@ -138,30 +138,30 @@ bits_within w bits h =
     omega (arith, is.1)
 
 pub low_added : (s : Bool) (w a b : ℕ) → IsTrue (is_word w a) → IsTrue (is_word w b) →
-    (a + b) % 2 ^ 128 % 2 ^ w ≡ low_bits w (counted s w a +ℤ counted s w b)
+    (a + b) % 2 ^ 128 % 2 ^ w ≡ low_bits w (number_of_word s w a +ℤ number_of_word s w b)
 low_added s w a b h l =
-    low_bits_near w (a + b) (counted s w a +ℤ counted s w b) (word_within w a h).0
-    (added (2 ^ w) a b (counted s w a) (counted s w b) (counts s w a (word_within w a h).1) (counts s w b (word_within w b l).1))
+    low_bits_near w (a + b) (number_of_word s w a +ℤ number_of_word s w b) (word_within w a h).0
+    (added (2 ^ w) a b (number_of_word s w a) (number_of_word s w b) (counts s w a (word_within w a h).1) (counts s w b (word_within w b l).1))
 
 pub low_subtracted : (s : Bool) (w a b : ℕ) → IsTrue (is_word w a) → IsTrue (is_word w b) →
-    (a + (2 ^ 128 - b)) % 2 ^ 128 % 2 ^ w ≡ low_bits w (counted s w a -ℤ counted s w b)
+    (a + (2 ^ 128 - b)) % 2 ^ 128 % 2 ^ w ≡ low_bits w (number_of_word s w a -ℤ number_of_word s w b)
 low_subtracted s w a b h l =
-    low_bits_near w (a + (2 ^ 128 - b)) (counted s w a -ℤ counted s w b) (word_within w a h).0
-    (subtracted (2 ^ w) a b (2 ^ 128) (2 ^ (128 - w)) (counted s w a) (counted s w b) (times_width w (word_within w a h).0) (bits_within w b l)
+    low_bits_near w (a + (2 ^ 128 - b)) (number_of_word s w a -ℤ number_of_word s w b) (word_within w a h).0
+    (subtracted (2 ^ w) a b (2 ^ 128) (2 ^ (128 - w)) (number_of_word s w a) (number_of_word s w b) (times_width w (word_within w a h).0) (bits_within w b l)
     (counts s w a (word_within w a h).1) (counts s w b (word_within w b l).1))
 
-pub low_turned : (s : Bool) (w b : ℕ) → IsTrue (is_word w b) → (0 + (2 ^ 128 - b)) % 2 ^ 128 % 2 ^ w ≡ low_bits w (neg_ℤ (counted s w b))
+pub low_turned : (s : Bool) (w b : ℕ) → IsTrue (is_word w b) → (0 + (2 ^ 128 - b)) % 2 ^ 128 % 2 ^ w ≡ low_bits w (neg_ℤ (number_of_word s w b))
 low_turned s w b l =
-    low_bits_near w (0 + (2 ^ 128 - b)) (neg_ℤ (counted s w b)) (word_within w b l).0
-    (turned (2 ^ w) b (2 ^ 128) (2 ^ (128 - w)) (counted s w b) (times_width w (word_within w b l).0) (bits_within w b l) (counts s w b (word_within w b l).1))
+    low_bits_near w (0 + (2 ^ 128 - b)) (neg_ℤ (number_of_word s w b)) (word_within w b l).0
+    (turned (2 ^ w) b (2 ^ 128) (2 ^ (128 - w)) (number_of_word s w b) (times_width w (word_within w b l).0) (bits_within w b l) (counts s w b (word_within w b l).1))
 
 pub low_multiplied : (s : Bool) (w a b : ℕ) → IsTrue (is_word w a) → IsTrue (is_word w b) →
-    (a * b) % 2 ^ 128 % 2 ^ w ≡ low_bits w (counted s w a *ℤ counted s w b)
+    (a * b) % 2 ^ 128 % 2 ^ w ≡ low_bits w (number_of_word s w a *ℤ number_of_word s w b)
 low_multiplied s w a b h l =
-    low_bits_near w (a * b) (counted s w a *ℤ counted s w b) (word_within w a h).0
-    (multiplied (2 ^ w) a b (counted s w a) (counted s w b) (counts s w a (word_within w a h).1) (counts s w b (word_within w b l).1))
+    low_bits_near w (a * b) (number_of_word s w a *ℤ number_of_word s w b) (word_within w a h).0
+    (multiplied (2 ^ w) a b (number_of_word s w a) (number_of_word s w b) (counts s w a (word_within w a h).1) (counts s w b (word_within w b l).1))
 
-pub low_shifted : (s : Bool) (w a n : ℕ) → IsTrue (is_word w a) → (a * 2 ^ n) % 2 ^ 128 % 2 ^ w ≡ low_bits w (counted s w a *ℤ pos (2 ^ n))
+pub low_shifted : (s : Bool) (w a n : ℕ) → IsTrue (is_word w a) → (a * 2 ^ n) % 2 ^ 128 % 2 ^ w ≡ low_bits w (number_of_word s w a *ℤ pos (2 ^ n))
 low_shifted s w a n h =
-    low_bits_near w (a * 2 ^ n) (counted s w a *ℤ pos (2 ^ n)) (word_within w a h).0
-    (shifted_up (2 ^ w) a (2 ^ n) (counted s w a) (counts s w a (word_within w a h).1))
+    low_bits_near w (a * 2 ^ n) (number_of_word s w a *ℤ pos (2 ^ n)) (word_within w a h).0
+    (shifted_up (2 ^ w) a (2 ^ n) (number_of_word s w a) (counts s w a (word_within w a h).1))

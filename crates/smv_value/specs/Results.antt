@@ -44,9 +44,9 @@ integer z = if is_int z then Some (value.Int z) else None
 -- words
 
 -- what a word counts: its bits as a number, and 2 ^ width less where it is signed and its highest bit is 1
-abbrev pub counted : Bool → ℕ → ℕ → ℤ
-counted false width bits = pos bits
-counted true width bits = if nat_le (2 ^ width) (2 * bits) then neg_ℤ (pos (2 ^ width - bits)) else pos bits
+abbrev pub number_of_word : Bool → ℕ → ℕ → ℤ
+number_of_word false width bits = pos bits
+number_of_word true width bits = if nat_le (2 ^ width) (2 * bits) then neg_ℤ (pos (2 ^ width - bits)) else pos bits
 
 -- the low bits of a number
 abbrev pub low_bits : ℕ → ℤ → ℕ
@@ -130,20 +130,20 @@ logical o a b = None
 abbrev pub ordered : Order → Value → Value → Option Value
 ordered o (value.Int a) (value.Int b) = Some (value.Bool (order_truth o a b))
 ordered o (value.Word s w a) (value.Word t v b) =
-    if alike s w t v then Some (value.Bool (order_truth o (counted s w a) (counted s w b))) else None
+    if alike s w t v then Some (value.Bool (order_truth o (number_of_word s w a) (number_of_word s w b))) else None
 ordered o a b = None
 
 -- An operator on numbers: of integers it gives an integer, of words the low bits.
 
 abbrev pub of_number : (ℤ → ℤ) → Value → Option Value
 of_number f (value.Int a) = integer (f a)
-of_number f (value.Word s w a) = Some (word s w (f (counted s w a)))
+of_number f (value.Word s w a) = Some (word s w (f (number_of_word s w a)))
 of_number f a = None
 
 abbrev pub of_numbers : (ℤ → ℤ → ℤ) → Value → Value → Option Value
 of_numbers f (value.Int a) (value.Int b) = integer (f a b)
 of_numbers f (value.Word s w a) (value.Word t v b) =
-    if alike s w t v then Some (word s w (f (counted s w a) (counted s w b))) else None
+    if alike s w t v then Some (word s w (f (number_of_word s w a) (number_of_word s w b))) else None
 of_numbers f a b = None
 
 abbrev pub of_integer : (ℤ → ℤ) → Value → Option Value
@@ -162,7 +162,7 @@ amount other = None
 
 abbrev pub shifted_by : Shift → Bool → ℕ → ℕ → Option ℤ → Option Value
 shifted_by o s w a None = None
-shifted_by o s w a (Some n) = Some (word s w (moved o (counted s w a) (natural n)))
+shifted_by o s w a (Some n) = Some (word s w (moved o (number_of_word s w a) (natural n)))
 
 abbrev pub shifted : Shift → Value → Value → Option Value
 shifted o (value.Word s w a) b = shifted_by o s w a (amount b)
@@ -183,11 +183,11 @@ selected (value.Word s w a) (value.Int h) (value.Int l) = bits_from w a h l
 selected a b c = None
 
 abbrev pub extended : Value → Value → Option Value
-extended (value.Word s w a) (value.Int n) = word_of s (w + natural n) (counted s w a)
+extended (value.Word s w a) (value.Int n) = word_of s (w + natural n) (number_of_word s w a)
 extended a b = None
 
 abbrev pub resized : Value → Value → Option Value
-resized (value.Word s w a) (value.Int n) = word_of s (natural n) (counted s w a)
+resized (value.Word s w a) (value.Int n) = word_of s (natural n) (number_of_word s w a)
 resized a b = None
 
 abbrev pub with_sign : Bool → Value → Option Value

@@ -3,10 +3,10 @@
 ghost use Rattle.std.specs.Prelude.{◌≡◌, Bool, IsTrue, false, pos, nat_lt, neg_ℤ, unsigned_abs, Some};
 ghost use Rattle.std.specs.Int.{int_max, int_min};
 ghost use Rattle.smv_value.specs.declared.value.FaultRule.TheVariants.{DivisorZero, ShiftTooFar};
-ghost use Rattle.smv_value.specs.Results.{alike, constant_word, counted, divided, extended, fault_if, inverted, is_too_far, is_true, is_value, is_word, is_zero, joined, logical, logic_truth, moved, of_integer, of_integers, of_number, of_numbers, ordered, resized, same, selected, shifted, size, sum_of, to_boolean, to_word, unless, word, with_sign};
+ghost use Rattle.smv_value.specs.Results.{alike, constant_word, number_of_word, divided, extended, fault_if, inverted, is_too_far, is_true, is_value, is_word, is_zero, joined, logical, logic_truth, moved, of_integer, of_integers, of_number, of_numbers, ordered, resized, same, selected, shifted, size, sum_of, to_boolean, to_word, unless, word, with_sign};
 
 use crate::integers::{integer, is_int, natural};
-use crate::whole::{all_ones, counted, whole_of};
+use crate::whole::{all_ones, number_of_word, whole_of};
 use crate::{Arithmetic, Division, FaultRule, Logic, Order, Shift, Value, integers, whole, words};
 
 /// Whether the numbers in it are those of a value. A word has from 1 to 128 bits, and none is set past its width.
@@ -148,8 +148,8 @@ pub fn ordered(o: Order, a: Value, b: Value) -> Option<Value>
                 bits: other_bits,
             },
         ) => if alike(signed, width, other_signed, other_width) {
-            let left = counted(signed, width, bits);
-            let right = counted(signed, width, other_bits);
+            let left = number_of_word(signed, width, bits);
+            let right = number_of_word(signed, width, other_bits);
             Some(Value::Bool(whole::stands(o, left, right)))
         } else {
             None
@@ -348,7 +348,7 @@ fn moved_by(
     by: u128,
 ) -> Result<Option<Value>, FaultRule>
     requires { IsTrue (is_word width bits) }
-    ensures { result ≡ unless (fault_if (nat_lt width by) ShiftTooFar) (Some (word signed width (moved o (counted signed width bits) by))) }
+    ensures { result ≡ unless (fault_if (nat_lt width by) ShiftTooFar) (Some (word signed width (moved o (number_of_word signed width bits) by))) }
 {
     if u128::from(width) < by {
         Err(FaultRule::ShiftTooFar)
@@ -406,7 +406,7 @@ pub fn extended(a: Value, by: Value) -> Option<Value>
         ) => words::word_of(
             signed,
             u64::from(width) + natural(by),
-            counted(signed, width, bits),
+            number_of_word(signed, width, bits),
         ),
         _ => None,
     }
@@ -425,7 +425,7 @@ pub fn resized(a: Value, to: Value) -> Option<Value>
                 bits,
             },
             Value::Int(to),
-        ) => words::word_of(signed, natural(to), counted(signed, width, bits)),
+        ) => words::word_of(signed, natural(to), number_of_word(signed, width, bits)),
         _ => None,
     }
 }

@@ -2,7 +2,7 @@
 
 ghost use Rattle.std.specs.Prelude.{◌≡◌, ◌^◌, ◌<◌, ◌≤◌, ◌*◌, ◌/◌, ◌%◌, ◌-◌, IsTrue, int_lt, int_div, int_rem};
 ghost use Rattle.std.specs.Int.{int_shr};
-ghost use Rattle.smv_value.specs.Results.{counted, is_width, is_word, low_bits, order_truth};
+ghost use Rattle.smv_value.specs.Results.{number_of_word, is_width, is_word, low_bits, order_truth};
 ghost use Rattle.smv_value.specs.Wholes.{number, IsProper};
 
 use crate::Order;
@@ -31,9 +31,9 @@ pub fn low(width: u32, n: u128) -> u128
 }
 
 // What a word counts.
-pub fn counted(signed: bool, width: u32, bits: u128) -> Whole
+pub fn number_of_word(signed: bool, width: u32, bits: u128) -> Whole
     requires { IsTrue (is_word width bits) }
-    ensures value { number result ≡ counted signed width bits }
+    ensures value { number result ≡ number_of_word signed width bits }
     ensures proper { IsProper result }
 {
     let all = all_ones(width);

@@ -1,11 +1,12 @@
 //! Operators on words.
 
 ghost use Rattle.std.specs.Prelude.{◌≡◌, ◌+◌, ◌-◌, ◌*◌, ◌^◌, ◌<◌, ◌≤◌, Bool, IsTrue, false, neg_ℤ, pos};
-ghost use Rattle.smv_value.specs.Results.{bits_from, counted, divided, is_width, is_word, logic_bits, low_bits, moved, sum_of, word, word_of};
+ghost use Rattle.smv_value.specs.Results.{bits_from, number_of_word, divided, is_width, is_word, logic_bits, low_bits, moved, sum_of, word, word_of};
 ghost use Rattle.smv_value.specs.Wholes.{number};
 
 use crate::whole::{
-    Whole, all_ones, counted, halved, low, low_of, quotient, remainder, shifted_left, shifted_right,
+    Whole, all_ones, halved, low, low_of, number_of_word, quotient, remainder, shifted_left,
+    shifted_right,
 };
 use crate::{Arithmetic, Division, Logic, Shift, Value};
 
@@ -29,7 +30,7 @@ pub fn logic_bits(o: Logic, width: u32, a: u128, b: u128) -> u128
 pub fn sum_bits(o: Arithmetic, width: u32, a: u128, b: u128) -> u128
     requires left { IsTrue (is_word width a) }
     requires right { IsTrue (is_word width b) }
-    ensures { (s : Bool) → result ≡ low_bits width (sum_of o (counted s width a) (counted s width b)) }
+    ensures { (s : Bool) → result ≡ low_bits width (sum_of o (number_of_word s width a) (number_of_word s width b)) }
 {
     match o {
         Arithmetic::Add => low(width, a.wrapping_add(b)),
@@ -41,7 +42,7 @@ pub fn sum_bits(o: Arithmetic, width: u32, a: u128, b: u128) -> u128
 // The low bits of what is left of nothing.
 pub fn negative_bits(width: u32, a: u128) -> u128
     requires { IsTrue (is_word width a) }
-    ensures { (s : Bool) → result ≡ low_bits width (neg_ℤ (counted s width a)) }
+    ensures { (s : Bool) → result ≡ low_bits width (neg_ℤ (number_of_word s width a)) }
 {
     low(width, 0u128.wrapping_sub(a))
 }
@@ -51,9 +52,12 @@ pub fn division_bits(o: Division, signed: bool, width: u32, a: u128, b: u128) ->
     requires left { IsTrue (is_word width a) }
     requires right { IsTrue (is_word width b) }
     requires some { 0 < b }
-    ensures { result ≡ low_bits width (divided o (counted signed width a) (counted signed width b)) }
+    ensures { result ≡ low_bits width (divided o (number_of_word signed width a) (number_of_word signed width b)) }
 {
-    let (a, b) = (counted(signed, width, a), counted(signed, width, b));
+    let (a, b) = (
+        number_of_word(signed, width, a),
+        number_of_word(signed, width, b),
+    );
     match o {
         Division::Quotient => low_of(width, quotient(a, b)),
         Division::Remainder => low_of(width, remainder(a, b)),
@@ -64,7 +68,7 @@ pub fn division_bits(o: Division, signed: bool, width: u32, a: u128, b: u128) ->
 pub fn moved(o: Shift, signed: bool, width: u32, bits: u128, by: u32) -> Value
     requires fits { IsTrue (is_word width bits) }
     requires near { by ≤ 128 }
-    ensures { result ≡ word signed width (moved o (counted signed width bits) by) }
+    ensures { result ≡ word signed width (moved o (number_of_word signed width bits) by) }
 {
     match o {
         Shift::Left => Value::Word {
@@ -75,7 +79,7 @@ pub fn moved(o: Shift, signed: bool, width: u32, bits: u128, by: u32) -> Value
         Shift::Right => Value::Word {
             signed,
             width,
-            bits: low_of(width, halved(counted(signed, width, bits), by)),
+            bits: low_of(width, halved(number_of_word(signed, width, bits), by)),
         },
     }
 }

@@ -6,7 +6,7 @@ ghost use Rattle.cert_core.specs.declared.form.Form.TheVariants.{Plain, Hinted a
 ghost use Rattle.cert_core.specs.Blocks.{HasPlace, LogFits};
 
 use crate::letters::literals;
-use cert_check::{Verdict, check};
+use cert_check::{CertVerdict, check};
 use cert_core::{Certificate, Form, MAX_VARS, Part};
 use clause_core::{Clauses, Lit, System, is_within};
 use hinted_log::Hinted;
@@ -121,21 +121,21 @@ struct Row(
     &'static [u8],
     &'static [u8],
     &'static [u8],
-    Verdict,
+    CertVerdict,
 );
 
-const FIRST_FAILS: Verdict = Verdict::No {
+const FIRST_FAILS: CertVerdict = CertVerdict::No {
     part: Part::First(0),
 };
 
-const KEPT_FAILS: Verdict = Verdict::No {
+const KEPT_FAILS: CertVerdict = CertVerdict::No {
     part: Part::Kept(0),
 };
 
-const SAFE_FAILS: Verdict = Verdict::No { part: Part::Safe };
+const SAFE_FAILS: CertVerdict = CertVerdict::No { part: Part::Safe };
 
 const ROWS: [Row; 13] = [
-    Row(Form::Hinted, b"A", b"10", b"201", b"01", Verdict::Yes),
+    Row(Form::Hinted, b"A", b"10", b"201", b"01", CertVerdict::Yes),
     Row(Form::Hinted, b"A", b"0", b"201", b"01", FIRST_FAILS),
     Row(Form::Hinted, b"A", b"-", b"201", b"01", FIRST_FAILS),
     Row(Form::Hinted, b"A", b"10", b"20", b"01", KEPT_FAILS),
@@ -143,7 +143,7 @@ const ROWS: [Row; 13] = [
     Row(Form::Hinted, b"A", b"10", b"201", b"0", SAFE_FAILS),
     Row(Form::Hinted, b"A", b"10", b"201", b"-", SAFE_FAILS),
     Row(Form::Hinted, b"B", b"10", b"201", b"01", FIRST_FAILS),
-    Row(Form::Plain, b"A", b"", b"", b"", Verdict::Yes),
+    Row(Form::Plain, b"A", b"", b"", b"", CertVerdict::Yes),
     Row(Form::Plain, b"a", b"", b"", b"", FIRST_FAILS),
     Row(Form::Plain, b"A", b"", b"-", b"", KEPT_FAILS),
     Row(Form::Plain, b"A", b"", b"", b"-", SAFE_FAILS),

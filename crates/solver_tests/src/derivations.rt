@@ -7,7 +7,7 @@ ghost use Rattle.clause_core.specs.Literals.{Within};
 use crate::letters::{clauses_of, literal, literals};
 use clause_core::{Clauses, Lit, is_within};
 use hinted_log::Hinted;
-use rup_check::{Checker, Hints, Verdict};
+use rup_check::{Checker, Hints, LogVerdict};
 use std::alloc::{AllocError, Global};
 use std::test::Fail;
 
@@ -24,25 +24,25 @@ fn hints_of(alloc: Global, text: &[u8]) -> Result<Vec<usize>, AllocError> {
 const ALL_SIGNS: &'static [u8] = b"ab.aB.Ab.AB.";
 
 // A log, and what is said of it.
-struct Checked(&'static [u8], Verdict);
+struct Checked(&'static [u8], LogVerdict);
 
 // A right log; one without its last step; one that looks ahead; one that does not end empty; two with a literal past
 // the variables; and none.
 const CHECKED: [Checked; 7] = [
-    Checked(b"a..", Verdict::Yes),
-    Checked(b"a.", Verdict::No { step: 1 }),
-    Checked(b".a.", Verdict::No { step: 0 }),
-    Checked(b"a.a.", Verdict::No { step: 2 }),
-    Checked(b"c..", Verdict::No { step: 0 }),
-    Checked(b"a.c.", Verdict::No { step: 1 }),
-    Checked(b"", Verdict::No { step: 0 }),
+    Checked(b"a..", LogVerdict::Yes),
+    Checked(b"a.", LogVerdict::No { step: 1 }),
+    Checked(b".a.", LogVerdict::No { step: 0 }),
+    Checked(b"a.a.", LogVerdict::No { step: 2 }),
+    Checked(b"c..", LogVerdict::No { step: 0 }),
+    Checked(b"a.c.", LogVerdict::No { step: 1 }),
+    Checked(b"", LogVerdict::No { step: 0 }),
 ];
 
 fn says(
     alloc: Global,
     clauses: &Clauses,
     log: &Clauses,
-    want: Verdict,
+    want: LogVerdict,
 ) -> Result<bool, AllocError> {
     if !clauses.is_within(2) {
         return Ok(false);
@@ -83,21 +83,21 @@ fn logs_right_and_broken(rt: HostRuntime) -> Result<(), Fail> {
 }
 
 // The hints of the steps `a` and none, and what is said of them.
-struct Judged(&'static [u8], &'static [u8], Verdict);
+struct Judged(&'static [u8], &'static [u8], LogVerdict);
 
 // Right hints, in two orders; too few; one too many; the same twice; none; a later clause; and too few, none and a
 // later clause for the last step.
 const JUDGED: [Judged; 10] = [
-    Judged(b"01", b"423", Verdict::Yes),
-    Judged(b"10", b"432", Verdict::Yes),
-    Judged(b"0", b"423", Verdict::No { step: 0 }),
-    Judged(b"012", b"423", Verdict::No { step: 0 }),
-    Judged(b"00", b"423", Verdict::No { step: 0 }),
-    Judged(b"", b"423", Verdict::No { step: 0 }),
-    Judged(b"4", b"423", Verdict::No { step: 0 }),
-    Judged(b"01", b"23", Verdict::No { step: 1 }),
-    Judged(b"01", b"", Verdict::No { step: 1 }),
-    Judged(b"01", b"5", Verdict::No { step: 1 }),
+    Judged(b"01", b"423", LogVerdict::Yes),
+    Judged(b"10", b"432", LogVerdict::Yes),
+    Judged(b"0", b"423", LogVerdict::No { step: 0 }),
+    Judged(b"012", b"423", LogVerdict::No { step: 0 }),
+    Judged(b"00", b"423", LogVerdict::No { step: 0 }),
+    Judged(b"", b"423", LogVerdict::No { step: 0 }),
+    Judged(b"4", b"423", LogVerdict::No { step: 0 }),
+    Judged(b"01", b"23", LogVerdict::No { step: 1 }),
+    Judged(b"01", b"", LogVerdict::No { step: 1 }),
+    Judged(b"01", b"5", LogVerdict::No { step: 1 }),
 ];
 
 fn push_hinted(
@@ -121,7 +121,7 @@ fn says_of_hinted(
     alloc: Global,
     clauses: &Clauses,
     log: &Hinted,
-    want: Verdict,
+    want: LogVerdict,
 ) -> Result<bool, AllocError> {
     if !clauses.is_within(2) {
         return Ok(false);
@@ -182,7 +182,7 @@ fn accepted(
     requires clauses { All (Within 2) clauses.now }
     requires units { Within 2 units.now }
 {
-    if checker.check_hinted_with(clauses, units, hinted) == Verdict::Yes {
+    if checker.check_hinted_with(clauses, units, hinted) == LogVerdict::Yes {
         Some(hinted.len())
     } else {
         None

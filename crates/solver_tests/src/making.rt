@@ -7,7 +7,7 @@ ghost use Rattle.cert_core.specs.Blocks.{HasPlace, LogFits};
 ghost use Rattle.cert_core.specs.Certificates.{IsInvariant};
 
 use crate::letters::clauses_of;
-use cert_check::{Verdict, check};
+use cert_check::{CertVerdict, check};
 use cert_core::inductive_invariants::what_is_certified_is_invariant;
 use cert_core::{Certificate, Form, MAX_VARS, Part};
 use cert_make::{Made, make};
@@ -128,8 +128,8 @@ fn tickets(purse: &mut PlainPurse) -> Option<u64> {
 // How many shared steps the certificate has, if it certifies.
 fn shared(alloc: Global, system: &System, cert: &Certificate) -> Result<Option<usize>, AllocError> {
     match check(alloc, system, cert)? {
-        Verdict::Yes => Ok(Some(count(cert))),
-        Verdict::No { .. } => Ok(None),
+        CertVerdict::Yes => Ok(Some(count(cert))),
+        CertVerdict::No { .. } => Ok(None),
     }
 }
 
@@ -164,8 +164,8 @@ fn is_made_of(
     row: &Row,
 ) -> Result<bool, AllocError> {
     match check(alloc, system, cert)? {
-        Verdict::No { .. } => Ok(false),
-        Verdict::Yes => {
+        CertVerdict::No { .. } => Ok(false),
+        CertVerdict::Yes => {
             what_is_certified_is_invariant();
             is_made(alloc, system, cert.clauses(), row)
         }

@@ -4,7 +4,7 @@
 use crate::letters::{clauses_of, literals};
 use clause_core::{Bits, Clause, Clauses, Lit, is_within, met};
 use effort_purse::PlainPurse;
-use rup_check::{Checker, Verdict};
+use rup_check::{Checker, LogVerdict};
 use sat_core::{Answer, Solver};
 use sat_prop::{Propagator, Scan, Watched};
 use std::alloc::{AllocError, Global};
@@ -94,7 +94,7 @@ fn is_derived(
     let mut checker = Checker::new(alloc, vars)?;
     let verdict = checker.check(clauses, log);
     drop(checker);
-    Ok(verdict == Verdict::Yes)
+    Ok(verdict == LogVerdict::Yes)
 }
 
 // Whether the solver's log derives the empty clause from these clauses.

@@ -4,8 +4,8 @@ use Rattle.bit_clauses.specs.declared.deciding.Decided.{Decided}
 use Rattle.hinted_log.specs.Hints.{HintedLog}
 use Rattle.cert_core.specs.declared.form.Form.TheVariants.{Plain}
 use Rattle.cert_core.specs.Certificates.{Shows}
-use Rattle.sound_check.specs.declared.judging.Verdict.{Verdict}
-use Rattle.sound_check.specs.declared.judging.Verdict.TheVariants.{Sound, Rejected}
+use Rattle.sound_check.specs.declared.judging.SoundVerdict.{SoundVerdict}
+use Rattle.sound_check.specs.declared.judging.SoundVerdict.TheVariants.{Sound, Rejected}
 use Rattle.sound_check.specs.Questions.{question_of}
 
 -- the parts of a sound block, one place for each item; a block that is missing has none
@@ -42,6 +42,6 @@ pub record FailsFirst (questions : List (Option Decided)) (parts : List (Option 
   pub fails : ItemShows questions parts item → ⊥
 
 -- what the check of a block with these parts says
-abbrev pub VerdictSays : List (Option Decided) → List (Option HintedLog) → Verdict → Type 0
+abbrev pub VerdictSays : List (Option Decided) → List (Option HintedLog) → SoundVerdict → Type 0
 VerdictSays questions parts Sound = IsSoundBlock questions parts
 VerdictSays questions parts (Rejected item) = FailsFirst questions parts item

@@ -11,7 +11,7 @@ use std::alloc::{AllocError, Global};
 
 /// What the check of a sound block says.
 #[derive(Clone, Copy, PartialEq, Eq, Debug)]
-pub enum Verdict {
+pub enum SoundVerdict {
     /// The block shows of each question that its clauses can't be met.
     Sound,
     /// The part of this item, counted from 0, is the first that does not.
@@ -31,15 +31,15 @@ pub fn judge(
     alloc: Global,
     questions: &[Option<Decided>],
     sound: Option<&Sound>,
-) -> Result<Verdict, AllocError>
+) -> Result<SoundVerdict, AllocError>
     requires { All IsQuestion questions.now }
     ensures { IfOk result (VerdictSays questions.now (parts_of (option_copied sound.entry))) }
 {
     for (item, question) in questions.iter().enumerate() {
         let steps = steps_of(sound, item);
         if !shows(alloc, question, steps)? {
-            return Ok(Verdict::Rejected { item });
+            return Ok(SoundVerdict::Rejected { item });
         }
     }
-    Ok(Verdict::Sound)
+    Ok(SoundVerdict::Sound)
 }

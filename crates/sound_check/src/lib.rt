@@ -7,4 +7,4 @@ mod parts;
 pub mod soundness_of_blocks;
 
 pub use bit_clauses::Decided;
-pub use judging::{Verdict, judge};
+pub use judging::{SoundVerdict, judge};

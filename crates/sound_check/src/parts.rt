@@ -10,7 +10,7 @@ ghost use Rattle.sound_check.specs.Questions.{IsQuestion};
 use bit_clauses::Decided;
 use cert_core::Sound;
 use hinted_log::Hinted;
-use rup_check::{Checker, Verdict};
+use rup_check::{Checker, LogVerdict};
 use std::alloc::{AllocError, Global};
 
 // The steps of an item's part, if there is a block that has it.
@@ -33,8 +33,8 @@ fn derives(alloc: Global, question: &Decided, steps: Option<&Hinted>) -> Result<
         Some(steps) => {
             let mut checker = Checker::new(alloc, question.vars)?;
             match checker.check(&question.clauses, steps.steps()) {
-                Verdict::Yes => Ok(true),
-                Verdict::No { .. } => Ok(false),
+                LogVerdict::Yes => Ok(true),
+                LogVerdict::No { .. } => Ok(false),
             }
         }
     }

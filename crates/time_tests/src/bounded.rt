@@ -2,7 +2,7 @@
 
 use crate::tables::{has_truths, rooted};
 use ltl_meaning::formula::Formula;
-use ltl_meaning::node::{BoundedOperator, Node, Window};
+use ltl_meaning::node::{BoundedOperator, FormulaNode, Window};
 use ltl_meaning::temporal_equivalences::unfoldings;
 use ltl_meaning::word::{AtomSet, Word};
 use sqlite_items::Items;
@@ -56,7 +56,7 @@ fn formula(
         return Err(AllocError);
     }
     let window = Window { low, high };
-    let root = Node::bounded(alloc, operator, window, Node::Atom(0))?;
+    let root = FormulaNode::bounded(alloc, operator, window, FormulaNode::Atom(0))?;
     rooted(root)
 }
 

@@ -1,7 +1,7 @@
 //! Tests of tables of truth: formulas on words of a few times, times far away, and long chains.
 
 use ltl_meaning::formula::Formula;
-use ltl_meaning::node::{BinaryOperator, Link, Node, UnaryOperator};
+use ltl_meaning::node::{BinaryOperator, FormulaNode, Link, UnaryOperator};
 use ltl_meaning::word::{AtomSet, Word};
 use ltl_table::table::Table;
 use sqlite_items::Items;
@@ -39,24 +39,24 @@ fn binary_of(letter: u8) -> Option<BinaryOperator> {
     }
 }
 
-fn leaf_of(letter: u8) -> Option<Node> {
+fn leaf_of(letter: u8) -> Option<FormulaNode> {
     match letter {
-        b'0' => Some(Node::Constant(false)),
-        b'1' => Some(Node::Constant(true)),
-        b'a' => Some(Node::Atom(0)),
-        b'b' => Some(Node::Atom(1)),
+        b'0' => Some(FormulaNode::Constant(false)),
+        b'1' => Some(FormulaNode::Constant(true)),
+        b'a' => Some(FormulaNode::Atom(0)),
+        b'b' => Some(FormulaNode::Atom(1)),
         _ => None,
     }
 }
 
-fn last(open: &mut Vec<Node>) -> Result<Node, AllocError> {
+fn last(open: &mut Vec<FormulaNode>) -> Result<FormulaNode, AllocError> {
     match open.pop() {
         Some(node) => Ok(node),
         None => Err(AllocError),
     }
 }
 
-fn push(open: &mut Vec<Node>, node: Node) -> Result<(), AllocError> {
+fn push(open: &mut Vec<FormulaNode>, node: FormulaNode) -> Result<(), AllocError> {
     open.push(node)?;
     Ok(())
 }
@@ -65,19 +65,19 @@ fn push(open: &mut Vec<Node>, node: Node) -> Result<(), AllocError> {
 fn put_above(
     alloc: Global,
     operator: UnaryOperator,
-    open: &mut Vec<Node>,
+    open: &mut Vec<FormulaNode>,
 ) -> Result<(), AllocError> {
     let operand = last(open)?;
-    let node = Node::unary(alloc, operator, operand)?;
+    let node = FormulaNode::unary(alloc, operator, operand)?;
     push(open, node)
 }
 
 // Makes an implication of the last two nodes.
-fn imply(alloc: Global, open: &mut Vec<Node>) -> Result<(), AllocError> {
+fn imply(alloc: Global, open: &mut Vec<FormulaNode>) -> Result<(), AllocError> {
     let right = last(open)?;
     match last(open) {
         Ok(left) => {
-            let node = Node::implies(alloc, left, right)?;
+            let node = FormulaNode::implies(alloc, left, right)?;
             push(open, node)
         }
         Err(error) => {
@@ -87,7 +87,7 @@ fn imply(alloc: Global, open: &mut Vec<Node>) -> Result<(), AllocError> {
     }
 }
 
-fn linked(alloc: Global, link: Link<Node>) -> Result<Items<Link<Node>>, AllocError> {
+fn linked(alloc: Global, link: Link<FormulaNode>) -> Result<Items<Link<FormulaNode>>, AllocError> {
     let mut links = Items::new(alloc);
     match links.push(link) {
         Ok(()) => Ok(links),
@@ -102,18 +102,22 @@ fn linked(alloc: Global, link: Link<Node>) -> Result<Items<Link<Node>>, AllocErr
 fn one_link(
     alloc: Global,
     operator: BinaryOperator,
-    open: &mut Vec<Node>,
-) -> Result<Items<Link<Node>>, AllocError> {
+    open: &mut Vec<FormulaNode>,
+) -> Result<Items<Link<FormulaNode>>, AllocError> {
     let operand = last(open)?;
     linked(alloc, Link { operator, operand })
 }
 
 // Makes a chain of one link of the last two nodes.
-fn join(alloc: Global, operator: BinaryOperator, open: &mut Vec<Node>) -> Result<(), AllocError> {
+fn join(
+    alloc: Global,
+    operator: BinaryOperator,
+    open: &mut Vec<FormulaNode>,
+) -> Result<(), AllocError> {
     let links = one_link(alloc, operator, open)?;
     match last(open) {
         Ok(left) => {
-            let node = Node::chain(alloc, left, links)?;
+            let node = FormulaNode::chain(alloc, left, links)?;
             push(open, node)
         }
         Err(error) => {
@@ -123,7 +127,7 @@ fn join(alloc: Global, operator: BinaryOperator, open: &mut Vec<Node>) -> Result
     }
 }
 
-fn put_operator(alloc: Global, letter: u8, open: &mut Vec<Node>) -> Result<(), AllocError> {
+fn put_operator(alloc: Global, letter: u8, open: &mut Vec<FormulaNode>) -> Result<(), AllocError> {
     if letter == b'>' {
         return imply(alloc, open);
     }
@@ -136,27 +140,31 @@ fn put_operator(alloc: Global, letter: u8, open: &mut Vec<Node>) -> Result<(), A
     Err(AllocError)
 }
 
-fn put(alloc: Global, letter: u8, open: &mut Vec<Node>) -> Result<(), AllocError> {
+fn put(alloc: Global, letter: u8, open: &mut Vec<FormulaNode>) -> Result<(), AllocError> {
     match leaf_of(letter) {
         Some(leaf) => push(open, leaf),
         None => put_operator(alloc, letter, open),
     }
 }
 
-fn put_all(alloc: Global, text: &[u8], open: &mut Vec<Node>) -> Result<(), AllocError> {
+fn put_all(alloc: Global, text: &[u8], open: &mut Vec<FormulaNode>) -> Result<(), AllocError> {
     for letter in text {
         put(alloc, *letter, open)?;
     }
     Ok(())
 }
 
-fn last_of(alloc: Global, text: &[u8], open: &mut Vec<Node>) -> Result<Node, AllocError> {
+fn last_of(
+    alloc: Global,
+    text: &[u8],
+    open: &mut Vec<FormulaNode>,
+) -> Result<FormulaNode, AllocError> {
     put_all(alloc, text, open)?;
     last(open)
 }
 
 /// The node that letters spell; letters that spell none are answered as if memory had run out.
-pub fn node(alloc: Global, text: &[u8]) -> Result<Node, AllocError> {
+pub fn node(alloc: Global, text: &[u8]) -> Result<FormulaNode, AllocError> {
     let mut open = Vec::new(alloc);
     let node = last_of(alloc, text, &mut open);
     drop(open);
@@ -164,7 +172,7 @@ pub fn node(alloc: Global, text: &[u8]) -> Result<Node, AllocError> {
 }
 
 /// The formula of a node that is not too deep.
-pub fn rooted(root: Node) -> Result<Formula, AllocError> {
+pub fn rooted(root: FormulaNode) -> Result<Formula, AllocError> {
     match Formula::new(root) {
         Some(formula) => Ok(formula),
         None => Err(AllocError),
@@ -475,14 +483,14 @@ fn far_times(rt: HostRuntime) -> Result<(), Fail> {
 }
 
 fn push_links(
-    links: &mut Items<Link<Node>>,
+    links: &mut Items<Link<FormulaNode>>,
     operator: BinaryOperator,
     count: u32,
 ) -> Result<(), AllocError> {
     for _ in 0..count {
         links.push(Link {
             operator,
-            operand: Node::Atom(1),
+            operand: FormulaNode::Atom(1),
         })?;
     }
     Ok(())
@@ -493,7 +501,7 @@ fn links(
     alloc: Global,
     operator: BinaryOperator,
     count: u32,
-) -> Result<Items<Link<Node>>, AllocError> {
+) -> Result<Items<Link<FormulaNode>>, AllocError> {
     let mut links = Items::new(alloc);
     match push_links(&mut links, operator, count) {
         Ok(()) => Ok(links),
@@ -513,7 +521,7 @@ pub fn chain(
 ) -> Result<Formula, AllocError> {
     let first = node(alloc, first)?;
     match links(alloc, operator, count) {
-        Ok(links) => rooted(Node::chain(alloc, first, links)?),
+        Ok(links) => rooted(FormulaNode::chain(alloc, first, links)?),
         Err(error) => {
             drop(first);
             Err(error)

@@ -18,7 +18,7 @@ use Rattle.smv_resolve.specs.Items.{ResolvedItem}
 use Rattle.smv_layout.specs.Layout.{items_of}
 use Rattle.smv_slots.specs.declared.slot.Slot.{Slot}
 use Rattle.smv_slots.specs.Slots.{slots_of}
-use Rattle.smv_meaning.specs.declared.outcome.Outcome.{Outcome}
+use Rattle.smv_meaning.specs.declared.outcome.Evaluation.{Evaluation}
 use Rattle.smv_meaning.specs.Runs.{Breaks, IsRun, allows_always, allows_first, allows_step, are_inputs, asks_always, asks_first, at_time, fits, input_slots, is_first_state, is_state, is_step, keeps_frozen, meets_invariants, outcome_of_target, state_slots}
 use Rattle.smv_meaning.specs.Values.{outcome_in}
 use Rattle.trace_replay.specs.declared.columns.Column.{Column}
@@ -34,7 +34,7 @@ use Rattle.trace_replay.proofs.Cells.{row_back}
 use Rattle.trace_replay.proofs.Shows.{each_fit, fit, fits_due, read_at, unasked, unless}
 
 -- what is asked of an initial state has what is asked of each
-always_from_first : (x e : Outcome) (kind : ItemKind) → asks_first x e kind ≡ true → asks_always x e kind ≡ true
+always_from_first : (x e : Evaluation) (kind : ItemKind) → asks_first x e kind ≡ true → asks_always x e kind ≡ true
 always_from_first x e (item.Assignment side.Init) h = refl
 always_from_first x e (item.Assignment side.Next) h = refl
 always_from_first x e (item.Assignment side.Current) h = h

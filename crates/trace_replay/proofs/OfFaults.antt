@@ -10,12 +10,12 @@ use Rattle.smv_value.specs.declared.value.Value.{Value}
 use Rattle.smv_resolve.specs.declared.item.Item.{Item}
 use Rattle.smv_resolve.specs.declared.item.ItemKind.{ItemKind}
 use Rattle.smv_resolve.specs.declared.item.ItemKind.TheVariants as item
-use Rattle.smv_resolve.specs.declared.node.Node.{Node}
+use Rattle.smv_resolve.specs.declared.node.ExprNode.{ExprNode}
 use Rattle.smv_resolve.specs.Items.{ResolvedItem, item_by, target_by}
 use Rattle.smv_resolve.specs.Resolved.{Resolved, part_of, parts_of}
 use Rattle.smv_slots.specs.declared.slot.Slot.{Slot}
 use Rattle.value_types.specs.declared.value_type.ValueType.{ValueType}
-use Rattle.smv_meaning.specs.declared.outcome.Outcome.{Outcome}
+use Rattle.smv_meaning.specs.declared.outcome.Evaluation.{Evaluation}
 use Rattle.smv_meaning.specs.Faults.{fault_of_value, item_fault, slot_assigned, speaks_of_paths, type_assigned}
 use Rattle.smv_meaning.specs.Formulas.{formula_fault}
 use Rattle.smv_meaning.specs.Runs.{item_outcome, speaks_of_step}
@@ -69,7 +69,7 @@ asked_of_each (item.Constraint asks.Invar) h = refl
 asked_of_each (item.Constraint asks.Justice) h = refl
 asked_of_each (item.Specification kind) h = refl
 
-either : (b : Bool) (o : Outcome) → (if b then o else o) ≡ o
+either : (b : Bool) (o : Evaluation) → (if b then o else o) ≡ o
 either true o = refl
 either false o = refl
 
@@ -77,13 +77,13 @@ guarded : (a b c : Bool) → (a ≡ true → b ≡ c) → (not a || b) ≡ (not 
 guarded true b c h = h refl
 guarded false b c h = refl
 
-module _ (types : List ValueType) (slots : List Slot) (nodes : List Node) where
+module _ (types : List ValueType) (slots : List Slot) (nodes : List ExprNode) where
   declared_by : (target : Option ℕ) → type_by types (map slot_assigned (parts_of nodes)) target ≡ type_assigned types (target_by nodes target)
   declared_by None = refl
   declared_by (Some k) = ap (option_and_then (slice_get types)) (slot_of_part (parts_of nodes) k)
 
   module _ (asked : Asked) (s u t : List Value) (told : (e : Resolved) (k : ItemKind) → is_asking asked k ≡ true → item_outcome slots s u t e k ≡ outcome slots s u t e) where
-    abbrev here : List Outcome
+    abbrev here : List Evaluation
     here = outcomes_of slots s u t nodes
 
     abbrev assigned : List (Option ℕ)
@@ -93,7 +93,7 @@ module _ (types : List ValueType) (slots : List Slot) (nodes : List Node) where
     one_item x h =
         let e = part_of nodes x.value in
         ap (λ (d : Option ValueType). is_none (fault_of_value d x.begins (outcome_at here x.value))) (declared_by x.target)
-        ∙ ap (λ (o : Outcome). is_none (fault_of_value (type_assigned types (target_by nodes x.target)) x.begins o))
+        ∙ ap (λ (o : Evaluation). is_none (fault_of_value (type_assigned types (target_by nodes x.target)) x.begins o))
         (outcome_at-map slots s u t (parts_of nodes) x.value ∙ sym (told e x.kind h))
         ∙ ap is_none
         (sym (cond-false (speaks_of_paths x.kind) (formula_fault slots s u e) (fault_of_value (type_assigned types (target_by nodes x.target)) x.begins (item_outcome slots s u t e x.kind)) (asked_of_no_path asked x.kind h)))

@@ -11,13 +11,13 @@ use Rattle.smv_tree.specs.declared.tree.Program.{Program}
 use Rattle.smv_value.specs.declared.value.Value.{Value}
 use Rattle.smv_value.specs.declared.value.Value.TheVariants as value
 use Rattle.smv_resolve.specs.declared.item.Item.{Item}
-use Rattle.smv_resolve.specs.declared.node.Node.{Node}
+use Rattle.smv_resolve.specs.declared.node.ExprNode.{ExprNode}
 use Rattle.smv_resolve.specs.Items.{ResolvedItem, item_by}
 use Rattle.smv_layout.specs.Layout.{items_of}
 use Rattle.smv_resolve.specs.Resolved.{last_of}
 use Rattle.smv_slots.specs.Slots.{slots_of}
-use Rattle.smv_meaning.specs.declared.outcome.Outcome.{Outcome}
-use Rattle.smv_meaning.specs.declared.outcome.Outcome.TheVariants.{Fault, Nothing, Values}
+use Rattle.smv_meaning.specs.declared.outcome.Evaluation.{Evaluation}
+use Rattle.smv_meaning.specs.declared.outcome.Evaluation.TheVariants.{Fault, Nothing, Values}
 use Rattle.smv_meaning.specs.Lassos.{Lasso, IsLasso, MeetsJustice, Violates, Holds}
 use Rattle.smv_meaning.specs.Runs.{at_time, is_first_state, is_true, meets_invariants}
 use Rattle.smv_meaning.specs.Outcomes.{one}
@@ -315,13 +315,13 @@ kept_map : {A B : Type 0} (f : A → B) (b : Bool) (x : A) (xs : List A) → map
 kept_map f true x xs = refl
 kept_map f false x xs = refl
 
-pub justices_kept : (nodes : List Node) (items : List Item) → map (item_by nodes) (filter (λ (x : Item). is_justice x.kind) items) ≡ filter (λ (x : ResolvedItem). is_justice x.kind) (map (item_by nodes) items)
+pub justices_kept : (nodes : List ExprNode) (items : List Item) → map (item_by nodes) (filter (λ (x : Item). is_justice x.kind) items) ≡ filter (λ (x : ResolvedItem). is_justice x.kind) (map (item_by nodes) items)
 justices_kept nodes [] = refl
 justices_kept nodes (x ∷ items) =
     kept_map (item_by nodes) (is_justice x.kind) x (filter (λ (y : Item). is_justice y.kind) items)
     ∙ ap (λ (l : List ResolvedItem). cond (is_justice x.kind) (item_by nodes x ∷ l) l) (justices_kept nodes items)
 
-module _ (p : Program) (nodes : List Node) (items : List Item) (same : map (item_by nodes) items ≡ justices_of p) (states : List (List Value)) where
+module _ (p : Program) (nodes : List ExprNode) (items : List Item) (same : map (item_by nodes) items ≡ justices_of p) (states : List (List Value)) where
   -- one JUSTICE more
   pub fair_here : (i : ℕ) (d : Item) (met : Bool) → i < length items
       → met ≡ list_any (λ (s : List Value). is_true (outcome_in (slots_of p) s (item_by nodes (get_or items i d)).value)) states → met ≡ true → is_fair p states i ≡ true
@@ -362,7 +362,7 @@ kept test [] k x h is so = absurd (let never : ⊥ = omega (arith, h) in never)
 kept test (y ∷ ys) zero x h is so = (0, kept_first (test y) y (filter test ys) (ap test is ∙ so) ∙ ap (λ z. Some z) is)
 kept test (y ∷ ys) (suc k) x h is so = let r = kept test ys k x (omega (arith, h)) is so in kept_behind (test y) y (filter test ys) x r.0 r.1
 
-true_is : (o : Outcome) → is_true o ≡ true → o ≡ one (value.Bool true)
+true_is : (o : Evaluation) → is_true o ≡ true → o ≡ one (value.Bool true)
 true_is Nothing h = absurd (let never : ⊥ = cc in never)
 true_is (Values []) h = absurd (let never : ⊥ = cc in never)
 true_is (Values (value.Bool true ∷ [])) h = refl

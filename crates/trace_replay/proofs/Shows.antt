@@ -13,8 +13,8 @@ use Rattle.smv_value.specs.declared.value.Value.{Value}
 use Rattle.smv_value.specs.declared.value.Value.TheVariants as value
 use Rattle.smv_resolve.specs.Items.{ResolvedItem}
 use Rattle.smv_slots.specs.Slots.{slots_of}
-use Rattle.smv_meaning.specs.declared.outcome.Outcome.{Outcome}
-use Rattle.smv_meaning.specs.declared.outcome.Outcome.TheVariants.{Fault, Nothing, Values}
+use Rattle.smv_meaning.specs.declared.outcome.Evaluation.{Evaluation}
+use Rattle.smv_meaning.specs.declared.outcome.Evaluation.TheVariants.{Fault, Nothing, Values}
 use Rattle.smv_meaning.specs.Runs.{IsRun, at_time, is_first_state, is_step, meets_invariants}
 use Rattle.smv_meaning.specs.Outcomes.{one}
 use Rattle.smv_meaning.specs.Values.{outcome_in}
@@ -56,7 +56,7 @@ no_rows : {A : Type 0} (xs : List A) → length xs ≤ 0 → xs ≡ []
 no_rows [] h = refl
 no_rows (x ∷ xs) h = absurd (let never : ⊥ = omega (arith, h) in never)
 
-false_is : (o : Outcome) → is_false o ≡ true → o ≡ one (value.Bool false)
+false_is : (o : Evaluation) → is_false o ≡ true → o ≡ one (value.Bool false)
 false_is Nothing h = absurd (let never : ⊥ = cc in never)
 false_is (Values []) h = absurd (let never : ⊥ = cc in never)
 false_is (Values (value.Bool true ∷ [])) h = absurd (let never : ⊥ = cc in never)

@@ -9,8 +9,8 @@ use Rattle.smv_resolve.specs.declared.item.ItemKind.{ItemKind}
 use Rattle.smv_resolve.specs.Items.{ResolvedItem}
 use Rattle.smv_layout.specs.Layout.{items_of}
 use Rattle.smv_slots.specs.Slots.{slots_of, types_of}
-use Rattle.smv_meaning.specs.declared.outcome.Outcome.{Outcome}
-use Rattle.smv_meaning.specs.declared.outcome.Outcome.TheVariants.{Nothing}
+use Rattle.smv_meaning.specs.declared.outcome.Evaluation.{Evaluation}
+use Rattle.smv_meaning.specs.declared.outcome.Evaluation.TheVariants.{Nothing}
 use Rattle.smv_meaning.specs.Faults.{item_fault}
 use Rattle.smv_meaning.specs.Lassos.{Lasso}
 use Rattle.smv_meaning.specs.Runs.{asks_always, asks_first, asks_step, at_time, is_first_state, is_step, meets_invariants}
@@ -18,7 +18,7 @@ use Rattle.trace_replay.specs.declared.faultless.Asked.{Asked}
 use Rattle.trace_replay.specs.declared.faultless.Asked.TheVariants.{First, Always, Step}
 
 -- what items ask of an initial state, of each state, and of a step
-abbrev pub asks : Asked → Outcome → Outcome → ItemKind → Bool
+abbrev pub asks : Asked → Evaluation → Evaluation → ItemKind → Bool
 asks First = asks_first
 asks Always = asks_always
 asks Step = asks_step

@@ -6,7 +6,7 @@ use Rattle.smv_tree.specs.declared.tree.Program.{Program}
 use Rattle.smv_value.specs.declared.value.Value.{Value}
 use Rattle.smv_resolve.specs.Items.{ResolvedItem}
 use Rattle.smv_slots.specs.Slots.{slots_of}
-use Rattle.smv_meaning.specs.declared.outcome.Outcome.{Outcome}
+use Rattle.smv_meaning.specs.declared.outcome.Evaluation.{Evaluation}
 use Rattle.smv_meaning.specs.Outcomes.{truth}
 use Rattle.smv_meaning.specs.Values.{outcome_in}
 use Rattle.smv_meaning.specs.Runs.{Breaks, at_time, specifications_of}
@@ -58,7 +58,7 @@ inputs_fit p t i =
     else true
 
 -- the specification is FALSE
-abbrev pub is_false : Outcome → Bool
+abbrev pub is_false : Evaluation → Bool
 is_false o = not (unwrap_or (truth o) true)
 
 abbrev pub starts_at : Option ℕ → ℕ → Bool

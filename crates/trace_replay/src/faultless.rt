@@ -12,10 +12,10 @@ ghost use Rattle.trace_replay.specs.Faultless.{all_faultless, begins_well, is_as
 ghost use Rattle.trace_replay.specs.Tables.{all_faultless_by, is_faultless_by, type_by};
 
 use smv_meaning::{
-    Inputs, Outcome, State, Typed, faults, meets_init, meets_inv, meets_step, outcome_at, outcomes,
-    slots,
+    Evaluation, Inputs, State, Typed, faults, meets_init, meets_inv, meets_step, outcome_at,
+    outcomes, slots,
 };
-use smv_resolve::{Item, ItemKind, Node};
+use smv_resolve::{ExprNode, Item, ItemKind};
 use smv_tree::{AssignmentKind, ConstraintKind};
 use sqlite_items::{Items, at};
 use std::alloc::{AllocError, Global};
@@ -122,7 +122,7 @@ fn are_faultless(
     alloc: Global,
     typed: &Typed,
     asked: Asked,
-    here: &[Outcome],
+    here: &[Evaluation],
 ) -> Result<bool, AllocError>
     ensures { IfOk result (λ faultless. faultless ≡ all_faultless_by asked typed.now.types (map slot_assigned (parts_of typed.now.nodes)) here.now typed.now.items) }
 {
@@ -135,7 +135,7 @@ fn all_faultless(
     asked: Asked,
     types: &[ValueType],
     slots: &[Option<usize>],
-    here: &[Outcome],
+    here: &[Evaluation],
     items: &[Item],
 ) -> bool
     ensures { result ≡ all_faultless_by asked types.now slots.now here.now items.now }
@@ -144,21 +144,26 @@ fn all_faultless(
 }
 
 // Whether the value of an item does not fault, where the nodes have these outcomes.
-fn is_faultless_by(types: &[ValueType], slots: &[Option<usize>], here: &[Outcome], x: &Item) -> bool
+fn is_faultless_by(
+    types: &[ValueType],
+    slots: &[Option<usize>],
+    here: &[Evaluation],
+    x: &Item,
+) -> bool
     ensures { result ≡ is_faultless_by types.now slots.now here.now x.now }
 {
     is_value_faultless(type_by(types, slots, x.target), outcome_at(here, x.value))
 }
 
 // Whether a value that is assigned to a variable of this type, or asked for, does not fault.
-fn is_value_faultless(declared: Option<&ValueType>, e: Option<&Outcome>) -> bool
+fn is_value_faultless(declared: Option<&ValueType>, e: Option<&Evaluation>) -> bool
     ensures { (begins : Place) → result ≡ is_none (fault_of_value (option_copied declared.entry) begins (seen (option_copied e.entry))) }
 {
     match e {
         None => true,
-        Some(Outcome::Nothing) => true,
-        Some(Outcome::Fault(..)) => false,
-        Some(Outcome::Values(values)) => match declared {
+        Some(Evaluation::Nothing) => true,
+        Some(Evaluation::Fault(..)) => false,
+        Some(Evaluation::Values(values)) => match declared {
             None => true,
             Some(t) => values.is_of(t),
         },
@@ -199,7 +204,7 @@ fn is_asking(asked: Asked, kind: ItemKind) -> bool
 }
 
 // The slot that each node is, itself or as what a name stands for.
-fn slots_assigned(alloc: Global, nodes: &[Node]) -> Result<Vec<Option<usize>>, AllocError>
+fn slots_assigned(alloc: Global, nodes: &[ExprNode]) -> Result<Vec<Option<usize>>, AllocError>
     ensures { IfOk result (λ slots. slots.items ≡ map slot_assigned (parts_of nodes.now)) }
 {
     let mut made = Vec::new(alloc);
@@ -210,18 +215,18 @@ fn slots_assigned(alloc: Global, nodes: &[Node]) -> Result<Vec<Option<usize>>, A
     Ok(made)
 }
 
-fn slot_by_node(slots: &[Option<usize>], node: &Node) -> Option<usize>
+fn slot_by_node(slots: &[Option<usize>], node: &ExprNode) -> Option<usize>
     ensures { result ≡ slot_by_node slots.now node.now }
 {
     match *node {
-        Node::Slot(_, n) => Some(n),
-        Node::Named(_, _, a) => slot_at(slots, a),
-        Node::Operand(a) => slot_at(slots, a),
-        Node::Constant(..) => None,
-        Node::Whole(..) => None,
-        Node::Next(..) => None,
-        Node::Apply(..) => None,
-        Node::Link(..) => None,
+        ExprNode::Slot(_, n) => Some(n),
+        ExprNode::Named(_, _, a) => slot_at(slots, a),
+        ExprNode::Operand(a) => slot_at(slots, a),
+        ExprNode::Constant(..) => None,
+        ExprNode::Whole(..) => None,
+        ExprNode::Next(..) => None,
+        ExprNode::Apply(..) => None,
+        ExprNode::Link(..) => None,
     }
 }
 

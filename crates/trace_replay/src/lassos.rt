@@ -20,7 +20,7 @@ use crate::telling::{Telling, Told, tell_lasso};
 use crate::{ReplayRule, Replayed, Trace};
 use ltl_table::table::Table;
 use smv_formulas::{formula_of, word_of};
-use smv_meaning::{Inputs, Outcome, State, Typed};
+use smv_meaning::{Evaluation, Inputs, State, Typed};
 use smv_resolve::{Item, ItemKind, first, last};
 use smv_tree::ConstraintKind;
 use sqlite_items::Items;
@@ -151,7 +151,7 @@ fn is_met(alloc: Global, typed: &Typed, item: &Item, states: &[State]) -> Result
     Ok(false)
 }
 
-fn is_true(outcome: &Outcome) -> bool
+fn is_true(outcome: &Evaluation) -> bool
     ensures { result ≡ is_true outcome.now }
 {
     match outcome.truth() {

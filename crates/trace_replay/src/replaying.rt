@@ -15,7 +15,7 @@ use crate::faultless::{begins_well, stays_well, steps_well};
 use crate::lassos::judge_lasso;
 use crate::telling::{Telling, Told, tell};
 use crate::{ReplayRule, Replayed, Trace};
-use smv_meaning::{Inputs, Outcome, State, Typed, outcomes, slots, specifications};
+use smv_meaning::{Evaluation, Inputs, State, Typed, outcomes, slots, specifications};
 use smv_resolve::{Item, ItemKind};
 use smv_tree::SpecificationKind;
 use std::alloc::{AllocError, Global};
@@ -205,18 +205,18 @@ pub fn outcome_in(
     typed: &Typed,
     spec: &Item,
     state: &State,
-) -> Result<Outcome, AllocError>
+) -> Result<Evaluation, AllocError>
     ensures { IfOk result (λ o. o ≡ outcome_in (slots_of typed.now.scope.program) state.now (item_by typed.now.nodes spec.now).value) }
 {
     let nodes = typed.nodes.as_slice();
     let all = outcomes(alloc, slots(typed), nodes, state.as_slice(), &[], &[])?;
     match all.get(spec.value) {
-        None => Ok(Outcome::Nothing),
+        None => Ok(Evaluation::Nothing),
         Some(outcome) => outcome.copied(alloc),
     }
 }
 
-fn is_false(outcome: &Outcome) -> bool
+fn is_false(outcome: &Evaluation) -> bool
     ensures { result ≡ is_false outcome.now }
 {
     match outcome.truth() {

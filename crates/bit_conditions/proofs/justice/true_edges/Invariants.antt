@@ -5,7 +5,7 @@ use Rattle.bit_graph.specs.Growth.{Extends}
 use Rattle.bit_graph.specs.Meaning.{Consistent, Stands, edge_value}
 use Rattle.bit_arith.specs.Number.{AllStand}
 use Rattle.smv_resolve.specs.declared.item.Item.{Item}
-use Rattle.smv_meaning.specs.declared.outcome.Outcome.{Outcome}
+use Rattle.smv_meaning.specs.declared.outcome.Evaluation.{Evaluation}
 use Rattle.smv_meaning.specs.Runs.{is_given, is_true}
 use Rattle.smv_meaning.specs.Tables.{outcome_at}
 use Rattle.bit_outcomes.specs.Telling.{AllTold, TellsAll}
@@ -17,7 +17,7 @@ invariant-loop-item l = record {
   valid : Stands l.graph l.valid;
   here : AllTold l.graph l.told;
   stand : AllStand l.graph l.edges.items;
-  told : (v : ℕ → Bool) (os : List Outcome) → Consistent v l.graph → (edge_value v l.valid ≡ true → TellsAll v l.told os) →
+  told : (v : ℕ → Bool) (os : List Evaluation) → Consistent v l.graph → (edge_value v l.valid ≡ true → TellsAll v l.told os) →
       (edge_value v l.valid ≡ true → list_all (λ (x : Item). is_given (outcome_at os x.value)) l.items ≡ true) →
       map (edge_value v) l.edges.items ≡ map (λ (x : Item). edge_value v l.valid && is_true (outcome_at os x.value)) (take l.item-index l.items);
 }

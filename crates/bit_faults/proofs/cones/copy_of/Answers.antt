@@ -1,7 +1,7 @@
 -- The gate's operands are there, or it is an input.
 use Rattle.std.proofs.Common.{◌≡◌, ◌∙◌, ℕ, ◌<◌, Bool, false, ◌&&◌, cond, sym, ap, subst}
 use Rattle.std.specs.Prelude.{slice_index_or}
-use Rattle.bit_graph.specs.declared.edge.Node.TheVariants.{Input}
+use Rattle.bit_graph.specs.declared.edge.GraphNode.TheVariants.{Input}
 use Rattle.bit_graph.specs.Meaning.{Stands, edge_value, exclusive_or}
 use Rattle.bit_graph.specs.Values.{value_under, values}
 use Rattle.bit_faults.specs.Cones.{AgreeOn}

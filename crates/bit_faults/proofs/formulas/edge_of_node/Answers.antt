@@ -2,7 +2,7 @@
 use Rattle.std.proofs.Common.{◌≡◌, ◌∙◌, true, List, [], ◌∷◌, subst, sym}
 use Rattle.std.specs.Prelude.{Option}
 use Rattle.bit_graph.specs.declared.edge.Edge.{Edge}
-use Rattle.smv_resolve.specs.declared.node.Node.{Node}
+use Rattle.smv_resolve.specs.declared.node.ExprNode.{ExprNode}
 use Rattle.smv_resolve.specs.Resolved.{last_of, part_at, resolved_by}
 use Rattle.smv_meaning.specs.Formulas.{is_over_formulas}
 use Rattle.bit_faults.specs.Formulas.{TellsFormula, TellsFormulas}
@@ -16,7 +16,7 @@ returns-in_ok-some-in-Apply-clause-told c = λ v slots s u parts h all own.
     let over : is_over_formulas c.in-Apply.operator ≡ true = sym c.is_over_formulas.ensures ∙ c.if-is_over_formulas.true in
     let operands : TellsFormulas v slots s u c.last.result.now (last_of count parts) =
     subst (λ (es : List (Option Edge)). TellsFormulas v slots s u es (last_of count parts)) (sym c.last.ensures) (told_last v slots s u count c.args.edges.now parts all) in
-    subst (λ (n : Node). TellsFormula v slots s u some (resolved_by parts n)) (sym c.in-Apply.is)
+    subst (λ (n : ExprNode). TellsFormula v slots s u some (resolved_by parts n)) (sym c.in-Apply.is)
     (over_told v slots s u some c.in-Apply.field-0 c.in-Apply.operator (last_of count parts) over (c.in_ok-some-in-Apply.ensures.told v slots s u (last_of count parts) h operands))
 
 pub returns-in_ok-some-in-Link-clause-told : goal.returns-in_ok-some-in-Link-clause-told
@@ -30,5 +30,5 @@ returns-in_ok-some-in-Link-clause-told c = λ v slots s u parts h all own.
     let operands : TellsFormulas v slots s u (first.result ∷ second.result ∷ []) (a ∷ b ∷ []) =
     told_two v slots s u first.result second.result a b (subst (λ (e : Option Edge). TellsFormula v slots s u e a) (sym first.ensures) (all.each c.in-Link.a))
     (subst (λ (e : Option Edge). TellsFormula v slots s u e b) (sym second.ensures) (all.each c.in-Link.b)) in
-    subst (λ (n : Node). TellsFormula v slots s u some (resolved_by parts n)) (sym c.in-Link.is)
+    subst (λ (n : ExprNode). TellsFormula v slots s u some (resolved_by parts n)) (sym c.in-Link.is)
     (over_told v slots s u some c.in-Link.field-0 c.in-Link.operator (a ∷ b ∷ []) over (c.in_ok-some-in-Link.ensures.told v slots s u (a ∷ b ∷ []) h operands))

@@ -4,7 +4,7 @@ use Rattle.std.specs.Prelude.{Option}
 use Rattle.std.proofs.lemmas.List.{take_all}
 use Rattle.std.proofs.lemmas.List.Elements.{All-push}
 use Rattle.bit_graph.specs.declared.edge.Edge.{Edge}
-use Rattle.smv_resolve.specs.declared.node.Node.{Node}
+use Rattle.smv_resolve.specs.declared.node.ExprNode.{ExprNode}
 use Rattle.smv_resolve.specs.Resolved.{parts_of}
 use Rattle.bit_outcomes.proofs.Kept.{all_told_kept, extends_refl, extends_trans}
 use Rattle.bit_faults.specs.Formulas.{AllStandIfAny, StandsIfAny, TellsFormulas}
@@ -49,4 +49,4 @@ loop-i-preserved c =
 pub returns-clause-told : goal.returns-clause-told
 returns-clause-told c = λ v slots s u h all.
     let past : length c.args.nodes.now ≤ c.loop-i.i = omega arith in
-    subst (λ (ns : List Node). TellsFormulas v slots s u c.loop-i.made (parts_of ns)) (take_all c.loop-i.i c.args.nodes.now past) (c.loop-i.invariant.told v slots s u h all)
+    subst (λ (ns : List ExprNode). TellsFormulas v slots s u c.loop-i.made (parts_of ns)) (take_all c.loop-i.i c.args.nodes.now past) (c.loop-i.invariant.told v slots s u h all)

@@ -4,7 +4,7 @@ use Rattle.std.proofs.lemmas.Bool.{cases_lt}
 use Rattle.std.proofs.lemmas.List.{get_or_append_left, get_or_past, get_or_push, length_push}
 use Rattle.smv_tree.specs.declared.tree.Program.{Program}
 use Rattle.bit_graph.specs.declared.edge.Edge.{Edge}
-use Rattle.bit_graph.specs.declared.edge.Node.{Node}
+use Rattle.bit_graph.specs.declared.edge.GraphNode.{GraphNode}
 use Rattle.bit_graph.specs.Meaning.{Consistent, HasInputs, edge_value, exclusive_or}
 use Rattle.bit_graph.specs.Values.{OneWay, assigned, value_under, values}
 use Rattle.bit_arith.specs.Number.{values_of}
@@ -16,7 +16,7 @@ use Rattle.bit_faults.proofs.OfSides.{input_bits, long_range, next_bits, state_b
 use Rattle.bit_faults.proofs.mending.mended.Goals as goal
 
 -- the edge of a bit tells whether its slot has a value
-coded_by : (n : ℕ) (g : List Node) (p : Program) (domains : List Edge) (law : OneWay g) → HasInputs n g → n ≡ named_width p → ((v : ℕ → Bool) → Consistent v g → values_of v domains ≡ step_coded p v) →
+coded_by : (n : ℕ) (g : List GraphNode) (p : Program) (domains : List Edge) (law : OneWay g) → HasInputs n g → n ≡ named_width p → ((v : ℕ → Bool) → Consistent v g → values_of v domains ≡ step_coded p v) →
     (a : ℕ → Bool) (k : ℕ) (d : Edge) → k < n → value_under a g (get_or domains k d) ≡ is_coded p a k
 coded_by n g p domains law inputs n_is told a k d lt =
     told_at g p domains law told a k d (omega (arith, lt, n_is))
@@ -37,7 +37,7 @@ step_domains-requires-clause-room c =
     let third = long_range c.inputs.result.now (w + w) n (c.inputs.ensures ∙ ap input_bits c.requires.layout) in
     omega (arith, first, second, third, c.in_ok-graph.ensures.length)
 
-module _ (n : ℕ) (g : List Node) (p : Program) (domains : List Edge) (law : OneWay g) (inputs : HasInputs n g) (n_is : n ≡ named_width p)
+module _ (n : ℕ) (g : List GraphNode) (p : Program) (domains : List Edge) (law : OneWay g) (inputs : HasInputs n g) (n_is : n ≡ named_width p)
     (told : (v : ℕ → Bool) → Consistent v g → values_of v domains ≡ step_coded p v) (bits known : List Bool) (evaluated : (k : ℕ) → k < length g → assigned known k ≡ values (assigned bits) g k) where
   long : length domains ≡ n
   long = length-told g p domains law told ∙ sym n_is
@@ -60,7 +60,7 @@ mended_all p a made i n long n_is end each k =
     ]
 
 -- the number of a bit of a step, of which there is an edge
-below : (n : ℕ) (g : List Node) (p : Program) (domains : List Edge) (law : OneWay g) (told : (v : ℕ → Bool) → Consistent v g → values_of v domains ≡ step_coded p v) (i : ℕ) → i < n → n ≡ named_width p →
+below : (n : ℕ) (g : List GraphNode) (p : Program) (domains : List Edge) (law : OneWay g) (told : (v : ℕ → Bool) → Consistent v g → values_of v domains ≡ step_coded p v) (i : ℕ) → i < n → n ≡ named_width p →
     i < length domains
 below n g p domains law told i lt n_is = omega (arith, lt, n_is, length-told g p domains law told)
 

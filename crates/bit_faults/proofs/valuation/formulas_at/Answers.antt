@@ -1,6 +1,6 @@
 -- Where temporal formulas fault, by what is told of the nodes at the moment.
 use Rattle.std.proofs.Common.{List, [], subst, sym}
-use Rattle.smv_resolve.specs.declared.node.Node.{Node}
+use Rattle.smv_resolve.specs.declared.node.ExprNode.{ExprNode}
 use Rattle.smv_resolve.specs.Resolved.{parts_of}
 use Rattle.smv_slots.specs.Slots.{slots_of}
 use Rattle.smv_meaning.specs.Tables.{outcomes_of}
@@ -34,7 +34,7 @@ returns-clause-told c =
     let u = inputs_of p v in
     let moment = moment_told k typed sides at_moment v c.in_ok-moment.moment c.in_ok-moment.ensures.told (formulas.ensures.extends.kept v consistent) from given in
     let told : TellsAll v c.as_slice-2.result.now (outcomes_of (slots_of p) s u [] c.as_slice.result.now) =
-    subst (λ (ns : List Node). TellsAll v c.as_slice-2.result.now (outcomes_of (slots_of p) s u [] ns)) (sym c.as_slice.ensures)
+    subst (λ (ns : List ExprNode). TellsAll v c.as_slice-2.result.now (outcomes_of (slots_of p) s u [] ns)) (sym c.as_slice.ensures)
     (subst (λ (ts : List Told). TellsAll v ts (outcomes_of (slots_of p) s u [] typed.nodes)) (sym c.as_slice-2.ensures) moment) in
-    subst (λ (ns : List Node). TellsFormulas v (slots_of p) s u formulas.formulas (parts_of ns)) c.as_slice.ensures
+    subst (λ (ns : List ExprNode). TellsFormulas v (slots_of p) s u formulas.formulas (parts_of ns)) c.as_slice.ensures
     (formulas.ensures.told v (slots_of p) s u consistent told)

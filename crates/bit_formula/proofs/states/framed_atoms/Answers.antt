@@ -5,7 +5,7 @@ use Rattle.std.proofs.lemmas.Bool.{and_parts}
 use Rattle.bit_graph.specs.Meaning.{edge_value}
 use Rattle.smv_value.specs.declared.value.Value.{Value}
 use Rattle.smv_slots.specs.Slots.{slots_of}
-use Rattle.smv_meaning.specs.declared.outcome.Outcome.{Outcome}
+use Rattle.smv_meaning.specs.declared.outcome.Evaluation.{Evaluation}
 use Rattle.smv_meaning.specs.Runs.{are_inputs, is_given, is_state, is_true}
 use Rattle.smv_meaning.specs.Tables.{outcome_at, outcomes_of}
 use Rattle.bit_outcomes.specs.declared.told.Told.{Told}
@@ -27,7 +27,7 @@ returns-clause-told c = λ v holds.
     let atoms = c.args.atoms.now in
     let s : List Value = state_under p v c.args.state.now.bits in
     let u : List Value = inputs_under p v c.args.inputs.now.bits in
-    let os : List Outcome = outcomes_of slots s u [] typed.nodes in
+    let os : List Evaluation = outcomes_of slots s u [] typed.nodes in
     let there : Bool = is_state p s && are_inputs p u in
     let valid = c.in_ok-valid.valid in
     let second = c.in_ok-edges.ensures.extends.kept v holds in
@@ -42,4 +42,4 @@ returns-clause-told c = λ v holds.
     ) in
     c.in_ok-edges.ensures.value.tells v os holds known
     ∙ ap (λ (b : Bool). map (λ (a : ℕ). b && is_true (outcome_at os a)) atoms) valid_is
-    ∙ atoms_at (λ (o : Outcome). there && is_true o) slots s u typed.nodes atoms
+    ∙ atoms_at (λ (o : Evaluation). there && is_true o) slots s u typed.nodes atoms

@@ -1,6 +1,6 @@
 -- In bits enough for both, and then in as many as the result needs.
 use Rattle.std.proofs.Common.{◌+◌, length, ap, ◌∙◌}
-use Rattle.smv_value.specs.Results.{counted, low_bits}
+use Rattle.smv_value.specs.Results.{number_of_word, low_bits}
 use Rattle.bit_arith.specs.Number.{number_of}
 use Rattle.bit_operators.specs.Denoting.{integer_of}
 use Rattle.bit_operators.specs.Integers.{bounded}

@@ -1,6 +1,6 @@
 -- So many bits.
 use Rattle.std.proofs.Common.{◌∙◌, length}
-use Rattle.smv_value.specs.Results.{counted, low_bits}
+use Rattle.smv_value.specs.Results.{number_of_word, low_bits}
 use Rattle.bit_arith.specs.Number.{number_of}
 use Rattle.bit_operators.proofs.OfWords.{resized_word}
 use Rattle.bit_operators.proofs.words.resized_to.Goals as goal
@@ -10,5 +10,5 @@ returns-in_ok-other-in-Word-clause-value c = λ v h.
     resized_word v c.args.a.now c.in-Word.signed c.in-Word.bits c.in_ok-other-in-Word.other.items c.from_vec.result c.args.to c.in-Word.is
     c.in_ok-other-in-Word.ensures.length
     (c.in_ok-other-in-Word.ensures.value v h
-    ∙ (λ i. low_bits c.args.to (counted c.in-Word.signed (length (c.as_slice.ensures i)) (number_of v (c.as_slice.ensures i)))))
+    ∙ (λ i. low_bits c.args.to (number_of_word c.in-Word.signed (length (c.as_slice.ensures i)) (number_of v (c.as_slice.ensures i)))))
     c.from_vec.ensures

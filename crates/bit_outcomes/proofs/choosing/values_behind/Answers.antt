@@ -1,7 +1,7 @@
 -- One pair more, from the last on.
 use Rattle.std.proofs.Common.{◌≡◌, ◌+◌, ◌-◌, ◌*◌, ◌<◌, length, drop, get_or, subst, sym, arith, ℕ}
-use Rattle.smv_meaning.specs.declared.outcome.Outcome.{Outcome}
-use Rattle.smv_meaning.specs.declared.outcome.Outcome.TheVariants.{Nothing}
+use Rattle.smv_meaning.specs.declared.outcome.Evaluation.{Evaluation}
+use Rattle.smv_meaning.specs.declared.outcome.Evaluation.TheVariants.{Nothing}
 use Rattle.smv_meaning.specs.Outcomes.{choice}
 use Rattle.bit_outcomes.specs.Telling.{Tells}
 use Rattle.bit_outcomes.proofs.Kept.{all_told_kept, extends_trans}
@@ -27,7 +27,7 @@ pairs-preserved c =
           let odd : 2 * (c.pairs.i - 1) + 1 < length c.args.operands.now = omega arith in
           let even : 2 * (c.pairs.i - 1) < length c.args.operands.now = omega arith in
           let within : 2 * (c.pairs.i - 1) + 1 < length os = omega (arith, all.long, odd) in
-          subst (λ (o : Outcome). Tells v c.in_ok-next.next o) (sym (choice_step rule p os i c.pairs.i up within))
+          subst (λ (o : Evaluation). Tells v c.in_ok-next.next o) (sym (choice_step rule p os i c.pairs.i up within))
           (next.told v (get_or os (2 * i) Nothing) (get_or os (2 * i + 1) Nothing) (choice rule p (drop (2 * c.pairs.i) os)) h
           (tells_at v ts os (2 * i) c.index-operands-i.result even c.index-operands-i.is all)
           (tells_at v ts os (2 * i + 1) c.index-operands-i-in-pairs.result odd c.index-operands-i-in-pairs.is all) (before.told rule p v os first all));

@@ -1,8 +1,8 @@
 -- One pair more, and the tail in the end.
 use Rattle.std.proofs.Common.{◌≡◌, ◌+◌, ◌*◌, ◌<◌, ◌≤◌, ℕ, suc, Bool, length, get_or, drop, subst, arith}
 use Rattle.bit_graph.specs.Meaning.{Consistent}
-use Rattle.smv_meaning.specs.declared.outcome.Outcome.{Outcome}
-use Rattle.smv_meaning.specs.declared.outcome.Outcome.TheVariants.{Nothing}
+use Rattle.smv_meaning.specs.declared.outcome.Evaluation.{Evaluation}
+use Rattle.smv_meaning.specs.declared.outcome.Evaluation.TheVariants.{Nothing}
 use Rattle.smv_meaning.specs.Outcomes.{choice, taken, truth}
 use Rattle.bit_outcomes.specs.Fronts.{FrontStands, TellsFront}
 use Rattle.bit_outcomes.specs.declared.fronts.Front.{Front}
@@ -34,7 +34,7 @@ pairs-preserved c =
           let up : suc i ≡ i + 1 = omega arith in
           subst (λ (n : ℕ). TellsFront v next (front_of os n)) up
           (some_of
-          (λ (x : Front). (u : ℕ → Bool) (f : Outcome → Outcome) (o a : Outcome) → Consistent u k → TellsFront u c.pairs.front f → Tells u one o → Tells u other a →
+          (λ (x : Front). (u : ℕ → Bool) (f : Evaluation → Evaluation) (o a : Evaluation) → Consistent u k → TellsFront u c.pairs.front f → Tells u one o → Tells u other a →
           TellsFront u x (λ r. f (taken (truth o) o a r)))
           c.in_ok-next.field-0 next c.in-Some.is made.told v (front_of os i) (get_or os (2 * i) Nothing) (get_or os (2 * i + 1) Nothing) h (before.told v os (made.extends.kept v h) all)
           (tells_at v ts os (2 * i) one even c.index-operands-i.is all) (tells_at v ts os (2 * i + 1) other odd c.index-operands-i-in-pairs.is all));

@@ -1,8 +1,8 @@
 -- One operand more.
 use Rattle.std.proofs.Common.{◌<◌, ◌≤◌, List, [], take, length, get_or, subst, sym, arith}
 use Rattle.std.proofs.lemmas.List.{take_all}
-use Rattle.smv_meaning.specs.declared.outcome.Outcome.{Outcome}
-use Rattle.smv_meaning.specs.declared.outcome.Outcome.TheVariants.{Nothing}
+use Rattle.smv_meaning.specs.declared.outcome.Evaluation.{Evaluation}
+use Rattle.smv_meaning.specs.declared.outcome.Evaluation.TheVariants.{Nothing}
 use Rattle.smv_meaning.specs.Outcomes.{united}
 use Rattle.bit_outcomes.specs.Telling.{TellsSet, ToldStands}
 use Rattle.bit_outcomes.proofs.Kept.{all_told_kept, extends_trans}
@@ -31,11 +31,11 @@ operands-preserved c =
       told = λ v os h all.
           let first = row.extends.kept v h in
           let lt : c.operands.i < length os = omega (arith, all.long, c.operands-test.true) in
-          subst (λ (o : Outcome). TellsSet v c.in-Some.row.fault c.in-Some.row.members o) (sym (united_more os i lt))
+          subst (λ (o : Evaluation). TellsSet v c.in-Some.row.fault c.in-Some.row.members o) (sym (united_more os i lt))
           (told v (united [] (take i os)) (get_or os i Nothing) h (before.told v os first all) (tells_at v ts os i c.index-operands-i.result c.operands-test.true c.index-operands-i.is all));
     }
 
 pub returns-clause-told : goal.returns-clause-told
 returns-clause-told c = λ v os h all.
     let end : length os ≤ c.operands.i = omega (arith, all.long) in
-    subst (λ (xs : List Outcome). TellsSet v c.operands.made.fault c.operands.made.members (united [] xs)) (take_all c.operands.i os end) (c.operands.invariant.told v os h all)
+    subst (λ (xs : List Evaluation). TellsSet v c.operands.made.fault c.operands.made.members (united [] xs)) (take_all c.operands.i os end) (c.operands.invariant.told v os h all)

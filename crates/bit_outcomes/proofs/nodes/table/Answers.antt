@@ -2,7 +2,7 @@
 use Rattle.std.proofs.Common.{◌+◌, ◌≤◌, List, [], take, length, subst, sym, arith}
 use Rattle.std.proofs.lemmas.List.{take_all}
 use Rattle.std.proofs.lemmas.List.Elements.{All-push}
-use Rattle.smv_resolve.specs.declared.node.Node.{Node}
+use Rattle.smv_resolve.specs.declared.node.ExprNode.{ExprNode}
 use Rattle.smv_meaning.specs.Tables.{outcomes_of}
 use Rattle.bit_outcomes.specs.declared.told.Told.{Told}
 use Rattle.bit_outcomes.specs.Telling.{AllTold, TellsAll, ToldStands}
@@ -48,5 +48,5 @@ loop-i-preserved c =
 pub returns-clause-told : goal.returns-clause-told
 returns-clause-told c = λ v s u t h ds du next.
     let all : length c.args.nodes.now ≤ c.loop-i.i = omega arith in
-    subst (λ (ns : List Node). TellsAll v c.loop-i.made (outcomes_of c.args.slots.now s u t ns)) (take_all c.loop-i.i c.args.nodes.now all)
+    subst (λ (ns : List ExprNode). TellsAll v c.loop-i.made (outcomes_of c.args.slots.now s u t ns)) (take_all c.loop-i.i c.args.nodes.now all)
     (c.loop-i.invariant.told v s u t h ds du next)

@@ -1,8 +1,8 @@
 -- The one value of each operand.
 use Rattle.std.proofs.Common.{[], ◌∷◌, subst, sym}
 use Rattle.smv_value.specs.Results.{result_of}
-use Rattle.smv_meaning.specs.declared.outcome.Outcome.{Outcome}
-use Rattle.smv_meaning.specs.declared.outcome.Outcome.TheVariants.{Values}
+use Rattle.smv_meaning.specs.declared.outcome.Evaluation.{Evaluation}
+use Rattle.smv_meaning.specs.declared.outcome.Evaluation.TheVariants.{Values}
 use Rattle.smv_meaning.specs.Outcomes.{given, operated}
 use Rattle.bit_operators.specs.declared.symbolic.Symbolic.{Symbolic}
 use Rattle.bit_outcomes.specs.declared.told.Told.{Told}
@@ -20,6 +20,6 @@ returns-in_ok-told-in-One-One-clause-told c = λ place v p q h a b.
     let made = c.in_ok-told-in-One-One in
     let first : TellsOne v f one.one p = subst (λ (s : Symbolic). TellsOne v f s p) (sym one.ensures) (subst (λ (t : Told). Tells v t p) c.in-One-One.is-0 a) in
     let second : TellsOne v g other.other q = subst (λ (s : Symbolic). TellsOne v g s q) (sym other.ensures) (subst (λ (t : Told). Tells v t q) c.in-One-One.is-1 b) in
-    subst (λ (x : Outcome). Tells v made.told x) (sym (bound_is (λ vs. given place (result_of c.args.operator vs)) [] (p ∷ q ∷ [])))
+    subst (λ (x : Evaluation). Tells v made.told x) (sym (bound_is (λ vs. given place (result_of c.args.operator vs)) [] (p ∷ q ∷ [])))
     (made.ensures.told place v (operated Values [] (p ∷ q ∷ [])) h
     (two_each v f g fault.fault one.one other.other p q (fault.ensures.value v (made.ensures.extends.kept v h)) first second))

@@ -1,4 +1,4 @@
-use Rattle.bit_graph.specs.declared.edge.Node.TheVariants.{And, Xor, Choice}
+use Rattle.bit_graph.specs.declared.edge.GraphNode.TheVariants.{And, Xor, Choice}
 use Rattle.cnf_build.proofs.Cones.{operands_in}
 use Rattle.cnf_build.proofs.cone.mark_operands.Goals as goal
 

@@ -1,5 +1,5 @@
 use Rattle.std.proofs.Common.{◌≡◌, ◌++◌, [], List, ℕ, true, false, length, filter, map, ap, subst, ◌∙◌}
-use Rattle.smv_resolve.specs.declared.node.Node.{Node}
+use Rattle.smv_resolve.specs.declared.node.ExprNode.{ExprNode}
 use Rattle.smv_resolve.specs.Resolved.{part_of}
 use Rattle.smv_slots.specs.Slots.{slots_of}
 use Rattle.smv_flat.specs.Assignments.{slot_numbers}
@@ -15,8 +15,8 @@ returns c =
     let now : ℕ → List ℕ = told p false c.args.s.now c.args.u.now in
     let next : ℕ → List ℕ = told p true c.args.next.now [] in
     let size : c.len-slots.result ≡ length (slots_of p) = c.len-slots.ensures ∙ ap length c.args.typed.now.laid_out in
-    let occurs_now = subst (λ (nodes : List Node). TellsSlots false (part_of nodes c.args.value) c.len-slots.result c.in_ok-found.found.now.items) c.as_slice.ensures c.in_ok-found.ensures.now in
-    let occurs_next = subst (λ (nodes : List Node). TellsSlots true (part_of nodes c.args.value) c.len-slots.result c.in_ok-found.found.next.items) c.as_slice.ensures c.in_ok-found.ensures.next in
+    let occurs_now = subst (λ (nodes : List ExprNode). TellsSlots false (part_of nodes c.args.value) c.len-slots.result c.in_ok-found.found.now.items) c.as_slice.ensures c.in_ok-found.ensures.now in
+    let occurs_next = subst (λ (nodes : List ExprNode). TellsSlots true (part_of nodes c.args.value) c.len-slots.result c.in_ok-found.found.next.items) c.as_slice.ensures c.in_ok-found.ensures.next in
     let first : c.push_told.new.texts.items ≡ map now (slots_in p false r) =
     c.in_ok-push_told.ensures ∙ ap (λ ts. ts ++ map now (filter (mark c.deref.result.now) (slot_numbers p))) c.new-texts.ensures.items
     ∙ ap (λ ms. map now (filter (mark ms) (slot_numbers p))) c.deref.ensures.value

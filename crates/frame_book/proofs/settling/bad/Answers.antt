@@ -7,7 +7,7 @@ use Rattle.frame_history.specs.declared.entries.Change.{Change}
 use Rattle.frame_history.specs.declared.entries.Change.TheVariants.{Note}
 use Rattle.frame_history.specs.declared.entries.Lag.TheVariants as lag
 use Rattle.frame_history.specs.declared.entries.Change.TheVariants as change
-use Rattle.frame_book.specs.declared.claim.Outcome.TheVariants as outcome
+use Rattle.frame_book.specs.declared.claim.ClaimOutcome.TheVariants as outcome
 use Rattle.frame_book.specs.Steps.{Comes}
 use Rattle.frame_book.proofs.Accepted.{bad_lags, bad_noted}
 use Rattle.frame_book.proofs.settling.bad.Goals as goal

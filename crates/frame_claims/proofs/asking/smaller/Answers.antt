@@ -1,7 +1,7 @@
 use Rattle.std.proofs.Common.{refl, sym, subst}
 use Rattle.std.proofs.lemmas.List.Elements.{All-contains_itself}
 use Rattle.frame_core.specs.Facts.{ProvedClause}
-use Rattle.frame_book.specs.declared.claim.Outcome.TheVariants.{Proved}
+use Rattle.frame_book.specs.declared.claim.ClaimOutcome.TheVariants.{Proved}
 use Rattle.frame_claims.specs.Asking.{IsSmaller}
 use Rattle.frame_claims.proofs.asking.smaller.Goals as goal
 

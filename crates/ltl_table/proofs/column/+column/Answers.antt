@@ -2,10 +2,10 @@ use Rattle.std.proofs.Common.{rules, ◌≡◌, ◌≤◌, ℕ, Bool, Vec, Globa
 use Rattle.std.specs.Prelude.{IfOk}
 use Rattle.std.specs.declared.alloc.AllocError.{AllocError}
 use Rattle.ltl_meaning.specs.declared.node.BinaryOperator.{BinaryOperator}
-use Rattle.ltl_meaning.specs.declared.node.Node.{Node, the_lemmas}
-use Rattle.ltl_meaning.specs.declared.node.Node.TheVariants.{Constant, Implies, rolls-Constant}
-use Rattle.ltl_meaning.specs.declared.node.Node.TheOpen.{Node-F}
-use Rattle.ltl_meaning.specs.declared.node.Node.TheFolds.{fold-roll-Node}
+use Rattle.ltl_meaning.specs.declared.node.FormulaNode.{FormulaNode, the_lemmas}
+use Rattle.ltl_meaning.specs.declared.node.FormulaNode.TheVariants.{Constant, Implies, rolls-Constant}
+use Rattle.ltl_meaning.specs.declared.node.FormulaNode.TheOpen.{FormulaNode-F}
+use Rattle.ltl_meaning.specs.declared.node.FormulaNode.TheFolds.{fold-roll-FormulaNode}
 use Rattle.ltl_meaning.specs.declared.word.Word.{Word}
 use Rattle.ltl_meaning.specs.Truth.{Satisfies}
 use Rattle.ltl_meaning.specs.Lasso.{on}
@@ -70,11 +70,11 @@ column-requires-in-Bounded t c =
     (search (rules, the_lemmas), (omega (arith, ap past_height is, deep, c.requires.deep), (c.requires.low, c.requires.high)))
 
 -- a constant's column
-constant_is : (node : Node) (b : Bool) → node ≡ Constant b → unfolded (formula_of node) ≡ Ltl.Constant b
+constant_is : (node : FormulaNode) (b : Bool) → node ≡ Constant b → unfolded (formula_of node) ≡ Ltl.Constant b
 constant_is node b is =
-    ap (λ g. unfolded (formula_of g)) (is ∙ sym (rolls-Constant b)) ∙ ap unfolded (fold-roll-Node Temporal formula_at (Node-F.Constant b))
+    ap (λ g. unfolded (formula_of g)) (is ∙ sym (rolls-Constant b)) ∙ ap unfolded (fold-roll-FormulaNode Temporal formula_at (FormulaNode-F.Constant b))
 
-constant_told : (w : Word) (n : ℕ) (node : Node) (b : Bool) → node ≡ Constant b → (r : Result (Vec Bool Global) AllocError) → IfOk r (λ c. c.items ≡ replicate n b) →
+constant_told : (w : Word) (n : ℕ) (node : FormulaNode) (b : Bool) → node ≡ Constant b → (r : Result (Vec Bool Global) AllocError) → IfOk r (λ c. c.items ≡ replicate n b) →
     IfOk r (λ c. Tells c.items n (Satisfies (on w) (unfolded (formula_of node))))
 constant_told w n node b is (Ok c) e = subst (λ g. Tells c.items n (Satisfies (on w) g)) (sym (constant_is node b is)) (constant_column n c.items b e)
 constant_told w n node b is (Err e) h = tt
@@ -89,7 +89,7 @@ returns-in_ok-whole-in-Bounded t c =
     subst (λ g. Tells c.in_ok-whole-in-Bounded.whole.items c.args.n (Satisfies (on c.args.word.now) g)) (sym is)
     (c.in_ok-whole-in-Bounded.ensures (unfolded (formula_of inner)) (subst (λ g. past_height g ≤ c.args.passes) is c.requires.deep) c.in_ok-of-in-Bounded.ensures)
 
-implies_is : (node l r : Node) → node ≡ Implies l r →
+implies_is : (node l r : FormulaNode) → node ≡ Implies l r →
     unfolded (formula_of node) ≡ Ltl.Binary BinaryOperator.Implies (unfolded (formula_of l)) (unfolded (formula_of r))
 implies_is node l r is = ap (λ g. unfolded (formula_of g)) is ∙ ap unfolded (formula_of-Implies l r)
 

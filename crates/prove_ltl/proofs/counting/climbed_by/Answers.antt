@@ -2,7 +2,7 @@ use Rattle.std.proofs.Common.{◌≡◌, ◌∙◌, ℕ, List, [], ◌∷◌, le
 use Rattle.std.specs.Prelude.{Some}
 use Rattle.cert_core.specs.Blocks.{Block}
 use Rattle.cert_core.specs.Certificates.{Certifies}
-use Rattle.frame_core.specs.declared.outcomes.Verdict.{Verdict}
+use Rattle.frame_core.specs.declared.outcomes.FramesVerdict.{FramesVerdict}
 use Rattle.frame_core.specs.Changes.{VerdictSays}
 use Rattle.frame_core.specs.FrameLaw.{FrameState}
 use Rattle.ltl_lassos.specs.Violating.{NeverViolated}
@@ -28,7 +28,7 @@ returns-in-Some-Invariant-clause-climbs g c = λ c0 carried old isc e whole sys 
     let tickets : List ℕ = g.Q.Purse.tickets c.args.purse.now in
     let p = c.shown.new.purse in
     let level : ℕ = c.in-Some-Invariant.level in
-    let says = subst (λ (v : Verdict). VerdictSays fr 0 (Some v)) c.in-Some-Invariant.field-0-is c.in-Some-Invariant.ensures in
+    let says = subst (λ (v : FramesVerdict). VerdictSays fr 0 (Some v)) c.in-Some-Invariant.field-0-is c.in-Some-Invariant.ensures in
     let never : (cert : Block) → Certifies c0 cert → NeverViolated sys f atoms = λ cert certifies.
     c.counted_systems.ensures.certified sys log.monitored c0 f atoms k cert h.so_it_was.monitor
     (its_counted sys f atoms effort m log k carried works old h c0 isc now one is_now fr tickets c.args.over e) h.own h.so_it_was.gives certifies in
@@ -46,7 +46,7 @@ returns-then-k-effort-clause-climbs g c = λ c0 carried old isc e whole.
     let now = c.push.new.self.items in
     let is_now = c.in_ok-push.ensures.items in
     let tickets : List ℕ = g.Q.Purse.tickets c.args.purse.now in
-    let says = subst (λ (v : Verdict). VerdictSays fr 0 (Some v)) c.in-Some-Reached.field-0-is c.in-Some-Reached.ensures in (
+    let says = subst (λ (v : FramesVerdict). VerdictSays fr 0 (Some v)) c.in-Some-Reached.field-0-is c.in-Some-Reached.ensures in (
       c.if-k-effort.true,
       same_after (c0 ∷ []) (limits_of effort) carried one.history.items fr old (length tickets) c.args.over e,
       λ sys f atoms log h. goes_on sys f atoms effort m log k carried works old h c0 isc now one is_now fr tickets c.args.over e c.in-Some-Reached.field-0-0 says,
@@ -63,7 +63,7 @@ returns-in-Some-Reached-clause-climbs g c = λ c0 carried old isc e whole sys f 
     let now = c.push.new.self.items in
     let is_now = c.in_ok-push.ensures.items in
     let tickets : List ℕ = g.Q.Purse.tickets c.args.purse.now in
-    let says = subst (λ (v : Verdict). VerdictSays fr 0 (Some v)) c.in-Some-Reached.field-0-is c.in-Some-Reached.ensures in
+    let says = subst (λ (v : FramesVerdict). VerdictSays fr 0 (Some v)) c.in-Some-Reached.field-0-is c.in-Some-Reached.ensures in
     let most = c.if-k-effort.false in
     let within = c.requires.within in
     let at : k ≡ effort.counter = omega (arith, most, within) in

@@ -5,7 +5,7 @@ use Rattle.std.proofs.lemmas.Option.{slice_get-get_or}
 use Rattle.std.proofs.Math.ListN.{get_or-map}
 use Rattle.clause_core.specs.Systems.{TransitionSystem}
 use Rattle.smv_resolve.specs.declared.item.Item.{Item}
-use Rattle.smv_resolve.specs.declared.node.Node.{Node}
+use Rattle.smv_resolve.specs.declared.node.ExprNode.{ExprNode}
 use Rattle.smv_resolve.specs.Items.{ResolvedItem, item_by}
 use Rattle.frame_core.specs.FrameLaw.{system_at}
 use Rattle.bit_conditions.specs.Asked.{is_invariant}
@@ -16,7 +16,7 @@ use Rattle.smv_cli.proofs.judging.pooled.Goals as goal
 fits : (i n m : ℕ) → i < n → n ≤ m → i < m
 fits i n m h k = omega (arith, h, k)
 
-more : (nodes : List Node) (specs : List Item) (systems before now : List TransitionSystem) (j : ℕ) (d : Item) (s : TransitionSystem) → j < length specs → length specs ≤ length systems
+more : (nodes : List ExprNode) (specs : List Item) (systems before now : List TransitionSystem) (j : ℕ) (d : Item) (s : TransitionSystem) → j < length specs → length specs ≤ length systems
     → before ≡ pooled (take j (map (item_by nodes) specs)) systems → s ≡ system_at systems j
     → now ≡ before ++ cond (is_invariant (get_or specs j d).kind) (s ∷ []) [] → now ≡ pooled (take (j + 1) (map (item_by nodes) specs)) systems
 more nodes specs systems before now j d s inside room so_far is e =
@@ -28,7 +28,7 @@ more nodes specs systems before now j d s inside room so_far is e =
     ∙ ap (λ (t : TransitionSystem). pooled (take j xs) systems ++ cond (is_invariant x.kind) (t ∷ []) []) is
     ∙ sym (systems_more xs systems j x (fits j (length specs) (length systems) inside room) here)
 
-all_of : (nodes : List Node) (specs : List Item) (systems found : List TransitionSystem) (n : ℕ) → length specs ≤ n → found ≡ pooled (take n (map (item_by nodes) specs)) systems
+all_of : (nodes : List ExprNode) (specs : List Item) (systems found : List TransitionSystem) (n : ℕ) → length specs ≤ n → found ≡ pooled (take n (map (item_by nodes) specs)) systems
     → found ≡ pooled (map (item_by nodes) specs) systems
 all_of nodes specs systems found n h e =
     let xs = map (item_by nodes) specs in

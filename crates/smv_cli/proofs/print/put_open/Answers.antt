@@ -4,7 +4,7 @@ use Rattle.std.proofs.lemmas.List.{length-map}
 use Rattle.smv_resolve.specs.Items.{item_by}
 use Rattle.smv_cli.specs.declared.record.Reason.TheVariants as reason
 use Rattle.smv_cli.specs.declared.record.Record.{Record}
-use Rattle.smv_cli.specs.declared.record.Verdict.TheVariants.{Unknown}
+use Rattle.smv_cli.specs.declared.record.SpecVerdict.TheVariants.{Unknown}
 use Rattle.smv_cli.specs.Records.{OpenOf}
 use Rattle.smv_cli.specs.Written.{status_with}
 use Rattle.smv_cli.proofs.Claims.{listed, listed_at, not_claimed, recorded_all, recorded_none}

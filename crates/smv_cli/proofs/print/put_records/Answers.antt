@@ -4,7 +4,7 @@ use Rattle.std.proofs.lemmas.List.{length-map}
 use Rattle.std.proofs.lemmas.Option.{slice_get-get_or}
 use Rattle.std.proofs.Math.ListN.{get_or-map}
 use Rattle.smv_resolve.specs.declared.item.Item.{Item}
-use Rattle.smv_resolve.specs.declared.node.Node.{Node}
+use Rattle.smv_resolve.specs.declared.node.ExprNode.{ExprNode}
 use Rattle.smv_resolve.specs.Items.{ResolvedItem, item_by}
 use Rattle.smv_tree.specs.declared.tree.Program.{Program}
 use Rattle.smv_meaning.specs.Runs.{specifications_of}
@@ -18,7 +18,7 @@ use Rattle.smv_cli.proofs.print.put_records.Goals as goal
 pub unreachable-requires : goal.unreachable-requires
 unreachable-requires g c = not_claimed c.args.specs.now c.specs.i _ (omega (arith, c.specs-test.true)) c.requires.claims c.in_default.not-Specification
 
-numbered_claim : (p : Program) (nodes : List Node) (specs : List Item) (i : ℕ) (s : Item) → i < length specs → listed nodes specs ≡ specifications_of p → specification_at p (i + 1) ≡ Some (item_by nodes (get_or specs i s))
+numbered_claim : (p : Program) (nodes : List ExprNode) (specs : List Item) (i : ℕ) (s : Item) → i < length specs → listed nodes specs ≡ specifications_of p → specification_at p (i + 1) ≡ Some (item_by nodes (get_or specs i s))
 numbered_claim p nodes specs i s within same =
     let back : i + 1 - 1 ≡ i = omega arith in
     ap (slice_get (specifications_of p)) back

@@ -1,7 +1,7 @@
 -- The slots of a cycle of the graph are one of dependencies, and where the graph has none there is none.
 use Rattle.std.proofs.Common.{◌≡◌, ◌∙◌, ap, sym, subst, arith, ℕ, List, length, map}
 use Rattle.digraph.specs.Cycles.{Acyclic, Closed, IsCanonicalCycle}
-use Rattle.smv_resolve.specs.declared.node.Node.{Node}
+use Rattle.smv_resolve.specs.declared.node.ExprNode.{ExprNode}
 use Rattle.smv_slots.specs.Slots.{slots_of}
 use Rattle.smv_flat.specs.Assignments.{dependencies}
 use Rattle.smv_flat.specs.Graph.{assigned_by, slots_among, whole_graph}
@@ -30,7 +30,7 @@ returns-in-None-clause-right c =
     let P : List (List ℕ) → Type 0 = λ g. Acyclic g in
     let same : dependency slots nodes c.args.time all ≡ dependencies p c.args.time =
     ap (λ n. slot_graph n c.args.time (map (assigned_by nodes) all)) (c.len-slots.ensures ∙ ap length c.args.typed.now.laid_out)
-    ∙ ap (λ (ns : List Node). slot_graph (length (slots_of p)) c.args.time (map (assigned_by ns) all)) c.as_slice-nodes.ensures
+    ∙ ap (λ (ns : List ExprNode). slot_graph (length (slots_of p)) c.args.time (map (assigned_by ns) all)) c.as_slice-nodes.ensures
     ∙ ap (slot_graph (length (slots_of p)) c.args.time) c.requires in
     subst P same (acyclic slots nodes c.args.time all (subst P (c.deref.ensures.value ∙ c.in_ok-graph.ensures) (rw c.in-None.is at c.in_ok-canonical_cycle.ensures)))
 
@@ -42,7 +42,7 @@ returns-clause-refused c =
     let all = c.args.all.now in
     let same : dependency slots nodes c.args.time all ≡ dependencies p c.args.time =
     ap (λ n. slot_graph n c.args.time (map (assigned_by nodes) all)) (c.len-slots.ensures ∙ ap length c.args.typed.now.laid_out)
-    ∙ ap (λ (ns : List Node). slot_graph (length (slots_of p)) c.args.time (map (assigned_by ns) all)) c.as_slice-nodes.ensures
+    ∙ ap (λ (ns : List ExprNode). slot_graph (length (slots_of p)) c.args.time (map (assigned_by ns) all)) c.as_slice-nodes.ensures
     ∙ ap (slot_graph (length (slots_of p)) c.args.time) c.requires in
     let round = c.in-Some.round in
     let G : List (List ℕ) → Type 0 = λ g. IsCanonicalCycle g round in

@@ -3,7 +3,7 @@ use Rattle.std.proofs.Common.{◌∙◌, List, [], ◌∷◌, ◌++◌, Result, 
 use Rattle.std.specs.Prelude.{IfOk}
 use Rattle.smv_meaning.specs.Lassos.{Holds}
 use Rattle.ltl_meaning.specs.declared.node.Link.{Link}
-use Rattle.ltl_meaning.specs.declared.node.Node.{Node as Tree}
+use Rattle.ltl_meaning.specs.declared.node.FormulaNode.{FormulaNode as Tree}
 use Rattle.ltl_meaning.specs.Temporal.{Temporal, chain_of, formula_of, links_of}
 use Rattle.ltl_meaning.specs.Truth.{binary_truth}
 use Rattle.smv_formulas.specs.declared.forms.Form.{Form}

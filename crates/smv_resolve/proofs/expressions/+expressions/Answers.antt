@@ -3,7 +3,7 @@ use Rattle.std.proofs.lemmas.Result.{err_from_is_err_and}
 use Rattle.smv_tree.specs.declared.tree.Expr.{Expr}
 use Rattle.smv_value.specs.declared.value.Value.TheVariants as value
 use Rattle.smv_scope.specs.Lookup.{name_target}
-use Rattle.smv_resolve.specs.declared.memo.Found.{Found}
+use Rattle.smv_resolve.specs.declared.memo.FoundNode.{FoundNode}
 use Rattle.smv_resolve.specs.declared.memo.ResolveError.TheVariants as error
 use Rattle.smv_resolve.specs.Levels.{levels_before}
 use Rattle.smv_resolve.specs.Finding.{Finds, IsFound}
@@ -256,7 +256,7 @@ pub find_name-returns-in-Ok-clause-part : goal.find_name-returns-in-Ok-clause-pa
 find_name-returns-in-Ok-clause-part t c =
     let f : ℕ → Levelled = λ n. resolved_name c.args.scope.now.program (followed c.args.scope.now.program n) c.args.at c.args.name.now in
     let g : ℕ → Levelled = λ n. lowered (levels_before c.args.scope.now.program c.args.at c.args.name.now) (f n) in
-    let x : Found = record { node = c.in-Ok.found.node; height = c.in-Ok.found.height + c.levels_before-levels.result } in
+    let x : FoundNode = record { node = c.in-Ok.found.node; height = c.in-Ok.found.height + c.levels_before-levels.result } in
     let found : IsFound c.find_target.new.memo.nodes c.args.depth g x =
     rw (← c.levels_before-levels.ensures.levels)
     (found_lowered f c.find_target.new.memo.nodes c.levels_before-levels.result c.args.depth c.in-Ok.found (omega (arith, c.if-depth-levels.false)) c.in-Ok.ensures.finds) in

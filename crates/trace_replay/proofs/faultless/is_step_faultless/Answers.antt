@@ -6,7 +6,7 @@ use Rattle.smv_resolve.specs.Items.{ResolvedItem}
 use Rattle.smv_resolve.specs.Resolved.{parts_of}
 use Rattle.smv_slots.specs.Slots.{slots_of, types_of}
 use Rattle.value_types.specs.declared.value_type.ValueType.{ValueType}
-use Rattle.smv_meaning.specs.declared.outcome.Outcome.{Outcome}
+use Rattle.smv_meaning.specs.declared.outcome.Evaluation.{Evaluation}
 use Rattle.smv_meaning.specs.Faults.{item_fault, slot_assigned}
 use Rattle.smv_meaning.specs.Tables.{outcomes_of}
 use Rattle.trace_replay.specs.declared.faultless.Asked.TheVariants.{Step}
@@ -27,6 +27,6 @@ returns c =
     cc (c.as_slice-5.ensures.value, c.in_ok-here.ensures, c.slots.ensures, c.as_slice.ensures, c.as_slice-2.ensures, c.as_slice-3.ensures, c.as_slice-4.ensures) in
     c.in_ok-faultless.ensures
     ∙ ap (λ (ts : List ValueType). all_faultless_by Step ts assigned c.as_slice-5.result.now typed.items) typed.declared
-    ∙ ap (λ (os : List Outcome). all_faultless_by Step (types_of p) assigned os typed.items) here
+    ∙ ap (λ (os : List Evaluation). all_faultless_by Step (types_of p) assigned os typed.items) here
     ∙ in_step (types_of p) (slots_of p) typed.nodes s u t typed.items
     ∙ ap (list_all (λ (x : ResolvedItem). not (is_asking Step x.kind) || is_none (item_fault (types_of p) (slots_of p) s u t x))) typed.resolved

@@ -1,5 +1,5 @@
 use Rattle.std.proofs.Common.{refl, length, ◌∙◌, ap}
-use Rattle.bit_graph.specs.declared.edge.Node.TheVariants.{False}
+use Rattle.bit_graph.specs.declared.edge.GraphNode.TheVariants.{False}
 use Rattle.bit_graph.specs.Meaning.{IsBelow}
 use Rattle.bit_graph.proofs.Grown.{Acyclic-push, SharesIn-push, IsFolded-push, Extends-push, none_from_new, at_old, at_new, found_value}
 use Rattle.bit_graph.proofs.graph.Graph.grow.Goals as goal

@@ -1,5 +1,5 @@
 use Rattle.std.proofs.Common.{◌+◌, ℕ, sym, ap, subst, ◌∙◌}
-use Rattle.frame_book.specs.declared.claim.Outcome.{Outcome}
+use Rattle.frame_book.specs.declared.claim.ClaimOutcome.{ClaimOutcome}
 use Rattle.frame_book.specs.declared.claim.Settling.{Settling}
 use Rattle.frame_book.specs.declared.claim.Settling.TheVariants as settling
 use Rattle.frame_book.specs.Claims.{ClaimView}
@@ -12,6 +12,6 @@ invariant_of-self-in-Ok-Settled g c =
     let b : BookView = c.self.inside.pages in
     let now : BookView = c.settle.new.self in
     let v : ClaimView = c.args.claim in
-    let o : Outcome = c.args.outcome in
+    let o : ClaimOutcome = c.args.outcome in
     let done : Settles b v o settling.Settled now = subst (λ (r : Settling). Settles b v o r now) c.in-Ok-Settled.field-0-is c.in-Ok-Settled.ensures.done in
     c.add.ensures.total ∙ ap (λ (n : ℕ). n + 1) c.self.invariant ∙ sym (settles_counted b now v o done)

@@ -16,7 +16,7 @@ use Rattle.frame_book.specs.Book.{BookView, entered}
 use Rattle.book_agenda.proofs.Orderly.{outs_some}
 use Rattle.frame_book.proofs.Turning.{turned, turned_by, roomier}
 use Rattle.std.proofs.Common.{Vec, Global}
-use Rattle.frame_book.specs.declared.claim.Outcome.{Outcome}
+use Rattle.frame_book.specs.declared.claim.ClaimOutcome.{ClaimOutcome}
 use Rattle.frame_book.specs.Claims.{IsOutHere}
 use Rattle.frame_book.specs.Marked.{LimitIsLeft, NotesEach, marked}
 use Rattle.frame_book.specs.Book.{SettlesBy}
@@ -52,7 +52,7 @@ follow-ending-requires-clause-as_many c =
     let b : BookView = record { systems = p.levels.systems; limits = p.limits; carried = p.carried; history = p.history.items; state = state_of p.levels p.register p.marks } in
     let v : ClaimView = c.args.claim in
     let d : Made = c.in-Some.made in
-    let o : Outcome = c.args.outcome in
+    let o : ClaimOutcome = c.args.outcome in
     let f : FrameState = c.come.new.levels in
     let xs : List Change = c.come.new.changes.items in
     let has : HasSettled p.levels d o xs f = c.in_default-come.ensures.done in
@@ -65,7 +65,7 @@ follow-ending-requires-clause-room c =
     let b : BookView = record { systems = p.levels.systems; limits = p.limits; carried = p.carried; history = p.history.items; state = state_of p.levels p.register p.marks } in
     let v : ClaimView = c.args.claim in
     let d : Made = c.in-Some.made in
-    let o : Outcome = c.args.outcome in
+    let o : ClaimOutcome = c.args.outcome in
     let f : FrameState = c.come.new.levels in
     let xs : List Change = c.come.new.changes.items in
     let has : HasSettled p.levels d o xs f = c.in_default-come.ensures.done in
@@ -83,7 +83,7 @@ invariant_of-self-2 c =
     let b : BookView = record { systems = p.levels.systems; limits = p.limits; carried = p.carried; history = p.history.items; state = state_of p.levels p.register p.marks } in
     let v : ClaimView = c.args.claim in
     let d : Made = c.in-Some.made in
-    let o : Outcome = c.args.outcome in
+    let o : ClaimOutcome = c.args.outcome in
     let f : FrameState = c.come.new.levels in
     let xs : List Change = c.come.new.changes.items in
     let has : HasSettled p.levels d o xs f = c.in_default-come.ensures.done in
@@ -117,7 +117,7 @@ returns-clause-done c =
     let b : BookView = record { systems = p.levels.systems; limits = p.limits; carried = p.carried; history = p.history.items; state = state_of p.levels p.register p.marks } in
     let v : ClaimView = c.args.claim in
     let d : Made = c.in-Some.made in
-    let o : Outcome = c.args.outcome in
+    let o : ClaimOutcome = c.args.outcome in
     let f : FrameState = c.come.new.levels in
     let xs : List Change = c.come.new.changes.items in
     let has : HasSettled p.levels d o xs f = c.in_default-come.ensures.done in

@@ -1,7 +1,7 @@
 use Rattle.std.proofs.Common.{◌≡◌, ◌<◌, ℕ, List, length, get_or, sym, ◌∙◌, subst, arith}
 use Rattle.std.specs.Prelude.{Some, None}
 use Rattle.std.proofs.lemmas.List.{get_or_read}
-use Rattle.frame_core.specs.declared.outcomes.Verdict.TheVariants.{Invariant, Reached}
+use Rattle.frame_core.specs.declared.outcomes.FramesVerdict.TheVariants.{Invariant, Reached}
 use Rattle.frame_core.specs.FrameLaw.{FrameState, top_at}
 use Rattle.frame_core.specs.Changes.{VerdictSays}
 use Rattle.frame_core.proofs.Kept.{says_reached, says_invariant, says_none}

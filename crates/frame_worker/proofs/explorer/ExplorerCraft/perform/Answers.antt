@@ -2,7 +2,7 @@ use Rattle.std.proofs.Common.{Option, sym, subst}
 use Rattle.std.specs.Prelude.{IfSome}
 use Rattle.effort_purse.specs.declared.shared.SharedPurse.{SharedPurse}
 use Rattle.effort_purse.specs.Seats.{IsSeatOf}
-use Rattle.frame_book.specs.declared.claim.Outcome.{Outcome}
+use Rattle.frame_book.specs.declared.claim.ClaimOutcome.{ClaimOutcome}
 use Rattle.frame_book.specs.Outcomes.{IsOutcomeOf}
 use Rattle.frame_history.specs.History.{start}
 use Rattle.frame_worker.specs.Working.{hand}
@@ -29,7 +29,7 @@ returns-clause-did g c =
     record {
       held = task_paid g.J.Begun.systems g.J.Begun.limits first x.purse.now mine c.args.task c.requires.took c.in-Some.solver c.in-Some.is
           c.ask-outcome.new.solver lent.seat own e.kept.shares e.systems e.lemmas e.pays;
-      outcome = subst (λ (o : Option Outcome). IfSome o P) (sym c.ok.ensures.value)
+      outcome = subst (λ (o : Option ClaimOutcome). IfSome o P) (sym c.ok.ensures.value)
           (task_outcomes g.J.Begun.systems g.J.Begun.limits first x.purse.now mine c.args.task c.requires.took c.in-Some.solver c.in-Some.is lent.refused
           c.ask-outcome.result e.answer);
     }

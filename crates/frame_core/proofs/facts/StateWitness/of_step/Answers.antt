@@ -1,5 +1,5 @@
 use Rattle.frame_core.proofs.States.{found_of_step}
-use Rattle.frame_core.proofs.facts.Found.of_step.Goals as goal
+use Rattle.frame_core.proofs.facts.StateWitness.of_step.Goals as goal
 
 pub new-requires : goal.new-requires
 new-requires c =
