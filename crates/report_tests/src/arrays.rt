@@ -25,7 +25,7 @@ const BOUNDED: &str =
     "MODULE m(n, y)\nLTLSPEC G F [0, n] y\nMODULE main\nVAR x : boolean; v : m(2 * 2 - 3, x); w : m(0, x);\nASSIGN init(x) := FALSE; next(x) := !x;\n";
 
 // Declared types, and what they count.
-const DECLARED: [Case; 18] = [
+const DECLARED: [Case; 20] = [
     // One slot too many, by one array, by the sum of all, and by products that come to 0 in 64 bits.
     (
         "check",
@@ -55,6 +55,19 @@ const DECLARED: [Case; 18] = [
         "check",
         "MODULE main\nVAR a : array 0..512 of word[128];\n",
         "-- refused 511 TooManyBits at 1:1\n",
+        3,
+    ),
+    // Where there are too many slots already, a range with a parameter is judged in each instance all the same.
+    (
+        "check",
+        "MODULE m(n)\nVAR x : 1..n;\nMODULE main\nVAR big : array 0..65536 of boolean;\n  a : m(1); b : m(2); c : m(0);\n",
+        "-- refused 403 EmptyRange at 2:9\n",
+        3,
+    ),
+    (
+        "check",
+        "MODULE m(n)\nVAR x : 1..n;\nMODULE main\nVAR big : array 0..65536 of boolean;\n  a : m(1); b : m(2);\n",
+        "-- refused 312 TooManySlots at 1:1\n",
         3,
     ),
     // An array of instances, also of a module that has no variables.

@@ -6,4 +6,7 @@ pub mod OfEntries
 pub mod Once
 pub mod Ordered
 pub mod Uses
-pub mod Noted
+pub mod Listed
+pub mod Firsts
+pub mod Opened
+pub mod ClosedNames

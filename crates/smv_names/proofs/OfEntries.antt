@@ -6,7 +6,7 @@ use Rattle.digraph.specs.Cycles.{Acyclic, Closed}
 use Rattle.smv_tree.specs.declared.tree.Program.{Program}
 use Rattle.smv_tree.specs.declared.tree.Name.{Name}
 use Rattle.smv_scope.specs.Lookup.{Target, name_target}
-use Rattle.smv_names.specs.declared.entries.Entry.{Entry as LentEntry}
+use Rattle.smv_names.specs.declared.entries.DefinitionEntry.{DefinitionEntry}
 use Rattle.smv_names.specs.Entries.{read_entry, read_entries}
 use Rattle.smv_tree.specs.Occurring.{names_in}
 use Rattle.smv_names.specs.Defined.{Entry, is_entry, body_of, owner_of, entries_of, entry_of_target, entries_named, entry_graph, entry_verdict, entries_verdict}
@@ -37,7 +37,7 @@ entries_closed p a v e =
     let lt : v < length (entries_of p) = closed_from (entries_named p) (length (entries_of p)) (named_within p) (entries_of p) a v e in
     omega (arith, s, lt)
 
-pub same_size : (p : Program) (entries : List LentEntry) (g : List (List ℕ)) → read_entries entries ≡ entries_of p → g ≡ entry_graph p → length entries ≡ length g
+pub same_size : (p : Program) (entries : List DefinitionEntry) (g : List (List ℕ)) → read_entries entries ≡ entries_of p → g ≡ entry_graph p → length entries ≡ length g
 same_size p entries g read is = sym (length-map entries read_entry) ∙ ap length read ∙ sym (size p) ∙ ap length (sym is)
 
 entry_allowed : (g : List (List ℕ)) → Acyclic g → (n : ℕ) (x : Entry) → entry_verdict g n x None

@@ -1,17 +1,17 @@
 -- Entries as the code holds them: their expressions and definitions are lent, and a table has their numbers.
 use Rattle.std.specs.Prelude.{◌≡◌, ℕ, Bool, true, false, if◌then◌else◌, List, map, position}
 use Rattle.std.specs.HashMap.{HashMap, get}
-use Rattle.smv_names.specs.declared.entries.Entry.{Entry as LentEntry}
-use Rattle.smv_names.specs.declared.entries.Entry.TheVariants as lent
+use Rattle.smv_names.specs.declared.entries.DefinitionEntry.{DefinitionEntry}
+use Rattle.smv_names.specs.declared.entries.DefinitionEntry.TheVariants as lent
 use Rattle.smv_scope.specs.declared.target.Shared.{Shared}
 use Rattle.smv_scope.specs.Targets.{shared_eq}
 use Rattle.smv_names.specs.Defined.{Entry, is_defined, is_given}
 
-abbrev pub read_entry : LentEntry → Entry
+abbrev pub read_entry : DefinitionEntry → Entry
 read_entry (lent.Given at k owner e) = Entry.Given at k owner e.now
 read_entry (lent.Defined at k d) = Entry.Defined at k d.now
 
-abbrev pub read_entries : List LentEntry → List Entry
+abbrev pub read_entries : List DefinitionEntry → List Entry
 read_entries entries = map read_entry entries
 
 -- what an entry is a word for

@@ -6,4 +6,6 @@ pub mod Rules
 pub mod Lent
 pub mod Marks
 pub mod Entries
-pub mod Nameless
+pub mod Expressions
+pub mod DefinitionLists
+pub mod OpenNames

@@ -6,7 +6,7 @@ ghost use Rattle.smv_names.specs.Defined.{definitions_verdict, entries_verdict, 
 ghost use Rattle.smv_names.specs.Entries.{read_entries, read_entry};
 ghost use Rattle.smv_verdicts.specs.Verdicts.{Gives};
 
-use crate::entries::{Entry, entries_of, entry_graph};
+use crate::entries::{DefinitionEntry, entries_of, entry_graph};
 use crate::graph::is_acyclic;
 use digraph::reached_from;
 use smv_scope::Scope;
@@ -25,7 +25,7 @@ pub(crate) fn definitions(alloc: Global, scope: &Scope) -> Result<(), TextStop>
 }
 
 // The verdict on entries, the nodes of this graph.
-fn judge(alloc: Global, graph: &[Items<usize>], entries: &[Entry]) -> Result<(), TextStop>
+fn judge(alloc: Global, graph: &[Items<usize>], entries: &[DefinitionEntry]) -> Result<(), TextStop>
     requires closed { Closed graph.now }
     requires same { length entries.now ≡ length graph.now }
     ensures { Gives result (entries_verdict graph.now 0 (read_entries entries.now)) }
@@ -37,7 +37,11 @@ fn judge(alloc: Global, graph: &[Items<usize>], entries: &[Entry]) -> Result<(),
     }
 }
 
-fn judge_entries(alloc: Global, graph: &[Items<usize>], entries: &[Entry]) -> Result<(), TextStop>
+fn judge_entries(
+    alloc: Global,
+    graph: &[Items<usize>],
+    entries: &[DefinitionEntry],
+) -> Result<(), TextStop>
     requires closed { Closed graph.now }
     requires same { length entries.now ≡ length graph.now }
     ensures { Gives result (entries_verdict graph.now 0 (read_entries entries.now)) }
@@ -48,14 +52,19 @@ fn judge_entries(alloc: Global, graph: &[Items<usize>], entries: &[Entry]) -> Re
     Ok(())
 }
 
-fn judge_entry(alloc: Global, graph: &[Items<usize>], n: usize, x: &Entry) -> Result<(), TextStop>
+fn judge_entry(
+    alloc: Global,
+    graph: &[Items<usize>],
+    n: usize,
+    x: &DefinitionEntry,
+) -> Result<(), TextStop>
     requires closed { Closed graph.now }
     requires within { n < length graph.now }
     ensures { Gives result (entry_verdict graph.now n (read_entry x.now)) }
 {
     match x {
-        Entry::Given { .. } => Ok(()),
-        Entry::Defined { definition, .. } => {
+        DefinitionEntry::Given { .. } => Ok(()),
+        DefinitionEntry::Defined { definition, .. } => {
             let reached = reached_from(alloc, graph, n)?;
             refuse_by(
                 alloc,

@@ -1,20 +1,22 @@
 //! Words for expressions: what parameters were given, and definitions.
 
-ghost use Rattle.std.specs.Prelude.{◌≡◌, ◌++◌, IfOk, OnOk};
+ghost use Rattle.std.specs.Prelude.{◌≡◌, ◌++◌, slice_get, IfOk, OnOk};
 ghost use Rattle.smv_names.specs.Defined.{body_of, defined_entries, entries_by, entries_named, entries_of, entry_graph, given_entries, owner_of};
+ghost use Rattle.smv_names.specs.DefinitionLists.{listed_in, AreListed};
 ghost use Rattle.smv_names.specs.Entries.{AreEntryNumbers, read_entries, read_entry};
 ghost use Rattle.smv_tree.specs.Occurring.{read};
 
+use crate::definition_lists::definition_lists;
 use crate::graph::push_some;
 use crate::numbers::{EntryNumbers, entry_numbered, entry_numbers};
-use smv_scope::{Parent, Scope, arguments_by, definitions_of, name_target, sections_of};
+use smv_scope::{Parent, Scope, arguments_by, name_target};
 use smv_tree::{Definition, Expr, names_in};
 use sqlite_items::Items;
 use std::alloc::{AllocError, Global};
 
-/// A word for an expression.
+/// An entry in the graph of definitions: a word for an expression.
 #[derive(Clone, Copy, Debug)]
-pub(crate) enum Entry<'a> {
+pub(crate) enum DefinitionEntry<'a> {
     /// What the parameter of this number of the instance `at` was given, an expression that stands in the instance
     /// `owner`.
     Given {
@@ -32,21 +34,37 @@ pub(crate) enum Entry<'a> {
 }
 
 /// The entries of a program.
-pub(crate) fn entries_of<'a>(alloc: Global, scope: &'a Scope) -> Result<Vec<Entry<'a>>, AllocError>
+pub(crate) fn entries_of<'a>(
+    alloc: Global,
+    scope: &'a Scope,
+) -> Result<Vec<DefinitionEntry<'a>>, AllocError>
     ensures { IfOk result (λ entries. read_entries entries.items ≡ entries_of scope.now.program) }
 {
+    let lists = definition_lists(alloc, &scope.program)?;
     let mut entries = Vec::new(alloc);
-    for (n, x) in scope.tree.as_slice().iter().enumerate() {
-        push_given(&mut entries, scope, n, x.parent)?;
-        let definitions = definitions_of(alloc, sections_of(&scope.program, x.of_module))?;
-        push_defined(&mut entries, n, definitions.as_slice())?;
-    }
+    push_entries(&mut entries, scope, lists.as_slice())?;
     Ok(entries)
+}
+
+// Adds them by the definitions of each module.
+fn push_entries<'a>(
+    entries: &mut Vec<DefinitionEntry<'a>>,
+    scope: &'a Scope,
+    lists: &[Vec<&'a Definition>],
+) -> Result<(), AllocError>
+    requires { AreListed scope.now.program lists.now }
+    ensures { OnOk result (read_entries entries.new.items ≡ read_entries entries.old.items ++ entries_of scope.now.program) }
+{
+    for (n, x) in scope.tree.as_slice().iter().enumerate() {
+        push_given(entries, scope, n, x.parent)?;
+        push_listed(entries, lists, n, x.of_module)?;
+    }
+    Ok(())
 }
 
 // Adds what the parameters of an instance were given by its parent.
 fn push_given<'a>(
-    entries: &mut Vec<Entry<'a>>,
+    entries: &mut Vec<DefinitionEntry<'a>>,
     scope: &'a Scope,
     at: usize,
     parent: Option<Parent>,
@@ -60,7 +78,7 @@ fn push_given<'a>(
 }
 
 fn push_arguments<'a>(
-    entries: &mut Vec<Entry<'a>>,
+    entries: &mut Vec<DefinitionEntry<'a>>,
     at: usize,
     owner: usize,
     arguments: &'a [Expr],
@@ -68,7 +86,7 @@ fn push_arguments<'a>(
     ensures { OnOk result (read_entries entries.new.items ≡ read_entries entries.old.items ++ given_entries at owner 0 arguments.now) }
 {
     for (parameter, argument) in arguments.iter().enumerate() {
-        entries.push(Entry::Given {
+        entries.push(DefinitionEntry::Given {
             at,
             parameter,
             owner,
@@ -78,16 +96,30 @@ fn push_arguments<'a>(
     Ok(())
 }
 
-// Adds the definitions of an instance.
+// Adds the definitions of an instance of the module of this number.
+fn push_listed<'a>(
+    entries: &mut Vec<DefinitionEntry<'a>>,
+    lists: &[Vec<&'a Definition>],
+    at: usize,
+    m: usize,
+) -> Result<(), AllocError>
+    ensures { OnOk result (read_entries entries.new.items ≡ read_entries entries.old.items ++ defined_entries at 0 (listed_in (slice_get lists.now m))) }
+{
+    match sqlite_items::at(lists, m) {
+        None => Ok(()),
+        Some(list) => push_defined(entries, at, list.as_slice()),
+    }
+}
+
 fn push_defined<'a>(
-    entries: &mut Vec<Entry<'a>>,
+    entries: &mut Vec<DefinitionEntry<'a>>,
     at: usize,
     definitions: &[&'a Definition],
 ) -> Result<(), AllocError>
     ensures { OnOk result (read_entries entries.new.items ≡ read_entries entries.old.items ++ defined_entries at 0 (read definitions.now)) }
 {
     for (number, definition) in definitions.iter().enumerate() {
-        entries.push(Entry::Defined {
+        entries.push(DefinitionEntry::Defined {
             at,
             number,
             definition: *definition,
@@ -101,7 +133,7 @@ fn push_defined<'a>(
 pub(crate) fn entry_graph(
     alloc: Global,
     scope: &Scope,
-    entries: &[Entry],
+    entries: &[DefinitionEntry],
 ) -> Result<Vec<Items<usize>>, AllocError>
     requires { read_entries entries.now ≡ entries_of scope.now.program }
     ensures { IfOk result (λ g. g.items ≡ entry_graph scope.now.program) }
@@ -120,7 +152,7 @@ fn entries_named(
     alloc: Global,
     scope: &Scope,
     numbers: &EntryNumbers,
-    x: &Entry,
+    x: &DefinitionEntry,
 ) -> Result<Items<usize>, AllocError>
     requires { AreEntryNumbers (entries_of scope.now.program) numbers.now }
     ensures { IfOk result (λ named. named ≡ entries_named scope.now.program (read_entry x.now)) }
@@ -137,20 +169,20 @@ fn entries_named(
     Ok(Items::from_vec(named))
 }
 
-fn owner_of(x: &Entry) -> usize
+fn owner_of(x: &DefinitionEntry) -> usize
     ensures { result ≡ owner_of (read_entry x.now) }
 {
     match x {
-        Entry::Given { owner, .. } => *owner,
-        Entry::Defined { at, .. } => *at,
+        DefinitionEntry::Given { owner, .. } => *owner,
+        DefinitionEntry::Defined { at, .. } => *at,
     }
 }
 
-fn body_of<'a>(x: &Entry<'a>) -> &'a Expr
+fn body_of<'a>(x: &DefinitionEntry<'a>) -> &'a Expr
     ensures { result.now ≡ body_of (read_entry x.now) }
 {
     match x {
-        Entry::Given { argument, .. } => *argument,
-        Entry::Defined { definition, .. } => &definition.body,
+        DefinitionEntry::Given { argument, .. } => *argument,
+        DefinitionEntry::Defined { definition, .. } => &definition.body,
     }
 }

@@ -4,13 +4,15 @@
 
 mod declared;
 mod defined;
+mod definition_lists;
 mod entries;
+mod expressions;
 mod graph;
 mod known;
-mod nameless;
 mod names;
 mod numbers;
 mod one_judgement;
+mod open_names;
 mod order;
 mod reached;
 

@@ -1,234 +1,75 @@
 //! The rule of names: each name of each instance leads somewhere.
 
-ghost use Rattle.std.specs.Prelude.{◌≡◌};
-ghost use Rattle.smv_tree.specs.declared.tree.Definition.{Definition};
-ghost use Rattle.smv_tree.specs.declared.tree.Name.{Name};
+ghost use Rattle.std.specs.Prelude.{◌≡◌, Some, nat_eq, OnOk};
+ghost use Rattle.std.specs.HashMap.{get};
 ghost use Rattle.smv_tree.specs.declared.tree.Start.TheVariants as start;
-ghost use Rattle.smv_scope.specs.Lookup.{as_instance, depth_limit, instance_within};
-ghost use Rattle.smv_scope.specs.Targets.{seen};
-ghost use Rattle.smv_scope.specs.Modules.{sections_of};
 ghost use Rattle.smv_tree.specs.Occurring.{read};
-ghost use Rattle.smv_names.specs.Nameless.{AreNameless};
+ghost use Rattle.smv_scope.specs.Instances.{module_at};
+ghost use Rattle.smv_scope.specs.Modules.{sections_of};
+ghost use Rattle.smv_scope.specs.Targets.{seen};
 ghost use Rattle.smv_names.specs.Lent.{read_some};
-ghost use Rattle.smv_names.specs.Named.{unknown_before, unknown_from, unknown_identifier, unknown_in_all, unknown_in_assignment, unknown_in_dimension, unknown_in_expression, unknown_in_name, unknown_in_section, unknown_in_sections, unknown_in_type, unknown_in_variable, unknown_last, unknown_members, unknown_names};
+ghost use Rattle.smv_names.specs.Named.{unknown_before, unknown_from, unknown_in_name, unknown_in_sections, unknown_last, unknown_members, unknown_names};
+ghost use Rattle.smv_names.specs.OpenNames.{AreOpen, unknown_name};
 ghost use Rattle.smv_verdicts.specs.Verdicts.{Judges, first_of};
 
-use crate::nameless::{is_nameless_module, nameless_modules};
-use smv_scope::{NameTarget, Scope, instance_of, member_target, own_target, sections_of};
-use smv_tree::{
-    Assignment, Definition, Dimension, Expr, Identifier, Name, Rule, Section, Start, TextStop,
-    TypeExpr, Variable, names_in,
-};
+use crate::open_names::{OpenNames, no_open_names, note, open_names};
+use smv_scope::{NameTarget, Scope, instance_of, member_target, own_target};
+use smv_tree::{Identifier, Name, Rule, Start, TextStop};
 use smv_verdicts::refuse_name;
 use std::alloc::Global;
 
-/// Each name of each instance leads somewhere.
+/// Each name of each instance leads somewhere. It costs the text of the modules, and for each instance the names of its
+/// module that may lead nowhere in one instance and somewhere in another.
 pub(crate) fn unknown_names(alloc: Global, scope: &Scope) -> Result<(), TextStop>
     ensures { Judges result (unknown_names scope.now.program) }
 {
-    let nameless = nameless_modules(alloc, &scope.program)?;
+    let mut noted = no_open_names(alloc);
     for (n, x) in scope.tree.as_slice().iter().enumerate() {
-        unknown_in_instance(alloc, scope, &nameless, n, x.of_module)?;
+        unknown_in_instance(alloc, scope, &mut noted, n, x.of_module)?;
     }
     Ok(())
 }
 
-// Each name of this instance of the module of this number. There is nothing to do where it is noted that none stands
-// there.
-fn unknown_in_instance(
+// Each name of this instance of the module of this number.
+fn unknown_in_instance<'a>(
     alloc: Global,
-    scope: &Scope,
-    nameless: &[bool],
+    scope: &'a Scope,
+    noted: &mut OpenNames<'a>,
     at: usize,
     m: usize,
 ) -> Result<(), TextStop>
-    requires { AreNameless scope.now.program nameless.now }
-    ensures { Judges result (unknown_in_sections scope.now.program at (sections_of scope.now.program m)) }
+    requires is { module_at scope.now.program at ≡ Some m }
+    requires noted { AreOpen scope.now.program (get nat_eq noted.old) }
+    ensures noted { OnOk result (AreOpen scope.now.program (get nat_eq noted.new)) }
+    ensures judged { Judges result (unknown_in_sections scope.now.program at (sections_of scope.now.program m)) }
 {
-    if is_nameless_module(nameless, m) {
-        return Ok(());
+    if let Some(again) = noted.get(&m) {
+        return unknown_among(alloc, scope, at, again.as_slice());
     }
-    unknown_in_sections(alloc, scope, at, sections_of(&scope.program, m))
+    unknown_in_first(alloc, scope, noted, at, m)
 }
 
-fn unknown_in_sections(
+// The same of the first instance of a module, of which the open names are noted.
+fn unknown_in_first<'a>(
     alloc: Global,
-    scope: &Scope,
+    scope: &'a Scope,
+    noted: &mut OpenNames<'a>,
     at: usize,
-    sections: &[Section],
+    m: usize,
 ) -> Result<(), TextStop>
-    ensures { Judges result (unknown_in_sections scope.now.program at sections.now) }
+    requires is { module_at scope.now.program at ≡ Some m }
+    requires noted { AreOpen scope.now.program (get nat_eq noted.old) }
+    ensures noted { OnOk result (AreOpen scope.now.program (get nat_eq noted.new)) }
+    ensures judged { Judges result (unknown_in_sections scope.now.program at (sections_of scope.now.program m)) }
 {
-    for section in sections {
-        unknown_in_section(alloc, scope, at, section)?;
-    }
+    let again = open_names(alloc, scope, at, m)?;
+    unknown_among(alloc, scope, at, again.as_slice())?;
+    note(&scope.program, noted, m, again)?;
     Ok(())
-}
-
-fn unknown_in_section(
-    alloc: Global,
-    scope: &Scope,
-    at: usize,
-    section: &Section,
-) -> Result<(), TextStop>
-    ensures { Judges result (unknown_in_section scope.now.program at section.now) }
-{
-    match section {
-        Section::Variables(_, variables) => {
-            unknown_in_variables(alloc, scope, at, variables.as_slice())
-        }
-        Section::Definitions(definitions) => {
-            unknown_in_definitions(alloc, scope, at, definitions.as_slice())
-        }
-        Section::Constants(_) => Ok(()),
-        Section::Assignments(assignments) => {
-            unknown_in_assignments(alloc, scope, at, assignments.as_slice())
-        }
-        Section::Constraint(constraint) => {
-            unknown_in_expression(alloc, scope, at, &constraint.formula)
-        }
-        Section::Specification(specification) => {
-            unknown_in_expression(alloc, scope, at, &specification.formula)
-        }
-    }
-}
-
-fn unknown_in_variables(
-    alloc: Global,
-    scope: &Scope,
-    at: usize,
-    variables: &[Variable],
-) -> Result<(), TextStop>
-    ensures { Judges result (first_of (unknown_in_variable scope.now.program at) variables.now) }
-{
-    for variable in variables {
-        unknown_in_variable(alloc, scope, at, variable)?;
-    }
-    Ok(())
-}
-
-// In the bounds of an array, from the outermost on, and then in the type of its elements.
-fn unknown_in_variable(
-    alloc: Global,
-    scope: &Scope,
-    at: usize,
-    variable: &Variable,
-) -> Result<(), TextStop>
-    ensures { Judges result (unknown_in_variable scope.now.program at variable.now) }
-{
-    unknown_in_dimensions(alloc, scope, at, variable.dimensions.as_slice())?;
-    unknown_in_type(alloc, scope, at, &variable.declared)
-}
-
-fn unknown_in_dimensions(
-    alloc: Global,
-    scope: &Scope,
-    at: usize,
-    dimensions: &[Dimension],
-) -> Result<(), TextStop>
-    ensures { Judges result (first_of (unknown_in_dimension scope.now.program at) dimensions.now) }
-{
-    for dimension in dimensions {
-        unknown_in_dimension(alloc, scope, at, dimension)?;
-    }
-    Ok(())
-}
-
-fn unknown_in_dimension(
-    alloc: Global,
-    scope: &Scope,
-    at: usize,
-    dimension: &Dimension,
-) -> Result<(), TextStop>
-    ensures { Judges result (unknown_in_dimension scope.now.program at dimension.now) }
-{
-    unknown_in_expression(alloc, scope, at, &dimension.low)?;
-    unknown_in_expression(alloc, scope, at, &dimension.high)
-}
-
-fn unknown_in_type(
-    alloc: Global,
-    scope: &Scope,
-    at: usize,
-    declared: &TypeExpr,
-) -> Result<(), TextStop>
-    ensures { Judges result (unknown_in_type scope.now.program at declared.now) }
-{
-    match declared {
-        TypeExpr::Boolean(_) => Ok(()),
-        TypeExpr::Word(_, _, width) => unknown_in_expression(alloc, scope, at, width),
-        TypeExpr::Range(_, low, high) => {
-            unknown_in_expression(alloc, scope, at, low)?;
-            unknown_in_expression(alloc, scope, at, high)
-        }
-        TypeExpr::Enumeration(..) => Ok(()),
-        TypeExpr::Instance(_, _, given) => unknown_in_all(alloc, scope, at, given.as_slice()),
-    }
-}
-
-fn unknown_in_all(
-    alloc: Global,
-    scope: &Scope,
-    at: usize,
-    expressions: &[Expr],
-) -> Result<(), TextStop>
-    ensures { Judges result (unknown_in_all scope.now.program at expressions.now) }
-{
-    for e in expressions {
-        unknown_in_expression(alloc, scope, at, e)?;
-    }
-    Ok(())
-}
-
-fn unknown_in_definitions(
-    alloc: Global,
-    scope: &Scope,
-    at: usize,
-    definitions: &[Definition],
-) -> Result<(), TextStop>
-    ensures { Judges result (first_of (λ (d : Definition). unknown_in_expression scope.now.program at d.body) definitions.now) }
-{
-    for definition in definitions {
-        unknown_in_expression(alloc, scope, at, &definition.body)?;
-    }
-    Ok(())
-}
-
-fn unknown_in_assignments(
-    alloc: Global,
-    scope: &Scope,
-    at: usize,
-    assignments: &[Assignment],
-) -> Result<(), TextStop>
-    ensures { Judges result (first_of (unknown_in_assignment scope.now.program at) assignments.now) }
-{
-    for assignment in assignments {
-        unknown_in_assignment(alloc, scope, at, assignment)?;
-    }
-    Ok(())
-}
-
-fn unknown_in_assignment(
-    alloc: Global,
-    scope: &Scope,
-    at: usize,
-    assignment: &Assignment,
-) -> Result<(), TextStop>
-    ensures { Judges result (unknown_in_assignment scope.now.program at assignment.now) }
-{
-    unknown_in_expression(alloc, scope, at, &assignment.target)?;
-    unknown_in_expression(alloc, scope, at, &assignment.value)
-}
-
-fn unknown_in_expression(alloc: Global, scope: &Scope, at: usize, e: &Expr) -> Result<(), TextStop>
-    ensures { Judges result (unknown_in_expression scope.now.program at e.now) }
-{
-    let names = names_in(alloc, e)?;
-    unknown_among(alloc, scope, at, names.as_slice())
 }
 
 fn unknown_among(alloc: Global, scope: &Scope, at: usize, names: &[&Name]) -> Result<(), TextStop>
-    ensures { Judges result (first_of (λ (name : Name). unknown_identifier (unknown_in_name scope.now.program at name)) (read names.now)) }
+    ensures { Judges result (first_of (unknown_name scope.now.program at) (read names.now)) }
 {
     for name in names {
         if let Some(x) = unknown_in_name(scope, at, name) {

@@ -4,10 +4,10 @@ ghost use Rattle.std.specs.Prelude.{◌≡◌, List, false, true, IfOk, position
 ghost use Rattle.std.specs.HashMap.{get};
 ghost use Rattle.smv_scope.specs.Targets.{shared_eq};
 ghost use Rattle.smv_scope.specs.Targets.{seen};
-ghost use Rattle.smv_names.specs.Defined.{Entry as MeantEntry, is_entry};
+ghost use Rattle.smv_names.specs.Defined.{Entry, is_entry};
 ghost use Rattle.smv_names.specs.Entries.{AreEntryNumbers, key_of, read_entries, read_entry};
 
-use crate::entries::Entry;
+use crate::entries::DefinitionEntry;
 use smv_scope::{NameTarget, Shared, number_first};
 use std::alloc::{AllocError, Global};
 use std::collections::HashMap;
@@ -16,7 +16,10 @@ use std::collections::HashMap;
 pub(crate) type EntryNumbers = HashMap<Shared, usize>;
 
 /// The number of the first entry for what names share.
-pub(crate) fn entry_numbers(alloc: Global, entries: &[Entry]) -> Result<EntryNumbers, AllocError>
+pub(crate) fn entry_numbers(
+    alloc: Global,
+    entries: &[DefinitionEntry],
+) -> Result<EntryNumbers, AllocError>
     ensures { IfOk result (λ numbers. AreEntryNumbers (read_entries entries.now) numbers) }
 {
     let mut numbers = HashMap::new(alloc);
@@ -28,7 +31,7 @@ pub(crate) fn entry_numbers(alloc: Global, entries: &[Entry]) -> Result<EntryNum
 
 /// The number of the entry that a target is, if it is one.
 pub(crate) fn entry_numbered(numbers: &EntryNumbers, target: NameTarget) -> Option<usize>
-    ensures { (entries : List MeantEntry) → AreEntryNumbers entries numbers.now → result ≡ position (is_entry (seen target.entry)) entries }
+    ensures { (entries : List Entry) → AreEntryNumbers entries numbers.now → result ≡ position (is_entry (seen target.entry)) entries }
 {
     match target {
         NameTarget::Given { at, parameter, .. } => number_of(numbers, given_key(at, parameter)),
@@ -45,12 +48,12 @@ fn number_of(numbers: &EntryNumbers, key: Shared) -> Option<usize>
     numbers.get(&key).copied()
 }
 
-fn key_of(x: &Entry) -> Shared
+fn key_of(x: &DefinitionEntry) -> Shared
     ensures { result ≡ key_of (read_entry x.now) }
 {
     match x {
-        Entry::Given { at, parameter, .. } => given_key(*at, *parameter),
-        Entry::Defined { at, number, .. } => defined_key(*at, *number),
+        DefinitionEntry::Given { at, parameter, .. } => given_key(*at, *parameter),
+        DefinitionEntry::Defined { at, number, .. } => defined_key(*at, *number),
     }
 }
 

@@ -5,6 +5,7 @@ pub mod Tables
 pub mod Declaring
 pub mod Following
 pub mod Preorder
+pub mod Listing
 pub mod Variables
 pub mod Counting
 pub mod Pathways

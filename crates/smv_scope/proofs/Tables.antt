@@ -13,7 +13,7 @@ use Rattle.smv_scope.proofs.Indexing.{slice_get-append_here}
 use Rattle.smv_scope.proofs.Spots.{stands_behind}
 
 -- what holds of each element holds of one more
-grown : {T : Type 0} (P : ℕ → Option T → Type 0) (old new : List T) (t : T) → new ≡ old ++ t ∷ [] → P (length old) (Some t) → ((m : ℕ) → m < length old → P m (slice_get old m))
+pub grown : {T : Type 0} (P : ℕ → Option T → Type 0) (old new : List T) (t : T) → new ≡ old ++ t ∷ [] → P (length old) (Some t) → ((m : ℕ) → m < length old → P m (slice_get old m))
     → (m : ℕ) → m < length new → P m (slice_get new m)
 grown {T} P old new t e here before m h =
     let long : length new ≡ length old + 1 = ap length e ∙ length-append old (t ∷ []) in

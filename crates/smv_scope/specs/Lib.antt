@@ -1,6 +1,7 @@
 pub mod Modules
 pub mod Symbols
 pub mod Instances
+pub mod Instantiations
 pub mod Holders
 pub mod Enumerated
 pub mod Target

@@ -51,8 +51,9 @@ impl From<AllocError> for LayoutStop {
     }
 }
 
-/// The instances of a program. More than 100000 are refused; the other error is running out of memory. It costs what
-/// the instances and the modules do, and not the instances times their variables.
+/// A program with its instances. More than 100000 are refused; the other error is running out of memory. It costs the
+/// length of the program's text and the number of the instances: each variable is read a few times for its module, and
+/// not once more for each instance of it.
 pub fn lay_out(alloc: Global, program: Program) -> Result<Scope, LayoutStop>
     ensures { LaysOut program result }
 {

@@ -8,6 +8,7 @@ mod enumerated;
 mod holders;
 mod instance;
 mod instances;
+mod instantiations;
 mod layout;
 mod lookup;
 mod modules;

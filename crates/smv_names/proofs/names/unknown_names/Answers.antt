@@ -1,9 +1,7 @@
--- What is noted of the modules is lent as it is.
-use Rattle.std.proofs.Common.{Bool, List, sym, subst}
-use Rattle.smv_names.specs.Nameless.{AreNameless}
+-- The module of the instance.
+use Rattle.smv_names.proofs.Opened.{module_found}
 use Rattle.smv_names.proofs.names.unknown_names.Goals as goal
 
-pub unknown_in_instance-requires : goal.unknown_in_instance-requires
-unknown_in_instance-requires c =
-    let P : List Bool → Type 0 = λ xs. AreNameless c.args.scope.now.program xs in
-    subst P (sym c.deref.ensures.value) c.in_ok-nameless.ensures
+pub unknown_in_instance-requires-clause-is : goal.unknown_in_instance-requires-clause-is
+unknown_in_instance-requires-clause-is c =
+    module_found c.args.scope.now.program c.args.scope.now.tree c.as_slice-x-items.result.now c.loop-n.n _ c.args.scope.now.unfolded c.as_slice-x-items.ensures c.loop-n-test.true

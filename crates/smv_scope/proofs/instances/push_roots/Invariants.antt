@@ -1,10 +1,8 @@
--- What is left and what stands there are the same as before.
-use Rattle.std.proofs.Common.{◌≡◌, ◌++◌, length, reverse}
+-- The roots from this number on stand there.
+use Rattle.std.proofs.Common.{◌≡◌, ◌++◌, drop, reverse}
+use Rattle.smv_scope.specs.Instantiations.{instances_by}
 use Rattle.smv_scope.proofs.Preorder.{rooted}
 use Rattle.smv_scope.proofs.instances.push_roots.Given as goal
 
-abbrev pub invariant-loop-instance : goal.invariant-loop-instance
-invariant-loop-instance l = rooted l.depth l.left ++ reverse l.roots ≡ rooted l.depth l.initial.left ++ reverse l.initial.roots
-
-abbrev pub decreases-loop-instance : goal.decreases-loop-instance
-decreases-loop-instance l = length l.left
+abbrev pub invariant-loop-k : goal.invariant-loop-k
+invariant-loop-k l = reverse l.roots ≡ rooted l.depth (instances_by l.at (drop l.k l.list)) ++ reverse l.initial.roots
