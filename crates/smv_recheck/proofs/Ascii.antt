@@ -11,8 +11,8 @@ use Rattle.std.proofs.lemmas.Fmt.{IsAscii-decimal}
 use Rattle.std.proofs.lemmas.Str.{IsAscii-append}
 use Rattle.std.proofs.lemmas.Str.Ascii.{IsAscii-nil, IsAscii-cons}
 use Rattle.trace_replay.specs.declared.entry.Binding.{Binding}
-use Rattle.trace_replay.specs.declared.entry.Entry.{Entry}
-use Rattle.trace_replay.specs.declared.entry.Entry.TheVariants as entry
+use Rattle.trace_replay.specs.declared.entry.TraceLine.{TraceLine}
+use Rattle.trace_replay.specs.declared.entry.TraceLine.TheVariants as entry
 use Rattle.trace_replay.specs.declared.forms.NameState.{NameState}
 use Rattle.trace_replay.specs.declared.forms.NameState.TheVariants as name
 use Rattle.trace_replay.specs.declared.forms.ValueState.{ValueState}
@@ -151,7 +151,7 @@ row_ascii word i bs ascii both =
     let number = IsAscii-append word (decimal i) ascii (IsAscii-decimal i (ltb-true i (2 ^ 64) both.0)) in
     IsAscii-append (word ++ decimal i ++ codes ":") (bindings_text bs) (IsAscii-append (word ++ decimal i) (codes ":") number (text_ascii (codes ":") refl)) (bindings_ascii bs both.1)
 
-pub entry_ascii : (e : Entry) → in_form e ≡ true → IsAscii (entry_text e)
+pub entry_ascii : (e : TraceLine) → in_form e ≡ true → IsAscii (entry_text e)
 entry_ascii (entry.Spec n) h = IsAscii-append (codes "--@ spec ") (decimal n) (text_ascii (codes "--@ spec ") refl) (IsAscii-decimal n (ltb-true n (2 ^ 64) h))
 entry_ascii (entry.State i bs) h = row_ascii (codes "--@ state ") i bs (text_ascii (codes "--@ state ") refl) (and_parts (is_small i) (list_all is_binding bs) h)
 entry_ascii (entry.Input i bs) h = row_ascii (codes "--@ input ") i bs (text_ascii (codes "--@ input ") refl) (and_parts (is_small i) (list_all is_binding bs) h)

@@ -9,7 +9,7 @@ use Rattle.std.proofs.lemmas.Option.{slice_get_within}
 use Rattle.smv_tree.specs.declared.refusal.Refusal.{Refusal}
 use Rattle.smv_tree.specs.declared.refusal.TextStop.{TextStop}
 use Rattle.smv_tree.specs.declared.refusal.TextStop.TheVariants.{NoMemory, Refused}
-use Rattle.trace_replay.specs.declared.entry.Entry.{Entry}
+use Rattle.trace_replay.specs.declared.entry.TraceLine.{TraceLine}
 use Rattle.trace_replay.specs.declared.source.Line.{Line}
 use Rattle.trace_replay.specs.declared.trace.Trace.{Trace}
 use Rattle.trace_replay.specs.Lines.{entry_text}
@@ -74,7 +74,7 @@ front_refused specs front rest r h =
     }
 
 -- the last of lines in form is ASCII
-last_ascii : (front : List (List ℕ)) (text : List ℕ) (es : List Entry) → list_all in_form es ≡ true → front ++ text ∷ [] ≡ map entry_text es → IsAscii text
+last_ascii : (front : List (List ℕ)) (text : List ℕ) (es : List TraceLine) → list_all in_form es ≡ true → front ++ text ∷ [] ≡ map entry_text es → IsAscii text
 last_ascii [] text [] h e = absurd (let never : ⊥ = cc in never)
 last_ascii [] text (x ∷ es) h e = let same : text ≡ entry_text x = cc in subst IsAscii (sym same) (entry_ascii x (and_parts (in_form x) (list_all in_form es) h).0)
 last_ascii (l ∷ front) text [] h e = absurd (let never : ⊥ = cc in never)

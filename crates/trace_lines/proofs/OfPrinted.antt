@@ -14,8 +14,8 @@ use Rattle.std.proofs.lemmas.List.Splits.{slice_split_at, slice_split_none}
 use Rattle.std.proofs.lemmas.Str.Parse.{IsNumeralModel, numerals_by_value}
 use Rattle.plain_text.specs.Decimals.{number_up_to}
 use Rattle.trace_lines.specs.declared.entry.Binding.{Binding}
-use Rattle.trace_lines.specs.declared.entry.Entry.{Entry}
-use Rattle.trace_lines.specs.declared.entry.Entry.TheVariants as entry
+use Rattle.trace_lines.specs.declared.entry.TraceLine.{TraceLine}
+use Rattle.trace_lines.specs.declared.entry.TraceLine.TheVariants as entry
 use Rattle.trace_lines.specs.Lines.{begins_name, binding_of, bindings_in, bindings_of, entry_of, entry_read, in_name, in_value, is_name, is_value, long_entry, long_keyed, number_of, pieces, short_entry, short_keyed, with_binding}
 use Rattle.trace_lines.specs.Printed.{binding_text, bindings_text, entry_text, in_form, is_binding}
 
@@ -175,7 +175,7 @@ row_back (b ∷ c ∷ bs) h =
 
 -- Lines.
 
-pub read_back : (e : Entry) → in_form e ≡ true → entry_read (entry_text e) ≡ Some e
+pub read_back : (e : TraceLine) → in_form e ≡ true → entry_read (entry_text e) ≡ Some e
 unfolding entry_read
 read_back (entry.Spec n) = λ h.
     let small : n < 2 ^ 64 = ltb-true n (2 ^ 64) h in

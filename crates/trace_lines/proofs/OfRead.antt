@@ -13,8 +13,8 @@ use Rattle.std.proofs.lemmas.List.Splits.{join_with_byte-slice_split}
 use Rattle.std.proofs.lemmas.Slice.Eq.{bytes_eq-Decides}
 use Rattle.plain_text.specs.Decimals.{is_numeral, number_up_to}
 use Rattle.trace_lines.specs.declared.entry.Binding.{Binding}
-use Rattle.trace_lines.specs.declared.entry.Entry.{Entry}
-use Rattle.trace_lines.specs.declared.entry.Entry.TheVariants as entry
+use Rattle.trace_lines.specs.declared.entry.TraceLine.{TraceLine}
+use Rattle.trace_lines.specs.declared.entry.TraceLine.TheVariants as entry
 use Rattle.trace_lines.specs.Lines.{binding_of, bindings_in, bindings_of, bound, entry_of, entry_read, is_name, is_value, long_entry, long_keyed, number_of, pieces, short_entry, short_keyed, with_binding}
 use Rattle.trace_lines.specs.Printed.{binding_text, bindings_text, entry_text, in_form, is_binding}
 use Rattle.trace_lines.proofs.OfPrinted.{in_more, own}
@@ -157,11 +157,11 @@ row_told (x ∷ xs) bs h =
 
 -- Lines.
 
-pub record IsPrinted (line : List ℕ) (e : Entry) : Type 0 where
+pub record IsPrinted (line : List ℕ) (e : TraceLine) : Type 0 where
   pub formed : in_form e ≡ true
   pub text : line ≡ entry_text e
 
-short_key : (key number : List ℕ) (o : Option ℕ) (e : Entry) → o ≡ number_of number → short_keyed key o ≡ Some e → IsPrinted (codes "--@ " ++ key ++ codes " " ++ number) e
+short_key : (key number : List ℕ) (o : Option ℕ) (e : TraceLine) → o ≡ number_of number → short_keyed key o ≡ Some e → IsPrinted (codes "--@ " ++ key ++ codes " " ++ number) e
 short_key key number None e is h = absurd (let never : ⊥ = cc in never)
 short_key key number (Some n) e is h = spec (bytes_eq key (codes "spec")) refl h
   where
@@ -182,7 +182,7 @@ short_key key number (Some n) e is h = spec (bytes_eq key (codes "spec")) refl h
     spec true test k = let same : entry.Spec n ≡ e = some_is _ _ k in record { formed = ap in_form (sym same) ∙ small; text = text_with (codes "spec") (same_bytes key (codes "spec") test) ∙ ap entry_text same }
     spec false test k = loop (bytes_eq key (codes "loop")) refl k
 
-short_told : (ws : List (List ℕ)) (e : Entry) → short_entry ws ≡ Some e → IsPrinted (join_with_byte 32 ws) e
+short_told : (ws : List (List ℕ)) (e : TraceLine) → short_entry ws ≡ Some e → IsPrinted (join_with_byte 32 ws) e
 short_told [] e h = absurd (let never : ⊥ = cc in never)
 short_told (x ∷ []) e h = absurd (let never : ⊥ = cc in never)
 short_told (x ∷ y ∷ []) e h = absurd (let never : ⊥ = cc in never)
@@ -198,7 +198,7 @@ short_told (x ∷ y ∷ z ∷ []) e h =
     }
 short_told (x ∷ y ∷ z ∷ w ∷ ws) e h = absurd (let never : ⊥ = cc in never)
 
-long_key : (key number rest : List ℕ) (o : Option ℕ) (r : Option (List Binding)) (e : Entry) → o ≡ number_of number → r ≡ bindings_in rest → long_keyed key o r ≡ Some e
+long_key : (key number rest : List ℕ) (o : Option ℕ) (r : Option (List Binding)) (e : TraceLine) → o ≡ number_of number → r ≡ bindings_in rest → long_keyed key o r ≡ Some e
     → IsPrinted (codes "--@ " ++ key ++ codes " " ++ number ++ codes ":" ++ rest) e
 long_key key number rest None r e is are h = absurd (let never : ⊥ = cc in never)
 long_key key number rest (Some n) None e is are h = absurd (let never : ⊥ = cc in never)
@@ -228,7 +228,7 @@ long_key key number rest (Some n) (Some row) e is are h = state (bytes_eq key (c
     state true test k = let same : entry.State n row ≡ e = some_is _ _ k in record { formed = ap in_form (sym same) ∙ small; text = text_with (codes "state") (same_bytes key (codes "state") test) ∙ ap entry_text same }
     state false test k = input (bytes_eq key (codes "input")) refl k
 
-long_told : (ws : List (List ℕ)) (rest : List ℕ) (e : Entry) → long_entry ws (bindings_in rest) ≡ Some e → IsPrinted (join_with_byte 32 ws ++ 58 ∷ rest) e
+long_told : (ws : List (List ℕ)) (rest : List ℕ) (e : TraceLine) → long_entry ws (bindings_in rest) ≡ Some e → IsPrinted (join_with_byte 32 ws ++ 58 ∷ rest) e
 long_told [] rest e h = absurd (let never : ⊥ = cc in never)
 long_told (x ∷ []) rest e h = absurd (let never : ⊥ = cc in never)
 long_told (x ∷ y ∷ []) rest e h = absurd (let never : ⊥ = cc in never)
@@ -246,7 +246,7 @@ long_told (x ∷ y ∷ z ∷ []) rest e h =
     }
 long_told (x ∷ y ∷ z ∷ w ∷ ws) rest e h = absurd (let never : ⊥ = cc in never)
 
-parts_told : (parts : List (List ℕ)) (e : Entry) → entry_of parts ≡ Some e → IsPrinted (join_with_byte 58 parts) e
+parts_told : (parts : List (List ℕ)) (e : TraceLine) → entry_of parts ≡ Some e → IsPrinted (join_with_byte 58 parts) e
 parts_told [] e h = absurd (let never : ⊥ = cc in never)
 parts_told (front ∷ []) e h =
     let told = short_told (pieces 32 front) e h in
@@ -257,7 +257,7 @@ parts_told (front ∷ rest ∷ []) e h =
 parts_told (front ∷ rest ∷ more ∷ parts) e h = absurd (let never : ⊥ = cc in never)
 
 -- what a line says is what it prints
-pub printed : (line : List ℕ) (e : Entry) → entry_read line ≡ Some e → (in_form e ≡ true) × (line ≡ entry_text e)
+pub printed : (line : List ℕ) (e : TraceLine) → entry_read line ≡ Some e → (in_form e ≡ true) × (line ≡ entry_text e)
 unfolding entry_read
 printed line e h =
     let told = parts_told (pieces 58 line) e h in

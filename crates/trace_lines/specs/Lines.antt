@@ -6,8 +6,8 @@ use Rattle.std.specs.Char.{is_ascii_alphabetic, is_ascii_alphanumeric}
 use Rattle.std.specs.List.{list_all, slice_split}
 use Rattle.plain_text.specs.Decimals.{number_up_to}
 use Rattle.trace_lines.specs.declared.entry.Binding.{Binding}
-use Rattle.trace_lines.specs.declared.entry.Entry.{Entry}
-use Rattle.trace_lines.specs.declared.entry.Entry.TheVariants as entry
+use Rattle.trace_lines.specs.declared.entry.TraceLine.{TraceLine}
+use Rattle.trace_lines.specs.declared.entry.TraceLine.TheVariants as entry
 
 -- what stands between the bytes that equal this one
 abbrev pub pieces : ℕ → List ℕ → List (List ℕ)
@@ -57,32 +57,32 @@ bindings_of (p ∷ ps) = with_binding (binding_of (pieces 32 p)) (bindings_of ps
 abbrev pub bindings_in : List ℕ → Option (List Binding)
 bindings_in rest = if length rest == 0 then Some [] else bindings_of (pieces 44 rest)
 
-abbrev pub short_keyed : List ℕ → Option ℕ → Option Entry
+abbrev pub short_keyed : List ℕ → Option ℕ → Option TraceLine
 short_keyed key None = None
 short_keyed key (Some n) = if bytes_eq key (codes "spec") then Some (entry.Spec n) else if bytes_eq key (codes "loop") then Some (entry.Loop n) else None
 
-abbrev pub long_keyed : List ℕ → Option ℕ → Option (List Binding) → Option Entry
+abbrev pub long_keyed : List ℕ → Option ℕ → Option (List Binding) → Option TraceLine
 long_keyed key None row = None
 long_keyed key (Some n) None = None
 long_keyed key (Some n) (Some row) = if bytes_eq key (codes "state") then Some (entry.State n row) else if bytes_eq key (codes "input") then Some (entry.Input n row) else None
 
 -- three words, the first of which is `--@`
-abbrev pub short_entry : List (List ℕ) → Option Entry
+abbrev pub short_entry : List (List ℕ) → Option TraceLine
 short_entry (mark ∷ key ∷ number ∷ []) = if bytes_eq mark (codes "--@") then short_keyed key (number_of number) else None
 short_entry other = None
 
 -- the same in front of a colon
-abbrev pub long_entry : List (List ℕ) → Option (List Binding) → Option Entry
+abbrev pub long_entry : List (List ℕ) → Option (List Binding) → Option TraceLine
 long_entry (mark ∷ key ∷ number ∷ []) row = if bytes_eq mark (codes "--@") then long_keyed key (number_of number) row else None
 long_entry other row = None
 
-abbrev pub entry_of : List (List ℕ) → Option Entry
+abbrev pub entry_of : List (List ℕ) → Option TraceLine
 entry_of (front ∷ []) = short_entry (pieces 32 front)
 entry_of (front ∷ rest ∷ []) = long_entry (pieces 32 front) (bindings_in rest)
 entry_of other = None
 
 -- what a line says, if it is in form
-unfoldable pub entry_read : List ℕ → Option Entry
+unfoldable pub entry_read : List ℕ → Option TraceLine
 entry_read line = entry_of (pieces 58 line)
 
 -- the lines that are read; all others are passed over

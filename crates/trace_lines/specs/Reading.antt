@@ -2,8 +2,8 @@
 use Rattle.std.specs.Prelude.{◌≡◌, ℕ, ◌+◌, ◌==◌, nat_lt, Bool, true, false, ◌&&◌, ◌||◌, if◌then◌else◌, List, [], ◌∷◌, ◌++◌, length, bytes_eq, Option, None, Some, Result, Ok, Err}
 use Rattle.std.specs.List.{list_any}
 use Rattle.trace_lines.specs.declared.entry.Binding.{Binding}
-use Rattle.trace_lines.specs.declared.entry.Entry.{Entry}
-use Rattle.trace_lines.specs.declared.entry.Entry.TheVariants as entry
+use Rattle.trace_lines.specs.declared.entry.TraceLine.{TraceLine}
+use Rattle.trace_lines.specs.declared.entry.TraceLine.TheVariants as entry
 use Rattle.trace_lines.specs.declared.reading.Reading.{Reading}
 use Rattle.trace_lines.specs.declared.reading.ReadStop.{ReadStop}
 use Rattle.trace_lines.specs.declared.reading.ReadStop.TheVariants as stop
@@ -72,13 +72,13 @@ changed change done None = None
 changed change done (Some t) = kept_open done (change t)
 
 -- what is read with one more line, if it may stand there
-abbrev pub followed : Reading → Entry → Option Reading
+abbrev pub followed : Reading → TraceLine → Option Reading
 followed r (entry.Spec n) = begun_with n (closed r)
 followed r (entry.State i row) = changed (with_state i row) r.done r.current
 followed r (entry.Input i row) = changed (with_input i row) r.done r.current
 followed r (entry.Loop n) = changed (with_loop n) r.done r.current
 
-abbrev pub followed_by : Reading → Option Entry → Option Reading
+abbrev pub followed_by : Reading → Option TraceLine → Option Reading
 followed_by r None = None
 followed_by r (Some e) = followed r e
 

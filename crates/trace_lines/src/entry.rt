@@ -19,7 +19,7 @@ pub struct Binding {
 
 /// What a line of a trace says.
 #[derive(Debug, Drop)]
-pub enum Entry {
+pub enum TraceLine {
     /// A trace of the specification of this number begins.
     Spec(usize),
     /// The state of this number has these values.
@@ -173,34 +173,34 @@ fn bindings_in(alloc: Global, rest: &[u8]) -> Result<Option<Items<Binding>>, All
     }
 }
 
-fn short_keyed(key: &[u8], number: Option<usize>) -> Option<Entry>
+fn short_keyed(key: &[u8], number: Option<usize>) -> Option<TraceLine>
     ensures { result ≡ short_keyed key.now number }
 {
     let n = number?;
     if is(key, b"spec") {
-        Some(Entry::Spec(n))
+        Some(TraceLine::Spec(n))
     } else if is(key, b"loop") {
-        Some(Entry::Loop(n))
+        Some(TraceLine::Loop(n))
     } else {
         None
     }
 }
 
-fn long_keyed(key: &[u8], number: Option<usize>, row: Option<Items<Binding>>) -> Option<Entry>
+fn long_keyed(key: &[u8], number: Option<usize>, row: Option<Items<Binding>>) -> Option<TraceLine>
     ensures { result ≡ long_keyed key.now number row }
 {
     let n = number?;
     let row = row?;
     if is(key, b"state") {
-        Some(Entry::State(n, row))
+        Some(TraceLine::State(n, row))
     } else if is(key, b"input") {
-        Some(Entry::Input(n, row))
+        Some(TraceLine::Input(n, row))
     } else {
         None
     }
 }
 
-fn short_entry(words: &[&[u8]]) -> Option<Entry>
+fn short_entry(words: &[&[u8]]) -> Option<TraceLine>
     ensures { result ≡ short_entry (map (λ (x : Bor (List ℕ)). x.now) words.now) }
 {
     let [mark, key, number] = words else {
@@ -213,7 +213,7 @@ fn short_entry(words: &[&[u8]]) -> Option<Entry>
     }
 }
 
-fn long_entry(words: &[&[u8]], row: Option<Items<Binding>>) -> Option<Entry>
+fn long_entry(words: &[&[u8]], row: Option<Items<Binding>>) -> Option<TraceLine>
     ensures { result ≡ long_entry (map (λ (x : Bor (List ℕ)). x.now) words.now) row }
 {
     let [mark, key, number] = words else {
@@ -226,7 +226,7 @@ fn long_entry(words: &[&[u8]], row: Option<Items<Binding>>) -> Option<Entry>
     }
 }
 
-fn entry_of(alloc: Global, parts: &[&[u8]]) -> Result<Option<Entry>, AllocError>
+fn entry_of(alloc: Global, parts: &[&[u8]]) -> Result<Option<TraceLine>, AllocError>
     ensures { IfOk result (λ e. e ≡ entry_of (map (λ (x : Bor (List ℕ)). x.now) parts.now)) }
 {
     match parts {
@@ -241,7 +241,7 @@ fn entry_of(alloc: Global, parts: &[&[u8]]) -> Result<Option<Entry>, AllocError>
 
 /// What a line says, if it is in form.
 #[tactic(auto, unfolding(crate::specs::Lines::entry_read))]
-pub fn entry_read(alloc: Global, line: &[u8]) -> Result<Option<Entry>, AllocError>
+pub fn entry_read(alloc: Global, line: &[u8]) -> Result<Option<TraceLine>, AllocError>
     ensures { IfOk result (λ e. e ≡ entry_read line.now) }
 {
     let parts = pieces(alloc, line, b':')?;

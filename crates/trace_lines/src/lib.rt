@@ -8,7 +8,7 @@ mod exact_lines;
 mod reading;
 mod trace;
 
-pub use entry::{Binding, Entry, entry_read, is_trace_line, number_of, pieces};
+pub use entry::{Binding, TraceLine, entry_read, is_trace_line, number_of, pieces};
 pub use exact_lines::is_said_exactly;
 pub use reading::{ReadStop, Reading, head_row, report_read};
 pub use trace::Trace;

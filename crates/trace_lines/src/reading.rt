@@ -7,7 +7,7 @@ ghost use Rattle.trace_lines.specs.declared.reading.ReadStop.TheVariants.{Line};
 ghost use Rattle.trace_lines.specs.Reading.{IsReadStop, begun_with, closed, closed_with, followed, followed_by, has_trace, head_row, is_open, kept_open, lines_read, may_follow, names_match, new_trace, nothing_read, report_read, same_names, with_input, with_line, with_loop, with_state};
 
 use crate::entry::{entry_read, is_trace_line, pieces};
-use crate::{Binding, Entry, Trace};
+use crate::{Binding, Trace, TraceLine};
 use sqlite_items::Items;
 use std::alloc::{AllocError, Global};
 
@@ -210,25 +210,29 @@ fn kept_open(done: Items<Trace>, trace: Option<Trace>) -> Option<Reading>
     })
 }
 
-fn followed(alloc: Global, reading: Reading, entry: Entry) -> Result<Option<Reading>, AllocError>
+fn followed(
+    alloc: Global,
+    reading: Reading,
+    entry: TraceLine,
+) -> Result<Option<Reading>, AllocError>
     ensures { IfOk result (λ r. r ≡ followed reading entry) }
 {
     let Reading { done, current } = reading;
     match entry {
-        Entry::Spec(n) => Ok(begun_with(alloc, n, closed_with(done, current)?)),
-        Entry::State(i, row) => {
+        TraceLine::Spec(n) => Ok(begun_with(alloc, n, closed_with(done, current)?)),
+        TraceLine::State(i, row) => {
             let Some(trace) = current else {
                 return Ok(None);
             };
             Ok(kept_open(done, with_state(i, row, trace)?))
         }
-        Entry::Input(i, row) => {
+        TraceLine::Input(i, row) => {
             let Some(trace) = current else {
                 return Ok(None);
             };
             Ok(kept_open(done, with_input(i, row, trace)?))
         }
-        Entry::Loop(n) => {
+        TraceLine::Loop(n) => {
             let Some(trace) = current else {
                 return Ok(None);
             };
@@ -240,7 +244,7 @@ fn followed(alloc: Global, reading: Reading, entry: Entry) -> Result<Option<Read
 fn followed_by(
     alloc: Global,
     reading: Reading,
-    entry: Option<Entry>,
+    entry: Option<TraceLine>,
 ) -> Result<Option<Reading>, AllocError>
     ensures { IfOk result (λ r. r ≡ followed_by reading entry) }
 {

@@ -10,8 +10,8 @@ use Rattle.std.proofs.lemmas.List.Folds.{list_all-append}
 use Rattle.std.proofs.lemmas.Option.{slice_get_cases}
 use Rattle.smv_tree.specs.declared.refusal.Refusal.{Refusal}
 use Rattle.trace_replay.specs.declared.entry.Binding.{Binding}
-use Rattle.trace_replay.specs.declared.entry.Entry.{Entry}
-use Rattle.trace_replay.specs.declared.entry.Entry.TheVariants as entry
+use Rattle.trace_replay.specs.declared.entry.TraceLine.{TraceLine}
+use Rattle.trace_replay.specs.declared.entry.TraceLine.TheVariants as entry
 use Rattle.trace_replay.specs.declared.reading.Reading.{Reading}
 use Rattle.trace_replay.specs.declared.source.Line.{Line}
 use Rattle.trace_replay.specs.declared.trace.Trace.{Trace}
@@ -26,15 +26,15 @@ some_is a b e = cc
 pub held_once : (specs : ℕ) (lines : List (List ℕ)) (first second : List (Option Trace)) → Holds specs lines first → Holds specs lines second → first ≡ second
 held_once specs lines first second a b =
     let same : a.entries ≡ b.entries = same_entries a.entries b.entries a.formed b.formed (sym a.text ∙ b.text) in
-    some_is first second (sym a.told ∙ ap (λ (es : List Entry). option_map closed (all_read specs es)) same ∙ b.told)
+    some_is first second (sym a.told ∙ ap (λ (es : List TraceLine). option_map closed (all_read specs es)) same ∙ b.told)
 
 -- Fronts.
 
-stuck : (es : List Entry) → fold followed_by None es ≡ None
+stuck : (es : List TraceLine) → fold followed_by None es ≡ None
 stuck [] = refl
 stuck (e ∷ es) = stuck es
 
-some_front : (o : Option Reading) (es : List Entry) (r : Reading) → fold followed_by o es ≡ Some r → (s : Reading) × (o ≡ Some s)
+some_front : (o : Option Reading) (es : List TraceLine) (r : Reading) → fold followed_by o es ≡ Some r → (s : Reading) × (o ≡ Some s)
 some_front None es r e = absurd (let clash : None ≡ Some r = sym (stuck es) ∙ e in let never : ⊥ = cc in never)
 some_front (Some s) es r e = (s, refl)
 

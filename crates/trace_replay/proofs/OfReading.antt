@@ -12,8 +12,8 @@ use Rattle.std.proofs.Math.ListN.{get_or-map}
 use Rattle.std.proofs.lemmas.Option.{slice_get-get_or}
 use Rattle.smv_tree.specs.declared.refusal.Refusal.{Refusal}
 use Rattle.trace_replay.specs.declared.entry.Binding.{Binding}
-use Rattle.trace_replay.specs.declared.entry.Entry.{Entry}
-use Rattle.trace_replay.specs.declared.entry.Entry.TheVariants as entry
+use Rattle.trace_replay.specs.declared.entry.TraceLine.{TraceLine}
+use Rattle.trace_replay.specs.declared.entry.TraceLine.TheVariants as entry
 use Rattle.trace_replay.specs.declared.reading.Reading.{Reading}
 use Rattle.trace_replay.specs.declared.source.Line.{Line}
 use Rattle.trace_replay.specs.declared.trace.Trace.{Trace}
@@ -35,7 +35,7 @@ same_numbered i j h k e = decimal_injective i j h k (some_is _ _ (sym (without_l
 same_bindings : (xs ys : List Binding) → list_all is_binding xs ≡ true → list_all is_binding ys ≡ true → binding_words xs ≡ binding_words ys → xs ≡ ys
 same_bindings xs ys h k e = some_is _ _ (sym (words_back xs h) ∙ ap bindings_in e ∙ words_back ys k)
 
-same_words : (e f : Entry) → in_form e ≡ true → in_form f ≡ true → entry_words e ≡ entry_words f → e ≡ f
+same_words : (e f : TraceLine) → in_form e ≡ true → in_form f ≡ true → entry_words e ≡ entry_words f → e ≡ f
 same_words (entry.Spec n) (entry.Spec m) h k is = ap entry.Spec (decimal_injective n m (ltb-true n (2 ^ 64) h) (ltb-true m (2 ^ 64) k) (third _ _ _ _ _ _ _ _ is))
 same_words (entry.Spec n) (entry.State i bs) h k is = absurd (apart (codes "spec") (codes "state") refl (second _ _ _ _ _ _ is))
 same_words (entry.Spec n) (entry.Input i bs) h k is = absurd (apart (codes "spec") (codes "input") refl (second _ _ _ _ _ _ is))
@@ -67,10 +67,10 @@ head_is a b xs ys e = cc
 tail_is : {A : Type 0} (a b : A) (xs ys : List A) → a ∷ xs ≡ b ∷ ys → xs ≡ ys
 tail_is a b xs ys e = cc
 
-pub same_entry : (e f : Entry) → in_form e ≡ true → in_form f ≡ true → entry_text e ≡ entry_text f → e ≡ f
+pub same_entry : (e f : TraceLine) → in_form e ≡ true → in_form f ≡ true → entry_text e ≡ entry_text f → e ≡ f
 same_entry e f h k is = same_words e f h k (sym (words_of e h) ∙ ap words is ∙ words_of f k)
 
-pub same_entries : (es fs : List Entry) → list_all in_form es ≡ true → list_all in_form fs ≡ true → map entry_text es ≡ map entry_text fs → es ≡ fs
+pub same_entries : (es fs : List TraceLine) → list_all in_form es ≡ true → list_all in_form fs ≡ true → map entry_text es ≡ map entry_text fs → es ≡ fs
 same_entries [] [] h k is = refl
 same_entries [] (f ∷ fs) h k is = absurd (let never : ⊥ = cc in never)
 same_entries (e ∷ es) [] h k is = absurd (let never : ⊥ = cc in never)
@@ -79,16 +79,16 @@ same_entries (e ∷ es) (f ∷ fs) h k is =
     let b = and_parts (in_form f) (list_all in_form fs) k in
     let heads : entry_text e ≡ entry_text f = head_is _ _ _ _ is in
     let tails : map entry_text es ≡ map entry_text fs = tail_is _ _ _ _ is in
-    ap (λ (x : Entry). x ∷ es) (same_entry e f a.0 b.0 heads) ∙ ap (λ (l : List Entry). f ∷ l) (same_entries es fs a.1 b.1 tails)
+    ap (λ (x : TraceLine). x ∷ es) (same_entry e f a.0 b.0 heads) ∙ ap (λ (l : List TraceLine). f ∷ l) (same_entries es fs a.1 b.1 tails)
 
 -- What a line says, and what is read then.
-pub after_if_ok : {E : Type 0} (r : Reading) (text : List ℕ) (e : Entry) (o : Result (Option Reading) E) → in_form e ≡ true → text ≡ entry_text e → IfOk o (λ s. s ≡ followed r e) → IfOk o (IsAfter r text)
+pub after_if_ok : {E : Type 0} (r : Reading) (text : List ℕ) (e : TraceLine) (o : Result (Option Reading) E) → in_form e ≡ true → text ≡ entry_text e → IfOk o (λ s. s ≡ followed r e) → IfOk o (IsAfter r text)
 after_if_ok r text e (Ok None) formed is h = λ f k same. ap (followed r) (same_entry f e k formed (sym same ∙ is)) ∙ sym h
 after_if_ok r text e (Ok (Some s)) formed is h = record { entry = e; formed = formed; is = is; read = sym h }
 after_if_ok r text e (Err x) formed is h = h
 
 -- One line more.
-all_more : (specs : ℕ) (es : List Entry) (e : Entry) → all_read specs (es ++ e ∷ []) ≡ followed_by (all_read specs es) e
+all_more : (specs : ℕ) (es : List TraceLine) (e : TraceLine) → all_read specs (es ++ e ∷ []) ≡ followed_by (all_read specs es) e
 all_more specs es e = fold-append followed_by (Some (nothing_read specs)) es (e ∷ [])
 
 pub read_none : (specs : ℕ) (r : Reading) → r ≡ nothing_read specs → IsRead specs [] r
@@ -110,14 +110,14 @@ held specs lines r traces h is = record {
   told = ap (option_map closed) h.read ∙ ap (λ (l : List (Option Trace)). Some l) (sym is);
 }
 
-pub record IsPushed (es : List Entry) (front : List (List ℕ)) (text : List ℕ) : Type 0 where
-  pub before : List Entry
-  pub last : Entry
+pub record IsPushed (es : List TraceLine) (front : List (List ℕ)) (text : List ℕ) : Type 0 where
+  pub before : List TraceLine
+  pub last : TraceLine
   pub all : es ≡ before ++ last ∷ []
   pub texts_before : map entry_text before ≡ front
   pub text_last : entry_text last ≡ text
 
-pushed_from : (es : List Entry) (front : List (List ℕ)) (text : List ℕ) → map entry_text es ≡ front ++ text ∷ [] → IsPushed es front text
+pushed_from : (es : List TraceLine) (front : List (List ℕ)) (text : List ℕ) → map entry_text es ≡ front ++ text ∷ [] → IsPushed es front text
 pushed_from [] [] text is = absurd (let never : ⊥ = cc in never)
 pushed_from [] (f ∷ front) text is = absurd (let never : ⊥ = cc in never)
 pushed_from (e ∷ []) [] text is = record { before = []; last = e; all = refl; texts_before = refl; text_last = head_is _ _ _ _ is }
@@ -127,7 +127,7 @@ pushed_from (e ∷ es) (f ∷ front) text is =
     record {
       before = e ∷ more.before;
       last = more.last;
-      all = ap (λ (l : List Entry). e ∷ l) more.all;
+      all = ap (λ (l : List TraceLine). e ∷ l) more.all;
       texts_before = ap (λ (l : List ℕ). l ∷ map entry_text more.before) (head_is _ _ _ _ is) ∙ ap (λ (l : List (List ℕ)). f ∷ l) more.texts_before;
       text_last = more.text_last;
     }

@@ -9,8 +9,8 @@ use Rattle.std.proofs.lemmas.List.Folds.{list_all-append}
 use Rattle.std.proofs.lemmas.List.Splits.{join_with_byte-slice_split, slice_split_at, slice_split_none}
 use Rattle.std.proofs.lemmas.Str.Parse.{digit_at}
 use Rattle.trace_replay.specs.declared.entry.Binding.{Binding}
-use Rattle.trace_replay.specs.declared.entry.Entry.{Entry}
-use Rattle.trace_replay.specs.declared.entry.Entry.TheVariants as entry
+use Rattle.trace_replay.specs.declared.entry.TraceLine.{TraceLine}
+use Rattle.trace_replay.specs.declared.entry.TraceLine.TheVariants as entry
 use Rattle.trace_replay.specs.declared.forms.NameState.{NameState}
 use Rattle.trace_replay.specs.declared.forms.NameState.TheVariants as name
 use Rattle.trace_replay.specs.declared.forms.ValueState.{ValueState}
@@ -148,7 +148,7 @@ row_cut i (b ∷ bs) small all =
     next_word (decimal i ++ codes ":") (binding_text b ++ more_bindings bs) (free-append (decimal i) (codes ":") (decimal_free i small) refl)
     ∙ ap (λ (l : List (List ℕ)). (decimal i ++ codes ":") ∷ l) (bindings_cut b bs both.0 both.1)
 
-pub words_of : (e : Entry) → in_form e ≡ true → words (entry_text e) ≡ entry_words e
+pub words_of : (e : TraceLine) → in_form e ≡ true → words (entry_text e) ≡ entry_words e
 words_of (entry.Spec n) h = ap (λ (l : List (List ℕ)). codes "--@" ∷ codes "spec" ∷ l) (one_word (decimal n) (decimal_free n (ltb-true n (2 ^ 64) h)))
 words_of (entry.State i bs) h =
     let both = and_parts (is_small i) (list_all is_binding bs) h in
@@ -161,11 +161,11 @@ words_of (entry.Loop n) h = ap (λ (l : List (List ℕ)). codes "--@" ∷ codes 
 joined : (text : List ℕ) → join_with_byte 32 (words text) ≡ text
 joined text = join_with_byte-slice_split 32 text
 
-line_of : (text : List ℕ) (ws : List (List ℕ)) (r : Option Entry) → ws ≡ words text → AreWordsOf ws r → IsLineOf text r
+line_of : (text : List ℕ) (ws : List (List ℕ)) (r : Option TraceLine) → ws ≡ words text → AreWordsOf ws r → IsLineOf text r
 line_of text ws None same h = λ e formed is. h e formed (same ∙ ap words is ∙ words_of e formed)
 line_of text ws (Some e) same h =
     (h.0, sym (joined text) ∙ ap (join_with_byte 32) (sym same ∙ h.1 ∙ sym (words_of e h.0)) ∙ joined (entry_text e))
 
-pub line_if_ok : {E : Type 0} (text : List ℕ) (ws : List (List ℕ)) (r : Result (Option Entry) E) → ws ≡ words text → IfOk r (AreWordsOf ws) → IfOk r (IsLineOf text)
+pub line_if_ok : {E : Type 0} (text : List ℕ) (ws : List (List ℕ)) (r : Result (Option TraceLine) E) → ws ≡ words text → IfOk r (AreWordsOf ws) → IfOk r (IsLineOf text)
 line_if_ok text ws (Ok o) same h = line_of text ws o same h
 line_if_ok text ws (Err x) same h = h

@@ -7,8 +7,8 @@ use Rattle.std.specs.Option.{MatchOption, option_copied}
 use Rattle.std.proofs.lemmas.Bool.{and_from, and_parts, cases_Bool, cases_eq, cond-false, cond-true, eq-eqb, eqb-true, lt-ltb, ltb-true, ne_eqb}
 use Rattle.std.proofs.lemmas.Slice.Eq.{bytes_eq-Decides}
 use Rattle.trace_replay.specs.declared.entry.Binding.{Binding}
-use Rattle.trace_replay.specs.declared.entry.Entry.{Entry}
-use Rattle.trace_replay.specs.declared.entry.Entry.TheVariants as entry
+use Rattle.trace_replay.specs.declared.entry.TraceLine.{TraceLine}
+use Rattle.trace_replay.specs.declared.entry.TraceLine.TheVariants as entry
 use Rattle.trace_replay.specs.Forms.{is_name, is_value}
 use Rattle.trace_replay.specs.Reading.{in_form, is_binding, is_small}
 use Rattle.trace_replay.specs.Words.{AreWordsOf, IsNumber, IsNumbered, binding_in, binding_words, bindings_in, bound, entry_words, in_front, is_end, value_word, with_binding, without_last}
@@ -178,13 +178,13 @@ module _ (number : List ℕ) (more : List (List ℕ)) where
   abbrev line : List ℕ → List (List ℕ)
   line keyword = codes "--@" ∷ keyword ∷ number ∷ more
 
-  pub spec_only : (e : Entry) → in_form e ≡ true → line (codes "spec") ≡ entry_words e → (n : ℕ) × (n < 2 ^ 64) × (number ≡ decimal n) × (more ≡ [])
+  pub spec_only : (e : TraceLine) → in_form e ≡ true → line (codes "spec") ≡ entry_words e → (n : ℕ) × (n < 2 ^ 64) × (number ≡ decimal n) × (more ≡ [])
   spec_only (entry.Spec n) formed e = (n, ltb-true n (2 ^ 64) formed, third _ _ _ _ _ _ _ _ e, behind_third _ _ _ _ _ _ _ _ e)
   spec_only (entry.State i bs) formed e = absurd (apart (codes "spec") (codes "state") refl (second _ _ _ _ _ _ e))
   spec_only (entry.Input i bs) formed e = absurd (apart (codes "spec") (codes "input") refl (second _ _ _ _ _ _ e))
   spec_only (entry.Loop n) formed e = absurd (apart (codes "spec") (codes "loop") refl (second _ _ _ _ _ _ e))
 
-  pub loop_only : (e : Entry) → in_form e ≡ true → line (codes "loop") ≡ entry_words e → (n : ℕ) × (n < 2 ^ 64) × (number ≡ decimal n) × (more ≡ [])
+  pub loop_only : (e : TraceLine) → in_form e ≡ true → line (codes "loop") ≡ entry_words e → (n : ℕ) × (n < 2 ^ 64) × (number ≡ decimal n) × (more ≡ [])
   loop_only (entry.Loop n) formed e = (n, ltb-true n (2 ^ 64) formed, third _ _ _ _ _ _ _ _ e, behind_third _ _ _ _ _ _ _ _ e)
   loop_only (entry.State i bs) formed e = absurd (apart (codes "loop") (codes "state") refl (second _ _ _ _ _ _ e))
   loop_only (entry.Input i bs) formed e = absurd (apart (codes "loop") (codes "input") refl (second _ _ _ _ _ _ e))
@@ -195,13 +195,13 @@ module _ (number : List ℕ) (more : List (List ℕ)) where
       let both = and_parts (is_small i) (list_all is_binding bs) formed in
       record { small = ltb-true i (2 ^ 64) both.0; formed = both.1; number = third _ _ _ _ _ _ _ _ e; more = behind_third _ _ _ _ _ _ _ _ e }
 
-  pub state_only : (e : Entry) → in_form e ≡ true → line (codes "state") ≡ entry_words e → (i : ℕ) × (bs : List Binding) × IsRow number more i bs
+  pub state_only : (e : TraceLine) → in_form e ≡ true → line (codes "state") ≡ entry_words e → (i : ℕ) × (bs : List Binding) × IsRow number more i bs
   state_only (entry.State i bs) formed e = (i, bs, row_is i bs (codes "state") formed e)
   state_only (entry.Spec n) formed e = absurd (apart (codes "state") (codes "spec") refl (second _ _ _ _ _ _ e))
   state_only (entry.Input i bs) formed e = absurd (apart (codes "state") (codes "input") refl (second _ _ _ _ _ _ e))
   state_only (entry.Loop n) formed e = absurd (apart (codes "state") (codes "loop") refl (second _ _ _ _ _ _ e))
 
-  pub input_only : (e : Entry) → in_form e ≡ true → line (codes "input") ≡ entry_words e → (i : ℕ) × (bs : List Binding) × IsRow number more i bs
+  pub input_only : (e : TraceLine) → in_form e ≡ true → line (codes "input") ≡ entry_words e → (i : ℕ) × (bs : List Binding) × IsRow number more i bs
   input_only (entry.Input i bs) formed e = (i, bs, row_is i bs (codes "input") formed e)
   input_only (entry.Spec n) formed e = absurd (apart (codes "input") (codes "spec") refl (second _ _ _ _ _ _ e))
   input_only (entry.State i bs) formed e = absurd (apart (codes "input") (codes "state") refl (second _ _ _ _ _ _ e))
@@ -259,7 +259,7 @@ input_some number more i bs h is =
 
 -- No line has fewer than three words, another mark, or another keyword.
 
-pub three : (e : Entry) → 3 ≤ length (entry_words e)
+pub three : (e : TraceLine) → 3 ≤ length (entry_words e)
 three (entry.Spec n) = omega arith
 three (entry.State i bs) = omega arith
 three (entry.Input i bs) = omega arith
@@ -288,7 +288,7 @@ other_keyword mark keyword number more a b c d (entry.Input i bs) formed is = cl
 other_keyword mark keyword number more a b c d (entry.Loop n) formed is = clash_of keyword (codes "loop") d (second _ _ _ _ _ _ is)
 
 -- the words with this mark and keyword
-pub keyed_words : {E : Type 0} (mark keyword word number : List ℕ) (more : List (List ℕ)) (r : Result (Option Entry) E) → bytes_eq mark (codes "--@") ≡ true → bytes_eq keyword word ≡ true
+pub keyed_words : {E : Type 0} (mark keyword word number : List ℕ) (more : List (List ℕ)) (r : Result (Option TraceLine) E) → bytes_eq mark (codes "--@") ≡ true → bytes_eq keyword word ≡ true
     → IfOk r (AreWordsOf (codes "--@" ∷ word ∷ number ∷ more)) → IfOk r (AreWordsOf (mark ∷ keyword ∷ number ∷ more))
 keyed_words mark keyword word number more r m k h =
     subst (λ (l : List ℕ). IfOk r (AreWordsOf (l ∷ keyword ∷ number ∷ more))) (sym ((bytes_eq-Decides mark (codes "--@")).0 m))

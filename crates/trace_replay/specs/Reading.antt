@@ -7,8 +7,8 @@ use Rattle.smv_tree.specs.declared.refusal.Rule.TheVariants.{BadTrace}
 use Rattle.smv_tree.specs.declared.refusal.TextStop.{TextStop}
 use Rattle.smv_tree.specs.declared.refusal.TextStop.TheVariants.{NoMemory, Refused}
 use Rattle.trace_replay.specs.declared.entry.Binding.{Binding}
-use Rattle.trace_replay.specs.declared.entry.Entry.{Entry}
-use Rattle.trace_replay.specs.declared.entry.Entry.TheVariants as entry
+use Rattle.trace_replay.specs.declared.entry.TraceLine.{TraceLine}
+use Rattle.trace_replay.specs.declared.entry.TraceLine.TheVariants as entry
 use Rattle.trace_replay.specs.declared.reading.Block.{Block}
 use Rattle.trace_replay.specs.declared.reading.Reading.{Reading}
 use Rattle.trace_replay.specs.declared.source.Line.{Line}
@@ -24,7 +24,7 @@ abbrev pub is_binding : Binding → Bool
 is_binding b = is_name b.name && is_value b.value
 
 -- names, values and numbers are such as may stand in a line
-abbrev pub in_form : Entry → Bool
+abbrev pub in_form : TraceLine → Bool
 in_form (entry.Spec n) = is_small n
 in_form (entry.State i bs) = is_small i && list_all is_binding bs
 in_form (entry.Input i bs) = is_small i && list_all is_binding bs
@@ -81,13 +81,13 @@ changed_with change done None = None
 changed_with change done (Some b) = kept_open done b.spec (change b.trace)
 
 -- what is read with one more line, if it may stand there
-abbrev pub followed : Reading → Entry → Option Reading
+abbrev pub followed : Reading → TraceLine → Option Reading
 followed r (entry.Spec n) = begun_with n (closed r)
 followed r (entry.State i bs) = changed_with (with_state i bs) r.done r.current
 followed r (entry.Input i bs) = changed_with (with_input i bs) r.done r.current
 followed r (entry.Loop n) = changed_with (with_loop n) r.done r.current
 
-abbrev pub followed_by : Option Reading → Entry → Option Reading
+abbrev pub followed_by : Option Reading → TraceLine → Option Reading
 followed_by None e = None
 followed_by (Some r) e = followed r e
 
@@ -95,12 +95,12 @@ followed_by (Some r) e = followed r e
 abbrev pub nothing_read : ℕ → Reading
 nothing_read specs = record { done = replicate specs None; current = None }
 
-abbrev pub all_read : ℕ → List Entry → Option Reading
+abbrev pub all_read : ℕ → List TraceLine → Option Reading
 all_read specs es = fold followed_by (Some (nothing_read specs)) es
 
 -- these lines hold just these traces, where there are so many specifications
 pub record Holds (specs : ℕ) (lines : List (List ℕ)) (traces : List (Option Trace)) : Type 0 where
-  pub entries : List Entry
+  pub entries : List TraceLine
   pub formed : list_all in_form entries ≡ true
   pub text : lines ≡ map entry_text entries
   pub told : option_map closed (all_read specs entries) ≡ Some traces

@@ -3,8 +3,8 @@ use Rattle.std.specs.Prelude.{◌≡◌, ℕ, ◌^◌, ◌<◌, ◌==◌, Bool, 
 use Rattle.std.specs.Fmt.{decimal}
 use Rattle.std.specs.List.{slice_split}
 use Rattle.trace_replay.specs.declared.entry.Binding.{Binding}
-use Rattle.trace_replay.specs.declared.entry.Entry.{Entry}
-use Rattle.trace_replay.specs.declared.entry.Entry.TheVariants as entry
+use Rattle.trace_replay.specs.declared.entry.TraceLine.{TraceLine}
+use Rattle.trace_replay.specs.declared.entry.TraceLine.TheVariants as entry
 use Rattle.trace_replay.specs.Forms.{is_name, is_value}
 use Rattle.trace_replay.specs.Lines.{entry_text}
 use Rattle.trace_replay.specs.Reading.{in_form}
@@ -21,7 +21,7 @@ abbrev pub binding_words : List Binding → List (List ℕ)
 binding_words [] = []
 binding_words (b ∷ bs) = b.name ∷ codes "=" ∷ value_word b.value bs ∷ binding_words bs
 
-abbrev pub entry_words : Entry → List (List ℕ)
+abbrev pub entry_words : TraceLine → List (List ℕ)
 entry_words (entry.Spec n) = codes "--@" ∷ codes "spec" ∷ decimal n ∷ []
 entry_words (entry.State i bs) = codes "--@" ∷ codes "state" ∷ (decimal i ++ codes ":") ∷ binding_words bs
 entry_words (entry.Input i bs) = codes "--@" ∷ codes "input" ∷ (decimal i ++ codes ":") ∷ binding_words bs
@@ -73,11 +73,11 @@ IsNumbered text None = (n : ℕ) → n < 2 ^ 64 → text ≡ decimal n ++ codes 
 IsNumbered text (Some n) = (n < 2 ^ 64) × (text ≡ decimal n ++ codes ":")
 
 -- what words say, if they are those of a line
-abbrev pub AreWordsOf : List (List ℕ) → Option Entry → Type 0
-AreWordsOf ws None = (e : Entry) → in_form e ≡ true → ws ≡ entry_words e → ⊥
+abbrev pub AreWordsOf : List (List ℕ) → Option TraceLine → Type 0
+AreWordsOf ws None = (e : TraceLine) → in_form e ≡ true → ws ≡ entry_words e → ⊥
 AreWordsOf ws (Some e) = (in_form e ≡ true) × (ws ≡ entry_words e)
 
 -- what a line says
-abbrev pub IsLineOf : List ℕ → Option Entry → Type 0
-IsLineOf text None = (e : Entry) → in_form e ≡ true → text ≡ entry_text e → ⊥
+abbrev pub IsLineOf : List ℕ → Option TraceLine → Type 0
+IsLineOf text None = (e : TraceLine) → in_form e ≡ true → text ≡ entry_text e → ⊥
 IsLineOf text (Some e) = (in_form e ≡ true) × (text ≡ entry_text e)

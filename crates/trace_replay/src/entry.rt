@@ -12,7 +12,7 @@ pub struct Binding {
 
 /// What a line of a trace says.
 #[derive(Debug, Drop)]
-pub enum Entry {
+pub enum TraceLine {
     /// A trace of the specification of this number begins.
     Spec(usize),
     /// The state of this number has these values.

@@ -18,7 +18,7 @@ mod telling;
 mod trace;
 mod words;
 
-pub use entry::{Binding, Entry};
+pub use entry::{Binding, TraceLine};
 pub use printing::{TraceLines, print};
 pub use readable_traces::{is_lasso_readable, is_read_once, is_run_readable};
 pub use reader::read;

@@ -3,7 +3,7 @@
 ghost use Rattle.std.specs.Prelude.{◌≡◌, Some, slice_get, IfOk};
 ghost use Rattle.std.specs.Fmt.{WritesOnOk};
 ghost use Rattle.std.specs.List.{flat_map};
-ghost use Rattle.trace_replay.specs.declared.entry.Entry.TheVariants as entry;
+ghost use Rattle.trace_replay.specs.declared.entry.TraceLine.TheVariants as entry;
 ghost use Rattle.trace_replay.specs.Lines.{bindings_text, input_entries, line_text, loop_entries, moments, more_bindings, state_entries, trace_text};
 
 use crate::{Binding, Trace};

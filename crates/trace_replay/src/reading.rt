@@ -3,7 +3,7 @@
 ghost use Rattle.std.specs.Prelude.{◌≡◌, Some, IfOk, slice_set};
 ghost use Rattle.trace_replay.specs.Reading.{begun_with, closed, closed_with, followed, is_unlooped, kept_open, may_begin, nothing_read, with_input, with_loop, with_state};
 
-use crate::{Binding, Entry, Trace};
+use crate::{Binding, Trace, TraceLine};
 use sqlite_items::Items;
 use std::alloc::{AllocError, Global};
 
@@ -63,28 +63,28 @@ fn put(mut done: Items<Option<Trace>>, at: usize, trace: Trace) -> Items<Option<
 pub fn followed(
     alloc: Global,
     reading: Reading,
-    entry: Entry,
+    entry: TraceLine,
 ) -> Result<Option<Reading>, AllocError>
     ensures { IfOk result (λ r. r ≡ followed reading entry) }
 {
     let Reading { done, current } = reading;
     match entry {
-        Entry::Spec(n) => Ok(begun_with(alloc, n, closed_with(done, current))),
-        Entry::State(i, bindings) => {
+        TraceLine::Spec(n) => Ok(begun_with(alloc, n, closed_with(done, current))),
+        TraceLine::State(i, bindings) => {
             let Some(block) = current else {
                 return Ok(None)
             };
             let trace = with_state(i, bindings, block.trace)?;
             Ok(kept_open(done, block.spec, trace))
         }
-        Entry::Input(i, bindings) => {
+        TraceLine::Input(i, bindings) => {
             let Some(block) = current else {
                 return Ok(None)
             };
             let trace = with_input(i, bindings, block.trace)?;
             Ok(kept_open(done, block.spec, trace))
         }
-        Entry::Loop(n) => {
+        TraceLine::Loop(n) => {
             let Some(block) = current else {
                 return Ok(None)
             };

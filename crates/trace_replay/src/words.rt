@@ -6,13 +6,13 @@ ghost use Rattle.std.specs.Borrow.{Bor};
 ghost use Rattle.trace_replay.specs.Words.{AreWordsOf, IsLineOf, IsNumber, IsNumbered, binding_in, bindings_in, bound, is_end, without_last, words};
 
 use crate::forms::{is_name, is_value};
-use crate::{Binding, Entry};
+use crate::{Binding, TraceLine};
 use plain_text::Text;
 use sqlite_items::Items;
 use std::alloc::{AllocError, Global};
 
 /// What a line says, if it is in form.
-pub fn entry_read(alloc: Global, line: &Text) -> Result<Option<Entry>, AllocError>
+pub fn entry_read(alloc: Global, line: &Text) -> Result<Option<TraceLine>, AllocError>
     ensures { IfOk result (IsLineOf line.now) }
 {
     let words = words(alloc, line.as_str())?;
@@ -38,7 +38,7 @@ fn pieces(alloc: Global, text: &str) -> Result<Vec<&str>, AllocError>
 }
 
 // What words say.
-fn entry_of(alloc: Global, words: &[Text]) -> Result<Option<Entry>, AllocError>
+fn entry_of(alloc: Global, words: &[Text]) -> Result<Option<TraceLine>, AllocError>
     ensures { IfOk result (AreWordsOf words.now) }
 {
     if words.len() < 3 {
@@ -55,7 +55,7 @@ fn keyed(
     keyword: &Text,
     number: &Text,
     more: &[Text],
-) -> Result<Option<Entry>, AllocError>
+) -> Result<Option<TraceLine>, AllocError>
     ensures { IfOk result (AreWordsOf (mark.now ∷ keyword.now ∷ number.now ∷ more.now)) }
 {
     if !is(mark, "--@") {
@@ -82,7 +82,7 @@ fn is(word: &Text, text: &str) -> bool
     word.as_str() == text
 }
 
-fn spec_entry(alloc: Global, number: &Text, more: &[Text]) -> Result<Option<Entry>, AllocError>
+fn spec_entry(alloc: Global, number: &Text, more: &[Text]) -> Result<Option<TraceLine>, AllocError>
     ensures { IfOk result (AreWordsOf (codes "--@" ∷ codes "spec" ∷ number.now ∷ more.now)) }
 {
     if !more.is_empty() {
@@ -90,11 +90,11 @@ fn spec_entry(alloc: Global, number: &Text, more: &[Text]) -> Result<Option<Entr
     }
     match number_read(alloc, number.as_str())? {
         None => Ok(None),
-        Some(n) => Ok(Some(Entry::Spec(n))),
+        Some(n) => Ok(Some(TraceLine::Spec(n))),
     }
 }
 
-fn loop_entry(alloc: Global, number: &Text, more: &[Text]) -> Result<Option<Entry>, AllocError>
+fn loop_entry(alloc: Global, number: &Text, more: &[Text]) -> Result<Option<TraceLine>, AllocError>
     ensures { IfOk result (AreWordsOf (codes "--@" ∷ codes "loop" ∷ number.now ∷ more.now)) }
 {
     if !more.is_empty() {
@@ -102,11 +102,11 @@ fn loop_entry(alloc: Global, number: &Text, more: &[Text]) -> Result<Option<Entr
     }
     match number_read(alloc, number.as_str())? {
         None => Ok(None),
-        Some(n) => Ok(Some(Entry::Loop(n))),
+        Some(n) => Ok(Some(TraceLine::Loop(n))),
     }
 }
 
-fn state_entry(alloc: Global, number: &Text, more: &[Text]) -> Result<Option<Entry>, AllocError>
+fn state_entry(alloc: Global, number: &Text, more: &[Text]) -> Result<Option<TraceLine>, AllocError>
     ensures { IfOk result (AreWordsOf (codes "--@" ∷ codes "state" ∷ number.now ∷ more.now)) }
 {
     let Some(n) = numbered_read(alloc, number.as_str())? else {
@@ -114,11 +114,11 @@ fn state_entry(alloc: Global, number: &Text, more: &[Text]) -> Result<Option<Ent
     };
     match bindings_in(alloc, more)? {
         None => Ok(None),
-        Some(bindings) => Ok(Some(Entry::State(n, bindings))),
+        Some(bindings) => Ok(Some(TraceLine::State(n, bindings))),
     }
 }
 
-fn input_entry(alloc: Global, number: &Text, more: &[Text]) -> Result<Option<Entry>, AllocError>
+fn input_entry(alloc: Global, number: &Text, more: &[Text]) -> Result<Option<TraceLine>, AllocError>
     ensures { IfOk result (AreWordsOf (codes "--@" ∷ codes "input" ∷ number.now ∷ more.now)) }
 {
     let Some(n) = numbered_read(alloc, number.as_str())? else {
@@ -126,7 +126,7 @@ fn input_entry(alloc: Global, number: &Text, more: &[Text]) -> Result<Option<Ent
     };
     match bindings_in(alloc, more)? {
         None => Ok(None),
-        Some(bindings) => Ok(Some(Entry::Input(n, bindings))),
+        Some(bindings) => Ok(Some(TraceLine::Input(n, bindings))),
     }
 }
 
