@@ -3,6 +3,7 @@
 
 use crate::lifting::{Marks, ask_for, clause_of, explain_before, explain_conditions, no_marks};
 use crate::outcomes::{Bads, Relative};
+use crate::reducing::{reduce_conditions, reduce_step};
 use clause_core::{Bits, Lit, System};
 use std::alloc::{AllocError, Global};
 
@@ -130,14 +131,12 @@ fn keep_step(
     let bits = system.state_bits();
     let values = values.as_slice();
     let hint = hint_for(alloc, hints, clause)?;
+    let goal = if hint.is_empty() { clause } else { &hint };
     let mut marks = no_marks(alloc, values.len())?;
-    if hint.is_empty() {
-        ask_for_next(bits, clause, &mut marks);
-    } else {
-        ask_for_next(bits, &hint, &mut marks);
-    }
+    ask_for_next(bits, goal, &mut marks);
     let clauses = system.step();
     explain_before(values, bits, clauses, clauses.len(), &mut marks);
+    reduce_step(alloc, values, bits, clauses, goal, &mut marks)?;
     keep(hints, hint_of(alloc, values, bits, &marks)?)
 }
 
@@ -151,7 +150,9 @@ fn keep_bad(
     let bits = system.state_bits();
     let values = values.as_slice();
     let mut marks = no_marks(alloc, values.len())?;
-    explain_conditions(values, bits, system.bad(), &mut marks);
+    let clauses = system.bad();
+    explain_conditions(values, bits, clauses, &mut marks);
+    reduce_conditions(alloc, values, bits, clauses, &mut marks)?;
     keep(hints, hint_of(alloc, values, bits, &marks)?)
 }
 

@@ -13,6 +13,7 @@ mod lifting;
 mod lookups;
 pub mod outcomes;
 mod pushing;
+mod reducing;
 mod reissuing;
 mod trying;
 

@@ -12,6 +12,20 @@ pub struct Marks {
     done: Vec<bool>,
 }
 
+impl Marks {
+    // Whether the variable is asked for; past the end none is.
+    pub(crate) fn is_asked(&self, var: usize) -> bool {
+        is_marked(&self.asked, var)
+    }
+
+    // Asks for the variable no more.
+    pub(crate) fn give_up(&mut self, var: usize) {
+        if var < self.asked.len() {
+            self.asked[var] = false;
+        }
+    }
+}
+
 // No mark for any of so many variables.
 pub(crate) fn no_marks(alloc: Global, count: usize) -> Result<Marks, AllocError> {
     let asked = vec![in alloc; false; count]?;
@@ -40,7 +54,7 @@ pub(crate) fn ask_for(marks: &mut Marks, var: usize) {
 }
 
 // Whether the values make the literal true; past their end they make none true.
-fn is_true(values: &[bool], l: Lit) -> bool {
+pub(crate) fn is_true(values: &[bool], l: Lit) -> bool {
     match values.get(l.var) {
         Some(value) => *value == l.positive,
         None => false,
@@ -60,7 +74,7 @@ fn is_above(bits: usize, var: usize, other: usize) -> bool {
 }
 
 // The literal of the highest variable.
-fn top_of(bits: usize, clause: &[Lit]) -> Option<Lit> {
+pub(crate) fn top_of(bits: usize, clause: &[Lit]) -> Option<Lit> {
     let mut top: Option<Lit> = None;
     'literals: for l in clause {
         match top {
@@ -76,7 +90,7 @@ fn top_of(bits: usize, clause: &[Lit]) -> Option<Lit> {
 }
 
 // Whether the values make no literal true but that one.
-fn is_reason(values: &[bool], clause: &[Lit], top: Lit) -> bool {
+pub(crate) fn is_reason(values: &[bool], clause: &[Lit], top: Lit) -> bool {
     'literals: for l in clause {
         if is_true(values, *l) && !l.is_same(top) {
             return false;
@@ -120,7 +134,7 @@ pub(crate) fn explain_before(
 
 // The place of the clauses from which on none has a new variable past the next bits: what is asked of the state. The
 // clauses before say what these variables are.
-fn conditions_from(bits: usize, clauses: &Clauses) -> usize {
+pub(crate) fn conditions_from(bits: usize, clauses: &Clauses) -> usize {
     let mut high = bits.saturating_add(bits);
     let mut from = 0;
     'clauses: for k in 0..clauses.len() {
