@@ -15,13 +15,13 @@ ghost use Rattle.frame_query.specs.Trying.{proof_of, PaysNew, IsGoing, IsCandida
 use crate::attempting::{
     attempt, attempt_new, both, copy_parents, hinted, lacked, needed_of, ordered_by, others,
 };
-use crate::hints::{Hint, hint_for};
 use crate::outcomes::Generalised;
 use crate::trying::{Draft, Ending, Trial, Turn, Walk};
 use clause_core::{Clause, Lit, System};
 use effort_purse::Purse;
 use frame_core::{Lemma, Parent, Proved};
 use frame_solver::{Engine, Known, system_of};
+use state_hints::Hints;
 use std::alloc::{AllocError, Global};
 
 // A copy of the proof, taken apart.
@@ -271,7 +271,7 @@ pub(crate) fn generalised<Q: Purse>(
     steps: &mut Engine,
     states: &mut Engine,
     known: &mut Known,
-    hints: &[Hint],
+    hints: &Hints,
     given: &Proved,
     purse: &mut Q,
 ) -> Result<Ending, AllocError>
@@ -293,7 +293,7 @@ pub(crate) fn generalised<Q: Purse>(
     ensures budget { Q.budget purse.new ≡ Q.budget purse.old }
 {
     let _system = given.system();
-    let hint = hint_for(alloc, hints, given.clause())?;
+    let hint = hints.clause_for(alloc, given.clause())?;
     let rest = ordered_by(alloc, given.clause(), &hint, given.part())?;
     let draft = drafted(alloc, given)?;
     let mut walk = Walk {
@@ -345,7 +345,7 @@ pub(crate) fn generalise_in<'a, Q: Purse>(
     steps: &mut Engine,
     states: &mut Engine,
     known: &mut Known,
-    hints: &[Hint],
+    hints: &Hints,
     given: Proved<'a>,
     purse: &mut Q,
 ) -> Generalised<'a>

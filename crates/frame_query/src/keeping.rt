@@ -4,14 +4,15 @@
 use crate::dropping::generalise_in;
 use crate::finding::{bad_of, noted_of, relative_of};
 use crate::following::{follow_adds, follow_levels};
-use crate::hints::{Hint, note_bad, note_step};
 use crate::kept_proofs::KeptProof;
+use crate::noting::{note_bad, note_step};
 use crate::outcomes::{Bads, Generalised, Noted, Relative};
 use crate::pushing::push_of;
 use clause_core::{Lit, System};
 use effort_purse::Purse;
 use frame_core::{Lemmas, Proved, Step};
 use frame_solver::{Engine, Firsts, Known, firsts_of, fresh_states, fresh_steps, system_of};
+use state_hints::Hints;
 use std::alloc::{AllocError, Global};
 use std::marker::Model;
 
@@ -33,8 +34,8 @@ pub struct FrameSolver<'a> {
     known: Known<'a>,
     // for each lemma, by its number, the proof that its last push found
     proofs: Vec<Option<KeptProof>>,
-    // of states that were found, which of their bits were needed; the last one stands at the end
-    hints: Vec<Hint>,
+    // of states that were found, which of their bits were needed
+    hints: Hints,
 }
 
 impl<'a> Model for FrameSolver<'a> {
@@ -76,7 +77,7 @@ impl<'a> FrameSolver<'a> {
             states,
             known,
             proofs: Vec::new(alloc),
-            hints: Vec::new(alloc),
+            hints: Hints::new(alloc),
         })
     }
 

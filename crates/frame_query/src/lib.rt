@@ -6,14 +6,12 @@ mod attempting;
 mod dropping;
 mod finding;
 mod following;
-mod hints;
 pub mod keeping;
 mod kept_proofs;
-mod lifting;
 mod lookups;
+mod noting;
 pub mod outcomes;
 mod pushing;
-mod reducing;
 mod reissuing;
 mod trying;
 

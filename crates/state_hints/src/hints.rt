@@ -1,8 +1,6 @@
-//! Hints for generalisation: of a state that leads to where is asked about, the clause of those bits that it needs for
-//! that. They choose which clause is tried, and nothing is claimed of them.
+//! The hints that are kept, by the states that they are of.
 
-use crate::lifting::{Marks, ask_for, clause_of, explain_before, explain_conditions, no_marks};
-use crate::outcomes::{Bads, Relative};
+use crate::explaining::{Marks, ask_for, clause_of, explain_before, explain_conditions, no_marks};
 use crate::reducing::{reduce_conditions, reduce_step};
 use clause_core::{Bits, Lit, System};
 use std::alloc::{AllocError, Global};
@@ -12,7 +10,7 @@ const MOST: usize = 1024;
 
 // A state, and the clause of some of its bits.
 #[derive(Drop)]
-pub struct Hint {
+struct Hint {
     state: Vec<bool>,
     clause: Vec<Lit>,
     // A mix of the numbers of the bits that are true in the state. States with other mixes differ.
@@ -81,11 +79,7 @@ fn place_of(hints: &[Hint], clause: &[Lit]) -> Option<usize> {
 }
 
 // The hint for the clause; no literal, where there is none.
-pub(crate) fn hint_for(
-    alloc: Global,
-    hints: &[Hint],
-    clause: &[Lit],
-) -> Result<Vec<Lit>, AllocError> {
+fn hint_for(alloc: Global, hints: &[Hint], clause: &[Lit]) -> Result<Vec<Lit>, AllocError> {
     match place_of(hints, clause) {
         Some(k) => match hints.get(k) {
             Some(hint) => Vec::from_slice(alloc, &hint.clause),
@@ -156,25 +150,39 @@ fn keep_bad(
     keep(hints, hint_of(alloc, values, bits, &marks)?)
 }
 
-// Where a step was found out of a clause that says that a state is another, keeps a hint for the state that it leaves.
-// Where memory runs out there may be none.
-pub(crate) fn note_step(
-    alloc: Global,
-    hints: &mut Vec<Hint>,
-    system: &System,
-    clause: &[Lit],
-    found: &Relative,
-) {
-    if let Relative::Step(step) = found {
-        if clause.len() == system.state_bits() {
-            let _kept = keep_step(alloc, hints, system, clause, step.values());
-        }
-    }
+/// Hints of states that were found: at most 1024, the latest ones.
+#[derive(Drop)]
+pub struct Hints {
+    // The last one stands at the end.
+    kept: Vec<Hint>,
 }
 
-// Where a bad state was found, keeps a hint for it. Where memory runs out there may be none.
-pub(crate) fn note_bad(alloc: Global, hints: &mut Vec<Hint>, system: &System, found: &Bads) {
-    if let Bads::Found(state) = found {
-        let _kept = keep_bad(alloc, hints, system, state.values());
+impl Hints {
+    /// There is no hint yet.
+    pub fn new(alloc: Global) -> Hints {
+        Hints {
+            kept: Vec::new(alloc),
+        }
+    }
+
+    /// The hint for a clause that says that a state is another than one: a clause of some of its literals, or of none
+    /// where there is no hint. It costs a look at each hint; the error is out of memory.
+    pub fn clause_for(&self, alloc: Global, clause: &[Lit]) -> Result<Vec<Lit>, AllocError> {
+        hint_for(alloc, &self.kept, clause)
+    }
+
+    /// A step with these values leads out of the clause, which says that a state is another than one. Keeps a hint for
+    /// the state that the step leaves: of its bits those that lead, by the step's inputs, to the hint for the clause, or
+    /// to the clause's state where there is none. Where memory runs out there may be no hint.
+    ///
+    /// It costs two walks over the clauses of the step, and what the bits that are tried lead to.
+    pub fn note_step(&mut self, alloc: Global, system: &System, clause: &[Lit], values: &Bits) {
+        let _kept = keep_step(alloc, &mut self.kept, system, clause, values);
+    }
+
+    /// The state of these values is bad. Keeps a hint for it: of its bits those that make it bad. Where memory runs out
+    /// there may be no hint. It costs the same over the clauses of bad states.
+    pub fn note_bad(&mut self, alloc: Global, system: &System, values: &Bits) {
+        let _kept = keep_bad(alloc, &mut self.kept, system, values);
     }
 }

@@ -2,7 +2,7 @@
 //! is asked for, whatever the bits that are left out are (ternary simulation: Eén, Mishchenko and Brayton 2011). What is
 //! left is a hint: nothing is claimed of it.
 
-use crate::lifting::{
+use crate::explaining::{
     Marks, ask_for, conditions_from, is_marked, is_reason, is_true, no_marks, top_of,
 };
 use clause_core::{Clauses, Lit};
