@@ -117,14 +117,14 @@ fn push_signs(clause: &mut Vec<Lit>, signs: &[u8]) -> Result<(), AllocError> {
 }
 
 // The clause of these signs.
-fn clause_of(alloc: Global, signs: &str) -> Result<Vec<Lit>, AllocError> {
+pub(crate) fn clause_of(alloc: Global, signs: &str) -> Result<Vec<Lit>, AllocError> {
     let mut clause = Vec::new(alloc);
     push_signs(&mut clause, signs.as_bytes())?;
     Ok(clause)
 }
 
 // Whether the clause has just the literals of these signs.
-fn has_signs(clause: &[Lit], signs: &str) -> bool {
+pub(crate) fn has_signs(clause: &[Lit], signs: &str) -> bool {
     let signs = signs.as_bytes();
     for var in 0..signs.len() {
         let is_false = clause.contains(&Lit::new(var, false));
@@ -676,7 +676,7 @@ fn push_clauses(alloc: Global, clauses: &mut Clauses, signs: &[&str]) -> Result<
 }
 
 // A clause for each of these signs.
-fn clauses_of(alloc: Global, signs: &[&str]) -> Result<Clauses, AllocError> {
+pub(crate) fn clauses_of(alloc: Global, signs: &[&str]) -> Result<Clauses, AllocError> {
     let mut clauses = Clauses::new(alloc);
     push_clauses(alloc, &mut clauses, signs)?;
     Ok(clauses)

@@ -4,3 +4,5 @@
 
 #[cfg(test)]
 mod frame_queries;
+#[cfg(test)]
+mod hints_of_states;
