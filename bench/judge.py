@@ -1267,7 +1267,7 @@ def check_trace(m, lines, spec):
     if not ins:
         inputs = [{}] * len(states)
     if not (allowed(m, states[0], 'first') and all(allowed(m, s, 'always') for s in states)):
-        return 'no first state, or an invariant is broken'
+        return 'no initial state, or an invariant is broken'
     for i in range(len(states) - 1):
         if not step_ok(m, states[i], inputs[i], states[i + 1]):
             return 'no step %d' % i
