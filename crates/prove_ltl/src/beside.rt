@@ -1,5 +1,5 @@
-//! Several workers decide a formula: one of them searches short lassos, counts signals by leaps, and searches all lassos,
-//! while the others count signals one after another. Who finds an answer stops the others.
+//! Several workers decide a formula: one of them searches lassos with few tickets, counts signals by leaps, and searches
+//! all lassos, while the others count signals one after another. Who finds an answer stops the others.
 
 ghost use Rattle.std.specs.Prelude.{◌≡◌, ◌≤◌, ◌<◌, ◌+◌, ◌^◌, [], IfOk, IfSome};
 ghost use Rattle.std.specs.Thread.{IsSync};
@@ -13,7 +13,7 @@ use crate::capped::Capped;
 use crate::effort::LtlEffort;
 use crate::known::{if_known, is_unknown, stop_others};
 use crate::leaping::{LEAP_TICKETS, leap_all};
-use crate::less_effort::search_short;
+use crate::less_effort::{FIRST, LONGER, search_early};
 use crate::searching::search_first;
 use crate::together::climb_all_together;
 use clause_core::System;
@@ -49,7 +49,7 @@ impl<'a, G: Gate> Gate for Numbered<'a, G> {
     }
 }
 
-// What short lassos answer, or leaps, which draw from the shared purse.
+// What lassos that cost little answer, or leaps, which draw from the shared purse.
 fn answer_early<R: Wait, G: Gate>(
     rt: &R,
     alloc: Global,
@@ -67,7 +67,10 @@ fn answer_early<R: Wait, G: Gate>(
     requires budget { budget_of purse.now ≡ effort.now.conflicts }
     ensures { IfOk result (λ o. IfSome o (IsDoneFor system.now effort.now monitored.now.system)) }
 {
-    if let Some(done) = search_short(rt, alloc, system, monitored, effort, worker, gate)? {
+    if let Some(done) = search_early(rt, alloc, system, monitored, effort, FIRST, worker, gate)? {
+        return Ok(Some(done));
+    }
+    if let Some(done) = search_early(rt, alloc, system, monitored, effort, LONGER, worker, gate)? {
         return Ok(Some(done));
     }
     let lent = Stoppable {
@@ -124,7 +127,7 @@ fn search_beside<R: Wait, G: Gate>(
     }
 }
 
-// Looks for an answer by short lassos, by leaps, then by all lassos. An answer stops those who count signals.
+// Looks for an answer by lassos that cost little, by leaps, then by all lassos. An answer stops those who count signals.
 fn look_beside<R: Wait, G: Gate>(
     rt: &R,
     alloc: Global,

@@ -14,8 +14,10 @@ use outside::Gate;
 use std::alloc::{AllocError, Global};
 use std::sync::Wait;
 
-// Bounds of lassos, and tickets, of the first try and of the second.
+// Bounds of lassos, and tickets: of the first try, of the search for longer lassos, and of the second try.
 pub(crate) const FIRST: (usize, u64) = (8, 5_000);
+
+pub(crate) const LONGER: (usize, u64) = (64, 5_000);
 
 pub(crate) const SECOND: (usize, u64) = (16, 30_000);
 
@@ -34,19 +36,20 @@ pub(crate) fn less_effort(effort: &LtlEffort, limits: (usize, u64)) -> LtlEffort
     }
 }
 
-// A short lasso, where the first try finds one. It has a purse of its own.
-pub(crate) fn search_short<R: Wait, G: Gate>(
+// A lasso, where so small an effort finds one. The search has a purse of its own.
+pub(crate) fn search_early<R: Wait, G: Gate>(
     rt: &R,
     alloc: Global,
     system: &System,
     monitored: &Monitored,
     effort: &LtlEffort,
+    limits: (usize, u64),
     worker: u32,
     gate: &G,
 ) -> Result<Option<LtlDone>, AllocError>
     ensures { IfOk result (λ o. IfSome o (IsDoneFor system.now effort.now monitored.now.system)) }
 {
-    let less = less_effort(effort, FIRST);
+    let less = less_effort(effort, limits);
     let mut purse = PlainPurse::new(less.conflicts);
     let first = search_first(
         rt, alloc, system, monitored, &less, &mut purse, worker, gate,

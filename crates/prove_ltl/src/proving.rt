@@ -16,7 +16,7 @@ use crate::climbing::climb_all;
 use crate::effort::LtlEffort;
 use crate::known::is_unknown;
 use crate::leaping::{LEAP_TICKETS, leap_all};
-use crate::less_effort::{FIRST, SECOND, less_effort};
+use crate::less_effort::{FIRST, LONGER, SECOND, less_effort, search_early};
 use crate::searching::search_first;
 use clause_core::{Lit, System};
 use effort_purse::PlainPurse;
@@ -33,13 +33,14 @@ use std::thread::Threads;
 /// Lassos are searched up to the bound, the shortest first; a query for the greatest of many lengths, which finds none, answers
 /// for all of them. Then the system is counted up to 0, 1, .. signals, each with the lemmas of the one before, until it reaches
 /// no bad state. All work is paid from one budget of tickets. Before that one worker tries the same twice, with smaller bounds
-/// and with few tickets of its own, since counters often answer where long lassos cost much. Between these tries it counts by
-/// leaps: a run with more signals than were counted is followed to further signals, by searches with tickets of their own, and
-/// the counters that the longer run passes are left out. Such a run may come back to a state after each set was met: the
-/// lasso along it, if it has at most as many states as the bound. What these tries find is the answer.
+/// and with few tickets of its own, since counters often answer where long lassos cost much. Between these tries it searches
+/// longer lassos with few tickets, and counts by leaps: a run with more signals than were counted is followed to further
+/// signals, by searches with tickets of their own, and the counters that the longer run passes are left out. Such a run may
+/// come back to a state after each set was met: the lasso along it, if it has at most as many states as the bound. What
+/// these tries find is the answer.
 ///
-/// One worker is the caller, with number 0. Several have the numbers from 1 on: the last of them searches short lassos
-/// with few tickets of its own, counts by leaps, and searches all lassos, while the others explore the frames of each
+/// One worker is the caller, with number 0. Several have the numbers from 1 on: the last of them searches lassos with
+/// few tickets of its own, counts by leaps, and searches all lassos, while the others explore the frames of each
 /// counter. The caller finishes what these leave, and makes the certificate. All draw from one purse. Who finds a lasso
 /// or a certificate stops the others, who get no more tickets. A bound that was reached stops nobody: the cause says
 /// what both found. Where all tickets were drawn, or the book of a counter has to be dropped, the caller begins anew
@@ -87,6 +88,9 @@ fn prove_monitored<R: Threads + Wait + Sync, G: Gate + Sync>(
 {
     if workers < 2 {
         if let Some(done) = prove_early(rt, alloc, system, monitored, effort, FIRST, gate)? {
+            return Ok(done);
+        }
+        if let Some(done) = search_early(rt, alloc, system, monitored, effort, LONGER, 0, gate)? {
             return Ok(done);
         }
         if let Some(done) = leap_alone(rt, alloc, system, monitored, effort, gate)? {

@@ -1,6 +1,6 @@
 use Rattle.std.proofs.Common.{◌≡◌, ◌∙◌, false, true, sym}
 use Rattle.prove_ltl.proofs.Early.{found_for}
-use Rattle.prove_ltl.proofs.less_effort.search_short.Goals as goal
+use Rattle.prove_ltl.proofs.less_effort.search_early.Goals as goal
 
 pub returns-else-is_unknown : goal.returns-else-is_unknown
 returns-else-is_unknown g c =
