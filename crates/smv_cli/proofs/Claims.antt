@@ -13,7 +13,7 @@ use Rattle.smv_tree.specs.declared.tree.SpecificationKind.{SpecificationKind}
 use Rattle.smv_meaning.specs.Runs.{is_claim}
 use Rattle.smv_cli.specs.declared.record.SpecVerdict.{SpecVerdict}
 use Rattle.smv_cli.specs.declared.record.Record.{Record}
-use Rattle.smv_cli.specs.Written.{RecordedBy}
+use Rattle.smv_cli.specs.Written.{WritesRecordsBy}
 use Rattle.smv_cli.proofs.Recording.{IsRecordOf, claimed}
 
 abbrev pub listed : List ExprNode → List Item → List ResolvedItem
@@ -32,10 +32,10 @@ pub not_claimed : (specs : List Item) (i : ℕ) (d : Item) → i < length specs 
 not_claimed specs i d h all never = let k = claimed (get_or specs i d).kind (All-get_or (λ (x : Item). is_claim x.kind ≡ true) specs i d h all) in never k.0 k.1
 
 -- no record is written yet
-pub recorded_none : (IsSo : SpecificationKind → ResolvedItem → SpecVerdict → Type 0) (old : Option (List ℕ)) → RecordedBy IsSo [] old old 0
+pub recorded_none : (IsSo : SpecificationKind → ResolvedItem → SpecVerdict → Type 0) (old : Option (List ℕ)) → WritesRecordsBy IsSo [] old old 0
 recorded_none IsSo old = record { records = []; right = tt; each = refl; took = Appends-nil old; worst = refl }
 
 -- all are written
 pub recorded_all : (IsSo : SpecificationKind → ResolvedItem → SpecVerdict → Type 0) (specs : List ResolvedItem) (i : ℕ) (old new : Option (List ℕ)) (status : ℕ) → length specs ≤ i
-    → RecordedBy IsSo (take i specs) old new status → RecordedBy IsSo specs old new status
-recorded_all IsSo specs i old new status le made = subst (λ (xs : List ResolvedItem). RecordedBy IsSo xs old new status) (take_all i specs le) made
+    → WritesRecordsBy IsSo (take i specs) old new status → WritesRecordsBy IsSo specs old new status
+recorded_all IsSo specs i old new status le made = subst (λ (xs : List ResolvedItem). WritesRecordsBy IsSo xs old new status) (take_all i specs le) made

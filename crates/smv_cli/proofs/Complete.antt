@@ -24,7 +24,7 @@ use Rattle.smv_cli.specs.declared.preparing.Preparation.TheVariants.{Sound, Spen
 use Rattle.smv_cli.specs.Prepared.{IsRefusedOrFaulty, status_by}
 use Rattle.smv_cli.proofs.OfPreparing.{never_faulty}
 use Rattle.smv_meaning.specs.Faults.{IsFaultFree}
-use Rattle.smv_cli.specs.Report.{IsFaultFreeModel, IsRefusedIn, IsTaken, input_of, CommandReport, CommandStage, nothing, refused, judging, judged, rechecked, listed, Stage, begun, said, usage, Answered}
+use Rattle.smv_cli.specs.Report.{IsFaultFreeModel, IsRefusedIn, IsTaken, input_of, CommandReport, CommandStage, nothing, refused, judging, judged, rechecked, listed, Stage, begun, said, usage, WritesReport}
 
 -- lines that are as they should be are not refused
 beside_apart : (p : Program) (text : List ℕ) (traces : List (Option Trace)) (sound : Option (List (Option HintedLog))) (certificates : List (Option Block)) (r : Refusal)
@@ -84,12 +84,12 @@ module _ (bytes t : List ℕ) (s : Option ℕ) (n : ℕ) where
   words_status words command e says taken (usage outside a b) = absurd (outside says.0)
 
 answered_status : (words : List (List ℕ)) (command : Command) (bytes : List ℕ) (before now : Option (List ℕ)) (n : ℕ) → Says words command → IsTaken command (input_of command bytes)
-    → Answered (Stage words) (Some bytes) before now n → n ≤ 2
+    → WritesReport (Stage words) (Some bytes) before now n → n ≤ 2
 answered_status words command bytes before now n says taken a =
     words_status bytes a.text (Some n) n words command refl says taken (subst (λ (b : List ℕ). Stage words b a.text (Some n)) a.held a.whole)
 
 pub complete : (words : List (List ℕ)) (command : Command) (left before now : Option (List ℕ)) (n : ℕ) → Says words command → n ≤ 7 → (n ≡ 5 → ⊥) → (n ≡ 6 → ⊥)
-    → (n ≤ 4 → Answered (Stage words) left before now n) → IfSome left (λ bytes. IsTaken command (input_of command bytes) → (n ≤ 2) ⊎ (n ≡ 7))
+    → (n ≤ 4 → WritesReport (Stage words) left before now n) → IfSome left (λ bytes. IsTaken command (input_of command bytes) → (n ≤ 2) ⊎ (n ≡ 7))
 complete words command None before now n says h five six answered = tt
 complete words command (Some bytes) before now n says h five six answered = λ taken.
     let split : (n ≤ 4) ⊎ (n ≡ 7) = grind arith in

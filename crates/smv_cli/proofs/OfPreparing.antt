@@ -38,7 +38,7 @@ use Rattle.smv_cli.specs.declared.preparing.Preparation.TheVariants.{Sound, Spen
 use Rattle.smv_cli.specs.Prepared.{AreRight, IsCheckStop, IsFaultStop, IsPreparedWith, block_text, sound_block}
 use Rattle.smv_cli.specs.Streams.{AppendsFront}
 use Rattle.smv_cli.specs.Texts.{record_text}
-use Rattle.smv_cli.specs.Written.{OpenRecorded, OpenRecordedPart, Recorded, RecordedPart, Reported, ReportedPart, item_in, program_in}
+use Rattle.smv_cli.specs.Written.{WritesOpenRecords, WritesSomeOpenRecords, WritesRecords, WritesSomeRecords, WritesModelReport, WritesPartOfModelReport, item_in, program_in}
 use Rattle.smv_cli.proofs.Recording.{AppendsFront-after, AppendsFront-whole}
 
 -- ---- where no item faults none is refused so
@@ -129,8 +129,8 @@ pub none_right : (p : Program) (effort : Effort) (how : Preparation) → AreRigh
 none_right p effort (Sound parts) = tt
 none_right p effort (Spent drawn budget) = tt
 
-pub ReportedPart-none : (p : Program) (effort : Effort) (how : Preparation) (old : Option (List ℕ)) → ReportedPart p effort how old old
-ReportedPart-none p effort how old = record { records = []; right = none_right p effort how; took = AppendsFront-none old (block_text effort p how ++ []) }
+pub WritesPartOfModelReport-none : (p : Program) (effort : Effort) (how : Preparation) (old : Option (List ℕ)) → WritesPartOfModelReport p effort how old old
+WritesPartOfModelReport-none p effort how old = record { records = []; right = none_right p effort how; took = AppendsFront-none old (block_text effort p how ++ []) }
 
 -- ---- the records of a model of which no item faults
 
@@ -141,18 +141,18 @@ module _ (p : Program) (effort : Effort) (parts : List (Option HintedLog)) (coun
   block_is : sound_block effort count parts ≡ block_text effort p (Sound parts)
   block_is = ap (λ (n : ℕ). sound_block effort n parts) counted
 
-  pub block-part : (old new : Option (List ℕ)) → AppendsFront old new (sound_block effort count parts) → ReportedPart p effort (Sound parts) old new
+  pub block-part : (old new : Option (List ℕ)) → AppendsFront old new (sound_block effort count parts) → WritesPartOfModelReport p effort (Sound parts) old new
   block-part old new took = record {
     records = [];
     right = tt;
     took = AppendsFront-more old new (block_text effort p (Sound parts)) [] (subst (AppendsFront old new) block_is took);
   }
 
-  pub block-alone : (old new : Option (List ℕ)) → Appends old new (sound_block effort count parts) → ReportedPart p effort (Sound parts) old new
+  pub block-alone : (old new : Option (List ℕ)) → Appends old new (sound_block effort count parts) → WritesPartOfModelReport p effort (Sound parts) old new
   block-alone old new took = block-part old new (AppendsFront-whole old new (sound_block effort count parts) took)
 
   pub sound-result : (old mid new : Option (List ℕ)) (result : Result ℕ Stop) → Appends old mid (sound_block effort count parts)
-      → IfOk result (λ status. Recorded p effort (specifications_of p) mid new status) → IfOk result (λ status. Reported p effort (Sound parts) old new status)
+      → IfOk result (λ status. WritesRecords p effort (specifications_of p) mid new status) → IfOk result (λ status. WritesModelReport p effort (Sound parts) old new status)
   sound-result old mid new (Ok status) above made = record {
     records = made.records;
     right = made.right;
@@ -162,7 +162,7 @@ module _ (p : Program) (effort : Effort) (parts : List (Option HintedLog)) (coun
   }
   sound-result old mid new (Err e) above made = tt
 
-  pub sound-part : (old mid new : Option (List ℕ)) → Appends old mid (sound_block effort count parts) → RecordedPart p effort (specifications_of p) mid new → ReportedPart p effort (Sound parts) old new
+  pub sound-part : (old mid new : Option (List ℕ)) → Appends old mid (sound_block effort count parts) → WritesSomeRecords p effort (specifications_of p) mid new → WritesPartOfModelReport p effort (Sound parts) old new
   sound-part old mid new above made = record {
     records = made.records;
     right = made.right;
@@ -173,9 +173,9 @@ module _ (p : Program) (effort : Effort) (parts : List (Option HintedLog)) (coun
 
 module _ (p : Program) (effort : Effort) (drawn budget : ℕ) where
   pub open-result : (old new : Option (List ℕ)) (result : Result ℕ Stop)
-      → IfOk result (λ status. (status ≡ 2) × OpenRecorded drawn budget (specifications_of p) old new) → IfOk result (λ status. Reported p effort (Spent drawn budget) old new status)
+      → IfOk result (λ status. (status ≡ 2) × WritesOpenRecords drawn budget (specifications_of p) old new) → IfOk result (λ status. WritesModelReport p effort (Spent drawn budget) old new status)
   open-result old new (Ok status) (two, made) = record { records = made.1.records; right = made.1.right; each = made.1.each; took = made.1.took; worst = two }
   open-result old new (Err e) made = tt
 
-  pub open-part : (old new : Option (List ℕ)) → OpenRecordedPart drawn budget (specifications_of p) old new → ReportedPart p effort (Spent drawn budget) old new
+  pub open-part : (old new : Option (List ℕ)) → WritesSomeOpenRecords drawn budget (specifications_of p) old new → WritesPartOfModelReport p effort (Spent drawn budget) old new
   open-part old new made = record { records = made.records; right = made.right; took = made.took }

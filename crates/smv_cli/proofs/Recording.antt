@@ -19,7 +19,7 @@ use Rattle.smv_cli.specs.declared.record.Record.{Record}
 use Rattle.smv_cli.specs.Streams.{AppendsFront}
 use Rattle.smv_cli.specs.Records.{RecordsFrom, is_false, is_unknown, status_of}
 use Rattle.smv_cli.specs.Texts.{record_text}
-use Rattle.smv_cli.specs.Written.{RecordedBy, RecordedPartBy, status_with}
+use Rattle.smv_cli.specs.Written.{WritesRecordsBy, WritesSomeRecordsBy, status_with}
 
 -- a record of the specification of this number, of which this is so
 abbrev pub IsRecordOf : (SpecificationKind → ResolvedItem → SpecVerdict → Type 0) → ℕ → ResolvedItem → Record → Type 0
@@ -91,10 +91,10 @@ module _ (IsSo : SpecificationKind → ResolvedItem → SpecVerdict → Type 0) 
       subst (λ (xs : List ResolvedItem). RecordsFrom IsSo 1 xs (rs ++ r ∷ [])) (sym front)
       (RecordsFrom-push IsSo 1 (take i specs) (get_or specs i spec) rs r right each (subst (λ (m : ℕ). IsRecordOf IsSo m (get_or specs i spec) r) n k))
 
-  pub Recorded-push : (spec : ResolvedItem) (r : Record) (old mid new : Option (List ℕ)) (status next : ℕ) → i < length specs
-      → IsRecordOf IsSo (i + 1) (get_or specs i spec) r → RecordedBy IsSo (take i specs) old mid status → Appends mid new (record_text r)
-      → next ≡ status_with status r.verdict → RecordedBy IsSo (take (i + 1) specs) old new next
-  Recorded-push spec r old mid new status next h k so_far took e = record {
+  pub WritesRecords-push : (spec : ResolvedItem) (r : Record) (old mid new : Option (List ℕ)) (status next : ℕ) → i < length specs
+      → IsRecordOf IsSo (i + 1) (get_or specs i spec) r → WritesRecordsBy IsSo (take i specs) old mid status → Appends mid new (record_text r)
+      → next ≡ status_with status r.verdict → WritesRecordsBy IsSo (take (i + 1) specs) old new next
+  WritesRecords-push spec r old mid new status next h k so_far took e = record {
     records = so_far.records ++ r ∷ [];
     right = right-push so_far.records spec r h k so_far.right so_far.each;
     each = omega (arith, so_far.each, length-append so_far.records (r ∷ []), length-take i specs, length-take (i + 1) specs);
@@ -102,21 +102,21 @@ module _ (IsSo : SpecificationKind → ResolvedItem → SpecVerdict → Type 0) 
     worst = e ∙ ap (λ (a : ℕ). status_with a r.verdict) so_far.worst ∙ sym (status-push so_far.records r);
   }
 
-  pub RecordedPart-whole : (old new : Option (List ℕ)) (status : ℕ) → RecordedBy IsSo (take i specs) old new status → RecordedPartBy IsSo specs old new
-  RecordedPart-whole old new status so_far = record {
+  pub WritesSomeRecords-whole : (old new : Option (List ℕ)) (status : ℕ) → WritesRecordsBy IsSo (take i specs) old new status → WritesSomeRecordsBy IsSo specs old new
+  WritesSomeRecords-whole old new status so_far = record {
     records = so_far.records;
     right = right-whole so_far.records so_far.right;
     took = AppendsFront-whole old new (flat_map record_text so_far.records) so_far.took;
   }
 
 -- nothing is written
-pub RecordedPart-none : (IsSo : SpecificationKind → ResolvedItem → SpecVerdict → Type 0) (specs : List ResolvedItem) (old : Option (List ℕ)) → RecordedPartBy IsSo specs old old
-RecordedPart-none IsSo specs old = record { records = []; right = tt; took = (0, Appends-nil old) }
+pub WritesSomeRecords-none : (IsSo : SpecificationKind → ResolvedItem → SpecVerdict → Type 0) (specs : List ResolvedItem) (old : Option (List ℕ)) → WritesSomeRecordsBy IsSo specs old old
+WritesSomeRecords-none IsSo specs old = record { records = []; right = tt; took = (0, Appends-nil old) }
 
-pub RecordedPart-push : (IsSo : SpecificationKind → ResolvedItem → SpecVerdict → Type 0) (specs : List ResolvedItem) (i : ℕ) (spec : ResolvedItem) (r : Record) (old mid new : Option (List ℕ)) (status : ℕ) → i < length specs
-    → IsRecordOf IsSo (i + 1) (get_or specs i spec) r → RecordedBy IsSo (take i specs) old mid status → AppendsFront mid new (record_text r)
-    → RecordedPartBy IsSo specs old new
-RecordedPart-push IsSo specs i spec r old mid new status h k so_far took = record {
+pub WritesSomeRecords-push : (IsSo : SpecificationKind → ResolvedItem → SpecVerdict → Type 0) (specs : List ResolvedItem) (i : ℕ) (spec : ResolvedItem) (r : Record) (old mid new : Option (List ℕ)) (status : ℕ) → i < length specs
+    → IsRecordOf IsSo (i + 1) (get_or specs i spec) r → WritesRecordsBy IsSo (take i specs) old mid status → AppendsFront mid new (record_text r)
+    → WritesSomeRecordsBy IsSo specs old new
+WritesSomeRecords-push IsSo specs i spec r old mid new status h k so_far took = record {
   records = so_far.records ++ r ∷ [];
   right = right-whole IsSo specs (i + 1) (so_far.records ++ r ∷ []) (right-push IsSo specs i so_far.records spec r h k so_far.right so_far.each);
   took = subst (AppendsFront old new) (sym (flat_map-push so_far.records r)) (AppendsFront-after old mid new (flat_map record_text so_far.records) (record_text r) so_far.took took);

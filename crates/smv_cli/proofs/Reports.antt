@@ -24,10 +24,10 @@ use Rattle.smv_cli.specs.declared.record.Record.{Record}
 use Rattle.smv_cli.specs.Streams.{AppendsFront, ReadsFirst}
 use Rattle.smv_cli.specs.Listing.{listing_text}
 use Rattle.smv_cli.specs.Texts.{record_text, usage_text}
-use Rattle.smv_cli.specs.Report.{IsJudged, IsJudgedAgain, IsRefusedIn, effort_of, heading, input_of, CommandReport, CommandStage, nothing, refused, judging, judged, rechecked, listed, Stage, begun, said, usage, Held, Answered, Begun}
+use Rattle.smv_cli.specs.Report.{IsJudged, IsJudgedAgain, IsRefusedIn, effort_of, heading, input_of, CommandReport, CommandStage, nothing, refused, judging, judged, rechecked, listed, Stage, begun, said, usage, SourceHeld, WritesReport, WritesBeginning}
 use Rattle.smv_cli.specs.declared.preparing.Preparation.{Preparation}
 use Rattle.smv_cli.specs.Prepared.{IsPreparedWith, IsRefusedAsFaulty, IsRefusedOrFaulty, block_text}
-use Rattle.smv_cli.specs.Written.{CommandDone, CommandPart, IsInput, Reported, ReportedPart}
+use Rattle.smv_cli.specs.Written.{CommandDone, CommandPart, IsInput, WritesModelReport, WritesPartOfModelReport}
 use Rattle.smv_cli.proofs.Recording.{AppendsFront-after}
 use Rattle.smv_cli.proofs.OfPreparing.{AppendsFront-more, none_right}
 
@@ -51,7 +51,7 @@ module _ (command : Command) where
   refused-part bytes r old new h took = record { text = refusal_text r; status = Some 3; took = took; stage = refused r h refl refl }
 
   pub judged-done : (effort : Effort) → effort_of command ≡ Some effort → (bytes : List ℕ) (p : Program) (how : Preparation) (old mid new : Option (List ℕ)) (status : ℕ) → IsModel bytes p
-      → IsPreparedWith p effort how → Appends old mid (heading command p) → Reported p effort how mid new status → CommandDone command bytes old new status
+      → IsPreparedWith p effort how → Appends old mid (heading command p) → WritesModelReport p effort how mid new status → CommandDone command bytes old new status
   judged-done effort is bytes p how old mid new status model prepared above made =
       let front = heading command p in
       let block = block_text effort p how in
@@ -63,7 +63,7 @@ module _ (command : Command) where
       }
 
   pub judged-part : (effort : Effort) → effort_of command ≡ Some effort → (bytes : List ℕ) (p : Program) (how : Preparation) (old mid new : Option (List ℕ)) → IsModel bytes p
-      → IsPreparedWith p effort how → Appends old mid (heading command p) → ReportedPart p effort how mid new → CommandPart command bytes old new
+      → IsPreparedWith p effort how → Appends old mid (heading command p) → WritesPartOfModelReport p effort how mid new → CommandPart command bytes old new
   judged-part effort is bytes p how old mid new model prepared above made =
       let front = heading command p in
       let block = block_text effort p how in
@@ -100,7 +100,7 @@ module _ (command : Command) where
   nothing-part bytes old = record { text = []; status = None; took = (0, Appends-nil old); stage = nothing refl refl }
 
   pub judged-result : (effort : Effort) → effort_of command ≡ Some effort → (bytes : List ℕ) (p : Program) (how : Preparation) (old mid new : Option (List ℕ)) (result : Result ℕ Stop) → IsModel bytes p
-      → IsPreparedWith p effort how → Appends old mid (heading command p) → IfOk result (λ status. Reported p effort how mid new status) → IfOk result (λ status. CommandDone command bytes old new status)
+      → IsPreparedWith p effort how → Appends old mid (heading command p) → IfOk result (λ status. WritesModelReport p effort how mid new status) → IfOk result (λ status. CommandDone command bytes old new status)
   judged-result effort is bytes p how old mid new (Ok status) model prepared above made = judged-done effort is bytes p how old mid new status model prepared above made
   judged-result effort is bytes p how old mid new (Err e) model prepared above made = tt
 
@@ -158,7 +158,7 @@ unfoldable held : Option (List ℕ) → List ℕ → List ℕ
 held None text = text
 held (Some all) text = all
 
-is_held : (left : Option (List ℕ)) (text : List ℕ) → Held left (held left text)
+is_held : (left : Option (List ℕ)) (text : List ℕ) → SourceHeld left (held left text)
 unfolding held
 is_held None text = tt
 is_held (Some all) text = refl
@@ -190,7 +190,7 @@ input-held (Ring ring) left text t s made h = subst (λ (bytes : List ℕ). Comm
 
 module _ (command : Command) where
   pub done-answered : (left old new : Option (List ℕ)) (text : List ℕ) (status : ℕ) → IsInput command left text → CommandDone command text old new status
-      → Answered (CommandReport command) left old new status
+      → WritesReport (CommandReport command) left old new status
   done-answered left old new text status r done = record {
     bytes = held left text;
     held = is_held left text;
@@ -199,7 +199,7 @@ module _ (command : Command) where
     whole = input-held command left text done.text (Some status) r done.stage;
   }
 
-  pub part-begun : (left old new : Option (List ℕ)) (text : List ℕ) → IsInput command left text → CommandPart command text old new → Begun (CommandReport command) left old new
+  pub part-begun : (left old new : Option (List ℕ)) (text : List ℕ) → IsInput command left text → CommandPart command text old new → WritesBeginning (CommandReport command) left old new
   part-begun left old new text r done = record {
     bytes = held left text;
     held = is_held left text;
@@ -209,7 +209,7 @@ module _ (command : Command) where
     part = input-held command left text done.text done.status r done.stage;
   }
 
-  pub nothing-begun : (left old : Option (List ℕ)) → Begun (CommandReport command) left old old
+  pub nothing-begun : (left old : Option (List ℕ)) → WritesBeginning (CommandReport command) left old old
   nothing-begun left old = record {
     bytes = held left [];
     held = is_held left [];
@@ -221,13 +221,13 @@ module _ (command : Command) where
 
 module _ (words : List (List ℕ)) (left old : Option (List ℕ)) where
   -- a report of the command that the words say
-  pub said-answered : (command : Command) (new : Option (List ℕ)) (status : ℕ) → Says words command → Answered (CommandReport command) left old new status → Answered (Stage words) left old new status
+  pub said-answered : (command : Command) (new : Option (List ℕ)) (status : ℕ) → Says words command → WritesReport (CommandReport command) left old new status → WritesReport (Stage words) left old new status
   said-answered command new status says done = record { bytes = done.bytes; held = done.held; text = done.text; took = done.took; whole = said command says done.whole }
 
-  pub said-begun : (command : Command) (new : Option (List ℕ)) → Says words command → Begun (CommandReport command) left old new → Begun (Stage words) left old new
+  pub said-begun : (command : Command) (new : Option (List ℕ)) → Says words command → WritesBeginning (CommandReport command) left old new → WritesBeginning (Stage words) left old new
   said-begun command new says done = record { bytes = done.bytes; held = done.held; text = done.text; status = done.status; took = done.took; part = said command says done.part }
 
-  pub unread-begun : Begun (Stage words) left old old
+  pub unread-begun : WritesBeginning (Stage words) left old old
   unread-begun = record {
     bytes = held left [];
     held = is_held left [];
@@ -237,7 +237,7 @@ module _ (words : List (List ℕ)) (left old : Option (List ℕ)) where
     part = begun refl refl;
   }
 
-  pub usage-answered : (new : Option (List ℕ)) (status : ℕ) → (IsCommandLine words → ⊥) → status ≡ 4 → Appends old new usage_text → Answered (Stage words) left old new status
+  pub usage-answered : (new : Option (List ℕ)) (status : ℕ) → (IsCommandLine words → ⊥) → status ≡ 4 → Appends old new usage_text → WritesReport (Stage words) left old new status
   usage-answered new status n four took = record {
     bytes = held left [];
     held = is_held left [];
@@ -246,7 +246,7 @@ module _ (words : List (List ℕ)) (left old : Option (List ℕ)) where
     whole = usage n refl (ap Some four);
   }
 
-  pub usage-begun : (new : Option (List ℕ)) → (IsCommandLine words → ⊥) → AppendsFront old new usage_text → Begun (Stage words) left old new
+  pub usage-begun : (new : Option (List ℕ)) → (IsCommandLine words → ⊥) → AppendsFront old new usage_text → WritesBeginning (Stage words) left old new
   usage-begun new n took = record {
     bytes = held left [];
     held = is_held left [];
@@ -258,7 +258,7 @@ module _ (words : List (List ℕ)) (left old : Option (List ℕ)) where
 
 -- a report of all bytes to an empty sink is what the sink then has
 pub whole-report : (words : List (List ℕ)) (source before after bytes out : List ℕ) (status : ℕ) → source ≡ bytes → before ≡ [] → out ≡ after
-    → Answered (Stage words) (Some source) (Some before) (Some after) status → Stage words bytes out (Some status)
+    → WritesReport (Stage words) (Some source) (Some before) (Some after) status → Stage words bytes out (Some status)
 whole-report words source before after bytes out status all empty all_out done =
     let printed : out ≡ done.text = all_out ∙ done.took ∙ ap (λ (front : List ℕ). front ++ done.text) empty in
     subst (λ (text : List ℕ). Stage words bytes text (Some status)) (sym printed) (subst (λ (b : List ℕ). Stage words b done.text (Some status)) (done.held ∙ all) done.whole)

@@ -116,22 +116,22 @@ pub data Stage (words : List (List ℕ)) (bytes text : List ℕ) (status : Optio
   usage : (IsCommandLine words → ⊥) → text ≡ usage_text → status ≡ Some 4 → Stage words bytes text status
 
 -- the bytes are those that the source held, as far as it tells
-abbrev pub Held : Option (List ℕ) → List ℕ → Type 0
-Held left bytes = IfSome left (λ all. bytes ≡ all)
+abbrev pub SourceHeld : Option (List ℕ) → List ℕ → Type 0
+SourceHeld left bytes = IfSome left (λ all. bytes ≡ all)
 
 -- what the sink took in this call is a whole report, by this relation of bytes, text and status, on what the source
 -- held
-pub record Answered (stage : List ℕ → List ℕ → Option ℕ → Type 0) (left before now : Option (List ℕ)) (status : ℕ) : Type 0 where
+pub record WritesReport (stage : List ℕ → List ℕ → Option ℕ → Type 0) (left before now : Option (List ℕ)) (status : ℕ) : Type 0 where
   pub bytes : List ℕ
-  pub held : Held left bytes
+  pub held : SourceHeld left bytes
   pub text : List ℕ
   pub took : Appends before now text
   pub whole : stage bytes text (Some status)
 
 -- what the sink took in this call is a prefix of such a report
-pub record Begun (stage : List ℕ → List ℕ → Option ℕ → Type 0) (left before now : Option (List ℕ)) : Type 0 where
+pub record WritesBeginning (stage : List ℕ → List ℕ → Option ℕ → Type 0) (left before now : Option (List ℕ)) : Type 0 where
   pub bytes : List ℕ
-  pub held : Held left bytes
+  pub held : SourceHeld left bytes
   pub text : List ℕ
   pub status : Option ℕ
   pub took : AppendsFront before now text

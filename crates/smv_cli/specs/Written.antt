@@ -104,7 +104,7 @@ abbrev pub item_in : Checking → Item → ResolvedItem
 item_in model spec = item_by model.flat.typed.nodes spec
 
 -- the systems are those of the program, and the effort is one that words can say
-pub record IsBegun (model : Checking) : Type 0 where
+pub record IsSetUp (model : Checking) : Type 0 where
   pub built : IsBuilt (program_in model) model.built
   pub narrow : bits_of (program_in model) ≤ bit_limit
   pub range : IsInRange model.effort
@@ -123,7 +123,7 @@ status_with status (False trace) = 1
 status_with status (Unknown cause) = if status == 1 then 1 else 2
 
 -- the sink took a record of each specification, of each of which this is so; the status is theirs
-pub record RecordedBy (IsSo : SpecificationKind → ResolvedItem → SpecVerdict → Type 0) (specs : List ResolvedItem) (before now : Option (List ℕ)) (status : ℕ) : Type 0 where
+pub record WritesRecordsBy (IsSo : SpecificationKind → ResolvedItem → SpecVerdict → Type 0) (specs : List ResolvedItem) (before now : Option (List ℕ)) (status : ℕ) : Type 0 where
   pub records : List Record
   pub right : RecordsFrom IsSo 1 specs records
   pub each : length records ≡ length specs
@@ -131,29 +131,29 @@ pub record RecordedBy (IsSo : SpecificationKind → ResolvedItem → SpecVerdict
   pub worst : status ≡ status_of records
 
 -- the sink took a prefix of such records of the first specifications
-pub record RecordedPartBy (IsSo : SpecificationKind → ResolvedItem → SpecVerdict → Type 0) (specs : List ResolvedItem) (before now : Option (List ℕ)) : Type 0 where
+pub record WritesSomeRecordsBy (IsSo : SpecificationKind → ResolvedItem → SpecVerdict → Type 0) (specs : List ResolvedItem) (before now : Option (List ℕ)) : Type 0 where
   pub records : List Record
   pub right : RecordsFrom IsSo 1 specs records
   pub took : AppendsFront before now (flat_map record_text records)
 
 -- right records
-abbrev pub Recorded : Program → Effort → List ResolvedItem → Option (List ℕ) → Option (List ℕ) → ℕ → Type 0
-Recorded p effort = RecordedBy (RightOf p effort)
+abbrev pub WritesRecords : Program → Effort → List ResolvedItem → Option (List ℕ) → Option (List ℕ) → ℕ → Type 0
+WritesRecords p effort = WritesRecordsBy (RightOf p effort)
 
 -- a prefix of these
-abbrev pub RecordedPart : Program → Effort → List ResolvedItem → Option (List ℕ) → Option (List ℕ) → Type 0
-RecordedPart p effort = RecordedPartBy (RightOf p effort)
+abbrev pub WritesSomeRecords : Program → Effort → List ResolvedItem → Option (List ℕ) → Option (List ℕ) → Type 0
+WritesSomeRecords p effort = WritesSomeRecordsBy (RightOf p effort)
 
 -- records that say that preparing spent the effort
-abbrev pub OpenRecorded : ℕ → ℕ → List ResolvedItem → Option (List ℕ) → Option (List ℕ) → Type 0
-OpenRecorded drawn budget specs before now = (status : ℕ) × RecordedBy (OpenOf drawn budget) specs before now status
+abbrev pub WritesOpenRecords : ℕ → ℕ → List ResolvedItem → Option (List ℕ) → Option (List ℕ) → Type 0
+WritesOpenRecords drawn budget specs before now = (status : ℕ) × WritesRecordsBy (OpenOf drawn budget) specs before now status
 
 -- a prefix of these
-abbrev pub OpenRecordedPart : ℕ → ℕ → List ResolvedItem → Option (List ℕ) → Option (List ℕ) → Type 0
-OpenRecordedPart drawn budget = RecordedPartBy (OpenOf drawn budget)
+abbrev pub WritesSomeOpenRecords : ℕ → ℕ → List ResolvedItem → Option (List ℕ) → Option (List ℕ) → Type 0
+WritesSomeOpenRecords drawn budget = WritesSomeRecordsBy (OpenOf drawn budget)
 
 -- the sink took what stands in front of the records, and a right record of each specification; the status is theirs
-pub record Reported (p : Program) (effort : Effort) (how : Preparation) (before now : Option (List ℕ)) (status : ℕ) : Type 0 where
+pub record WritesModelReport (p : Program) (effort : Effort) (how : Preparation) (before now : Option (List ℕ)) (status : ℕ) : Type 0 where
   pub records : List Record
   pub right : AreRight p effort how records
   pub each : length records ≡ length (specifications_of p)
@@ -161,7 +161,7 @@ pub record Reported (p : Program) (effort : Effort) (how : Preparation) (before 
   pub worst : status ≡ status_by how records
 
 -- the sink took a prefix of these, with records of the first specifications
-pub record ReportedPart (p : Program) (effort : Effort) (how : Preparation) (before now : Option (List ℕ)) : Type 0 where
+pub record WritesPartOfModelReport (p : Program) (effort : Effort) (how : Preparation) (before now : Option (List ℕ)) : Type 0 where
   pub records : List Record
   pub right : AreRight p effort how records
   pub took : AppendsFront before now (block_text effort p how ++ flat_map record_text records)

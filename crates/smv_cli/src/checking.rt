@@ -3,7 +3,7 @@
 ghost use Rattle.std.specs.Prelude.{◌≡◌, IfErr, IfOk};
 ghost use Rattle.smv_front.specs.Sources.{IsModel};
 ghost use Rattle.smv_cli.specs.Prepared.{IsCheckStop, IsPreparedWith};
-ghost use Rattle.smv_cli.specs.Written.{IsBegun, IsInRange, program_in};
+ghost use Rattle.smv_cli.specs.Written.{IsSetUp, IsInRange, program_in};
 
 use crate::preparing::{Preparation, prepared};
 use bit_states::BuildStop;
@@ -28,7 +28,7 @@ pub struct Checking {
 pub fn begin(alloc: Global, text: &[u8], effort: &Effort) -> Result<Checking, TextStop>
     requires range { IsInRange effort.now }
     ensures model { IfOk result (λ m. IsModel text.now (program_in m)) }
-    ensures begun { IfOk result IsBegun }
+    ensures begun { IfOk result IsSetUp }
     ensures effort { IfOk result (λ m. m.effort ≡ effort.now) }
     ensures prepared { IfOk result (λ m. IsPreparedWith (program_in m) effort.now m.preparation) }
     ensures refused { IfErr result (IsCheckStop text.now) }

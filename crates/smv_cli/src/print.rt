@@ -7,7 +7,7 @@ ghost use Rattle.smv_resolve.specs.Items.{item_by};
 ghost use Rattle.smv_meaning.specs.Runs.{is_claim, specifications_of};
 ghost use Rattle.smv_cli.specs.Streams.{AppendsFront};
 ghost use Rattle.smv_cli.specs.Texts.{record_text};
-ghost use Rattle.smv_cli.specs.Written.{OpenRecorded, OpenRecordedPart, IsPool, IsReady, Recorded, RecordedPart, item_in, program_in, status_with};
+ghost use Rattle.smv_cli.specs.Written.{WritesOpenRecords, WritesSomeOpenRecords, IsPool, IsReady, WritesRecords, WritesSomeRecords, item_in, program_in, status_with};
 
 use crate::checking::Checking;
 use crate::judging::judge;
@@ -77,9 +77,9 @@ pub fn put_records<R: Threads + Wait + Sync, K: Sink, G: Gate + Sync>(
     requires claims { All (λ spec. is_claim spec.kind ≡ true) specs.now }
     requires listed { map (item_in model.now) specs.now ≡ specifications_of (program_in model.now) }
     requires pool { IsPool (program_in model.now) model.now.built.systems model.now.effort 0 pool.items }
-    ensures ok { IfOk result (λ status. Recorded (program_in model.now) model.now.effort (map (item_in model.now) specs.now) (K.taken sink.old) (K.taken sink.new) status) }
+    ensures ok { IfOk result (λ status. WritesRecords (program_in model.now) model.now.effort (map (item_in model.now) specs.now) (K.taken sink.old) (K.taken sink.new) status) }
     ensures small { IfOk result (λ status. status ≤ 2) }
-    ensures part { RecordedPart (program_in model.now) model.now.effort (map (item_in model.now) specs.now) (K.taken sink.old) (K.taken sink.new) }
+    ensures part { WritesSomeRecords (program_in model.now) model.now.effort (map (item_in model.now) specs.now) (K.taken sink.old) (K.taken sink.new) }
     ensures kept { OnOk result (K.faults sink.new ≡ K.faults sink.old) }
     ensures failed { IsErrOf result Stop.Failed → Rose (K.faults sink.old) (K.faults sink.new) }
     ensures no_memory { IsErrOf result Stop.NoMemory → K.faults sink.new ≡ K.faults sink.old }
@@ -108,8 +108,8 @@ pub fn put_open<K: Sink>(
     budget: u64,
 ) -> Result<u8, Stop>
     requires claims { All (λ spec. is_claim spec.kind ≡ true) specs.now }
-    ensures ok { (nodes : List ExprNode) → IfOk result (λ status. (status ≡ 2) × OpenRecorded drawn budget (map (item_by nodes) specs.now) (K.taken sink.old) (K.taken sink.new)) }
-    ensures part { (nodes : List ExprNode) → OpenRecordedPart drawn budget (map (item_by nodes) specs.now) (K.taken sink.old) (K.taken sink.new) }
+    ensures ok { (nodes : List ExprNode) → IfOk result (λ status. (status ≡ 2) × WritesOpenRecords drawn budget (map (item_by nodes) specs.now) (K.taken sink.old) (K.taken sink.new)) }
+    ensures part { (nodes : List ExprNode) → WritesSomeOpenRecords drawn budget (map (item_by nodes) specs.now) (K.taken sink.old) (K.taken sink.new) }
     ensures small { IfOk result (λ status. status ≤ 2) }
     ensures kept { OnOk result (K.faults sink.new ≡ K.faults sink.old) }
     ensures failed { IsErrOf result Stop.Failed → Rose (K.faults sink.old) (K.faults sink.new) }

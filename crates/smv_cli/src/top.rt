@@ -11,10 +11,10 @@ ghost use Rattle.smv_cli.specs.Listing.{listing_text};
 ghost use Rattle.smv_recheck.specs.Checking.{status_of as status_again};
 ghost use Rattle.smv_recheck.specs.Printed.{report_text};
 ghost use Rattle.smv_cli.specs.Prepared.{IsPreparedWith};
-ghost use Rattle.smv_cli.specs.Report.{Answered, Begun, CommandReport, IsTaken, Stage, effort_of, heading, input_of, ring_effort};
+ghost use Rattle.smv_cli.specs.Report.{WritesReport, WritesBeginning, CommandReport, IsTaken, Stage, effort_of, heading, input_of, ring_effort};
 ghost use Rattle.smv_cli.specs.Streams.{AppendsFront};
 ghost use Rattle.smv_cli.specs.Texts.{usage_text};
-ghost use Rattle.smv_cli.specs.Written.{CommandDone, CommandPart, IsBegun, IsCommandInRange, IsInRange, IsReady, Reported, ReportedPart, item_in, program_in};
+ghost use Rattle.smv_cli.specs.Written.{CommandDone, CommandPart, IsSetUp, IsCommandInRange, IsInRange, IsReady, WritesModelReport, WritesPartOfModelReport, item_in, program_in};
 
 use crate::checking::{Checking, begin};
 use crate::input::input;
@@ -63,9 +63,9 @@ fn report_sound<R: Threads + Wait + Sync, K: Sink, G: Gate + Sync>(
     requires ready { IsReady model.now }
     requires claims { All (λ spec. is_claim spec.kind ≡ true) specs.now }
     requires listed { map (item_in model.now) specs.now ≡ specifications_of (program_in model.now) }
-    ensures ok { IfOk result (λ status. Reported (program_in model.now) model.now.effort (Preparation.Sound sound.now) (K.taken sink.old) (K.taken sink.new) status) }
+    ensures ok { IfOk result (λ status. WritesModelReport (program_in model.now) model.now.effort (Preparation.Sound sound.now) (K.taken sink.old) (K.taken sink.new) status) }
     ensures small { IfOk result (λ status. status ≤ 2) }
-    ensures part { ReportedPart (program_in model.now) model.now.effort (Preparation.Sound sound.now) (K.taken sink.old) (K.taken sink.new) }
+    ensures part { WritesPartOfModelReport (program_in model.now) model.now.effort (Preparation.Sound sound.now) (K.taken sink.old) (K.taken sink.new) }
     ensures kept { OnOk result (K.faults sink.new ≡ K.faults sink.old) }
     ensures failed { IsErrOf result Stop.Failed → Rose (K.faults sink.old) (K.faults sink.new) }
     ensures no_memory { IsErrOf result Stop.NoMemory → K.faults sink.new ≡ K.faults sink.old }
@@ -85,11 +85,11 @@ fn report_model<R: Threads + Wait + Sync, K: Sink, G: Gate + Sync>(
     model: &Checking,
     gate: &G,
 ) -> Result<u8, Stop>
-    requires begun { IsBegun model.now }
+    requires begun { IsSetUp model.now }
     requires prepared { IsPreparedWith (program_in model.now) model.now.effort model.now.preparation }
-    ensures ok { IfOk result (λ status. Reported (program_in model.now) model.now.effort model.now.preparation (K.taken sink.old) (K.taken sink.new) status) }
+    ensures ok { IfOk result (λ status. WritesModelReport (program_in model.now) model.now.effort model.now.preparation (K.taken sink.old) (K.taken sink.new) status) }
     ensures small { IfOk result (λ status. status ≤ 2) }
-    ensures part { ReportedPart (program_in model.now) model.now.effort model.now.preparation (K.taken sink.old) (K.taken sink.new) }
+    ensures part { WritesPartOfModelReport (program_in model.now) model.now.effort model.now.preparation (K.taken sink.old) (K.taken sink.new) }
     ensures kept { OnOk result (K.faults sink.new ≡ K.faults sink.old) }
     ensures failed { IsErrOf result Stop.Failed → Rose (K.faults sink.old) (K.faults sink.new) }
     ensures no_memory { IsErrOf result Stop.NoMemory → K.faults sink.new ≡ K.faults sink.old }
@@ -264,8 +264,8 @@ fn answer<R: Threads + Wait + Sync, S: Source, K: Sink, G: Gate + Sync>(
     gate: &G,
 ) -> u8
     requires range { IsCommandInRange command.now }
-    ensures answered { result ≤ 4 → Answered (CommandReport command.now) (S.left source.old) (K.taken sink.old) (K.taken sink.new) result }
-    ensures begun { 4 < result → Begun (CommandReport command.now) (S.left source.old) (K.taken sink.old) (K.taken sink.new) }
+    ensures answered { result ≤ 4 → WritesReport (CommandReport command.now) (S.left source.old) (K.taken sink.old) (K.taken sink.new) result }
+    ensures begun { 4 < result → WritesBeginning (CommandReport command.now) (S.left source.old) (K.taken sink.old) (K.taken sink.new) }
     ensures named { (result ≢ 4) × (result ≤ 7) }
     ensures unread { (ring : RingOf) → command.now ≡ Command.Ring ring → source.new ≡ source.old }
     ensures read_fault { result ≡ 5 → Rose (S.faults source.old) (S.faults source.new) }
@@ -310,9 +310,9 @@ fn perform<'a, R: Threads + Wait + Sync, S: Source, K: Sink, G: Gate + Sync>(
     sink: &mut K,
     gate: &G,
 ) -> u8
-    ensures answered { result ≤ 4 → Answered (Stage (map (λ w. w.now) words.now)) (S.left source.old)
+    ensures answered { result ≤ 4 → WritesReport (Stage (map (λ w. w.now) words.now)) (S.left source.old)
         (K.taken sink.old) (K.taken sink.new) result }
-    ensures begun { 4 < result → Begun (Stage (map (λ w. w.now) words.now)) (S.left source.old)
+    ensures begun { 4 < result → WritesBeginning (Stage (map (λ w. w.now) words.now)) (S.left source.old)
         (K.taken sink.old) (K.taken sink.new) }
     ensures named { result ≤ 7 }
     ensures usage { result ≡ 4 → IsCommandLine (map (λ w. w.now) words.now) → ⊥ }
@@ -363,10 +363,10 @@ pub fn run<'a, R: Threads + Wait + Sync, S: Source, K: Sink, G: Gate + Sync>(
     gate: &G,
 ) -> u8
     // What was taken is a report of what the source held, with the effort that the words say; or the line of usage.
-    ensures answered { result ≤ 4 → Answered (Stage (map (λ w. w.now) words.now)) (S.left source.old)
+    ensures answered { result ≤ 4 → WritesReport (Stage (map (λ w. w.now) words.now)) (S.left source.old)
         (K.taken sink.old) (K.taken sink.new) result }
     // No other answer than these: a fault, or out of memory, after a prefix of a report.
-    ensures begun { 4 < result → Begun (Stage (map (λ w. w.now) words.now)) (S.left source.old)
+    ensures begun { 4 < result → WritesBeginning (Stage (map (λ w. w.now) words.now)) (S.left source.old)
         (K.taken sink.old) (K.taken sink.new) }
     ensures named { result ≤ 7 }
     // The words are judged first: 4 comes just where they are outside the grammar, and then nothing is read; nor where

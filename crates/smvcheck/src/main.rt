@@ -7,7 +7,7 @@ ghost use Rattle.command_words.specs.declared.command.Command.TheVariants.{Ring}
 ghost use Rattle.command_words.specs.declared.command.Ring.{Ring as RingOf};
 ghost use Rattle.command_words.specs.Grammar.{IsCommandLine, Says};
 ghost use Rattle.outside.specs.Causes.{Rose};
-ghost use Rattle.smv_cli.specs.Report.{Answered, Begun, IsTaken, Stage, input_of};
+ghost use Rattle.smv_cli.specs.Report.{WritesReport, WritesBeginning, IsTaken, Stage, input_of};
 
 use outside::{OpenGate, Sink, Source, StdSink, StdSource};
 use smv_cli::run;
@@ -56,9 +56,9 @@ fn start<R: Threads + Wait + Sync, S: Source, K: Sink>(
     source: &mut S,
     sink: &mut K,
 ) -> u8
-    ensures answered { result ≤ 4 → Answered (Stage (map string_bytes words.now)) (S.left source.old)
+    ensures answered { result ≤ 4 → WritesReport (Stage (map string_bytes words.now)) (S.left source.old)
         (K.taken sink.old) (K.taken sink.new) result }
-    ensures begun { 4 < result → Begun (Stage (map string_bytes words.now)) (S.left source.old)
+    ensures begun { 4 < result → WritesBeginning (Stage (map string_bytes words.now)) (S.left source.old)
         (K.taken sink.old) (K.taken sink.new) }
     ensures named { result ≤ 7 }
     ensures usage { result ≡ 4 → IsCommandLine (map string_bytes words.now) → ⊥ }

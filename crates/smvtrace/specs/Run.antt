@@ -22,14 +22,14 @@ abbrev pub answer_for : List (List ℕ) → List ℕ → Answer
 answer_for words report = answer_by (command_of words) report
 
 -- what the sink took is all that is to be written for what the source held, and the status is that
-pub record Answered (words : List (List ℕ)) (left before now : Option (List ℕ)) (status : ℕ) : Type 0 where
+pub record WritesReport (words : List (List ℕ)) (left before now : Option (List ℕ)) (status : ℕ) : Type 0 where
   pub report : List ℕ
   pub held : ReadsFirst report_limit left report
   pub took : Appends before now (answer_for words report).text
   pub ends : status ≡ (answer_for words report).status
 
 -- it is the beginning of that
-pub record Begun (words : List (List ℕ)) (left before now : Option (List ℕ)) : Type 0 where
+pub record WritesBeginning (words : List (List ℕ)) (left before now : Option (List ℕ)) : Type 0 where
   pub report : List ℕ
   pub held : ReadsFirst report_limit left report
   pub took : AppendsFront before now (answer_for words report).text

@@ -4,7 +4,7 @@
 ghost use Rattle.std.specs.Prelude.{◌≡◌, ◌≢◌, ◌<◌, ◌≤◌, None, map, string_bytes, IfOk};
 ghost use Rattle.outside.specs.Causes.{Rose};
 ghost use Rattle.trace_view.specs.Answers.{command_of};
-ghost use Rattle.smvtrace.specs.Run.{Answered, Begun};
+ghost use Rattle.smvtrace.specs.Run.{WritesReport, WritesBeginning};
 
 mod run;
 mod streams;
@@ -48,8 +48,8 @@ fn texts<'a>(alloc: Global, words: &'a [String]) -> Result<Vec<&'a str>, AllocEr
 
 // Does what these words say, and answers the status: all of it as `run` says, and 7 where their texts find no memory.
 fn start<S: Source, K: Sink>(alloc: Global, words: &[String], source: &mut S, sink: &mut K) -> u8
-    ensures answered { result ≤ 4 → Answered (map string_bytes words.now) (S.left source.old) (K.taken sink.old) (K.taken sink.new) result }
-    ensures begun { 4 < result → Begun (map string_bytes words.now) (S.left source.old) (K.taken sink.old) (K.taken sink.new) }
+    ensures answered { result ≤ 4 → WritesReport (map string_bytes words.now) (S.left source.old) (K.taken sink.old) (K.taken sink.new) result }
+    ensures begun { 4 < result → WritesBeginning (map string_bytes words.now) (S.left source.old) (K.taken sink.old) (K.taken sink.new) }
     ensures named { result ≤ 7 }
     ensures unread { command_of (map string_bytes words.now) ≡ None → source.new ≡ source.old }
     ensures read_fault { result ≡ 5 → Rose (S.faults source.old) (S.faults source.new) }

@@ -4,7 +4,7 @@ ghost use Rattle.std.specs.Prelude.{◌≡◌, ◌≢◌, ◌<◌, ◌≤◌, No
 ghost use Rattle.std.specs.Io.KnownBytes.{Appends};
 ghost use Rattle.outside.specs.Causes.{Rose};
 ghost use Rattle.trace_view.specs.Answers.{answer_of, command_of};
-ghost use Rattle.smvtrace.specs.Run.{Answered, Begun, usage};
+ghost use Rattle.smvtrace.specs.Run.{WritesReport, WritesBeginning, usage};
 ghost use Rattle.smvtrace.specs.Streams.{AppendsFront};
 
 use crate::streams::{SourceStop, read_all, write_all};
@@ -53,9 +53,9 @@ fn show<K: Sink>(alloc: Global, sink: &mut K, command: Command, report: &[u8]) -
 /// just where a write failed, and 7 where memory was refused.
 pub fn run<S: Source, K: Sink>(alloc: Global, words: &[&str], source: &mut S, sink: &mut K) -> u8
     // What was taken is all that is to be written for the words and the report, with its status.
-    ensures answered { result ≤ 4 → Answered (map (λ w. w.now) words.now) (S.left source.old) (K.taken sink.old) (K.taken sink.new) result }
+    ensures answered { result ≤ 4 → WritesReport (map (λ w. w.now) words.now) (S.left source.old) (K.taken sink.old) (K.taken sink.new) result }
     // No other answer than these: a fault, or no memory, after the beginning of that.
-    ensures begun { 4 < result → Begun (map (λ w. w.now) words.now) (S.left source.old) (K.taken sink.old) (K.taken sink.new) }
+    ensures begun { 4 < result → WritesBeginning (map (λ w. w.now) words.now) (S.left source.old) (K.taken sink.old) (K.taken sink.new) }
     ensures named { result ≤ 7 }
     ensures unread { command_of (map (λ w. w.now) words.now) ≡ None → source.new ≡ source.old }
     ensures read_fault { result ≡ 5 → Rose (S.faults source.old) (S.faults source.new) }

@@ -8,7 +8,7 @@ use Rattle.smv_cli.specs.declared.record.SpecVerdict.TheVariants.{Unknown}
 use Rattle.smv_cli.specs.Records.{OpenOf}
 use Rattle.smv_cli.specs.Written.{status_with}
 use Rattle.smv_cli.proofs.Claims.{listed, listed_at, not_claimed, recorded_all, recorded_none}
-use Rattle.smv_cli.proofs.Recording.{Recorded-push, RecordedPart-push, RecordedPart-whole}
+use Rattle.smv_cli.proofs.Recording.{WritesRecords-push, WritesSomeRecords-push, WritesSomeRecords-whole}
 use Rattle.smv_cli.proofs.print.put_open.Goals as goal
 
 pub unreachable-requires : goal.unreachable-requires
@@ -32,7 +32,7 @@ open_specs-preserved g c =
           let before = c.open_specs.invariant.so_far nodes in
           let within : i < length (listed nodes specs) = omega (arith, c.open_specs-test.true, length-map specs (item_by nodes)) in (
             status_with before.0 made.verdict,
-            Recorded-push says (listed nodes specs) i _ made (taken c.args.sink.now) (taken c.open_specs.sink) (taken c.put_record.new.sink) before.0 _ within
+            WritesRecords-push says (listed nodes specs) i _ made (taken c.args.sink.now) (taken c.open_specs.sink) (taken c.put_record.new.sink) before.0 _ within
                 (listed_at says nodes specs i _ c.in-Specification.kind made c.in-Specification.is refl refl refl) before.1 c.in_ok-put_record.ensures.ok refl,
           )
           );
@@ -48,7 +48,7 @@ returns-in_err-put_record-clause-part g c = λ nodes.
     let made : Record = record { number = i + 1; kind = c.in-Specification.kind; verdict = Unknown (reason.Preparing c.args.drawn c.args.budget) } in
     let before = c.open_specs.invariant.so_far nodes in
     let within : i < length (listed nodes specs) = omega (arith, c.open_specs-test.true, length-map specs (item_by nodes)) in
-    RecordedPart-push says (listed nodes specs) i _ made (taken c.args.sink.now) (taken c.open_specs.sink) (taken c.put_record.new.sink) before.0 within
+    WritesSomeRecords-push says (listed nodes specs) i _ made (taken c.args.sink.now) (taken c.open_specs.sink) (taken c.put_record.new.sink) before.0 within
     (listed_at says nodes specs i _ c.in-Specification.kind made c.in-Specification.is refl refl refl) before.1 c.put_record.ensures.front
 
 pub returns-clause-ok : goal.returns-clause-ok
@@ -68,4 +68,4 @@ pub returns-clause-part : goal.returns-clause-part
 returns-clause-part g c = λ nodes.
     let taken = g.K.Sink.taken in
     let before = c.open_specs.invariant.so_far nodes in
-    RecordedPart-whole (OpenOf c.args.drawn c.args.budget) (listed nodes c.args.specs.now) c.open_specs.i (taken c.args.sink.now) (taken c.open_specs.sink) before.0 before.1
+    WritesSomeRecords-whole (OpenOf c.args.drawn c.args.budget) (listed nodes c.args.specs.now) c.open_specs.i (taken c.args.sink.now) (taken c.open_specs.sink) before.0 before.1

@@ -12,7 +12,7 @@ use Rattle.trace_replay.specs.Tests.{specification_at}
 use Rattle.smv_cli.specs.Records.{RightOf}
 use Rattle.smv_cli.specs.Written.{program_in}
 use Rattle.smv_cli.proofs.Claims.{listed, listed_at, not_claimed}
-use Rattle.smv_cli.proofs.Recording.{Recorded-push, RecordedPart-push, RecordedPart-whole}
+use Rattle.smv_cli.proofs.Recording.{WritesRecords-push, WritesSomeRecords-push, WritesSomeRecords-whole}
 use Rattle.smv_cli.proofs.print.put_records.Goals as goal
 
 pub unreachable-requires : goal.unreachable-requires
@@ -40,7 +40,7 @@ specs-preserved g c =
     let made = c.in-Ok.made in
     let within : i < length (listed nodes specs) = omega (arith, c.specs-test.true, length-map specs (item_by nodes)) in
     record {
-      so_far = Recorded-push (RightOf p effort) (listed nodes specs) i _ made (taken c.args.sink.now) (taken c.specs.sink) (taken c.put_record.new.sink) c.specs.status c.status_with-status.result within
+      so_far = WritesRecords-push (RightOf p effort) (listed nodes specs) i _ made (taken c.args.sink.now) (taken c.specs.sink) (taken c.put_record.new.sink) c.specs.status c.status_with-status.result within
           (listed_at (RightOf p effort) nodes specs i _ c.in-Specification.kind made c.in-Specification.is c.in-Ok.ensures.number c.in-Ok.ensures.kind c.in-Ok.ensures.right)
           c.specs.invariant.so_far c.in_ok-put_record.ensures.ok c.status_with-status.ensures.value;
       small = omega arith;
@@ -58,16 +58,16 @@ returns-in_err-put_record-clause-part g c =
     let i = c.specs.i in
     let made = c.in-Ok.made in
     let within : i < length (listed nodes specs) = omega (arith, c.specs-test.true, length-map specs (item_by nodes)) in
-    RecordedPart-push (RightOf p effort) (listed nodes specs) i _ made (taken c.args.sink.now) (taken c.specs.sink) (taken c.put_record.new.sink) c.specs.status within
+    WritesSomeRecords-push (RightOf p effort) (listed nodes specs) i _ made (taken c.args.sink.now) (taken c.specs.sink) (taken c.put_record.new.sink) c.specs.status within
     (listed_at (RightOf p effort) nodes specs i _ c.in-Specification.kind made c.in-Specification.is c.in-Ok.ensures.number c.in-Ok.ensures.kind c.in-Ok.ensures.right)
     c.specs.invariant.so_far c.put_record.ensures.front
 
 pub returns-in_default-judge-clause-part : goal.returns-in_default-judge-clause-part
 returns-in_default-judge-clause-part g c =
     let taken = g.K.Sink.taken in
-    RecordedPart-whole (RightOf (program_in c.args.model.now) c.args.model.now.effort) (listed c.args.model.now.flat.typed.nodes c.args.specs.now) c.specs.i (taken c.args.sink.now) (taken c.specs.sink) c.specs.status c.specs.invariant.so_far
+    WritesSomeRecords-whole (RightOf (program_in c.args.model.now) c.args.model.now.effort) (listed c.args.model.now.flat.typed.nodes c.args.specs.now) c.specs.i (taken c.args.sink.now) (taken c.specs.sink) c.specs.status c.specs.invariant.so_far
 
 pub returns-clause-part : goal.returns-clause-part
 returns-clause-part g c =
     let taken = g.K.Sink.taken in
-    RecordedPart-whole (RightOf (program_in c.args.model.now) c.args.model.now.effort) (listed c.args.model.now.flat.typed.nodes c.args.specs.now) c.specs.i (taken c.args.sink.now) (taken c.specs.sink) c.specs.status c.specs.invariant.so_far
+    WritesSomeRecords-whole (RightOf (program_in c.args.model.now) c.args.model.now.effort) (listed c.args.model.now.flat.typed.nodes c.args.specs.now) c.specs.i (taken c.args.sink.now) (taken c.specs.sink) c.specs.status c.specs.invariant.so_far

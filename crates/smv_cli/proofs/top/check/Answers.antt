@@ -2,7 +2,7 @@
 use Rattle.std.proofs.Common.{ℕ, IfOk, subst, sym}
 use Rattle.command_words.specs.declared.command.Effort.{Effort}
 use Rattle.smv_cli.specs.Prepared.{IsPreparedWith, IsRefusedOrFaulty}
-use Rattle.smv_cli.specs.Written.{Reported, ReportedPart, program_in}
+use Rattle.smv_cli.specs.Written.{WritesModelReport, WritesPartOfModelReport, program_in}
 use Rattle.smv_cli.proofs.Reports.{refused_on_check, refused-part, refused-result, heading-part, judged-result, judged-part, nothing-part, small_enough}
 use Rattle.smv_cli.proofs.top.check.Goals as goal
 
@@ -32,7 +32,7 @@ returns-in_ok-put_heading-in-Ok-clause-ok g c =
     let p = program_in model in
     judged-result c.args.command.now c.args.effort.now c.requires.asked c.args.text.now p model.preparation (taken c.args.sink.now) (taken c.put_heading.new.sink) (taken c.report_model.new.sink) c.report_model.result c.in-Ok.ensures.model
     c.in-Ok.ensures.prepared c.in_ok-put_heading-in-Ok.ensures.ok
-    (subst (λ (e : Effort). IfOk c.report_model.result (λ (status : ℕ). Reported p e model.preparation (taken c.put_heading.new.sink) (taken c.report_model.new.sink) status))
+    (subst (λ (e : Effort). IfOk c.report_model.result (λ (status : ℕ). WritesModelReport p e model.preparation (taken c.put_heading.new.sink) (taken c.report_model.new.sink) status))
     c.in-Ok.ensures.effort c.report_model.ensures.ok)
 
 pub returns-in_ok-put_heading-in-Ok-clause-part : goal.returns-in_ok-put_heading-in-Ok-clause-part
@@ -42,7 +42,7 @@ returns-in_ok-put_heading-in-Ok-clause-part g c =
     let p = program_in model in
     judged-part c.args.command.now c.args.effort.now c.requires.asked c.args.text.now p model.preparation (taken c.args.sink.now) (taken c.put_heading.new.sink) (taken c.report_model.new.sink) c.in-Ok.ensures.model
     c.in-Ok.ensures.prepared c.in_ok-put_heading-in-Ok.ensures.ok
-    (subst (λ (e : Effort). ReportedPart p e model.preparation (taken c.put_heading.new.sink) (taken c.report_model.new.sink)) c.in-Ok.ensures.effort c.report_model.ensures.part)
+    (subst (λ (e : Effort). WritesPartOfModelReport p e model.preparation (taken c.put_heading.new.sink) (taken c.report_model.new.sink)) c.in-Ok.ensures.effort c.report_model.ensures.part)
 
 pub returns-in_ok-put_heading-in-Ok-clause-small : goal.returns-in_ok-put_heading-in-Ok-clause-small
 returns-in_ok-put_heading-in-Ok-clause-small g c = small_enough c.report_model.result c.report_model.ensures.small

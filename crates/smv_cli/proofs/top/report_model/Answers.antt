@@ -5,7 +5,7 @@ use Rattle.smv_resolve.specs.Items.{ResolvedItem}
 use Rattle.smv_meaning.specs.Runs.{specifications_of}
 use Rattle.smv_cli.specs.declared.preparing.Preparation.{Preparation}
 use Rattle.smv_cli.specs.Prepared.{IsPreparedWith}
-use Rattle.smv_cli.specs.Written.{OpenRecorded, OpenRecordedPart, Reported, ReportedPart, item_in, program_in}
+use Rattle.smv_cli.specs.Written.{WritesOpenRecords, WritesSomeOpenRecords, WritesModelReport, WritesPartOfModelReport, item_in, program_in}
 use Rattle.smv_cli.proofs.OfPreparing.{open-part, open-result}
 use Rattle.smv_cli.proofs.top.report_model.Goals as goal
 
@@ -24,9 +24,9 @@ returns-clause-ok g c =
     let drawn = c.in-Spent.drawn in
     let budget = c.in-Spent.budget in
     let all : map (item_in model) c.as_slice-in-Spent.result.now ≡ specifications_of p = ap (λ (xs : List Item). map (item_in model) xs) c.as_slice-in-Spent.ensures ∙ c.in-Ok.ensures.resolved in
-    subst (λ (how : Preparation). IfOk c.put_open.result (λ (status : ℕ). Reported p model.effort how (taken c.args.sink.now) (taken c.put_open.new.sink) status)) (sym c.in-Spent.is)
+    subst (λ (how : Preparation). IfOk c.put_open.result (λ (status : ℕ). WritesModelReport p model.effort how (taken c.args.sink.now) (taken c.put_open.new.sink) status)) (sym c.in-Spent.is)
     (open-result p model.effort drawn budget (taken c.args.sink.now) (taken c.put_open.new.sink) c.put_open.result
-    (subst (λ (xs : List ResolvedItem). IfOk c.put_open.result (λ (status : ℕ). (status ≡ 2) × OpenRecorded drawn budget xs (taken c.args.sink.now) (taken c.put_open.new.sink))) all (c.put_open.ensures.ok model.flat.typed.nodes)))
+    (subst (λ (xs : List ResolvedItem). IfOk c.put_open.result (λ (status : ℕ). (status ≡ 2) × WritesOpenRecords drawn budget xs (taken c.args.sink.now) (taken c.put_open.new.sink))) all (c.put_open.ensures.ok model.flat.typed.nodes)))
 
 pub returns-clause-part : goal.returns-clause-part
 returns-clause-part g c =
@@ -36,6 +36,6 @@ returns-clause-part g c =
     let drawn = c.in-Spent.drawn in
     let budget = c.in-Spent.budget in
     let all : map (item_in model) c.as_slice-in-Spent.result.now ≡ specifications_of p = ap (λ (xs : List Item). map (item_in model) xs) c.as_slice-in-Spent.ensures ∙ c.in-Ok.ensures.resolved in
-    subst (λ (how : Preparation). ReportedPart p model.effort how (taken c.args.sink.now) (taken c.put_open.new.sink)) (sym c.in-Spent.is)
+    subst (λ (how : Preparation). WritesPartOfModelReport p model.effort how (taken c.args.sink.now) (taken c.put_open.new.sink)) (sym c.in-Spent.is)
     (open-part p model.effort drawn budget (taken c.args.sink.now) (taken c.put_open.new.sink)
-    (subst (λ (xs : List ResolvedItem). OpenRecordedPart drawn budget xs (taken c.args.sink.now) (taken c.put_open.new.sink)) all (c.put_open.ensures.part model.flat.typed.nodes)))
+    (subst (λ (xs : List ResolvedItem). WritesSomeOpenRecords drawn budget xs (taken c.args.sink.now) (taken c.put_open.new.sink)) all (c.put_open.ensures.part model.flat.typed.nodes)))

@@ -5,7 +5,7 @@ use Rattle.smv_resolve.specs.declared.item.Item.{Item}
 use Rattle.smv_resolve.specs.Items.{ResolvedItem}
 use Rattle.smv_meaning.specs.Runs.{specifications_of}
 use Rattle.smv_cli.specs.declared.checking.Checking.{Checking}
-use Rattle.smv_cli.specs.Written.{Recorded, RecordedPart, item_in, program_in}
+use Rattle.smv_cli.specs.Written.{WritesRecords, WritesSomeRecords, item_in, program_in}
 use Rattle.smv_cli.proofs.OfPreparing.{block-alone, block-part, counted_specs, sound-part, sound-result}
 use Rattle.smv_cli.proofs.top.report_sound.Goals as goal
 
@@ -16,7 +16,7 @@ returns-clause-ok g c =
     let p = program_in model in
     sound-result p model.effort c.args.sound.now (length c.args.specs.now) (counted_specs model c.args.specs.now c.requires.listed) (taken c.args.sink.now) (taken c.put_block.new.sink) (taken c.put_records.new.sink)
     c.put_records.result c.in_ok-put_block.ensures.ok
-    (subst (λ (xs : List ResolvedItem). IfOk c.put_records.result (λ (status : ℕ). Recorded p model.effort xs (taken c.put_block.new.sink) (taken c.put_records.new.sink) status)) c.requires.listed c.put_records.ensures.ok)
+    (subst (λ (xs : List ResolvedItem). IfOk c.put_records.result (λ (status : ℕ). WritesRecords p model.effort xs (taken c.put_block.new.sink) (taken c.put_records.new.sink) status)) c.requires.listed c.put_records.ensures.ok)
 
 pub returns-clause-part : goal.returns-clause-part
 returns-clause-part g c =
@@ -25,7 +25,7 @@ returns-clause-part g c =
     let p = program_in model in
     sound-part p model.effort c.args.sound.now (length c.args.specs.now) (counted_specs model c.args.specs.now c.requires.listed) (taken c.args.sink.now) (taken c.put_block.new.sink) (taken c.put_records.new.sink)
     c.in_ok-put_block.ensures.ok
-    (subst (λ (xs : List ResolvedItem). RecordedPart p model.effort xs (taken c.put_block.new.sink) (taken c.put_records.new.sink)) c.requires.listed c.put_records.ensures.part)
+    (subst (λ (xs : List ResolvedItem). WritesSomeRecords p model.effort xs (taken c.put_block.new.sink) (taken c.put_records.new.sink)) c.requires.listed c.put_records.ensures.part)
 
 pub returns-in_default-clause-part : goal.returns-in_default-clause-part
 returns-in_default-clause-part g c =
